@@ -1,0 +1,11 @@
+-- Counts of faults: an object of the outside counts the calls that failed. A count never falls, and it ends at 2^64 - 1.
+use Rattle.std.specs.Prelude.{ℕ, ◌+◌, ◌-◌, ◌^◌, ◌≤◌, Result, min, OnErr}
+
+-- the count rose; a count that stands at its end counts as risen
+abbrev pub Rose : ℕ → ℕ → Type 0
+Rose before now = min (before + 1) (2 ^ 64 - 1) ≤ now
+
+-- what a call's answer says of the object's count: it didn't fall, and after an `Err` it has risen
+pub record Causes {T E : Type 0} (before now : ℕ) (answer : Result T E) : Type 0 where
+  pub later : before ≤ now
+  pub failed : OnErr answer (Rose before now)

@@ -1,0 +1,23 @@
+-- Bytes that come from a source and go to a sink. What is left and what is written is told by some objects alone: `None` claims nothing.
+use Rattle.std.specs.Prelude.{◌≡◌, ℕ, ◌≤◌, ◌<◌, List, [], ◌++◌, length, take, drop, Option, option_map, IfSome, IfOk, OnOk, OnErr, Result, Ok}
+use Rattle.flow_edges.specs.Faults.{Causes}
+
+-- the bytes that are left after n of them were taken
+abbrev pub left_after : ℕ → Option (List ℕ) → Option (List ℕ)
+left_after n left = option_map (λ bytes. drop n bytes) left
+
+-- the bytes that are written after some more
+abbrev pub written_with : List ℕ → Option (List ℕ) → Option (List ℕ)
+written_with more written = option_map (λ bytes. bytes ++ more) written
+
+-- these bytes are the first of those that are left
+abbrev pub IsNextOf : List ℕ → Option (List ℕ) → Type 0
+IsNextOf given left = IfSome left (λ bytes. take (length given) bytes ≡ given)
+
+-- nothing is left, as far as the source tells
+abbrev pub IsAtEnd : Option (List ℕ) → Type 0
+IsAtEnd left = IfSome left (λ bytes. bytes ≡ [])
+
+-- a prefix of the bytes was written after what was there
+abbrev pub WritesPrefix : List ℕ → Option (List ℕ) → Option (List ℕ) → Type 0
+WritesPrefix bytes before now = (n : ℕ) × (n ≤ length bytes) × (now ≡ written_with (take n bytes) before)

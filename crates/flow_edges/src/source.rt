@@ -1,0 +1,24 @@
+ghost use Rattle.std.specs.Prelude.{◌≡◌, ℕ, ◌≤◌, ◌<◌, List, Option, Ok, length, take, IfOk, OnErr};
+ghost use Rattle.flow_edges.specs.Faults.{Causes};
+ghost use Rattle.flow_edges.specs.Flow.{left_after, IsNextOf, IsAtEnd};
+
+use crate::Fault;
+
+/// Where bytes come from: a file, a terminal, or bytes in memory.
+pub trait Source {
+    /// The bytes that are left, where the source tells them.
+    ghost left: { Self → Option (List ℕ) };
+
+    /// How many calls failed.
+    ghost faults: { Self → ℕ };
+
+    /// Takes the next bytes into the front of the buffer, and answers how many. Into a buffer that
+    /// isn't empty, 0 comes only at the end of the bytes. A `Fault` has taken none, and is counted.
+    fn read(&mut self, buffer: &mut [u8]) -> Result<usize, Fault>
+        ensures within { IfOk result (λ n. n ≤ length buffer.old) }
+        ensures given { IfOk result (λ n. IsNextOf (take n buffer.new) (left self.old)) }
+        ensures rest { IfOk result (λ n. left self.new ≡ left_after n (left self.old)) }
+        ensures end { result ≡ Ok 0 → 0 < length buffer.old → IsAtEnd (left self.old) }
+        ensures err { OnErr result (left self.new ≡ left self.old) }
+        ensures causes { Causes (faults self.old) (faults self.new) result };
+}
