@@ -1,3 +1,5 @@
 pub mod Faults
 pub mod Flow
+pub mod Lines
+pub mod LinesSteps
 pub mod formers

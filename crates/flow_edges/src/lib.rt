@@ -8,6 +8,7 @@
 
 mod fault;
 mod items;
+mod lines;
 mod no_memory;
 mod sink;
 mod source;
@@ -15,6 +16,7 @@ mod text;
 
 pub use fault::Fault;
 pub use items::Items;
+pub use lines::{Line, LineRefusal, Lines, MAX_INPUT, MAX_LINE};
 pub use no_memory::NoMemory;
 pub use sink::{Sink, write_whole};
 pub use source::Source;

@@ -1,0 +1,16 @@
+use Rattle.std.proofs.Common.{◌≡◌, ℕ, ◌≤◌, ◌-◌}
+use Rattle.flow_edges.specs.Lines.{told_ahead}
+use Rattle.flow_edges.specs.LinesSteps.{IsBetweenLines, lines_state}
+use Rattle.flow_edges.proofs.lines.cursor.Cursor.next_line.Given as goal
+
+abbrev pub invariant-lines : goal.invariant-lines
+invariant-lines g l = record {
+  between : IsBetweenLines l.self.line.items l.self.chunk l.self.count l.self.given;
+  ahead : told_ahead (lines_state l.fn.self.line.items l.fn.self.chunk l.fn.self.count l.fn.self.given) (g.S.Source.left l.fn.source)
+    ≡ told_ahead (lines_state l.self.line.items l.self.chunk l.self.count l.self.given) (g.S.Source.left l.source);
+  moved : l.fn.self.given ≤ l.self.given;
+  later : g.S.Source.faults l.fn.source ≤ g.S.Source.faults l.source;
+}
+
+abbrev pub decreases-lines : goal.decreases-lines
+decreases-lines g l = 1099511627777 - l.self.given

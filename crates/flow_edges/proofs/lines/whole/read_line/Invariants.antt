@@ -1,0 +1,16 @@
+use Rattle.std.proofs.Common.{◌≡◌, ℕ, ◌≤◌, ◌+◌, ◌-◌, [], length}
+use Rattle.flow_edges.specs.LinesSteps.{told_bytes}
+use Rattle.flow_edges.specs.Lines.{NoLineFeed}
+use Rattle.flow_edges.proofs.lines.whole.read_line.Given as goal
+
+abbrev pub invariant-reads : goal.invariant-reads
+invariant-reads g l = record {
+  bytes : told_bytes [] l.fn.chunk (g.S.Source.left l.fn.source) ≡ told_bytes l.line.items l.chunk (g.S.Source.left l.source);
+  plain : NoLineFeed l.line.items;
+  within : l.start.place + length l.line.items ≤ 1099511627776;
+  room : length l.chunk ≤ 65536;
+  later : g.S.Source.faults l.fn.source ≤ g.S.Source.faults l.source;
+}
+
+abbrev pub decreases-reads : goal.decreases-reads
+decreases-reads g l = 1099511693313 - (l.start.place + length l.line.items + length l.chunk)
