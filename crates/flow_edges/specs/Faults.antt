@@ -1,9 +1,13 @@
 -- Counts of faults: an object of the outside counts the calls that failed. A count never falls, and it ends at 2^64 - 1.
 use Rattle.std.specs.Prelude.{ℕ, ◌+◌, ◌-◌, ◌^◌, ◌≤◌, Result, min, OnErr}
 
+-- a count after one more
+abbrev pub counted : ℕ → ℕ
+counted count = min (count + 1) (2 ^ 64 - 1)
+
 -- the count rose; a count that stands at its end counts as risen
 abbrev pub Rose : ℕ → ℕ → Type 0
-Rose before now = min (before + 1) (2 ^ 64 - 1) ≤ now
+Rose before now = counted before ≤ now
 
 -- what a call's answer says of the object's count: it didn't fall, and after an `Err` it has risen
 pub record Causes {T E : Type 0} (before now : ℕ) (answer : Result T E) : Type 0 where

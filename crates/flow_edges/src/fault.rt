@@ -1,3 +1,6 @@
+ghost use Rattle.std.specs.Prelude.{◌≡◌, ◌≤◌};
+ghost use Rattle.flow_edges.specs.Faults.{counted};
+
 use std::error::Error;
 use std::fmt;
 
@@ -12,3 +15,12 @@ impl fmt::Display for Fault {
 }
 
 impl Error for Fault {}
+
+/// A fault, which is counted.
+pub(crate) fn counted_fault(faults: &mut u64) -> Fault
+    ensures counted { faults.new ≡ counted faults.old }
+    ensures later { faults.old ≤ faults.new }
+{
+    *faults = faults.saturating_add(1);
+    Fault
+}

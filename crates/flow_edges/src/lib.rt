@@ -9,15 +9,21 @@
 mod fault;
 mod items;
 mod lines;
+mod memory;
 mod no_memory;
+mod quiet;
 mod sink;
 mod source;
+mod system;
 mod text;
 
 pub use fault::Fault;
 pub use items::Items;
 pub use lines::{Line, LineRefusal, Lines, MAX_INPUT, MAX_LINE};
+pub use memory::{MemorySink, MemorySource};
 pub use no_memory::NoMemory;
+pub use quiet::{QuietSink, QuietSource};
 pub use sink::{Sink, write_whole};
 pub use source::Source;
+pub use system::{ReadSource, WriteSink};
 pub use text::Text;

@@ -1,0 +1,89 @@
+ghost use Rattle.std.specs.Prelude.{◌≡◌, ◌≤◌, ◌<◌, ◌-◌, ◌↔◌, [], Ok, Some, true, length, take, min, IsErr, IfOk, OnErr, ◌||◌, nat_le};
+ghost use Rattle.flow_edges.specs.Faults.{counted, Rose, Causes};
+ghost use Rattle.flow_edges.specs.Flow.{written_with};
+ghost use Rattle.flow_edges.specs.Memory.{is_failing};
+
+use crate::fault::counted_fault;
+use crate::{Fault, Items, NoMemory, Sink};
+use std::alloc::Global;
+use std::marker::Model;
+
+/// Memory that is written to while it has room, with calls that fail.
+#[derive(Drop)]
+pub struct MemorySink {
+    bytes: Vec<u8>,
+    room: usize,
+    failing: Items<u64>,
+    calls: u64,
+    faults: u64,
+}
+
+impl Model for MemorySink {
+    ghost use Rattle.std.specs.Prelude.{◌≤◌, vec_len, vec_capacity};
+    ghost use Rattle.flow_edges.specs.Memory.{SinkState};
+
+    ghost Value = { SinkState };
+
+    ghost view = { λ sink. record {
+        written = sink.bytes.items;
+        room = sink.room;
+        failing = sink.failing;
+        calls = sink.calls;
+        faults = sink.faults } };
+
+    ghost invariant = { λ sink. (vec_len sink.bytes ≤ sink.room) × (sink.room ≤ vec_capacity sink.bytes) };
+}
+
+impl MemorySink {
+    /// A sink with room for so many bytes, which is taken at once. The calls whose numbers, from 1, are
+    /// in `failing` fail.
+    pub fn new(alloc: Global, room: usize, failing: Items<u64>) -> Result<MemorySink, NoMemory>
+        ensures { IfOk result (λ sink. sink ≡ record { written = []; room = room; failing = failing; calls = 0; faults = 0 }) }
+    {
+        let bytes = Vec::with_capacity(alloc, room)?;
+        Ok(MemorySink {
+            bytes,
+            room,
+            failing,
+            calls: 0,
+            faults: 0,
+        })
+    }
+
+    /// The bytes written so far.
+    pub fn bytes(&self) -> &[u8]
+        ensures { result.now ≡ self.now.written }
+    {
+        self.bytes.as_slice()
+    }
+}
+
+impl Sink for MemorySink {
+    ghost written = { λ sink. Some sink.written };
+
+    ghost faults = { λ sink. sink.faults };
+
+    fn write(&mut self, piece: &[u8]) -> Result<usize, Fault>
+        ensures within { IfOk result (λ n. n ≤ length piece.now) }
+        ensures written { IfOk result (λ n. Some self.new.written ≡ written_with (take n piece.now) (Some self.old.written)) }
+        ensures nothing { result ≡ Ok 0 → 0 < length piece.now → Rose self.old.faults self.new.faults }
+        ensures err { OnErr result (Some self.new.written ≡ Some self.old.written) }
+        ensures causes { Causes self.old.faults self.new.faults result }
+
+        ensures fails { IsErr result ↔ (is_failing self.old.failing self.old.calls || nat_le self.old.room (length self.old.written) ≡ true) }
+        ensures count { IfOk result (λ n. n ≡ min (length piece.now) (self.old.room - length self.old.written)) }
+        ensures calls { self.new.calls ≡ counted self.old.calls }
+    {
+        self.calls = self.calls.saturating_add(1);
+        if self.failing.as_slice().contains(&self.calls) {
+            return Err(counted_fault(&mut self.faults));
+        }
+        let room = self.room - self.bytes.len();
+        if room == 0 {
+            return Err(counted_fault(&mut self.faults));
+        }
+        let count = piece.len().min(room);
+        self.bytes.extend_from_slice(&piece[..count]).unwrap();
+        Ok(count)
+    }
+}

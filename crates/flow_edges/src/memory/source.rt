@@ -1,0 +1,89 @@
+ghost use Rattle.std.specs.Prelude.{◌≡◌, ◌≤◌, ◌<◌, ◌↔◌, Ok, Some, true, length, take, drop, min, IsErr, IfOk, OnErr};
+ghost use Rattle.flow_edges.specs.Faults.{counted, Causes};
+ghost use Rattle.flow_edges.specs.Flow.{left_after, IsNextOf, IsAtEnd};
+ghost use Rattle.flow_edges.specs.Memory.{is_failing};
+
+use crate::fault::counted_fault;
+use crate::{Fault, Items, Source};
+use std::marker::Model;
+
+/// Bytes in memory that are read piece by piece, with calls that fail.
+#[derive(Drop)]
+pub struct MemorySource {
+    bytes: Items<u8>,
+    at: usize,
+    piece: usize,
+    failing: Items<u64>,
+    calls: u64,
+    faults: u64,
+}
+
+impl Model for MemorySource {
+    ghost use Rattle.std.specs.Prelude.{◌≤◌, length, drop};
+    ghost use Rattle.flow_edges.specs.Memory.{SourceState};
+
+    ghost Value = { SourceState };
+
+    ghost view = { λ source. record {
+        left = drop source.at source.bytes;
+        piece = source.piece;
+        failing = source.failing;
+        calls = source.calls;
+        faults = source.faults } };
+
+    ghost invariant = { λ source. (source.at ≤ length source.bytes) × (1 ≤ source.piece) };
+}
+
+impl MemorySource {
+    /// A source of these bytes. A read gives at most `piece` of them, and the calls whose numbers,
+    /// from 1, are in `failing` fail.
+    pub fn new(bytes: Items<u8>, piece: usize, failing: Items<u64>) -> MemorySource
+        requires { 1 ≤ piece }
+        ensures { result ≡ record { left = bytes; piece = piece; failing = failing; calls = 0; faults = 0 } }
+    {
+        MemorySource {
+            bytes,
+            at: 0,
+            piece,
+            failing,
+            calls: 0,
+            faults: 0,
+        }
+    }
+
+    /// The bytes that aren't taken yet.
+    pub fn left(&self) -> &[u8]
+        ensures { result.now ≡ self.now.left }
+    {
+        &self.bytes.as_slice()[self.at..]
+    }
+}
+
+impl Source for MemorySource {
+    ghost left = { λ source. Some source.left };
+
+    ghost faults = { λ source. source.faults };
+
+    fn read(&mut self, buffer: &mut [u8]) -> Result<usize, Fault>
+        ensures within { IfOk result (λ n. n ≤ length buffer.old) }
+        ensures given { IfOk result (λ n. IsNextOf (take n buffer.new) (Some self.old.left)) }
+        ensures rest { IfOk result (λ n. Some self.new.left ≡ left_after n (Some self.old.left)) }
+        ensures end { result ≡ Ok 0 → 0 < length buffer.old → IsAtEnd (Some self.old.left) }
+        ensures err { OnErr result (Some self.new.left ≡ Some self.old.left) }
+        ensures causes { Causes self.old.faults self.new.faults result }
+
+        ensures fails { IsErr result ↔ (is_failing self.old.failing self.old.calls ≡ true) }
+        ensures count { IfOk result (λ n. n ≡ min self.old.piece (min (length buffer.old) (length self.old.left))) }
+        ensures calls { self.new.calls ≡ counted self.old.calls }
+    {
+        self.calls = self.calls.saturating_add(1);
+        if self.failing.as_slice().contains(&self.calls) {
+            return Err(counted_fault(&mut self.faults));
+        }
+        let left = &self.bytes.as_slice()[self.at..];
+        let count = self.piece.min(buffer.len().min(left.len()));
+        buffer[..count].copy_from_slice(&left[..count]);
+        self.at += count;
+        Ok(count)
+    }
+}

@@ -1,0 +1,50 @@
+ghost use Rattle.std.specs.Prelude.{◌≡◌, ◌≤◌, Some};
+
+use crate::{Fault, Items, Source};
+use std::marker::Model;
+
+/// Bytes in memory that are read piece by piece, without fail. Contracts see the bytes that are left.
+#[derive(Drop)]
+pub struct QuietSource {
+    bytes: Items<u8>,
+    at: usize,
+    piece: usize,
+}
+
+impl Model for QuietSource {
+    ghost use Rattle.std.specs.Prelude.{ℕ, List, ◌≤◌, length, drop};
+
+    ghost Value = { List ℕ };
+
+    ghost view = { λ source. drop source.at source.bytes };
+
+    ghost invariant = { λ source. (source.at ≤ length source.bytes) × (1 ≤ source.piece) };
+}
+
+impl QuietSource {
+    /// A source of these bytes, of which a read gives at most `piece`.
+    pub fn new(bytes: Items<u8>, piece: usize) -> QuietSource
+        requires { 1 ≤ piece }
+        ensures { result ≡ bytes }
+    {
+        QuietSource {
+            bytes,
+            at: 0,
+            piece,
+        }
+    }
+}
+
+impl Source for QuietSource {
+    ghost left = { λ source. Some source };
+
+    ghost faults = { λ _. 0 };
+
+    fn read(&mut self, buffer: &mut [u8]) -> Result<usize, Fault> {
+        let left = &self.bytes.as_slice()[self.at..];
+        let count = self.piece.min(buffer.len().min(left.len()));
+        buffer[..count].copy_from_slice(&left[..count]);
+        self.at += count;
+        Ok(count)
+    }
+}
