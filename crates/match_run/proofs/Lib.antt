@@ -1,0 +1,4 @@
+pub mod Counts
+pub mod Observations
+pub mod RowLemmas
+pub mod Following

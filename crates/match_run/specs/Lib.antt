@@ -1,0 +1,5 @@
+pub mod Line
+pub mod Reading
+pub mod Listing
+pub mod Matching
+pub mod TallyOf

@@ -1,0 +1,16 @@
+//! A stream of observed data to the lines of its bindings: from the bytes in to the bytes out.
+//!
+//! `match_stream` reads a log, one bundle a line, and writes a line for each observation that the
+//! bracket of the pattern matches. What it writes is a function of the bytes alone, however they are
+//! cut into reads; the first line that is refused ends it.
+#![tactic(auto)]
+
+mod end;
+mod observation;
+mod refused;
+mod rows;
+mod stream;
+mod tally;
+
+pub use end::{InputRule, MatchEnd, Mode};
+pub use stream::match_stream;

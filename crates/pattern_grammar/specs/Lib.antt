@@ -1,0 +1,3 @@
+pub mod FirstForm
+pub mod Refusal
+pub mod Word

@@ -1,0 +1,5 @@
+pub mod Timestamp
+pub mod Instant
+pub mod Reading
+pub mod Places
+pub mod Parts

@@ -1,0 +1,56 @@
+-- What reading a text answers: the instant that the text names, or why it names none.
+use Rattle.std.specs.Prelude.{◌≡◌, ℕ, ◌<◌, ◌≤◌, ℤ, List, length, take, Result, Ok, Err}
+use Rattle.stix_times.specs.declared.refusal.TimeRefusal.{TimeRefusal}
+use Rattle.stix_times.specs.declared.refusal.TimeRefusal.TheVariants.{Shape, NoSuchDay, TooFine, NotMillis}
+use Rattle.stix_times.specs.Timestamp.{Timestamp, Spells, HasDay, HasShape, BeginsShape, nanos_of}
+
+-- the text has the shape, with parts of which the fact holds
+abbrev pub HasShapeWhere : (Timestamp → Type 0) → List ℕ → Type 0
+HasShapeWhere P text = (t : Timestamp) × Spells t text × P t
+
+-- the day exists, and the fraction has at most nine digits
+pub record IsExact (t : Timestamp) : Type 0 where
+  pub day : HasDay t
+  pub fine : length t.fraction ≤ 9
+
+-- the fraction has three to six digits
+abbrev pub HasMillis : Timestamp → Type 0
+HasMillis t = (3 ≤ length t.fraction) × (length t.fraction ≤ 6)
+
+-- the text names the instant
+abbrev pub IsTextOf : List ℕ → ℤ → Type 0
+IsTextOf text instant = HasShapeWhere (λ t. IsExact t × (nanos_of t ≡ instant)) text
+
+-- the text names the instant, with a fraction of three to six digits
+abbrev pub IsMillisTextOf : List ℕ → ℤ → Type 0
+IsMillisTextOf text instant = HasShapeWhere (λ t. IsExact t × HasMillis t × (nanos_of t ≡ instant)) text
+
+-- the first `at` bytes begin a text of the shape, and no more do
+pub record IsLongestShapePrefix (text : List ℕ) (at : ℕ) : Type 0 where
+  pub within : at ≤ length text
+  pub begins : BeginsShape (take at text)
+  pub longest : (n : ℕ) → n ≤ length text → BeginsShape (take n text) → n ≤ at
+
+-- why the text names no instant
+abbrev pub IsRefused : List ℕ → TimeRefusal → Type 0
+IsRefused text (Shape at) = (¬ HasShape text) × IsLongestShapePrefix text at
+IsRefused text NoSuchDay = HasShapeWhere (λ t. ¬ HasDay t) text
+IsRefused text TooFine = HasShapeWhere (λ t. HasDay t × (9 < length t.fraction)) text
+IsRefused text NotMillis = ⊥
+
+-- why the text names no instant with a fraction of three to six digits
+abbrev pub IsRefusedMillis : List ℕ → TimeRefusal → Type 0
+IsRefusedMillis text (Shape at) = IsRefused text (Shape at)
+IsRefusedMillis text NoSuchDay = IsRefused text NoSuchDay
+IsRefusedMillis text TooFine = IsRefused text TooFine
+IsRefusedMillis text NotMillis = HasShapeWhere (λ t. IsExact t × (¬ HasMillis t)) text
+
+-- what reading the text answers
+abbrev pub Reads : List ℕ → Result ℤ TimeRefusal → Type 0
+Reads text (Ok instant) = IsTextOf text instant
+Reads text (Err refusal) = IsRefused text refusal
+
+-- what reading the text answers, where three to six digits of a fraction are asked for
+abbrev pub ReadsMillis : List ℕ → Result ℤ TimeRefusal → Type 0
+ReadsMillis text (Ok instant) = IsMillisTextOf text instant
+ReadsMillis text (Err refusal) = IsRefusedMillis text refusal

@@ -1,0 +1,15 @@
+//! Timestamps of STIX 2.1 (section 3.2, which is the `date-time` of RFC 3339, section 5.6, in UTC):
+//! reading one from its text, exactly or with the reason why not, and writing an instant as its one
+//! canonical text. Nothing here takes memory.
+#![tactic(auto)]
+
+mod fraction;
+mod instant;
+mod parts;
+mod places;
+mod reading;
+mod refusal;
+
+pub use instant::{Instant, from_micros, from_nanos, nanos};
+pub use reading::{read, read_millis};
+pub use refusal::TimeRefusal;

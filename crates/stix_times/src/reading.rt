@@ -1,0 +1,30 @@
+ghost use Rattle.std.specs.Prelude.{◌≡◌, ℤ, Result, IfOk, IfErr};
+ghost use Rattle.stix_times.specs.declared.refusal.TimeRefusal.{TimeRefusal};
+ghost use Rattle.stix_times.specs.Reading.{IsTextOf, IsRefused, Reads, IsMillisTextOf, IsRefusedMillis, ReadsMillis};
+
+use crate::parts::Parts;
+use crate::{Instant, TimeRefusal};
+
+/// The instant that the text names, with a fraction of at most nine digits.
+pub fn read(text: &str) -> Result<Instant, TimeRefusal>
+    ensures ok { IfOk result (IsTextOf text.now) }
+    ensures err { IfErr result (IsRefused text.now) }
+    ensures only { (other : Result ℤ TimeRefusal) → Reads text.now other → other ≡ result }
+{
+    let parts = Parts::read(text.as_bytes())?;
+    parts.instant()
+}
+
+/// The instant that the text names, with a fraction of three to six digits.
+pub fn read_millis(text: &str) -> Result<Instant, TimeRefusal>
+    ensures ok { IfOk result (IsMillisTextOf text.now) }
+    ensures err { IfErr result (IsRefusedMillis text.now) }
+    ensures only { (other : Result ℤ TimeRefusal) → ReadsMillis text.now other → other ≡ result }
+{
+    let parts = Parts::read(text.as_bytes())?;
+    let instant = parts.instant()?;
+    if !parts.has_millis() {
+        return Err(TimeRefusal::NotMillis);
+    }
+    Ok(instant)
+}
