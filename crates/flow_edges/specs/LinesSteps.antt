@@ -69,7 +69,7 @@ lines_state line chunk count given = record { held = line ++ chunk; count = coun
 -- the next line was read, and is the first of those that came yet, unless it is blank
 pub record ReadsNext (chunk_old chunk_new : List ℕ) (count_old count_new given_old given_new : ℕ) (bytes : List ℕ) (left left_after : Option (List ℕ)) : Type 0 where
   pub ahead : told_ahead (lines_state [] chunk_old count_old given_old) left
-    ≡ option_map (λ later. unless_blank count_new bytes later) (told_ahead (lines_state [] chunk_new count_new given_new) left_after)
+      ≡ option_map (λ later. unless_blank count_new bytes later) (told_ahead (lines_state [] chunk_new count_new given_new) left_after)
   pub moved : given_old < given_new
   pub room : length chunk_new ≤ 65536
   pub numbered : count_new ≤ given_new

@@ -32,11 +32,11 @@ impl Cursor {
 
         ensures next { IfOk result (λ found. MatchBool found
             (ReadsNext self.old.chunk self.new.chunk self.old.count self.new.count self.old.given self.new.given
-                self.new.line.items (S.left source.old) (S.left source.new))
+            self.new.line.items (S.left source.old) (S.left source.new))
             (GivesEnd
-                (lines_state self.old.line.items self.old.chunk self.old.count self.old.given)
-                (lines_state self.new.line.items self.new.chunk self.new.count self.new.given)
-                (S.left source.old) (S.left source.new))) }
+            (lines_state self.old.line.items self.old.chunk self.old.count self.old.given)
+            (lines_state self.new.line.items self.new.chunk self.new.count self.new.given)
+            (S.left source.old) (S.left source.new))) }
         ensures refused { IfErr result (RefusesLine
             (lines_state self.old.line.items self.old.chunk self.old.count self.old.given)
             (lines_state self.new.line.items self.new.chunk self.new.count self.new.given)

@@ -26,10 +26,11 @@ impl Model for Lines {
     ghost Value = { LinesState };
 
     ghost view = { λ lines. record {
-        held = lines.cursor.line.items ++ lines.cursor.chunk;
-        count = lines.cursor.count;
-        given = lines.cursor.given;
-        refusal = lines.refusal } };
+      held = lines.cursor.line.items ++ lines.cursor.chunk;
+      count = lines.cursor.count;
+      given = lines.cursor.given;
+      refusal = lines.refusal;
+    } };
 
     ghost invariant = { λ lines. lines.refusal ≡ None
         → IsBetweenLines lines.cursor.line.items lines.cursor.chunk lines.cursor.count lines.cursor.given };

@@ -25,11 +25,12 @@ impl Model for MemorySink {
     ghost Value = { SinkState };
 
     ghost view = { λ sink. record {
-        written = sink.bytes.items;
-        room = sink.room;
-        failing = sink.failing;
-        calls = sink.calls;
-        faults = sink.faults } };
+      written = sink.bytes.items;
+      room = sink.room;
+      failing = sink.failing;
+      calls = sink.calls;
+      faults = sink.faults;
+    } };
 
     ghost invariant = { λ sink. (vec_len sink.bytes ≤ sink.room) × (sink.room ≤ vec_capacity sink.bytes) };
 }

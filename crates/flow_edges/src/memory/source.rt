@@ -25,11 +25,12 @@ impl Model for MemorySource {
     ghost Value = { SourceState };
 
     ghost view = { λ source. record {
-        left = drop source.at source.bytes;
-        piece = source.piece;
-        failing = source.failing;
-        calls = source.calls;
-        faults = source.faults } };
+      left = drop source.at source.bytes;
+      piece = source.piece;
+      failing = source.failing;
+      calls = source.calls;
+      faults = source.faults;
+    } };
 
     ghost invariant = { λ source. (source.at ≤ length source.bytes) × (1 ≤ source.piece) };
 }

@@ -7,7 +7,7 @@ abbrev pub invariant-lines : goal.invariant-lines
 invariant-lines g l = record {
   between : IsBetweenLines l.self.line.items l.self.chunk l.self.count l.self.given;
   ahead : told_ahead (lines_state l.fn.self.line.items l.fn.self.chunk l.fn.self.count l.fn.self.given) (g.S.Source.left l.fn.source)
-    ≡ told_ahead (lines_state l.self.line.items l.self.chunk l.self.count l.self.given) (g.S.Source.left l.source);
+      ≡ told_ahead (lines_state l.self.line.items l.self.chunk l.self.count l.self.given) (g.S.Source.left l.source);
   moved : l.fn.self.given ≤ l.self.given;
   later : g.S.Source.faults l.fn.source ≤ g.S.Source.faults l.source;
 }
