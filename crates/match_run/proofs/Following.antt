@@ -1,15 +1,19 @@
 -- What the lines of a log are read as, one line at a time.
-use Rattle.std.proofs.Common.{◌≡◌, ℕ, ℤ, List, [], ◌∷◌, ◌++◌, Option, Some, None, option_map, IfSome, IsTrue, refl, sym, ap, subst, ◌∙◌, append_assoc}
+use Rattle.std.proofs.Common.{◌≡◌, ℕ, ℤ, ◌+◌, length, List, [], ◌∷◌, ◌++◌, Option, Some, None, Ok, Err, ◌<◌, ◌≤◌, option_map, IfSome, IsTrue, refl, sym, ap, subst, ◌∙◌, append_assoc}
 use Rattle.std.proofs.lemmas.List.{append-nil}
 use Rattle.serde_json.specs.Data.{Data}
 use Rattle.flow_edges.specs.Flow.{written_with}
-use Rattle.flow_edges.specs.Lines.{Lined, ended, refused, line_then}
+use Rattle.flow_edges.specs.Lines.{Lined, ended, refused, line_then, lines_of, LinesState, told_ahead, AnswersLine, GivesLine}
+use Rattle.flow_edges.specs.declared.lines.line.Line.{Line}
+use Rattle.flow_edges.specs.declared.lines.refusal.LineRefusal.TheVariants as LineRefusal
 use Rattle.flow_edges.specs.declared.lines.refusal.LineRefusal.{LineRefusal}
 use Rattle.pattern_grammar.specs.FirstForm.{FirstForm}
 use Rattle.match_run.specs.Listing.{Row, listing_text}
-use Rattle.match_run.specs.Reading.{Ending, Whole, Refused, Reads, at_end, too_long, no_row, one_row, IsNext, refused_number}
-use Rattle.match_run.specs.Matching.{IsRowOf}
-use Rattle.match_run.specs.TallyOf.{last_time, IsTally, row_text, AddsRow, RefusesRow, ToldReads, ReadsSoFar}
+use Rattle.match_run.specs.Reading.{Ending, Whole, Refused, Reads, at_end, too_long, no_row, one_row, IsNext, refused_number, ToldReading}
+use Rattle.match_run.specs.Matching.{IsRowOf, ListsWhole, ListsBefore, AnswersMatch, end_of}
+use Rattle.match_run.specs.declared.end.MatchEnd.{MatchEnd}
+use Rattle.match_run.specs.declared.end.MatchEnd.TheVariants.{Done, Input, ReadFault, WriteFault, NoMemory}
+use Rattle.match_run.specs.TallyOf.{last_time, IsTally, row_text, AddsRow, RefusesRow, EndsInLine, ToldReads, ReadsSoFar}
 use Rattle.match_run.specs.declared.tally.Tally.{Tally}
 use Rattle.match_run.proofs.RowLemmas.{listing_text-append, last_time-append}
 
@@ -68,8 +72,8 @@ so_far-row form before after whole ahead later number bytes written written_now 
           (subst (λ (last : Option ℤ). ToldReads form last later more ending) (last_time-append far.rows adds.row) reads))));
   listing =
     adds.text far.rows far.tally_is
-    ∙ ap (λ w. written_with (row_text _ adds.row) w) far.listing
-    ∙ written_with-both (listing_text far.rows) (row_text _ adds.row) written
+    ∙ ap (λ w. written_with (row_text (length far.rows + 1) adds.row) w) far.listing
+    ∙ written_with-both (listing_text far.rows) (row_text (length far.rows + 1) adds.row) written
     ∙ ap (λ text. written_with text written) (sym (listing_text-append far.rows adds.row));
 }
 
@@ -91,3 +95,67 @@ so_far-none form tally whole ahead later number bytes written written_now writte
       (subst (λ (ahead : Option Lined). ToldReads form (last_time far.rows) ahead [] (Refused number)) (sym next)
         (told-no_row form (last_time far.rows) number bytes later
           (subst (λ (last : Option ℤ). (time : ℤ) (object : Data) → ¬ (IsNext last bytes time object)) far.tally_is.time refuses.none))))
+
+-- what is told of lines is what is told of bytes
+pub told-reading : (form : FirstForm) (left : Option (List ℕ)) (rows : List Row) (ending : Ending) → ToldReads form None (option_map lines_of left) rows ending → ToldReading form left rows ending
+told-reading form None rows ending reads = tt
+told-reading form (Some bytes) rows ending reads = reads
+
+-- ---- the loop over lines
+
+module _ (form : FirstForm) (first : Option (List ℕ)) (tally : Tally) (before after : LinesState) (left left_after written written_now : Option (List ℕ))
+    (far : ReadsSoFar form tally (option_map lines_of first) (told_ahead before left) written written_now) where
+  -- no line is left
+  pub ends-whole : (given : Option Line) → given ≡ None → AnswersLine before after left left_after (Ok given) → ListsWhole form first left_after written written_now tally.observations tally.bindings tally.last
+  ends-whole None is answers = record {
+    rows = far.rows;
+    reading = told-reading form first far.rows Whole (so_far-end form tally (option_map lines_of first) (told_ahead before left) written written_now far answers.lines);
+    listing = far.listing;
+    drained = answers.drained;
+    observations_are = far.tally_is.observations;
+    bindings_are = far.tally_is.bindings;
+    last_is = far.tally_is.last;
+  }
+  ends-whole (Some l) is answers = cc
+
+  before_refused : (refusal : LineRefusal) → IfSome (told_ahead before left) (λ lines. lines ≡ refused refusal) → ListsBefore form first written written_now (refused_number refusal)
+  before_refused refusal is = record {
+    rows = far.rows;
+    reading = told-reading form first far.rows (Refused (refused_number refusal)) (so_far-refused form tally (option_map lines_of first) (told_ahead before left) written written_now refusal far is);
+    listing = far.listing;
+  }
+
+  -- a line is refused before it is given
+  pub ends-refused : (refusal : LineRefusal) (end : MatchEnd) → end ≡ end_of refusal → AnswersLine before after left left_after (Err refusal) → AnswersMatch form first left_after written written_now end
+  ends-refused LineRefusal.Fault end is answers = subst (λ (e : MatchEnd). AnswersMatch form first left_after written written_now e) (sym is) tt
+  ends-refused (LineRefusal.LineTooLong n) end is answers = subst (λ (e : MatchEnd). AnswersMatch form first left_after written written_now e) (sym is) (before_refused (LineRefusal.LineTooLong n) answers)
+  ends-refused (LineRefusal.InputTooLong n) end is answers = subst (λ (e : MatchEnd). AnswersMatch form first left_after written written_now e) (sym is) (before_refused (LineRefusal.InputTooLong n) answers)
+  ends-refused LineRefusal.NoMemory end is answers = subst (λ (e : MatchEnd). AnswersMatch form first left_after written written_now e) (sym is) tt
+
+  module _ (given : Option Line) (l : Line) (is : given ≡ Some l) (answers : AnswersLine before after left left_after (Ok given)) where
+    gives : GivesLine before after left left_after l.number l.bytes
+    gives = subst (λ (o : Option Line). AnswersLine before after left left_after (Ok o)) is answers
+
+    -- a line that is given ends the run
+    pub ends-in_line : (end : MatchEnd) (written_after : Option (List ℕ)) → EndsInLine tally.last_time l.number l.bytes written_now written_after end → AnswersMatch form first left_after written written_after end
+    ends-in_line (Done observations bindings last) written_after ends = elim ends [ ]
+    ends-in_line (Input line rule) written_after ends = record {
+      rows = far.rows;
+      reading = subst (λ (n : ℕ). ToldReading form first far.rows (Refused n)) (sym ends.0)
+        (told-reading form first far.rows (Refused l.number) (so_far-none form tally (option_map lines_of first) (told_ahead before left) (told_ahead after left_after) l.number l.bytes written written_now written_after far gives.line ends.1));
+      listing = ends.1.silent ∙ far.listing;
+    }
+    ends-in_line ReadFault written_after ends = elim ends [ ]
+    ends-in_line WriteFault written_after ends = tt
+    ends-in_line NoMemory written_after ends = tt
+
+    -- a line that is given adds a row
+    pub so_far-line : (tally_after : Tally) (written_after : Option (List ℕ)) → AddsRow form tally tally_after l.bytes written_now written_after
+      → ReadsSoFar form tally_after (option_map lines_of first) (told_ahead after left_after) written written_after
+    so_far-line tally_after written_after adds = so_far-row form tally tally_after (option_map lines_of first) (told_ahead before left) (told_ahead after left_after) l.number l.bytes written written_now written_after far gives.line adds
+
+    pub moved-line : before.given < after.given
+    moved-line = gives.moved
+
+    pub within-line : after.given ≤ 1099511627776
+    within-line = gives.within

@@ -1,4 +1,4 @@
-ghost use Rattle.std.specs.Prelude.{◌≡◌, ◌≤◌, ◌<◌, ◌^◌, ℕ, Option, Err, IfOk, IfErr, OnOk};
+ghost use Rattle.std.specs.Prelude.{◌≡◌, ◌+◌, ◌≤◌, ◌<◌, ◌^◌, ℕ, Option, Err, IfOk, IfErr, OnOk};
 ghost use Rattle.flow_edges.specs.Faults.{Rose};
 ghost use Rattle.pattern_grammar.specs.FirstForm.{FirstForm, form_of, pattern_of};
 ghost use Rattle.match_run.specs.Matching.{AnswersMatch, ListsWhole};
@@ -23,6 +23,8 @@ fn take_line<O: Sink>(
     requires bindings { tally.old.bindings < 2 ^ 63 }
 
     ensures row { OnOk result (AddsRow (form_of comparison.entry) tally.old tally.new line.now.bytes (O.written output.old) (O.written output.new)) }
+    ensures counted { OnOk result (tally.new.observations ≡ tally.old.observations + 1) }
+    ensures bound { OnOk result (tally.new.bindings ≤ tally.old.bindings + 1) }
     ensures end { IfErr result (EndsInLine tally.old.last_time line.now.number line.now.bytes (O.written output.old) (O.written output.new)) }
     ensures failed { result ≡ Err MatchEnd.WriteFault → Rose (O.faults output.old) (O.faults output.new) }
     ensures later { O.faults output.old ≤ O.faults output.new }

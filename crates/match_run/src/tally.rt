@@ -1,4 +1,4 @@
-ghost use Rattle.std.specs.Prelude.{◌<◌, ◌^◌, ◌++◌, [], ◌∷◌, List};
+ghost use Rattle.std.specs.Prelude.{◌≡◌, ◌+◌, ◌<◌, ◌≤◌, ◌^◌, ◌++◌, [], ◌∷◌, List};
 
 use crate::observation::Observation;
 use stix_times::Instant;
@@ -36,7 +36,9 @@ impl Tally {
     pub fn count(&mut self, seen: &Observation)
         requires observations { self.old.observations < 2 ^ 63 }
         requires bindings { self.old.bindings < 2 ^ 63 }
-        ensures { (rows : List Row) → IsTally self.old rows
+        ensures observations { self.new.observations ≡ self.old.observations + 1 }
+        ensures bindings { self.new.bindings ≤ self.old.bindings + 1 }
+        ensures rows { (rows : List Row) → IsTally self.old rows
             → IsTally self.new (rows ++ record { time = seen.now.time; holds = seen.now.holds } ∷ []) }
     {
         self.last_time = Some(seen.time);

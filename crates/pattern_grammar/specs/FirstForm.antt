@@ -1,5 +1,5 @@
--- The first form of a pattern: one comparison expression (STIX 2.1, section 9.2) of one property with one text, in the
--- brackets of an observation expression (section 9.1), as [user-account:account_login = 'a'].
+-- The first form of a pattern: one comparison expression (STIX 2.1, section 9.6) of one property with one text, in the
+-- brackets of an observation expression (section 9.5), as [user-account:account_login = 'a'].
 use Rattle.std.specs.Prelude.{◌≡◌, ◌≢◌, ℕ, ◌≤◌, ◌⊎◌, List, [], ◌∷◌, ◌++◌, All, codes, length, false}
 use Rattle.pattern_grammar.specs.Word.{IsWord, IsHyphenWord}
 use Rattle.pattern_grammar.specs.declared.pattern.Pattern.{Pattern}

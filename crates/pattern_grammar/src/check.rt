@@ -1,7 +1,7 @@
 use crate::Constant;
 use flow_edges::{Items, Text};
 
-/// What a test asks of a value: a comparison operator with its constants (STIX 2.1, section 9.2.1).
+/// What a test asks of a value: a comparison operator with its constants (STIX 2.1, section 9.6.1).
 #[derive(Debug, Drop)]
 pub enum Check {
     /// `=`: the value equals the constant.

@@ -40,6 +40,8 @@ impl Comparison<'_> {
 /// for every other pattern. Takes no memory.
 pub fn first_form(pattern: &Pattern) -> Option<Comparison<'_>>
     ensures some { IfSome result (λ comparison. pattern.now ≡ pattern_of (form_of comparison)) }
+    ensures only { IfSome result (λ comparison. (form : FirstForm)
+        → pattern.now ≡ pattern_of form → form ≡ form_of comparison) }
     ensures none { IfNone result ((form : FirstForm) → pattern.now ≢ pattern_of form) }
 {
     let Pattern::Leaf(Leaf::Test(test)) = pattern else {

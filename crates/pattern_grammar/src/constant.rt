@@ -6,7 +6,8 @@ use stix_times::Instant;
 pub enum Constant {
     /// An integer, as `5`.
     Whole(i64),
-    /// A text, as `'a'`, without its quotes and with no backslash before another character.
+    /// A text, as `'a'`: its characters without the quotes, and `'` and `\` without the backslash that
+    /// is written before them.
     Words(Text),
     /// `true` or `false`.
     Truth(bool),

@@ -1,7 +1,7 @@
 use crate::{Check, Path};
 use flow_edges::Items;
 
-/// What stands in the brackets of a pattern: tests, joined by `AND` and `OR` (STIX 2.1, section 9.2).
+/// What stands in the brackets of a pattern: tests, joined by `AND` and `OR` (STIX 2.1, section 9.6).
 #[derive(Debug, Drop)]
 pub enum Leaf {
     /// One test.

@@ -1,6 +1,6 @@
 use flow_edges::{Items, Text};
 
-/// An object path (STIX 2.1, section 9.3): an object's type, and the steps from the object to the
+/// An object path (STIX 2.1, section 9.7): an object's type, and the steps from the object to the
 /// values.
 #[derive(Debug, Drop)]
 pub struct Path {

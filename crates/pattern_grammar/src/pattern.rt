@@ -1,8 +1,8 @@
 use crate::Leaf;
 use stix_times::Instant;
 
-/// A pattern (STIX 2.1, section 9.1): leaves, joined by the operators on observations and limited by
-/// qualifiers. Parentheses make no node.
+/// A pattern (STIX 2.1, sections 9.3 to 9.5): leaves, joined by the operators on observations and
+/// limited by qualifiers. Parentheses make no node.
 #[derive(Debug, Drop)]
 pub enum Pattern {
     /// `[ .. ]`: one observation meets the comparison.

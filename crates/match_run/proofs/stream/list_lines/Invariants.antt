@@ -9,7 +9,7 @@ invariant-lines g l = record {
   unrefused : l.lines.refusal ≡ None;
   so_far : ReadsSoFar (form_of l.comparison) l.tally (option_map lines_of (g.I.Source.left l.fn.input)) (told_ahead l.lines (g.I.Source.left l.input)) (g.O.Sink.written l.fn.output) (g.O.Sink.written l.output);
   numbered : l.tally.observations ≤ l.lines.given;
-  counted : l.tally.bindings ≤ l.tally.observations;
+  counted : l.tally.bindings ≤ l.lines.given;
   within : l.lines.given ≤ 1099511627776;
   read_later : g.I.Source.faults l.fn.input ≤ g.I.Source.faults l.input;
   write_later : g.O.Sink.faults l.fn.output ≤ g.O.Sink.faults l.output;

@@ -4,8 +4,8 @@ use Rattle.match_run.specs.Listing.{Row, holding, last_or_zero}
 use Rattle.match_run.proofs.RowLemmas.{holding-append, number_of, last_or_zero-append, last_time-append}
 use Rattle.match_run.proofs.tally.Tally.count.Goals as goal
 
-pub returns-then-seen : goal.returns-then-seen
-returns-then-seen c rows is =
+pub returns-then-seen-clause-rows : goal.returns-then-seen-clause-rows
+returns-then-seen-clause-rows c rows is =
     let row : Row = record { time = c.args.seen.now.time; holds = c.args.seen.now.holds } in
     let holds : holding (rows ++ row ∷ []) ≡ holding rows ++ (length rows + 1) ∷ [] = holding-append rows row ∙ ap (λ (b : _). holding rows ++ (if b then (length rows + 1) ∷ [] else [])) c.if-seen.true in
     record {
@@ -15,8 +15,8 @@ returns-then-seen c rows is =
       last = ap (λ n. n + 1) is.observations ∙ sym (ap last_or_zero holds ∙ last_or_zero-append (holding rows) (length rows + 1));
     }
 
-pub returns-else-seen : goal.returns-else-seen
-returns-else-seen c rows is =
+pub returns-else-seen-clause-rows : goal.returns-else-seen-clause-rows
+returns-else-seen-clause-rows c rows is =
     let row : Row = record { time = c.args.seen.now.time; holds = c.args.seen.now.holds } in
     let holds : holding (rows ++ row ∷ []) ≡ holding rows = holding-append rows row ∙ ap (λ (b : _). holding rows ++ (if b then (length rows + 1) ∷ [] else [])) c.if-seen.false ∙ append-nil (holding rows) in
     record {
