@@ -1,8 +1,9 @@
 -- Bytes that are written piece by piece: what is done, and what is left to do.
-use Rattle.std.proofs.Common.{◌≡◌, ℕ, ◌≤◌, ◌<◌, List, [], ◌∷◌, ◌++◌, Option, Some, None, length, take, drop, refl, sym, ap, ◌∙◌, arith, append_assoc, length-append, length-drop, ◌-◌}
-use Rattle.std.proofs.lemmas.List.{append-nil, take-append-drop}
-use Rattle.std.proofs.Math.Seq.{take-append_seam, take-length}
-use Rattle.flow_edges.specs.Flow.{written_with, WritesPrefix}
+use Rattle.std.proofs.Common.{◌≡◌, ℕ, ◌≤◌, ◌<◌, List, [], ◌∷◌, ◌++◌, Option, Some, None, length, take, drop, refl, sym, ap, ◌∙◌, arith, append_assoc, length-append, length-drop, ◌-◌, ◌+◌, get_or, add-one, Bor}
+use Rattle.std.proofs.lemmas.List.{append-nil, take-append-drop, take-append-le}
+use Rattle.std.proofs.lemmas.Grind.{flat_map-append}
+use Rattle.std.proofs.Math.Seq.{take-append_seam, take-length, take-append-add, take-suc}
+use Rattle.flow_edges.specs.Flow.{written_with, WritesPrefix, joined}
 
 pub written_with-written_with : (a b : List ℕ) (w : Option (List ℕ)) → written_with b (written_with a w) ≡ written_with (a ++ b) w
 written_with-written_with a b None = refl
@@ -46,3 +47,32 @@ part_way-prefix all rest before now later way same = (
   omega (arith, ap length way.cut, length-append way.done rest),
   same ∙ way.written ∙ ap (λ done. written_with done before) (sym (ap (take (length way.done)) way.cut ∙ take-append_seam way.done rest)),
 )
+
+-- ---- several pieces
+
+pub joined-step : (pieces : List (Bor (List ℕ))) (i : ℕ) (d : Bor (List ℕ)) → i < length pieces → joined (take (i + 1) pieces) ≡ joined (take i pieces) ++ (get_or pieces i d).now
+joined-step pieces i d within =
+    ap (λ k. joined (take k pieces)) (add-one i) ∙ ap joined (take-suc pieces i d within)
+    ∙ flat_map-append (λ (p : Bor (List ℕ)). p.now) (take i pieces) (get_or pieces i d ∷ [])
+    ∙ ap (λ last. joined (take i pieces) ++ last) (append-nil (get_or pieces i d).now)
+
+pub joined-split : (pieces : List (Bor (List ℕ))) (i : ℕ) → joined pieces ≡ joined (take i pieces) ++ joined (drop i pieces)
+joined-split pieces i = ap joined (sym (take-append-drop i pieces)) ∙ flat_map-append (λ (p : Bor (List ℕ)). p.now) (take i pieces) (drop i pieces)
+
+-- a prefix of a piece after the pieces before it is a prefix of all
+pub prefix-joined : (pieces : List (Bor (List ℕ))) (i : ℕ) (d : Bor (List ℕ)) (before mid now : Option (List ℕ)) → i < length pieces
+    → mid ≡ written_with (joined (take i pieces)) before → WritesPrefix (get_or pieces i d).now mid now → WritesPrefix (joined pieces) before now
+prefix-joined pieces i d before mid now within done prefix =
+    let piece = (get_or pieces i d).now in
+    let front = joined (take i pieces) in
+    let back = joined (drop (i + 1) pieces) in
+    let split : joined pieces ≡ front ++ (piece ++ back) =
+      joined-split pieces (i + 1) ∙ ap (λ some. some ++ back) (joined-step pieces i d within) ∙ append_assoc front piece back in
+    let n = prefix.0 in
+    let cut : take (length front + n) (joined pieces) ≡ front ++ take n piece =
+      ap (take (length front + n)) split ∙ take-append-add front (piece ++ back) n ∙ ap (λ some. front ++ some) (take-append-le n piece back prefix.1) in
+    (
+      length front + n,
+      omega (arith, ap length split, length-append front (piece ++ back), length-append piece back, prefix.1),
+      prefix.2 ∙ ap (λ w. written_with (take n piece) w) done ∙ written_with-written_with front (take n piece) before ∙ ap (λ some. written_with some before) (sym cut),
+    )

@@ -1,6 +1,7 @@
 -- Bytes that come from a source and go to a sink. What is left and what is written is told by some objects alone: `None` claims nothing.
-use Rattle.std.specs.Prelude.{◌≡◌, ℕ, ◌≤◌, ◌<◌, List, [], ◌++◌, length, take, drop, Option, option_map, IfSome, IfOk, OnOk, OnErr, Result, Ok}
-use Rattle.flow_edges.specs.Faults.{Causes}
+use Rattle.std.specs.Prelude.{◌≡◌, ℕ, ◌≤◌, ◌<◌, List, [], ◌++◌, length, take, drop, Option, option_map, IfSome}
+use Rattle.std.specs.Borrow.{Bor}
+use Rattle.std.specs.List.{flat_map}
 
 -- the bytes that are left after n of them were taken
 abbrev pub left_after : ℕ → Option (List ℕ) → Option (List ℕ)
@@ -21,3 +22,7 @@ IsAtEnd left = IfSome left (λ bytes. bytes ≡ [])
 -- a prefix of the bytes was written after what was there
 abbrev pub WritesPrefix : List ℕ → Option (List ℕ) → Option (List ℕ) → Type 0
 WritesPrefix bytes before now = (n : ℕ) × (n ≤ length bytes) × (now ≡ written_with (take n bytes) before)
+
+-- some pieces of bytes, one after the other
+abbrev pub joined : List (Bor (List ℕ)) → List ℕ
+joined pieces = flat_map (λ piece. piece.now) pieces

@@ -3,3 +3,4 @@ pub mod Reading
 pub mod Listing
 pub mod Matching
 pub mod TallyOf
+pub mod Texts

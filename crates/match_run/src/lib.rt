@@ -7,10 +7,12 @@
 
 mod end;
 mod observation;
+mod refusal_text;
 mod refused;
 mod rows;
 mod stream;
 mod tally;
 
 pub use end::{InputRule, MatchEnd, Mode};
+pub use refusal_text::write_input_refusal;
 pub use stream::match_stream;
