@@ -4,7 +4,7 @@ ghost use Rattle.flow_edges.specs.Flow.{written_with, WritesPrefix};
 ghost use Rattle.match_run.specs.Texts.{rule_text, input_refusal_text};
 
 use crate::InputRule;
-use flow_edges::{Fault, Sink, write_whole};
+use flow_edges::{Fault, Sink, write_pieces};
 use itoa::Buffer;
 
 /// The name of a rule.
@@ -24,9 +24,7 @@ pub fn write_input_refusal<S: Sink>(line: u64, rule: &InputRule, sink: &mut S) -
     ensures causes { Causes (S.faults sink.old) (S.faults sink.new) result }
 {
     let mut buffer = Buffer::new();
-    write_whole(sink, b"line ")?;
-    write_whole(sink, buffer.format(line).as_bytes())?;
-    write_whole(sink, b" refused: ")?;
-    write_whole(sink, rule_name(rule).as_bytes())?;
-    write_whole(sink, b"\n")
+    let number = buffer.format(line).as_bytes();
+    let name = rule_name(rule).as_bytes();
+    write_pieces(sink, &[b"line ", number, b" refused: ", name, b"\n"])
 }
