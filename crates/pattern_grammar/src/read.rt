@@ -13,6 +13,7 @@ const LONGEST: usize = 65_536;
 pub fn read_pattern(alloc: Global, text: &str) -> Result<Pattern, PatternRefusal>
     ensures ok { IfOk result (λ pattern. (form : FirstForm) × Spells text.now form × (pattern ≡ pattern_of form)) }
     ensures not_yet { (result ≡ Err PatternRefusal.NotYet) ↔ ((form : FirstForm) → ¬ (Spells text.now form)) }
+    ensures memory { result ≡ Err PatternRefusal.NoMemory → (form : FirstForm) × Spells text.now form }
 {
     match spelled(text) {
         Some(comparison) => Ok(comparison.to_pattern(alloc)?),

@@ -1,0 +1,2 @@
+pub mod TwoWords
+pub mod Endings

@@ -1,0 +1,10 @@
+-- Two words.
+use Rattle.std.proofs.Common.{◌≡◌, ℕ, List, [], ◌∷◌, length, get_or, arith, refl, ap, ◌∙◌, String, string_bytes}
+use Rattle.std.specs.declared.alloc.Global.{Global}
+use Rattle.stix_command.specs.CommandLine.{texts}
+
+pub two_texts : (words : List (String Global)) (a b : String Global) → length words ≡ 2 → a ≡ get_or words 0 a → b ≡ get_or words 1 b → texts words ≡ string_bytes a ∷ string_bytes b ∷ []
+two_texts [] a b two first second = cc
+two_texts (x ∷ []) a b two first second = absurd (omega arith)
+two_texts (x ∷ y ∷ []) a b two first second = cc
+two_texts (x ∷ y ∷ z ∷ zs) a b two first second = absurd (omega arith)

@@ -1,0 +1,16 @@
+-- The command lines of the program.
+use Rattle.std.specs.Prelude.{◌≡◌, ◌≢◌, ◌⊎◌, ℕ, List, [], ◌∷◌, Some, slice_get, map, codes, String, string_bytes}
+use Rattle.std.specs.declared.alloc.Global.{Global}
+
+-- the texts of the words
+abbrev pub texts : List (String Global) → List (List ℕ)
+texts words = map string_bytes words
+
+-- a word that is no option: `-` itself, or one that doesn't begin with `-`
+abbrev pub IsPosition : List ℕ → Type 0
+IsPosition word = (word ≡ codes "-") ⊎ (slice_get word 0 ≢ Some 45)
+
+-- match PATTERN
+pub record IsMatchLine (words : List (List ℕ)) (pattern : List ℕ) : Type 0 where
+  pub line : words ≡ codes "match" ∷ pattern ∷ []
+  pub position : IsPosition pattern

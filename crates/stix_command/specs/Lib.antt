@@ -1,0 +1,4 @@
+pub mod CommandLine
+pub mod Ends
+pub mod Matches
+pub mod Runs

@@ -1,0 +1,58 @@
+ghost use Rattle.std.specs.Prelude.{◌≡◌, ◌↔◌};
+ghost use Rattle.flow_edges.specs.Faults.{Rose};
+ghost use Rattle.stix_command.specs.CommandLine.{texts};
+ghost use Rattle.stix_command.specs.Runs.{IsNoCommand, RefusesPattern, EndsRun, Ends};
+
+use crate::command::match_pattern;
+use crate::ending::Ending;
+use crate::matching::match_lines;
+use flow_edges::{Sink, Source};
+use std::alloc::Global;
+
+/// Does what the words ask for.
+fn obey<I: Source, O: Sink>(
+    alloc: Global,
+    words: &[String],
+    input: &mut I,
+    output: &mut O,
+) -> Ending
+    ensures end { EndsRun (texts words.now) (I.left input.old) (I.left input.new) (O.written output.old) (O.written output.new) result }
+    ensures read_failed { result ≡ Ending.ReadFault → Rose (I.faults input.old) (I.faults input.new) }
+    ensures write_failed { result ≡ Ending.WriteFault → Rose (O.faults output.old) (O.faults output.new) }
+{
+    match match_pattern(words) {
+        Some(pattern) => match_lines(alloc, pattern, input, output),
+        None => Ending::Usage,
+    }
+}
+
+/// The program: does what the words after its name ask for, and answers its status.
+///
+/// | Status | Comes |
+/// |---|---|
+/// | 0 | the input was read to its end, and the whole listing was written |
+/// | 1 | memory ran out |
+/// | 2 | exactly where the words are no command line |
+/// | 3 | exactly where the pattern is refused |
+/// | 4 | where a line is refused, the first such one |
+/// | 5, 6 | only where the input, the output counted a fault |
+///
+/// `faults` is told the reason in one line. A failing write there changes nothing else.
+pub fn run<I: Source, O: Sink, E: Sink>(
+    alloc: Global,
+    words: &[String],
+    input: &mut I,
+    output: &mut O,
+    faults: &mut E,
+) -> u8
+    ensures ends { Ends (texts words.now) (I.left input.old) (I.left input.new) (O.written output.old) (O.written output.new)
+        (E.written faults.old) (E.written faults.new) (E.faults faults.old) (E.faults faults.new) result }
+    ensures usage { (result ≡ 2) ↔ IsNoCommand (texts words.now) }
+    ensures pattern { (result ≡ 3) ↔ RefusesPattern (texts words.now) }
+    ensures read_fault { result ≡ 5 → Rose (I.faults input.old) (I.faults input.new) }
+    ensures write_fault { result ≡ 6 → Rose (O.faults output.old) (O.faults output.new) }
+{
+    let ending = obey(alloc, words, input, output);
+    let _ = ending.write_text(faults);
+    ending.status()
+}
