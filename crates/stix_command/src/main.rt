@@ -5,6 +5,8 @@ mod command;
 mod ending;
 mod matching;
 mod run;
+#[cfg(test)]
+mod tests;
 
 use flow_edges::{ReadSource, WriteSink};
 use std::alloc::Global;

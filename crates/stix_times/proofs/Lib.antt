@@ -4,3 +4,6 @@ pub mod PrefixLemmas
 pub mod FractionLemmas
 pub mod DayLemmas
 pub mod ReadingLemmas
+pub mod CivilLemmas
+pub mod WritingLemmas
+pub mod LawLemmas

@@ -1,11 +1,10 @@
 -- The prefixes that begin a text of the shape are those whose bytes fit their places: any such prefix
 -- goes on to a whole text. So where the bytes stop to fit is where a refusal points.
-use Rattle.std.proofs.Common.{◌≡◌, ◌≢◌, ℕ, zero, suc, ◌+◌, ◌-◌, ◌<◌, ◌≤◌, ◌⊎◌, inl, inr, ⊎_elim, Bool, true, false, cond, List, [], ◌∷◌, ◌++◌, length, take, drop, refl, sym, ap, ◌∙◌, subst, arith, below_more, below_none, length-append, length-drop, length-take}
+use Rattle.std.proofs.Common.{◌≡◌, ℕ, ◌+◌, ◌<◌, ◌≤◌, ⊎_elim, List, [], ◌∷◌, ◌++◌, length, take, drop, refl, sym, ◌∙◌, subst, arith, below_more, below_none, length-append, length-drop}
 use Rattle.std.proofs.lemmas.Bool.Decides.{nat_tests}
 use Rattle.std.proofs.lemmas.Bool.{cases_lt, cases_eq}
-use Rattle.std.proofs.lemmas.List.{take-append-drop, take_all}
-use Rattle.std.specs.Char.{IsAsciiDigit}
-use Rattle.stix_times.specs.Timestamp.{Timestamp, Spells, HasShape, BeginsShape}
+use Rattle.std.proofs.lemmas.List.{take_all}
+use Rattle.stix_times.specs.Timestamp.{Spells, HasShape, BeginsShape}
 use Rattle.stix_times.specs.Places.{fits, bounds_at, fits_fraction, fitting_end, parts_at}
 use Rattle.stix_times.specs.Reading.{IsLongestShapePrefix}
 use Rattle.stix_times.proofs.PlaceLemmas.{AllFit, AllFit-front, AllFit-append, AllFit-take, fitting_end-longest, fitting_end-le, last_or}

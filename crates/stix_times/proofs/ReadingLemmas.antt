@@ -1,9 +1,9 @@
 -- A text reads in one way: it names one instant, or has one refusal with one place.
-use Rattle.std.proofs.Common.{◌≡◌, ℕ, ◌<◌, ◌≤◌, List, length, Result, Ok, Err, IfOk, IfErr, ℤ, pos, refl, sym, ap, ◌∙◌, subst, arith}
+use Rattle.std.proofs.Common.{◌≡◌, ℕ, List, length, Result, Ok, Err, IfOk, IfErr, ℤ, refl, sym, ap, ◌∙◌, subst, arith}
 use Rattle.stix_times.specs.declared.refusal.TimeRefusal.{TimeRefusal}
 use Rattle.stix_times.specs.declared.refusal.TimeRefusal.TheVariants.{Shape, NoSuchDay, TooFine, NotMillis}
-use Rattle.stix_times.specs.Timestamp.{Timestamp, Spells, HasDay, HasShape, nanos_of}
-use Rattle.stix_times.specs.Reading.{IsExact, HasMillis, HasShapeWhere, IsLongestShapePrefix, IsTextOf, IsMillisTextOf, IsRefused, IsRefusedMillis, Reads, ReadsMillis}
+use Rattle.stix_times.specs.Timestamp.{Timestamp, Spells, HasDay, nanos_of}
+use Rattle.stix_times.specs.Reading.{IsExact, HasMillis, IsLongestShapePrefix, IsRefused, IsRefusedMillis, Reads, ReadsMillis}
 use Rattle.stix_times.specs.Parts.{Names, IsTimestampRefusal}
 use Rattle.stix_times.proofs.ShapeLemmas.{one_timestamp}
 

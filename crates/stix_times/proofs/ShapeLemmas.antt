@@ -1,13 +1,13 @@
 -- The shape by its parts is the shape by its places: a text of the shape has each byte in its place,
 -- and bytes that fit up to a last `Z` spell the parts that stand at the places.
-use Rattle.std.proofs.Common.{◌≡◌, ◌≢◌, ℕ, zero, suc, cond, subst, below_more, below_none, length-append, ◌+◌, ◌-◌, ◌*◌, ◌/◌, ◌%◌, ◌<◌, ◌≤◌, Bool, true, false, List, [], ◌∷◌, ◌++◌, length, take, drop, get_or, All, refl, sym, ap, ◌∙◌, arith}
+use Rattle.std.proofs.Common.{◌≡◌, ◌≢◌, ℕ, zero, suc, subst, length-append, ◌+◌, ◌-◌, ◌*◌, ◌/◌, ◌%◌, ◌<◌, ◌≤◌, true, List, [], ◌∷◌, ◌++◌, length, take, drop, get_or, All, refl, sym, ap, ◌∙◌, arith}
 use Rattle.std.specs.Char.{IsAsciiDigit}
 use Rattle.std.specs.Int.{IsInRange}
 use Rattle.std.proofs.lemmas.Bool.Decides.{nat_tests}
-use Rattle.std.proofs.lemmas.List.{take_at, append_assoc}
-use Rattle.stix_times.specs.Timestamp.{Timestamp, IsShaped, Spells, HasShape, BeginsShape, text_of, two_digits, fraction_text}
+use Rattle.std.proofs.lemmas.List.{take_at}
+use Rattle.stix_times.specs.Timestamp.{Timestamp, IsShaped, Spells, text_of, two_digits, fraction_text}
 use Rattle.stix_times.specs.Places.{fits, bounds_at, fits_fraction, parts_at, AreDigits}
-use Rattle.stix_times.proofs.PlaceLemmas.{AllFit, AllFit-front, AllFit-append, AllFit-take, fitting_end-longest, fitting_end-le, last_or}
+use Rattle.stix_times.proofs.PlaceLemmas.{AllFit, last_or}
 
 year_fits : (y b : ℕ) → y < 10000 → (fits 0 b (48 + y / 100 / 10) ≡ true) × (fits 1 (48 + y / 100 / 10) (48 + (y / 100) % 10) ≡ true)
     × (fits 2 (48 + (y / 100) % 10) (48 + (y % 100) / 10) ≡ true) × (fits 3 (48 + (y % 100) / 10) (48 + (y % 100) % 10) ≡ true)
@@ -34,7 +34,7 @@ second_fits : (m : ℕ) → m < 60 → (fits 17 58 (48 + m / 10) ≡ true) × (f
 unfolding fits bounds_at
 second_fits m l = (grind (arith, nat_tests), grind (arith, nat_tests))
 
-all_cons : (x : ℕ) (xs : List ℕ) → IsAsciiDigit x → All IsAsciiDigit xs → All IsAsciiDigit (x ∷ xs)
+pub all_cons : (x : ℕ) (xs : List ℕ) → IsAsciiDigit x → All IsAsciiDigit xs → All IsAsciiDigit (x ∷ xs)
 all_cons x xs p all zero d l = p
 all_cons x xs p all (suc k) d l = all k d (omega arith)
 
@@ -251,7 +251,7 @@ last_or-append before (x ∷ xs) z = last_or-append x xs z
 fraction_part : (ds : List ℕ) (n : ℕ) → n ≡ length (fraction_text ds ++ 90 ∷ []) - 2 → take n (drop 1 (fraction_text ds ++ 90 ∷ [])) ≡ ds
 fraction_part ds n e = ap (λ v. take v (drop 1 (fraction_text ds ++ 90 ∷ []))) e ∙ fraction_place ds
 
-same_parts : (t u : Timestamp) → t.year ≡ u.year → t.month ≡ u.month → t.day ≡ u.day → t.hour ≡ u.hour → t.minute ≡ u.minute → t.second ≡ u.second → t.fraction ≡ u.fraction → t ≡ u
+pub same_parts : (t u : Timestamp) → t.year ≡ u.year → t.month ≡ u.month → t.day ≡ u.day → t.hour ≡ u.hour → t.minute ≡ u.minute → t.second ≡ u.second → t.fraction ≡ u.fraction → t ≡ u
 same_parts t u a b c d e f g =
     λ i. record { year = a i; month = b i; day = c i; hour = d i; minute = e i; second = f i; fraction = g i }
 
@@ -269,7 +269,7 @@ pub length-fraction : (t : Timestamp) → length t.fraction ≡ length (text_of 
 unfolding text_of
 length-fraction t = (elim (t.fraction) as (λ v. length v ≡ 19 + length (fraction_text v ++ 90 ∷ []) - 21) [ [] ↦ refl | d ∷ ds ↦ omega (arith, length-append ds (90 ∷ [])) ]) ∙ omega arith
 
-text_of_long : (t : Timestamp) → 20 ≤ length (text_of t)
+pub text_of_long : (t : Timestamp) → 20 ≤ length (text_of t)
 unfolding text_of
 text_of_long t = omega (arith, length-append (fraction_text t.fraction) (90 ∷ []))
 

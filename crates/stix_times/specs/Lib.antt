@@ -3,3 +3,6 @@ pub mod Instant
 pub mod Reading
 pub mod Places
 pub mod Parts
+pub mod Digits
+pub mod Civil
+pub mod Writing

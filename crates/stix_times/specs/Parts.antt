@@ -1,5 +1,5 @@
 -- The parts that reading a text of the shape finds, and which instant they name.
-use Rattle.std.specs.Prelude.{◌≡◌, ℕ, ◌<◌, ℤ, length}
+use Rattle.std.specs.Prelude.{◌≡◌, ◌<◌, ℤ, length}
 use Rattle.stix_times.specs.declared.parts.Parts.{Parts}
 use Rattle.stix_times.specs.declared.refusal.TimeRefusal.{TimeRefusal}
 use Rattle.stix_times.specs.declared.refusal.TimeRefusal.TheVariants.{Shape, NoSuchDay, TooFine, NotMillis}

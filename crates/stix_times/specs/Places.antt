@@ -1,6 +1,6 @@
--- The shape byte by byte: which byte may stand at a place, after which byte. That this is the shape
--- of specs/Timestamp.antt is proved in proofs/PlaceLemmas.antt.
-use Rattle.std.specs.Prelude.{◌≡◌, ℕ, zero, suc, ◌+◌, ◌-◌, ◌*◌, ◌≤◌, Bool, false, ◌||◌, ◌&&◌, ◌==◌, nat_lt, if◌then◌else◌, IsTrue, List, [], ◌∷◌, length, take, drop, slice_index}
+-- The shape of specs/Timestamp.antt byte by byte: which byte may stand at a place, after which byte.
+-- That the two are the same is proved in proofs/ShapeLemmas.antt and proofs/PrefixLemmas.antt.
+use Rattle.std.specs.Prelude.{ℕ, ◌+◌, ◌-◌, ◌*◌, Bool, false, ◌||◌, ◌==◌, nat_lt, if◌then◌else◌, List, [], ◌∷◌, length, take, drop, slice_index}
 use Rattle.std.specs.Char.{IsAsciiDigit}
 use Rattle.std.specs.Int.{is_in_range}
 use Rattle.stix_times.specs.Timestamp.{Timestamp}

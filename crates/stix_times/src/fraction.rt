@@ -1,4 +1,4 @@
-ghost use Rattle.std.specs.Prelude.{◌≡◌, ◌<◌, ◌≤◌, length, All};
+ghost use Rattle.std.specs.Prelude.{◌≡◌, ◌%◌, ◌^◌, ◌<◌, ◌≤◌, length, All};
 ghost use Rattle.std.specs.Char.{IsAsciiDigit};
 ghost use Rattle.stix_times.specs.Timestamp.{fraction_nanos};
 
@@ -14,4 +14,42 @@ pub(crate) fn nanos_of_fraction(digits: &[u8]) -> u64
         value = 10 * value + u64::from(*digit - b'0');
     }
     value * 10u64.pow(9 - digits.len() as u32)
+}
+
+/// A fraction to be written: the number that its digits write, and how many they are.
+#[derive(Clone, Copy)]
+pub(crate) struct Fraction {
+    pub(crate) value: u32,
+    pub(crate) digits: usize,
+    ghost few: { digits ≤ 9 },
+    ghost fits: { value < 10 ^ digits },
+}
+
+impl Fraction {
+    ghost use Rattle.std.specs.Prelude.{◌*◌, ◌-◌, ◌≢◌};
+
+    /// The fraction that writes the number with that many digits.
+    pub(crate) fn new(value: u32, digits: usize) -> Fraction
+        requires few { digits ≤ 9 }
+        requires fits { value < 10 ^ digits }
+        ensures value { result.value ≡ value }
+        ensures digits { result.digits ≡ digits }
+    {
+        Fraction { value, digits }
+    }
+
+    /// The fraction of that many nanoseconds with the fewest digits.
+    pub(crate) fn shortest(nanosecond: u32) -> Fraction
+        requires { nanosecond < 1_000_000_000 }
+        ensures value { result.value * 10 ^ (9 - result.digits) ≡ nanosecond }
+        ensures shortest { 0 < result.digits → result.value % 10 ≢ 0 }
+    {
+        let mut value = nanosecond;
+        let mut digits = 9;
+        while digits > 0 && value % 10 == 0 {
+            value /= 10;
+            digits -= 1;
+        }
+        Fraction { value, digits }
+    }
 }

@@ -22,6 +22,8 @@ impl Model for Instant {
     ghost inverse = { λ z. record { nanos = z } };
 }
 
+pub(crate) const NANOS_PER_SECOND: u64 = 1_000_000_000;
+
 const FIRST: i128 = -62_167_219_200_000_000_000;
 
 const LAST: i128 = 253_402_300_799_999_999_999;
@@ -38,7 +40,8 @@ impl Instant {
 
 /// The nanoseconds from 1970-01-01T00:00:00Z to the instant, negative before it.
 pub fn nanos(instant: Instant) -> i128
-    ensures { result ≡ instant }
+    ensures value { result ≡ instant }
+    ensures range { IsInstant instant }
 {
     instant.nanos
 }

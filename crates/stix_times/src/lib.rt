@@ -3,13 +3,20 @@
 //! canonical text. Nothing here takes memory.
 #![tactic(auto)]
 
+mod civil;
 mod fraction;
 mod instant;
+pub mod laws;
+mod line;
 mod parts;
 mod places;
 mod reading;
 mod refusal;
+#[cfg(test)]
+mod tests;
+mod writing;
 
 pub use instant::{Instant, from_micros, from_nanos, nanos};
 pub use reading::{read, read_millis};
 pub use refusal::TimeRefusal;
+pub use writing::{write, write_micros, write_millis};

@@ -7,11 +7,10 @@ ghost use Rattle.stix_times.specs.Reading.{IsRefused, HasMillis};
 ghost use Rattle.stix_times.specs.Parts.{timestamp_of, IsTimestampRefusal, Names};
 
 use crate::fraction::nanos_of_fraction;
+use crate::instant::NANOS_PER_SECOND;
 use crate::places::fitting_length;
 use crate::{Instant, TimeRefusal};
 use jiff_core::civil::Date;
-
-const NANOS_PER_SECOND: u64 = 1_000_000_000;
 
 const NANOS_PER_DAY: i128 = 86_400_000_000_000;
 

@@ -9,7 +9,7 @@ returns-clause-some c =
     let name : string_bytes c.index-words-0.result ≡ codes "match" = search rules in
     record {
       line = two_texts c.args.words.now c.index-words-0.result c.index-words-1.result two c.index-words-0.is c.index-words-1.is
-        ∙ ap (λ word. word ∷ string_bytes c.index-words-1.result ∷ []) name
-        ∙ ap (λ pattern. codes "match" ∷ pattern ∷ []) (sym c.as_str-pattern.ensures.value);
+          ∙ ap (λ word. word ∷ string_bytes c.index-words-1.result ∷ []) name
+          ∙ ap (λ pattern. codes "match" ∷ pattern ∷ []) (sym c.as_str-pattern.ensures.value);
       position = c.is_position.ensures.0 c.if-not-is_position.false;
     }

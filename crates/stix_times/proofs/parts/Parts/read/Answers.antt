@@ -1,9 +1,7 @@
 -- The refusal's place is where the bytes stop to fit; what is left has all of them and a last `Z`.
 use Rattle.std.proofs.Common.{◌≡◌, ◌-◌, length, get_or, subst, sym, ◌∙◌, arith}
-use Rattle.stix_times.specs.Timestamp.{Spells, HasShape}
+use Rattle.stix_times.specs.Timestamp.{Spells}
 use Rattle.stix_times.specs.Places.{parts_at}
-use Rattle.stix_times.specs.Parts.{timestamp_of}
-use Rattle.stix_times.proofs.PlaceLemmas.{last_or}
 use Rattle.stix_times.proofs.ShapeLemmas.{last_or-at, digits_of_shape}
 use Rattle.stix_times.proofs.PrefixLemmas.{longest_prefix, shape_from_end, ends_from_shape}
 use Rattle.stix_times.proofs.parts.Parts.read.Goals as goal

@@ -1,0 +1,45 @@
+//! What follows from the definitions: the contracts are the laws, and the functions do next to
+//! nothing.
+
+ghost use Rattle.std.specs.Prelude.{◌≡◌, ◌↔◌, ℕ, ℤ, List, IsTrue, ◌<ℤ◌, ◌≤◌};
+ghost use Rattle.stix_times.specs.Reading.{IsTextOf, IsMillisTextOf};
+ghost use Rattle.stix_times.specs.Writing.{IsCanonicalTextOf, IsTextOfDigits};
+
+use crate::Instant;
+
+/// A text names at most one instant.
+pub fn one_instant()
+    ensures { (text : List ℕ) (first second : ℤ) → IsTextOf text first → IsTextOf text second
+        → first ≡ second }
+{}
+
+/// An instant has at most one canonical text.
+pub fn one_canonical_text()
+    ensures { (instant : ℤ) (first second : List ℕ) → IsCanonicalTextOf first instant
+        → IsCanonicalTextOf second instant → first ≡ second }
+{}
+
+/// An instant has at most one text with a given number of digits of a second.
+pub fn one_text_of_digits()
+    ensures { (digits : ℕ) (instant : ℤ) (first second : List ℕ)
+        → IsTextOfDigits digits first instant → IsTextOfDigits digits second instant
+        → first ≡ second }
+{}
+
+/// What is written reads as the instant that it was written for, and three to six digits also where
+/// so many are asked for.
+pub fn written_reads_back()
+    ensures shortest { (instant : ℤ) (text : List ℕ) → IsCanonicalTextOf text instant
+        → IsTextOf text instant }
+    ensures digits { (digits : ℕ) (instant : ℤ) (text : List ℕ) → IsTextOfDigits digits text instant
+        → IsTextOf text instant }
+    ensures millis { (digits : ℕ) (instant : ℤ) (text : List ℕ) → 3 ≤ digits → digits ≤ 6
+        → IsTextOfDigits digits text instant → IsMillisTextOf text instant }
+{}
+
+/// Instants are ordered as their numbers are.
+pub fn is_before(first: Instant, second: Instant) -> bool
+    ensures { IsTrue result ↔ (first <ℤ second) }
+{
+    first < second
+}
