@@ -1,11 +1,10 @@
 -- What the lines of a log are read as, one line at a time.
-use Rattle.std.proofs.Common.{◌≡◌, ℕ, ℤ, ◌+◌, length, List, [], ◌∷◌, ◌++◌, Option, Some, None, Ok, Err, ◌<◌, ◌≤◌, option_map, IfSome, IsTrue, refl, sym, ap, subst, ◌∙◌, append_assoc}
+use Rattle.std.proofs.Common.{◌≡◌, ℕ, ℤ, ◌+◌, length, List, [], ◌∷◌, ◌++◌, Option, Some, None, Ok, Err, ◌<◌, ◌≤◌, option_map, IfSome, refl, sym, ap, subst, ◌∙◌, append_assoc}
 use Rattle.std.proofs.lemmas.List.{append-nil}
 use Rattle.serde_json.specs.Data.{Data}
 use Rattle.flow_edges.specs.Flow.{written_with}
 use Rattle.flow_edges.specs.Lines.{Lined, ended, refused, line_then, lines_of, LinesState, told_ahead, AnswersLine, GivesLine}
 use Rattle.flow_edges.specs.declared.lines.line.Line.{Line}
-use Rattle.flow_edges.specs.declared.lines.refusal.LineRefusal.TheVariants as LineRefusal
 use Rattle.flow_edges.specs.declared.lines.refusal.LineRefusal.{LineRefusal}
 use Rattle.pattern_grammar.specs.FirstForm.{FirstForm}
 use Rattle.match_run.specs.Listing.{Row, listing_text}
@@ -64,17 +63,17 @@ so_far-row form before after whole ahead later number bytes written written_now 
   rows = far.rows ++ adds.row ∷ [];
   tally_is = adds.tally far.rows far.tally_is;
   reads = λ more ending reads.
-    subst (λ (rows : List Row). ToldReads form None whole rows ending) (sym (append_assoc far.rows (adds.row ∷ []) more))
-    (far.reads (adds.row ∷ more) ending
+      subst (λ (rows : List Row). ToldReads form None whole rows ending) (sym (append_assoc far.rows (adds.row ∷ []) more))
+      (far.reads (adds.row ∷ more) ending
       (subst (λ (ahead : Option Lined). ToldReads form (last_time far.rows) ahead (adds.row ∷ more) ending) (sym next)
-        (told-one_row form (last_time far.rows) number bytes adds.row later more ending
-          (subst (λ (last : Option ℤ). IsRowOf form last bytes adds.row) far.tally_is.time adds.is)
-          (subst (λ (last : Option ℤ). ToldReads form last later more ending) (last_time-append far.rows adds.row) reads))));
+      (told-one_row form (last_time far.rows) number bytes adds.row later more ending
+      (subst (λ (last : Option ℤ). IsRowOf form last bytes adds.row) far.tally_is.time adds.is)
+      (subst (λ (last : Option ℤ). ToldReads form last later more ending) (last_time-append far.rows adds.row) reads))));
   listing =
-    adds.text far.rows far.tally_is
-    ∙ ap (λ w. written_with (row_text (length far.rows + 1) adds.row) w) far.listing
-    ∙ written_with-both (listing_text far.rows) (row_text (length far.rows + 1) adds.row) written
-    ∙ ap (λ text. written_with text written) (sym (listing_text-append far.rows adds.row));
+      adds.text far.rows far.tally_is
+      ∙ ap (λ w. written_with (row_text (length far.rows + 1) adds.row) w) far.listing
+      ∙ written_with-both (listing_text far.rows) (row_text (length far.rows + 1) adds.row) written
+      ∙ ap (λ text. written_with text written) (sym (listing_text-append far.rows adds.row));
 }
 
 pub so_far-end : (form : FirstForm) (tally : Tally) (whole ahead : Option Lined) (written written_now : Option (List ℕ))
@@ -92,9 +91,9 @@ pub so_far-none : (form : FirstForm) (tally : Tally) (whole ahead later : Option
     → RefusesRow tally.last_time bytes written_now written_after → ToldReads form None whole far.rows (Refused number)
 so_far-none form tally whole ahead later number bytes written written_now written_after far next refuses =
     subst (λ (rows : List Row). ToldReads form None whole rows (Refused number)) (append-nil far.rows) (far.reads [] (Refused number)
-      (subst (λ (ahead : Option Lined). ToldReads form (last_time far.rows) ahead [] (Refused number)) (sym next)
-        (told-no_row form (last_time far.rows) number bytes later
-          (subst (λ (last : Option ℤ). (time : ℤ) (object : Data) → ¬ (IsNext last bytes time object)) far.tally_is.time refuses.none))))
+    (subst (λ (ahead : Option Lined). ToldReads form (last_time far.rows) ahead [] (Refused number)) (sym next)
+    (told-no_row form (last_time far.rows) number bytes later
+    (subst (λ (last : Option ℤ). (time : ℤ) (object : Data) → ¬ (IsNext last bytes time object)) far.tally_is.time refuses.none))))
 
 -- what is told of lines is what is told of bytes
 pub told-reading : (form : FirstForm) (left : Option (List ℕ)) (rows : List Row) (ending : Ending) → ToldReads form None (option_map lines_of left) rows ending → ToldReading form left rows ending
@@ -142,7 +141,7 @@ module _ (form : FirstForm) (first : Option (List ℕ)) (tally : Tally) (before 
     ends-in_line (Input line rule) written_after ends = record {
       rows = far.rows;
       reading = subst (λ (n : ℕ). ToldReading form first far.rows (Refused n)) (sym ends.0)
-        (told-reading form first far.rows (Refused l.number) (so_far-none form tally (option_map lines_of first) (told_ahead before left) (told_ahead after left_after) l.number l.bytes written written_now written_after far gives.line ends.1));
+          (told-reading form first far.rows (Refused l.number) (so_far-none form tally (option_map lines_of first) (told_ahead before left) (told_ahead after left_after) l.number l.bytes written written_now written_after far gives.line ends.1));
       listing = ends.1.silent ∙ far.listing;
     }
     ends-in_line ReadFault written_after ends = elim ends [ ]
@@ -151,7 +150,7 @@ module _ (form : FirstForm) (first : Option (List ℕ)) (tally : Tally) (before 
 
     -- a line that is given adds a row
     pub so_far-line : (tally_after : Tally) (written_after : Option (List ℕ)) → AddsRow form tally tally_after l.bytes written_now written_after
-      → ReadsSoFar form tally_after (option_map lines_of first) (told_ahead after left_after) written written_after
+        → ReadsSoFar form tally_after (option_map lines_of first) (told_ahead after left_after) written written_after
     so_far-line tally_after written_after adds = so_far-row form tally tally_after (option_map lines_of first) (told_ahead before left) (told_ahead after left_after) l.number l.bytes written written_now written_after far gives.line adds
 
     pub moved-line : before.given < after.given

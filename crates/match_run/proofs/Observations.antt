@@ -1,5 +1,5 @@
 -- What is no observation: a bundle has one pair of objects, and a line one value.
-use Rattle.std.proofs.Common.{◌≡◌, ℕ, ℤ, List, Option, Some, None, refl, sym, ap, subst, ◌∙◌, IfNone, IfSome}
+use Rattle.std.proofs.Common.{◌≡◌, ℕ, ℤ, List, Option, Some, None, sym, subst, ◌∙◌, IfNone, IfSome}
 use Rattle.serde_json.specs.Data.{Data, array, item, no_items}
 use Rattle.serde_json.specs.Read.{read}
 use Rattle.match_run.specs.Line.{IsBundle, IsObservedAt, IsObservation, IsFirstLine}

@@ -1,5 +1,5 @@
 -- The listing of rows, one row at a time.
-use Rattle.std.proofs.Common.{◌≡◌, ℕ, ℤ, ◌+◌, List, [], ◌∷◌, ◌++◌, length, Bool, true, false, if◌then◌else◌, Option, Some, None, refl, sym, ap, ◌∙◌, arith, append_assoc, add_assoc, add-zero, add_comm}
+use Rattle.std.proofs.Common.{◌≡◌, ℕ, ◌+◌, List, [], ◌∷◌, ◌++◌, length, Bool, true, false, if◌then◌else◌, Some, refl, sym, ap, ◌∙◌, arith, add-zero, add_comm}
 use Rattle.std.proofs.lemmas.List.{append-nil}
 use Rattle.std.specs.List.{flat_map}
 use Rattle.std.proofs.lemmas.Grind.{flat_map-append}
@@ -17,8 +17,8 @@ holding_from-append n (first ∷ rows) row =
     go first.holds later
   where
     go : (holds : Bool) → holding_from (n + 1) (rows ++ row ∷ []) ≡ holding_from (n + 1) rows ++ number_of (n + length (first ∷ rows)) row
-      → (if holds then n ∷ holding_from (n + 1) (rows ++ row ∷ []) else holding_from (n + 1) (rows ++ row ∷ []))
-      ≡ (if holds then n ∷ holding_from (n + 1) rows else holding_from (n + 1) rows) ++ number_of (n + length (first ∷ rows)) row
+        → (if holds then n ∷ holding_from (n + 1) (rows ++ row ∷ []) else holding_from (n + 1) (rows ++ row ∷ []))
+        ≡ (if holds then n ∷ holding_from (n + 1) rows else holding_from (n + 1) rows) ++ number_of (n + length (first ∷ rows)) row
     go true later = ap (λ ns. n ∷ ns) later
     go false later = later
 

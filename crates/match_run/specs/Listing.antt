@@ -1,5 +1,5 @@
 -- What is written for a log: one line for each observation that holds.
-use Rattle.std.specs.Prelude.{ℕ, ◌+◌, ℤ, List, [], ◌∷◌, ◌++◌, length, Bool, if◌then◌else◌, codes, decimal}
+use Rattle.std.specs.Prelude.{ℕ, ◌+◌, ℤ, List, [], ◌∷◌, ◌++◌, Bool, if◌then◌else◌, codes, decimal}
 use Rattle.std.specs.List.{flat_map}
 
 -- an observation of a log: its time, and whether the bracket holds

@@ -1,5 +1,5 @@
 -- What a run over a log has done, by how it ended.
-use Rattle.std.specs.Prelude.{◌≡◌, ⊤, ℕ, ℤ, List, [], ◌∷◌, ◌++◌, length, Option, Some, None, IsTrue, ◌↔◌}
+use Rattle.std.specs.Prelude.{◌≡◌, ⊤, ℕ, ℤ, List, length, Option, IsTrue, ◌↔◌}
 use Rattle.serde_json.specs.Data.{Data}
 use Rattle.flow_edges.specs.Flow.{IsAtEnd, written_with}
 use Rattle.flow_edges.specs.declared.lines.refusal.LineRefusal.{LineRefusal}
@@ -7,7 +7,7 @@ use Rattle.flow_edges.specs.declared.lines.refusal.LineRefusal.TheVariants as re
 use Rattle.pattern_grammar.specs.FirstForm.{FirstForm}
 use Rattle.match_run.specs.Line.{Holds}
 use Rattle.match_run.specs.Listing.{Row, holding, listing_text, last_or_zero}
-use Rattle.match_run.specs.Reading.{Ending, Whole, Refused, ToldReading, IsNext}
+use Rattle.match_run.specs.Reading.{Whole, Refused, ToldReading, IsNext}
 use Rattle.match_run.specs.declared.end.MatchEnd.{MatchEnd}
 use Rattle.match_run.specs.declared.end.MatchEnd.TheVariants.{Done, Input, ReadFault, WriteFault, NoMemory}
 use Rattle.match_run.specs.declared.end.InputRule.TheVariants.{NotYet}

@@ -1,5 +1,5 @@
 -- What the lines of a log are read as: its rows, up to the end or the first line that is refused.
-use Rattle.std.specs.Prelude.{◌≡◌, ⊤, ◌↔◌, ℕ, ℤ, ◌≤ℤ◌, List, [], ◌∷◌, Bool, IsTrue, Option, Some, None, IfSome}
+use Rattle.std.specs.Prelude.{⊤, ◌↔◌, ℕ, ℤ, ◌≤ℤ◌, List, [], ◌∷◌, Bool, IsTrue, Option, Some, None, IfSome}
 use Rattle.serde_json.specs.Data.{Data}
 use Rattle.flow_edges.specs.Lines.{Lined, ended, refused, line_then, lines_of}
 use Rattle.flow_edges.specs.declared.lines.refusal.LineRefusal.{LineRefusal}
@@ -38,11 +38,11 @@ pub data Reads (form : FirstForm) : Option ℤ → Lined → List Row → Ending
   too_long : (last : Option ℤ) (refusal : LineRefusal) → Reads form last (refused refusal) [] (Refused (refused_number refusal))
   -- a line is no observation, or is earlier than the last
   no_row : (last : Option ℤ) (number : ℕ) (bytes : List ℕ) (later : Lined) → ((time : ℤ) (object : Data) → ¬ (IsNext last bytes time object))
-    → Reads form last (line_then number bytes later) [] (Refused number)
+      → Reads form last (line_then number bytes later) [] (Refused number)
   -- a line is an observation
   one_row : (last : Option ℤ) (number : ℕ) (bytes : List ℕ) (later : Lined) (time : ℤ) (object : Data) (holds : Bool) (rows : List Row) (ending : Ending)
-    → IsNext last bytes time object → (IsTrue holds ↔ Holds form object) → Reads form (Some time) later rows ending
-    → Reads form last (line_then number bytes later) (record { time = time; holds = holds } ∷ rows) ending
+      → IsNext last bytes time object → (IsTrue holds ↔ Holds form object) → Reads form (Some time) later rows ending
+      → Reads form last (line_then number bytes later) (record { time = time; holds = holds } ∷ rows) ending
 
 -- the bytes of a log are read as these rows, and end so
 abbrev pub Reading : FirstForm → List ℕ → List Row → Ending → Type 0

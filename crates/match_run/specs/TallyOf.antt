@@ -1,5 +1,5 @@
 -- What a run over a log keeps of the rows so far.
-use Rattle.std.specs.Prelude.{◌≡◌, ⊤, ℕ, ℤ, ◌+◌, List, [], ◌∷◌, ◌++◌, length, if◌then◌else◌, Option, Some, None, IfSome, option_map}
+use Rattle.std.specs.Prelude.{◌≡◌, ⊤, ℕ, ℤ, ◌+◌, List, [], ◌∷◌, ◌++◌, length, if◌then◌else◌, Option, Some, None, IfSome}
 use Rattle.serde_json.specs.Data.{Data}
 use Rattle.flow_edges.specs.Flow.{written_with}
 use Rattle.flow_edges.specs.Lines.{Lined}

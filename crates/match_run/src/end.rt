@@ -28,7 +28,10 @@ pub enum MatchEnd {
         last: u64,
     },
     /// The line of that number is the first that is refused.
-    Input { line: u64, rule: InputRule },
+    Input {
+        line: u64,
+        rule: InputRule,
+    },
     /// The input failed, and counted it.
     ReadFault,
     /// The output failed, and counted it.

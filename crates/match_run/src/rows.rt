@@ -7,8 +7,8 @@ ghost use Rattle.match_run.specs.Listing.{line_text};
 ghost use Rattle.match_run.specs.Reading.{IsInOrder, IsNext};
 ghost use Rattle.match_run.specs.Matching.{IsRowOf};
 
-use crate::observation::Observation;
 use crate::MatchEnd;
+use crate::observation::Observation;
 use flow_edges::{NoMemory, Sink, write_whole};
 use pattern_grammar::Comparison;
 use std::alloc::Global;
@@ -43,7 +43,11 @@ pub(crate) fn read_row(
 }
 
 /// Writes the line of a binding that is one observation.
-pub(crate) fn write_binding<O: Sink>(alloc: Global, number: u64, output: &mut O) -> Result<(), MatchEnd>
+pub(crate) fn write_binding<O: Sink>(
+    alloc: Global,
+    number: u64,
+    output: &mut O,
+) -> Result<(), MatchEnd>
     ensures ok { OnOk result (O.written output.new ≡ written_with (line_text number) (O.written output.old)) }
     ensures failed { result ≡ Err MatchEnd.WriteFault → Rose (O.faults output.old) (O.faults output.new) }
     ensures end { IfErr result (λ end. (end ≡ MatchEnd.WriteFault) ⊎ (end ≡ MatchEnd.NoMemory)) }

@@ -1,12 +1,12 @@
 -- What an ending of the log says of the match, and an ending of the match of the run.
-use Rattle.std.proofs.Common.{◌≡◌, ◌↔◌, ℕ, List, [], ◌∷◌, Option, refl, sym, ap, subst, ◌∙◌, arith}
+use Rattle.std.proofs.Common.{◌≡◌, ◌↔◌, ℕ, List, Option, refl, sym, subst, ◌∙◌, arith}
 use Rattle.pattern_grammar.specs.FirstForm.{FirstForm, Spells}
 use Rattle.stix_command.specs.declared.ending.Ending.{Ending}
 use Rattle.stix_command.specs.declared.ending.Ending.TheVariants.{Done, NoMemory, Usage, PatternRefused, InputRefused, ReadFault, WriteFault}
 use Rattle.stix_command.specs.CommandLine.{IsMatchLine}
 use Rattle.stix_command.specs.Matches.{HasForm, EndsLog, EndsMatch}
 use Rattle.stix_command.specs.Ends.{status_of}
-use Rattle.stix_command.specs.Runs.{IsNoCommand, EndsCommand, EndsRun, RefusesPattern}
+use Rattle.stix_command.specs.Runs.{IsNoCommand, EndsRun, RefusesPattern}
 
 pub match-log : (pattern : List ℕ) (form : FirstForm) (left left_after written written_after : Option (List ℕ)) (ending : Ending)
     → Spells pattern form → EndsLog form left left_after written written_after ending → EndsMatch pattern left left_after written written_after ending

@@ -1,4 +1,4 @@
-use Rattle.std.proofs.Common.{rules, ◌≡◌, ◌≢◌, true, false, sym, subst, ℤ, ◌∙◌}
+use Rattle.std.proofs.Common.{◌≡◌, true, false, subst, ℤ}
 use Rattle.serde_json.specs.Data.{Data}
 use Rattle.match_run.specs.Line.{IsFirstLine}
 use Rattle.match_run.specs.Reading.{IsInOrder}

@@ -1,4 +1,4 @@
-use Rattle.std.proofs.Common.{◌≡◌, ◌≤◌, ◌∙◌, arith, refl}
+use Rattle.std.proofs.Common.{arith}
 use Rattle.match_run.proofs.Following.{ends-whole, ends-refused, ends-in_line, so_far-line, moved-line, within-line}
 use Rattle.match_run.proofs.stream.list_lines.Goals as goal
 
@@ -13,13 +13,13 @@ returns-in-Err-take_line-clause-end g c = ends-in_line _ _ _ _ _ _ _ _ _ c.lines
 
 pub lines-preserved : goal.lines-preserved
 lines-preserved g c =
-  let moved = moved-line _ _ _ _ _ _ _ _ _ c.lines.invariant.so_far c.in-Ok-Some.field-0 c.in-Ok-Some.line c.in-Ok-Some.field-0-is (c.in-Ok-Some.ensures.lines c.lines.invariant.unrefused) in
-  record {
-  unrefused = c.in-Ok-Some.ensures.refusal;
-  so_far = so_far-line _ _ _ _ _ _ _ _ _ c.lines.invariant.so_far c.in-Ok-Some.field-0 c.in-Ok-Some.line c.in-Ok-Some.field-0-is (c.in-Ok-Some.ensures.lines c.lines.invariant.unrefused) _ _ c.in-Ok-take_line.ensures.row;
-  numbered = omega (arith, moved, c.in-Ok-take_line.ensures.counted, c.lines.invariant.numbered);
-  counted = omega (arith, moved, c.in-Ok-take_line.ensures.bound, c.lines.invariant.counted);
-  within = within-line _ _ _ _ _ _ _ _ _ c.lines.invariant.so_far c.in-Ok-Some.field-0 c.in-Ok-Some.line c.in-Ok-Some.field-0-is (c.in-Ok-Some.ensures.lines c.lines.invariant.unrefused);
-  read_later = omega (arith, c.next_line.ensures.later);
-  write_later = omega (arith, c.take_line.ensures.later);
-}
+    let moved = moved-line _ _ _ _ _ _ _ _ _ c.lines.invariant.so_far c.in-Ok-Some.field-0 c.in-Ok-Some.line c.in-Ok-Some.field-0-is (c.in-Ok-Some.ensures.lines c.lines.invariant.unrefused) in
+    record {
+      unrefused = c.in-Ok-Some.ensures.refusal;
+      so_far = so_far-line _ _ _ _ _ _ _ _ _ c.lines.invariant.so_far c.in-Ok-Some.field-0 c.in-Ok-Some.line c.in-Ok-Some.field-0-is (c.in-Ok-Some.ensures.lines c.lines.invariant.unrefused) _ _ c.in-Ok-take_line.ensures.row;
+      numbered = omega (arith, moved, c.in-Ok-take_line.ensures.counted, c.lines.invariant.numbered);
+      counted = omega (arith, moved, c.in-Ok-take_line.ensures.bound, c.lines.invariant.counted);
+      within = within-line _ _ _ _ _ _ _ _ _ c.lines.invariant.so_far c.in-Ok-Some.field-0 c.in-Ok-Some.line c.in-Ok-Some.field-0-is (c.in-Ok-Some.ensures.lines c.lines.invariant.unrefused);
+      read_later = omega (arith, c.next_line.ensures.later);
+      write_later = omega (arith, c.take_line.ensures.later);
+    }

@@ -1,4 +1,4 @@
-use Rattle.std.proofs.Common.{◌≡◌, ℕ, ◌≤◌, ◌-◌, None, [], option_map}
+use Rattle.std.proofs.Common.{◌≡◌, ◌≤◌, ◌-◌, None, option_map}
 use Rattle.flow_edges.specs.Lines.{told_ahead, lines_of}
 use Rattle.pattern_grammar.specs.FirstForm.{form_of}
 use Rattle.match_run.specs.TallyOf.{ReadsSoFar}

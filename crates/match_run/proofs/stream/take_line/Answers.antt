@@ -1,4 +1,4 @@
-use Rattle.std.proofs.Common.{◌≡◌, refl, subst, List, ℕ, ℤ}
+use Rattle.std.proofs.Common.{refl, subst, List, ℕ, ℤ}
 use Rattle.serde_json.specs.Data.{Data}
 use Rattle.match_run.specs.Reading.{IsNext}
 use Rattle.match_run.proofs.Observations.{if_none_at}
@@ -9,7 +9,7 @@ returns-in-Ok-None-clause-end g c = (
   refl,
   record {
     none = subst (λ (bytes : List ℕ). (time : ℤ) (object : Data) → ¬ (IsNext c.args.tally.now.last_time bytes time object)) c.as_slice.ensures
-      (if_none_at c.in-Ok-None.field-0 c.in-Ok-None.field-0-is c.in-Ok-None.ensures.none);
+        (if_none_at c.in-Ok-None.field-0 c.in-Ok-None.field-0-is c.in-Ok-None.ensures.none);
     silent = refl;
   },
 )

@@ -1,5 +1,4 @@
-use Rattle.std.proofs.Common.{rules, ◌≡◌, ◌∙◌, [], ◌∷◌, ap, sym, arith, length, codes, string_bytes, List, ℕ}
-use Rattle.stix_command.specs.CommandLine.{texts}
+use Rattle.std.proofs.Common.{rules, ◌≡◌, ◌∙◌, [], ◌∷◌, ap, sym, arith, length, codes, string_bytes}
 use Rattle.stix_command.proofs.TwoWords.{two_texts}
 use Rattle.stix_command.proofs.command.match_pattern.Goals as goal
 

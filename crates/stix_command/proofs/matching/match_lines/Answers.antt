@@ -1,4 +1,4 @@
-use Rattle.std.proofs.Common.{◌≡◌, ap, Err}
+use Rattle.std.proofs.Common.{ap, Err}
 use Rattle.stix_command.proofs.Endings.{match-log}
 use Rattle.stix_command.proofs.matching.match_lines.Goals as goal
 

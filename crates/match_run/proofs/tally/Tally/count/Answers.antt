@@ -1,7 +1,7 @@
-use Rattle.std.proofs.Common.{◌≡◌, ◌∙◌, ◌+◌, ap, sym, arith, true, false, if◌then◌else◌, length-append, [], ◌∷◌, ◌++◌, length}
+use Rattle.std.proofs.Common.{◌≡◌, ◌∙◌, ◌+◌, ap, sym, arith, if◌then◌else◌, length-append, [], ◌∷◌, ◌++◌, length}
 use Rattle.std.proofs.lemmas.List.{append-nil}
 use Rattle.match_run.specs.Listing.{Row, holding, last_or_zero}
-use Rattle.match_run.proofs.RowLemmas.{holding-append, number_of, last_or_zero-append, last_time-append}
+use Rattle.match_run.proofs.RowLemmas.{holding-append, last_or_zero-append, last_time-append}
 use Rattle.match_run.proofs.tally.Tally.count.Goals as goal
 
 pub returns-then-seen-clause-rows : goal.returns-then-seen-clause-rows
