@@ -2,3 +2,4 @@ pub mod Counts
 pub mod Observations
 pub mod RowLemmas
 pub mod Following
+pub mod Unique

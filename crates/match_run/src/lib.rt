@@ -6,6 +6,7 @@
 #![tactic(auto)]
 
 mod end;
+pub mod laws;
 mod observation;
 mod refusal_text;
 mod refused;
