@@ -4,7 +4,7 @@ use Rattle.std.proofs.lemmas.List.{append-nil}
 use Rattle.std.proofs.lemmas.Bool.Decides.{nat_tests}
 use Rattle.flow_edges.specs.declared.lines.refusal.LineRefusal.{LineRefusal}
 use Rattle.flow_edges.specs.Flow.{IsAtEnd}
-use Rattle.flow_edges.specs.Lines.{RawLine, raw_lines, length_refusal, refusal_of, width, content, is_blank, Lined, ended, refused, line_then, unless_refused, unless_blank, lines_from, NoLineFeed, LinesState, told_ahead, KeepsLines}
+use Rattle.flow_edges.specs.Lines.{RawLine, raw_lines, length_refusal, refusal_of, width, content, is_blank, Lined, ended, refused, line_then, unless_refused, unless_blank, lines_from, told_ahead}
 use Rattle.flow_edges.specs.LinesSteps.{told_bytes, ReadsToLineFeed, ReadsLast, ReadsPart, IsFirstRefused, ReadsNext, lines_state}
 use Rattle.flow_edges.proofs.Cutting.{raw_lines-fed, raw_lines-last}
 

@@ -1,6 +1,5 @@
 -- Bytes that come from a source and go to a sink. What is left and what is written is told by some objects alone: `None` claims nothing.
-use Rattle.std.specs.Prelude.{◌≡◌, ℕ, ◌≤◌, ◌<◌, List, [], ◌++◌, length, take, drop, Option, option_map, IfSome, IfOk, OnOk, OnErr, Result, Ok}
-use Rattle.flow_edges.specs.Faults.{Causes}
+use Rattle.std.specs.Prelude.{◌≡◌, ℕ, ◌≤◌, List, [], ◌++◌, length, take, drop, Option, option_map, IfSome}
 
 -- the bytes that are left after n of them were taken
 abbrev pub left_after : ℕ → Option (List ℕ) → Option (List ℕ)

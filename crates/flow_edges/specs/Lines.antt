@@ -9,9 +9,11 @@ use Rattle.flow_edges.specs.declared.lines.refusal.LineRefusal.TheVariants.{Faul
 use Rattle.flow_edges.specs.declared.lines.line.Line.{Line}
 use Rattle.flow_edges.specs.Flow.{IsAtEnd}
 
+-- the byte 0x0A
 abbrev pub is_line_feed : ℕ → Bool
 is_line_feed byte = byte == 10
 
+-- any byte but that
 abbrev pub IsNoLineFeed : ℕ → Type 0
 IsNoLineFeed byte = is_line_feed byte ≡ false
 
@@ -30,6 +32,7 @@ raw_lines_of [] = []
 raw_lines_of (part ∷ []) = if length part == 0 then [] else record { bytes = part; closed = false } ∷ []
 raw_lines_of (part ∷ next ∷ parts) = record { bytes = part; closed = true } ∷ raw_lines_of (next ∷ parts)
 
+-- the lines of bytes, as they stand there
 abbrev pub raw_lines : List ℕ → List RawLine
 raw_lines bytes = raw_lines_of (slice_split is_line_feed bytes)
 
@@ -45,6 +48,7 @@ content line = if line.closed then strip_carriage_return line.bytes else line.by
 abbrev pub is_blank_byte : ℕ → Bool
 is_blank_byte byte = byte == 32 || byte == 9 || byte == 13
 
+-- only spaces, tabs and carriage returns
 abbrev pub is_blank : List ℕ → Bool
 is_blank bytes = list_all is_blank_byte bytes
 
@@ -56,6 +60,7 @@ length_refusal number place size closed =
     else if nat_lt MAX_INPUT (place + size + (if closed then 1 else 0)) then Some (InputTooLong number)
     else None
 
+-- why a line is refused, where it is
 abbrev pub refusal_of : ℕ → ℕ → RawLine → Option LineRefusal
 refusal_of number place line = length_refusal number place (length line.bytes) line.closed
 

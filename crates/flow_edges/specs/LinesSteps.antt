@@ -1,5 +1,5 @@
--- What the parts of a reader of lines do.
-use Rattle.std.specs.Prelude.{◌≡◌, ◌<◌, ◌≤◌, ⊤, ℕ, length, List, [], ◌∷◌, ◌++◌, Bool, true, false, All, Option, Some, None, option_map}
+-- What the private parts of a reader of lines do: its chunk of bytes, the line that it reads, and its cursor. No public contract cites these.
+use Rattle.std.specs.Prelude.{◌≡◌, ◌<◌, ◌≤◌, ⊤, ℕ, length, List, [], ◌∷◌, ◌++◌, true, false, Option, Some, None, option_map}
 use Rattle.flow_edges.specs.Lines.{NoLineFeed, RawLine, raw_lines, refusal_of, LinesState, unless_blank, told_ahead}
 use Rattle.flow_edges.specs.declared.lines.refusal.LineRefusal.{LineRefusal}
 use Rattle.flow_edges.specs.declared.lines.refusal.LineRefusal.TheVariants.{Fault, LineTooLong, InputTooLong, NoMemory}
@@ -63,6 +63,7 @@ pub record IsBetweenLines (line chunk : List ℕ) (count given : ℕ) : Type 0 w
   pub numbered : count ≤ given
   pub within : given ≤ 1099511627776
 
+-- what contracts see of such a reader
 abbrev pub lines_state : List ℕ → List ℕ → ℕ → ℕ → LinesState
 lines_state line chunk count given = record { held = line ++ chunk; count = count; given = given; refusal = None }
 

@@ -1,4 +1,4 @@
-use Rattle.std.proofs.Common.{◌≡◌, ℕ, ◌≤◌, ◌+◌, ◌-◌, [], length}
+use Rattle.std.proofs.Common.{◌≡◌, ◌≤◌, ◌+◌, ◌-◌, [], length}
 use Rattle.flow_edges.specs.LinesSteps.{told_bytes}
 use Rattle.flow_edges.specs.Lines.{NoLineFeed}
 use Rattle.flow_edges.proofs.lines.whole.read_line.Given as goal

@@ -1,4 +1,4 @@
-use Rattle.std.proofs.Common.{◌≡◌, ℕ, ◌≤◌, ◌-◌}
+use Rattle.std.proofs.Common.{◌≡◌, ◌≤◌, ◌-◌}
 use Rattle.flow_edges.specs.Lines.{told_ahead}
 use Rattle.flow_edges.specs.LinesSteps.{IsBetweenLines, lines_state}
 use Rattle.flow_edges.proofs.lines.cursor.Cursor.next_line.Given as goal
