@@ -8,11 +8,11 @@ use Rattle.flow_edges.specs.Lines.{RawLine, raw_lines, length_refusal, refusal_o
 use Rattle.flow_edges.specs.LinesSteps.{told_bytes, ReadsToLineFeed, ReadsLast, ReadsPart, IsFirstRefused, ReadsNext, lines_state}
 use Rattle.flow_edges.proofs.Cutting.{raw_lines-fed, raw_lines-last}
 
-option_map-map : {A B C : Type 0} (f : B → C) (g : A → B) (o : Option A) → option_map f (option_map g o) ≡ option_map (λ a. f (g a)) o
+pub option_map-map : {A B C : Type 0} (f : B → C) (g : A → B) (o : Option A) → option_map f (option_map g o) ≡ option_map (λ a. f (g a)) o
 option_map-map f g None = refl
 option_map-map f g (Some a) = refl
 
-option_map-same : {A B : Type 0} (f g : A → B) (o : Option A) → ((a : A) → f a ≡ g a) → option_map f o ≡ option_map g o
+pub option_map-same : {A B : Type 0} (f g : A → B) (o : Option A) → ((a : A) → f a ≡ g a) → option_map f o ≡ option_map g o
 option_map-same f g None same = refl
 option_map-same f g (Some a) same = ap Some (same a)
 

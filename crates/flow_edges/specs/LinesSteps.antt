@@ -1,5 +1,5 @@
 -- What the private parts of a reader of lines do: its chunk of bytes, the line that it reads, and its cursor. No public contract cites these.
-use Rattle.std.specs.Prelude.{◌≡◌, ◌<◌, ◌≤◌, ⊤, ℕ, length, List, [], ◌∷◌, ◌++◌, true, false, Option, Some, None, option_map}
+use Rattle.std.specs.Prelude.{Bool, true, ◌≡◌, ◌<◌, ◌≤◌, ⊤, ℕ, length, List, [], ◌∷◌, ◌++◌, true, false, Option, Some, None, option_map}
 use Rattle.flow_edges.specs.Lines.{NoLineFeed, RawLine, raw_lines, refusal_of, LinesState, unless_blank, told_ahead}
 use Rattle.flow_edges.specs.declared.lines.refusal.LineRefusal.{LineRefusal}
 use Rattle.flow_edges.specs.declared.lines.refusal.LineRefusal.TheVariants.{Fault, LineTooLong, InputTooLong, NoMemory}
@@ -35,6 +35,11 @@ pub record ReadsLast (number place : ℕ) (all left : Option (List ℕ)) (line c
   pub ended : IsAtEnd left
   pub drained : chunk ≡ []
   pub fits : refusal_of number place (record { bytes = line; closed = false }) ≡ None
+
+-- the chunk held the whole line
+pub record IsHeld (chunk_old chunk_new line : List ℕ) (closed : Bool) : Type 0 where
+  pub whole : closed ≡ true
+  pub cut : chunk_old ≡ line ++ 10 ∷ chunk_new
 
 -- the source failed: no byte is lost, and there is no whole line among those taken
 pub record ReadsPart (all left : Option (List ℕ)) (line chunk : List ℕ) : Type 0 where

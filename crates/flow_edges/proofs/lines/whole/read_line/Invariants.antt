@@ -9,6 +9,7 @@ invariant-reads g l = record {
   plain : NoLineFeed l.line.items;
   within : l.start.place + length l.line.items ≤ 1099511627776;
   room : length l.chunk ≤ 65536;
+  held : ¬ (NoLineFeed l.fn.chunk) → (l.source ≡ l.fn.source) × (l.chunk ≡ l.fn.chunk) × (l.line.items ≡ []);
   later : g.S.Source.faults l.fn.source ≤ g.S.Source.faults l.source;
 }
 
