@@ -1,5 +1,6 @@
 -- What the private parts of a reader of lines do: its chunk of bytes, the line that it reads, and its cursor. No public contract cites these.
 use Rattle.std.specs.Prelude.{Bool, true, ◌≡◌, ◌<◌, ◌≤◌, ⊤, ℕ, length, List, [], ◌∷◌, ◌++◌, true, false, Option, Some, None, option_map}
+use Rattle.flow_edges.specs.declared.lines.refusal.TheConstants.{MAX_INPUT}
 use Rattle.flow_edges.specs.Lines.{NoLineFeed, RawLine, raw_lines, refusal_of, LinesState, unless_blank, told_ahead}
 use Rattle.flow_edges.specs.declared.lines.refusal.LineRefusal.{LineRefusal}
 use Rattle.flow_edges.specs.declared.lines.refusal.LineRefusal.TheVariants.{Fault, LineTooLong, InputTooLong, NoMemory}
@@ -66,7 +67,7 @@ pub record IsBetweenLines (line chunk : List ℕ) (count given : ℕ) : Type 0 w
   pub empty : line ≡ []
   pub room : length chunk ≤ 65536
   pub numbered : count ≤ given
-  pub within : given ≤ 1099511627776
+  pub within : given ≤ MAX_INPUT
 
 -- what contracts see of such a reader
 abbrev pub lines_state : List ℕ → List ℕ → ℕ → ℕ → LinesState
@@ -79,4 +80,4 @@ pub record ReadsNext (chunk_old chunk_new : List ℕ) (count_old count_new given
   pub moved : given_old < given_new
   pub room : length chunk_new ≤ 65536
   pub numbered : count_new ≤ given_new
-  pub within : given_new ≤ 1099511627776
+  pub within : given_new ≤ MAX_INPUT
