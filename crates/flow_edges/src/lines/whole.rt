@@ -7,6 +7,9 @@ use crate::Source;
 use crate::lines::chunk::Chunk;
 use crate::lines::refusal::{LineRefusal, MAX_INPUT, MAX_LINE};
 
+#[cfg(test)]
+mod tests;
+
 /// Where a line begins: its number, and how many bytes of the input stand before it.
 #[derive(Clone, Copy)]
 pub struct LineStart {
