@@ -1,8 +1,8 @@
 -- Whole lines among the bytes held: where there is one, no read is needed.
-use Rattle.std.proofs.Common.{◌≡◌, ℕ, Option, MatchBool, Bool, true, false, List, [], ◌∷◌, ◌++◌, length, if◌then◌else◌, refl, sym, ap, ◌∙◌, ◌==◌, ◌||◌, not}
+use Rattle.std.proofs.Common.{◌≡◌, ℕ, Option, MatchBool, Bool, true, false, List, [], ◌∷◌, length, if◌then◌else◌, refl, sym, ap, ◌∙◌, ◌==◌, ◌||◌, not}
 use Rattle.std.proofs.lemmas.List.Splits.{slice_split_none}
 use Rattle.std.specs.List.{list_any}
-use Rattle.flow_edges.specs.Lines.{is_line_feed, NoLineFeed, RawLine, raw_lines, raw_lines_of, content, is_blank, is_whole, HoldsLine}
+use Rattle.flow_edges.specs.Lines.{is_line_feed, NoLineFeed, raw_lines, raw_lines_of, content, is_blank, is_whole, HoldsLine}
 use Rattle.flow_edges.specs.LinesSteps.{ReadsToLineFeed, ReadsLast, IsHeld}
 use Rattle.flow_edges.proofs.Cutting.{raw_lines-fed}
 

@@ -46,3 +46,8 @@ part_way-prefix all rest before now later way same = (
   omega (arith, ap length way.cut, length-append way.done rest),
   same ∙ way.written ∙ ap (λ done. written_with done before) (sym (ap (take (length way.done)) way.cut ∙ take-append_seam way.done rest)),
 )
+
+-- a write of nothing leaves the bytes that are written as they were
+pub part_way-nothing : (all rest : List ℕ) (before now later : Option (List ℕ)) (n : ℕ) → IsPartWay all rest before now → later ≡ written_with (take n rest) now → n ≡ 0 → WritesPrefix all before later
+part_way-nothing all rest before now later n way more none =
+    part_way-prefix all rest before now later way (more ∙ ap (λ n. written_with (take n rest) now) none ∙ sym (written_with-nil now))

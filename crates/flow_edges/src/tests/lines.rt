@@ -45,7 +45,10 @@ fn gives_the_lines_for_every_cut(rt: HostRuntime) -> Result<(), Fail> {
         ("a\n\n \t\n\r\nb\n\n", &[(1, "a"), (5, "b")]),
         ("\n\r\n  a \n", &[(3, "  a ")]),
         ("\x0B\n\u{A0}\n", &[(1, "\x0B"), (2, "\u{A0}")]),
-        ("{\"a\": 1}\n{\"b\": 2}\n", &[(1, "{\"a\": 1}"), (2, "{\"b\": 2}")]),
+        (
+            "{\"a\": 1}\n{\"b\": 2}\n",
+            &[(1, "{\"a\": 1}"), (2, "{\"b\": 2}")],
+        ),
     ] {
         has_lines(&rt, rt.alloc(), input, wanted)?;
     }
@@ -77,9 +80,21 @@ fn refuses_a_line_past_the_limit(rt: HostRuntime) -> Result<(), Fail> {
         (MAX_LINE, "", Ok(true)),
         (MAX_LINE, "\n", Ok(true)),
         (MAX_LINE - 1, "\r\n", Ok(true)),
-        (MAX_LINE, "\r\n", Err(LineRefusal::LineTooLong { number: 2 })),
-        (MAX_LINE + 1, "", Err(LineRefusal::LineTooLong { number: 2 })),
-        (MAX_LINE + 1, "\n", Err(LineRefusal::LineTooLong { number: 2 })),
+        (
+            MAX_LINE,
+            "\r\n",
+            Err(LineRefusal::LineTooLong { number: 2 }),
+        ),
+        (
+            MAX_LINE + 1,
+            "",
+            Err(LineRefusal::LineTooLong { number: 2 }),
+        ),
+        (
+            MAX_LINE + 1,
+            "\n",
+            Err(LineRefusal::LineTooLong { number: 2 }),
+        ),
     ] {
         assert!(rt; size <= MAX_LINE + 1);
         let mut bytes = vec![in rt.alloc(); b'x'; size as usize + 2]?;
@@ -87,7 +102,11 @@ fn refuses_a_line_past_the_limit(rt: HostRuntime) -> Result<(), Fail> {
         bytes.extend_from_slice(end.as_bytes())?;
         let mut source = QuietSource::new(Items::from_vec(bytes), 65_536);
         let mut lines = Lines::new(rt.alloc())?;
-        assert!(rt; lines.next_line(&mut source)?.is_some_and(|line| line.number == 1));
+        assert!(rt;
+            lines
+                .next_line(&mut source)?
+                .is_some_and(|line| line.number == 1)
+        );
         for wanted in [wanted, wanted.map(|_| false)] {
             let given = lines.next_line(&mut source).map(|line| line.is_some());
             assert_eq!(rt; given, wanted, "of {size} and {end:?}");

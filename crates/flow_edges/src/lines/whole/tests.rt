@@ -23,6 +23,10 @@ fn refuses_by_the_first_byte_that_is_too_many(rt: HostRuntime) {
     ] {
         assert!(rt; place <= MAX_INPUT);
         let start = LineStart { number: 7, place };
-        assert_eq!(rt; refusal_for_length(start, size, closed), wanted, "at {place} of {size}");
+        assert_eq!(rt;
+            refusal_for_length(start, size, closed),
+            wanted,
+            "at {place} of {size}"
+        );
     }
 }

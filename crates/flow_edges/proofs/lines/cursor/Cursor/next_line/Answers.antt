@@ -1,4 +1,4 @@
-use Rattle.std.proofs.Common.{rules, ◌≡◌, ◌++◌, ap, Ok, Err, sym, ◌∙◌, arith}
+use Rattle.std.proofs.Common.{rules, ap, Ok, Err, sym, ◌∙◌, arith}
 use Rattle.flow_edges.specs.Lines.{is_blank}
 use Rattle.flow_edges.specs.LinesSteps.{lines_state}
 use Rattle.flow_edges.proofs.Accounts.{accounts-then, accounts-emptied, loses-passed_on}
@@ -25,13 +25,13 @@ pub lines-preserved : goal.lines-preserved
 lines-preserved g c =
     let next = rw c.if-not-branch.false at c.in_ok-read_next.ensures.next in
     record {
-  between = search rules;
-  ahead = search rules;
-  accounted = accounts-then _ _ _ _ _ _ _ _ _ c.lines.invariant.accounted (accounts-emptied _ _ _ _ _ _ _ c.clear.ensures.items c.in_ok-read_next.ensures.accounted);
-  held = λ holds. (
-    c.read_next.ensures.unread (c.lines.invariant.held holds).1 ∙ (c.lines.invariant.held holds).0,
-    c.in_ok-read_next.ensures.held c.if-not-branch.false (c.lines.invariant.held holds).1 (ap is_blank (sym c.deref.ensures.value) ∙ sym c.if-not-is_blank_line.ensures),
-  );
-  moved = omega (arith, next.moved);
-  later = omega arith;
-}
+      between = search rules;
+      ahead = search rules;
+      accounted = accounts-then _ _ _ _ _ _ _ _ _ c.lines.invariant.accounted (accounts-emptied _ _ _ _ _ _ _ c.clear.ensures.items c.in_ok-read_next.ensures.accounted);
+      held = λ holds. (
+        c.read_next.ensures.unread (c.lines.invariant.held holds).1 ∙ (c.lines.invariant.held holds).0,
+        c.in_ok-read_next.ensures.held c.if-not-branch.false (c.lines.invariant.held holds).1 (ap is_blank (sym c.deref.ensures.value) ∙ sym c.if-not-is_blank_line.ensures),
+      );
+      moved = omega (arith, next.moved);
+      later = omega arith;
+    }

@@ -1,5 +1,5 @@
-use Rattle.std.proofs.Common.{◌≡◌, ◌+◌, ◌++◌, [], arith}
-use Rattle.flow_edges.specs.Lines.{width, AccountsFor}
+use Rattle.std.proofs.Common.{◌≡◌, ◌+◌, arith}
+use Rattle.flow_edges.specs.Lines.{width}
 use Rattle.flow_edges.proofs.Ahead.{reads-next}
 use Rattle.flow_edges.proofs.Accounts.{accounts-read}
 use Rattle.flow_edges.proofs.Held.{holds_line-feed, holds_line-later, reads-plain}
