@@ -2,17 +2,18 @@
 use Rattle.std.proofs.Common.{◌≡◌, ℕ, ◌+◌, ◌<◌, ◌≤◌, Bool, true, false, List, [], ◌∷◌, ◌++◌, length, Option, Some, None, option_map, IfSome, if◌then◌else◌, refl, sym, ap, subst, ◌∙◌, arith, append_assoc, MatchBool}
 use Rattle.std.proofs.lemmas.List.{append-nil}
 use Rattle.std.proofs.lemmas.Bool.Decides.{nat_tests}
+use Rattle.flow_edges.specs.declared.lines.refusal.TheConstants.{MAX_INPUT}
 use Rattle.flow_edges.specs.declared.lines.refusal.LineRefusal.{LineRefusal}
 use Rattle.flow_edges.specs.Flow.{IsAtEnd}
-use Rattle.flow_edges.specs.Lines.{RawLine, raw_lines, length_refusal, refusal_of, width, content, is_blank, Lined, ended, refused, line_then, unless_refused, unless_blank, lines_from, NoLineFeed, LinesState, told_ahead, KeepsLines}
+use Rattle.flow_edges.specs.Lines.{RawLine, raw_lines, length_refusal, refusal_of, width, content, is_blank, Lined, ended, refused, line_then, unless_refused, unless_blank, lines_from, told_ahead}
 use Rattle.flow_edges.specs.LinesSteps.{told_bytes, ReadsToLineFeed, ReadsLast, ReadsPart, IsFirstRefused, ReadsNext, lines_state}
 use Rattle.flow_edges.proofs.Cutting.{raw_lines-fed, raw_lines-last}
 
-option_map-map : {A B C : Type 0} (f : B → C) (g : A → B) (o : Option A) → option_map f (option_map g o) ≡ option_map (λ a. f (g a)) o
+pub option_map-map : {A B C : Type 0} (f : B → C) (g : A → B) (o : Option A) → option_map f (option_map g o) ≡ option_map (λ a. f (g a)) o
 option_map-map f g None = refl
 option_map-map f g (Some a) = refl
 
-option_map-same : {A B : Type 0} (f g : A → B) (o : Option A) → ((a : A) → f a ≡ g a) → option_map f o ≡ option_map g o
+pub option_map-same : {A B : Type 0} (f g : A → B) (o : Option A) → ((a : A) → f a ≡ g a) → option_map f o ≡ option_map g o
 option_map-same f g None same = refl
 option_map-same f g (Some a) same = ap Some (same a)
 
@@ -145,12 +146,12 @@ ahead-blank before line chunk bytes line_new chunk_new count count_new given giv
     ∙ ahead-emptied line_new chunk_new count_new given_new left_new emptied
 
 -- a line that isn't refused lies within the input's limit
-pub refusal_of-fits : (number place size : ℕ) (closed : Bool) → length_refusal number place size closed ≡ None → place + size + (if closed then 1 else 0) ≤ 1099511627776
+pub refusal_of-fits : (number place size : ℕ) (closed : Bool) → length_refusal number place size closed ≡ None → place + size + (if closed then 1 else 0) ≤ MAX_INPUT
 refusal_of-fits number place size closed fits = grind (arith, nat_tests)
 
 pub fits-read : (number place : ℕ) (all left : Option (List ℕ)) (line chunk : List ℕ) (closed : Bool)
     → MatchBool closed (ReadsToLineFeed number place all left line chunk) (ReadsLast number place all left line chunk)
-    → place + width (record { bytes = line; closed = closed }) ≤ 1099511627776
+    → place + width (record { bytes = line; closed = closed }) ≤ MAX_INPUT
 fits-read number place all left line chunk true reads = omega (arith, refusal_of-fits number place (length line) true reads.fits)
 fits-read number place all left line chunk false reads = omega (arith, refusal_of-fits number place (length line) false reads.fits)
 

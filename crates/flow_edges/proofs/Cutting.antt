@@ -1,16 +1,16 @@
 -- How the bytes of an input are cut into lines, from what a reader has of them.
-use Rattle.std.proofs.Common.{◌≡◌, ℕ, zero, suc, ◌+◌, ◌<◌, ◌≤◌, Bool, true, false, List, [], ◌∷◌, ◌++◌, length, take, drop, Option, Some, None, option_map, IfSome, MatchBool, refl, sym, ap, ◌∙◌, arith, All, append_assoc, length-append, cond, eqb, ◌⊎◌, inl, inr}
+use Rattle.std.proofs.Common.{◌≡◌, ℕ, ◌<◌, ◌≤◌, Bool, true, false, List, [], ◌∷◌, ◌++◌, length, drop, Option, Some, None, option_map, IfSome, MatchBool, refl, sym, ap, ◌∙◌, arith, append_assoc, length-append, cond, eqb, ◌⊎◌, inl, inr}
 use Rattle.std.proofs.lemmas.List.{take-append-drop}
 use Rattle.std.proofs.lemmas.List.Elements.{All-append, All-cons, All-nil}
 use Rattle.std.proofs.lemmas.List.Splits.{slice_split_at, slice_split_none}
 use Rattle.std.proofs.lemmas.Bool.{eqb-true}
 use Rattle.std.proofs.lemmas.Bool.Decides.{nat_tests}
 use Rattle.std.specs.List.{slice_split}
-use Rattle.flow_edges.specs.declared.lines.refusal.TheConstants.{MAX_LINE, MAX_INPUT}
+use Rattle.flow_edges.specs.declared.lines.refusal.TheConstants.{MAX_INPUT}
 use Rattle.flow_edges.specs.declared.lines.refusal.LineRefusal.{LineRefusal}
-use Rattle.flow_edges.specs.Flow.{left_after, IsNextOf, IsAtEnd}
-use Rattle.flow_edges.specs.Lines.{is_line_feed, IsNoLineFeed, NoLineFeed, RawLine, raw_lines, raw_lines_of, refusal_of, length_refusal}
-use Rattle.flow_edges.specs.LinesSteps.{told_bytes, TakesToLineFeed, TakesAll, ReadsToLineFeed, ReadsLast, ReadsPart, IsFirstRefused}
+use Rattle.flow_edges.specs.Flow.{left_after, IsNextOf}
+use Rattle.flow_edges.specs.Lines.{is_line_feed, IsNoLineFeed, NoLineFeed, raw_lines, raw_lines_of, length_refusal}
+use Rattle.flow_edges.specs.LinesSteps.{told_bytes, TakesToLineFeed, TakesAll, IsFirstRefused}
 
 -- ---- the bytes that a source tells
 

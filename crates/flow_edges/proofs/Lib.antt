@@ -1,3 +1,5 @@
 pub mod Writing
 pub mod Cutting
 pub mod Ahead
+pub mod Held
+pub mod Accounts

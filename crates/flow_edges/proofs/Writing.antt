@@ -1,5 +1,5 @@
 -- Bytes that are written piece by piece: what is done, and what is left to do.
-use Rattle.std.proofs.Common.{◌≡◌, ℕ, ◌≤◌, ◌<◌, List, [], ◌∷◌, ◌++◌, Option, Some, None, length, take, drop, refl, sym, ap, ◌∙◌, arith, append_assoc, length-append, length-drop, ◌-◌, ◌+◌, get_or, add-one, Bor}
+use Rattle.std.proofs.Common.{◌≡◌, ℕ, ◌<◌, List, [], ◌∷◌, ◌++◌, Option, Some, None, length, take, drop, refl, sym, ap, ◌∙◌, arith, append_assoc, length-append, length-drop, ◌-◌, ◌+◌, get_or, add-one, Bor}
 use Rattle.std.proofs.lemmas.List.{append-nil, take-append-drop, take-append-le}
 use Rattle.std.proofs.lemmas.Grind.{flat_map-append}
 use Rattle.std.proofs.Math.Seq.{take-append_seam, take-length, take-append-add, take-suc}
@@ -48,6 +48,11 @@ part_way-prefix all rest before now later way same = (
   same ∙ way.written ∙ ap (λ done. written_with done before) (sym (ap (take (length way.done)) way.cut ∙ take-append_seam way.done rest)),
 )
 
+-- a write of nothing leaves the bytes that are written as they were
+pub part_way-nothing : (all rest : List ℕ) (before now later : Option (List ℕ)) (n : ℕ) → IsPartWay all rest before now → later ≡ written_with (take n rest) now → n ≡ 0 → WritesPrefix all before later
+part_way-nothing all rest before now later n way more none =
+    part_way-prefix all rest before now later way (more ∙ ap (λ n. written_with (take n rest) now) none ∙ sym (written_with-nil now))
+
 -- ---- several pieces
 
 pub joined-step : (pieces : List (Bor (List ℕ))) (i : ℕ) (d : Bor (List ℕ)) → i < length pieces → joined (take (i + 1) pieces) ≡ joined (take i pieces) ++ (get_or pieces i d).now
@@ -67,11 +72,10 @@ prefix-joined pieces i d before mid now within done prefix =
     let front = joined (take i pieces) in
     let back = joined (drop (i + 1) pieces) in
     let split : joined pieces ≡ front ++ (piece ++ back) =
-      joined-split pieces (i + 1) ∙ ap (λ some. some ++ back) (joined-step pieces i d within) ∙ append_assoc front piece back in
+    joined-split pieces (i + 1) ∙ ap (λ some. some ++ back) (joined-step pieces i d within) ∙ append_assoc front piece back in
     let n = prefix.0 in
     let cut : take (length front + n) (joined pieces) ≡ front ++ take n piece =
-      ap (take (length front + n)) split ∙ take-append-add front (piece ++ back) n ∙ ap (λ some. front ++ some) (take-append-le n piece back prefix.1) in
-    (
+    ap (take (length front + n)) split ∙ take-append-add front (piece ++ back) n ∙ ap (λ some. front ++ some) (take-append-le n piece back prefix.1) in (
       length front + n,
       omega (arith, ap length split, length-append front (piece ++ back), length-append piece back, prefix.1),
       prefix.2 ∙ ap (λ w. written_with (take n piece) w) done ∙ written_with-written_with front (take n piece) before ∙ ap (λ some. written_with some before) (sym cut),

@@ -1,7 +1,7 @@
 -- The lines of an input. A line ends with a line feed, which isn't part of it, and one carriage return before
 -- the line feed isn't part of it either. Bytes after the last line feed are a last line, where there are any.
-use Rattle.std.specs.Prelude.{◌≡◌, ⊤, ◌<◌, ◌≤◌, All, IfSome, Result, Ok, Err, ℕ, ◌+◌, ◌==◌, ◌||◌, ◌&&◌, List, [], ◌∷◌, ◌++◌, length, Bool, true, false, nat_lt, nat_le, if◌then◌else◌, Option, Some, None, option_map}
-use Rattle.std.specs.List.{slice_split, list_all}
+use Rattle.std.specs.Prelude.{◌≡◌, ⊤, ◌<◌, ◌≤◌, All, IfSome, Result, Ok, Err, ℕ, ◌+◌, ◌==◌, ◌||◌, ◌&&◌, List, [], ◌∷◌, ◌++◌, length, not, Bool, true, false, nat_lt, nat_le, if◌then◌else◌, Option, Some, None, option_map}
+use Rattle.std.specs.List.{slice_split, list_all, list_any}
 use Rattle.std.specs.Str.Lines.{strip_carriage_return}
 use Rattle.flow_edges.specs.declared.lines.refusal.TheConstants.{MAX_LINE, MAX_INPUT}
 use Rattle.flow_edges.specs.declared.lines.refusal.LineRefusal.{LineRefusal}
@@ -9,9 +9,11 @@ use Rattle.flow_edges.specs.declared.lines.refusal.LineRefusal.TheVariants.{Faul
 use Rattle.flow_edges.specs.declared.lines.line.Line.{Line}
 use Rattle.flow_edges.specs.Flow.{IsAtEnd}
 
+-- the byte 0x0A
 abbrev pub is_line_feed : ℕ → Bool
 is_line_feed byte = byte == 10
 
+-- any byte but that
 abbrev pub IsNoLineFeed : ℕ → Type 0
 IsNoLineFeed byte = is_line_feed byte ≡ false
 
@@ -30,6 +32,7 @@ raw_lines_of [] = []
 raw_lines_of (part ∷ []) = if length part == 0 then [] else record { bytes = part; closed = false } ∷ []
 raw_lines_of (part ∷ next ∷ parts) = record { bytes = part; closed = true } ∷ raw_lines_of (next ∷ parts)
 
+-- the lines of bytes, as they stand there
 abbrev pub raw_lines : List ℕ → List RawLine
 raw_lines bytes = raw_lines_of (slice_split is_line_feed bytes)
 
@@ -45,6 +48,7 @@ content line = if line.closed then strip_carriage_return line.bytes else line.by
 abbrev pub is_blank_byte : ℕ → Bool
 is_blank_byte byte = byte == 32 || byte == 9 || byte == 13
 
+-- only spaces, tabs and carriage returns
 abbrev pub is_blank : List ℕ → Bool
 is_blank bytes = list_all is_blank_byte bytes
 
@@ -56,6 +60,7 @@ length_refusal number place size closed =
     else if nat_lt MAX_INPUT (place + size + (if closed then 1 else 0)) then Some (InputTooLong number)
     else None
 
+-- why a line is refused, where it is
 abbrev pub refusal_of : ℕ → ℕ → RawLine → Option LineRefusal
 refusal_of number place line = length_refusal number place (length line.bytes) line.closed
 
@@ -100,6 +105,20 @@ lines_ahead state left = lines_from (state.count + 1) state.given (raw_lines (st
 abbrev pub told_ahead : LinesState → Option (List ℕ) → Option Lined
 told_ahead state left = option_map (λ bytes. lines_ahead state bytes) left
 
+-- a line that is whole, and isn't blank
+abbrev pub is_whole : RawLine → Bool
+is_whole line = line.closed && not (is_blank (content line))
+
+-- such a line stands among these bytes
+abbrev pub HoldsLine : List ℕ → Type 0
+HoldsLine bytes = list_any is_whole (raw_lines bytes) ≡ true
+
+-- of the bytes held and left, some went by as lines, and the others are held or left still
+pub record AccountsFor (held held_after : List ℕ) (given given_after : ℕ) (left left_after : Option (List ℕ)) : Type 0 where
+  pub gone : List ℕ
+  pub bytes : option_map (λ bytes. held ++ bytes) left ≡ option_map (λ bytes. gone ++ (held_after ++ bytes)) left_after
+  pub counted : given_after ≡ given + length gone
+
 -- the first of the lines that came yet was given, and the others come yet
 pub record GivesLine (before after : LinesState) (left left_after : Option (List ℕ)) (number : ℕ) (bytes : List ℕ) : Type 0 where
   pub line : told_ahead before left ≡ option_map (λ later. line_then number bytes later) (told_ahead after left_after)
@@ -130,3 +149,11 @@ abbrev pub AnswersLine : LinesState → LinesState → Option (List ℕ) → Opt
 AnswersLine before after left left_after (Ok (Some l)) = GivesLine before after left left_after l.number l.bytes
 AnswersLine before after left left_after (Ok None) = GivesEnd before after left left_after
 AnswersLine before after left left_after (Err refusal) = RefusesLine before after left left_after refusal
+
+-- no byte is lost, unless a line or the input was too long, or memory ran out
+abbrev pub LosesNone : LinesState → LinesState → Option (List ℕ) → Option (List ℕ) → Result (Option Line) LineRefusal → Type 0
+LosesNone before after left left_after (Ok line) = AccountsFor before.held after.held before.given after.given left left_after
+LosesNone before after left left_after (Err Fault) = AccountsFor before.held after.held before.given after.given left left_after
+LosesNone before after left left_after (Err (LineTooLong n)) = ⊤
+LosesNone before after left left_after (Err (InputTooLong n)) = ⊤
+LosesNone before after left left_after (Err NoMemory) = ⊤

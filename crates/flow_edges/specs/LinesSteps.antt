@@ -1,5 +1,6 @@
--- What the parts of a reader of lines do.
-use Rattle.std.specs.Prelude.{◌≡◌, ◌<◌, ◌≤◌, ⊤, ℕ, length, List, [], ◌∷◌, ◌++◌, Bool, true, false, All, Option, Some, None, option_map}
+-- What the private parts of a reader of lines do: its chunk of bytes, the line that it reads, and its cursor. No public contract cites these.
+use Rattle.std.specs.Prelude.{Bool, true, ◌≡◌, ◌<◌, ◌≤◌, ⊤, ℕ, length, List, [], ◌∷◌, ◌++◌, true, false, Option, Some, None, option_map}
+use Rattle.flow_edges.specs.declared.lines.refusal.TheConstants.{MAX_INPUT}
 use Rattle.flow_edges.specs.Lines.{NoLineFeed, RawLine, raw_lines, refusal_of, LinesState, unless_blank, told_ahead}
 use Rattle.flow_edges.specs.declared.lines.refusal.LineRefusal.{LineRefusal}
 use Rattle.flow_edges.specs.declared.lines.refusal.LineRefusal.TheVariants.{Fault, LineTooLong, InputTooLong, NoMemory}
@@ -36,6 +37,11 @@ pub record ReadsLast (number place : ℕ) (all left : Option (List ℕ)) (line c
   pub drained : chunk ≡ []
   pub fits : refusal_of number place (record { bytes = line; closed = false }) ≡ None
 
+-- the chunk held the whole line
+pub record IsHeld (chunk_old chunk_new line : List ℕ) (closed : Bool) : Type 0 where
+  pub whole : closed ≡ true
+  pub cut : chunk_old ≡ line ++ 10 ∷ chunk_new
+
 -- the source failed: no byte is lost, and there is no whole line among those taken
 pub record ReadsPart (all left : Option (List ℕ)) (line chunk : List ℕ) : Type 0 where
   pub plain : NoLineFeed line
@@ -61,8 +67,9 @@ pub record IsBetweenLines (line chunk : List ℕ) (count given : ℕ) : Type 0 w
   pub empty : line ≡ []
   pub room : length chunk ≤ 65536
   pub numbered : count ≤ given
-  pub within : given ≤ 1099511627776
+  pub within : given ≤ MAX_INPUT
 
+-- what contracts see of such a reader
 abbrev pub lines_state : List ℕ → List ℕ → ℕ → ℕ → LinesState
 lines_state line chunk count given = record { held = line ++ chunk; count = count; given = given; refusal = None }
 
@@ -73,4 +80,4 @@ pub record ReadsNext (chunk_old chunk_new : List ℕ) (count_old count_new given
   pub moved : given_old < given_new
   pub room : length chunk_new ≤ 65536
   pub numbered : count_new ≤ given_new
-  pub within : given_new ≤ 1099511627776
+  pub within : given_new ≤ MAX_INPUT

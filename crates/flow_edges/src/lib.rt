@@ -16,6 +16,8 @@ mod quiet;
 mod sink;
 mod source;
 mod system;
+#[cfg(test)]
+mod tests;
 mod text;
 
 pub use fault::Fault;

@@ -1,4 +1,4 @@
-//! A source and a sink that never fail.
+//! A source and a sink that never fail, and so need no count of faults.
 
 mod sink;
 mod source;

@@ -1,6 +1,6 @@
-ghost use Rattle.std.specs.Prelude.{◌≡◌, ℕ, ◌≤◌, false, Ok, Err, IfOk, IfErr, OnOk, MatchBool};
+ghost use Rattle.std.specs.Prelude.{◌≡◌, ℕ, ◌≤◌, ◌++◌, [], true, false, Ok, Err, IfOk, IfErr, OnOk, MatchBool};
 ghost use Rattle.flow_edges.specs.Faults.{Rose};
-ghost use Rattle.flow_edges.specs.Lines.{AnswersLine, GivesEnd, RefusesLine};
+ghost use Rattle.flow_edges.specs.Lines.{AnswersLine, GivesEnd, RefusesLine, HoldsLine, AccountsFor, LosesNone, is_blank};
 ghost use Rattle.flow_edges.specs.LinesSteps.{IsBetweenLines, ReadsNext, lines_state};
 
 use crate::lines::chunk::Chunk;
@@ -43,6 +43,14 @@ impl Cursor {
             (S.left source.old) (S.left source.new)) }
         ensures ended { result ≡ Ok false
             → IsBetweenLines self.new.line.items self.new.chunk self.new.count self.new.given }
+        ensures accounted { IfOk result (λ _. AccountsFor (self.old.line.items ++ self.old.chunk) self.new.chunk
+            self.old.given self.new.given (S.left source.old) (S.left source.new)) }
+        ensures kept { result ≡ Err LineRefusal.Fault
+            → AccountsFor (self.old.line.items ++ self.old.chunk) (self.new.line.items ++ self.new.chunk)
+            self.old.given self.new.given (S.left source.old) (S.left source.new) }
+        ensures unread { HoldsLine self.old.chunk → source.new ≡ source.old }
+        ensures held { IfOk result (λ found. found ≡ true
+            → HoldsLine self.old.chunk → is_blank self.new.line.items ≡ true → HoldsLine self.new.chunk) }
         ensures failed { result ≡ Err LineRefusal.Fault → Rose (S.faults source.old) (S.faults source.new) }
         ensures later { S.faults source.old ≤ S.faults source.new }
     {
@@ -70,6 +78,11 @@ impl Cursor {
             (lines_state self.new.line.items self.new.chunk self.new.count self.new.given)
             (S.left source.old) (S.left source.new) result }
         ensures between { OnOk result (IsBetweenLines self.new.line.items self.new.chunk self.new.count self.new.given) }
+        ensures accounted { LosesNone
+            (lines_state self.old.line.items self.old.chunk self.old.count self.old.given)
+            (lines_state self.new.line.items self.new.chunk self.new.count self.new.given)
+            (S.left source.old) (S.left source.new) result }
+        ensures unread { HoldsLine (self.old.line.items ++ self.old.chunk) → source.new ≡ source.old }
         ensures failed { result ≡ Err LineRefusal.Fault → Rose (S.faults source.old) (S.faults source.new) }
         ensures later { S.faults source.old ≤ S.faults source.new }
     {

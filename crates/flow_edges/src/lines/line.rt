@@ -8,6 +8,7 @@ use crate::Items;
 pub struct Line {
     /// Its place among all lines, blank ones too, from 1.
     pub number: u64,
+    /// What stands in it.
     pub bytes: Items<u8>,
 }
 

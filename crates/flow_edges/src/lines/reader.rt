@@ -37,7 +37,7 @@ impl Model for Lines {
 }
 
 impl Lines {
-    ghost use Rattle.flow_edges.specs.Lines.{AnswersLine};
+    ghost use Rattle.flow_edges.specs.Lines.{AnswersLine, LosesNone, HoldsLine};
 
     /// A reader at the start of an input.
     pub fn new(alloc: Global) -> Result<Lines, NoMemory>
@@ -61,6 +61,9 @@ impl Lines {
     pub fn next_line<S: Source>(&mut self, source: &mut S) -> Result<Option<Line>, LineRefusal>
         ensures lines { self.old.refusal ≡ None
             → AnswersLine self.old self.new (S.left source.old) (S.left source.new) result }
+        ensures accounted { self.old.refusal ≡ None
+            → LosesNone self.old self.new (S.left source.old) (S.left source.new) result }
+        ensures unread { HoldsLine self.old.held → source.new ≡ source.old }
         ensures refusal { self.new.refusal ≡ result_err result }
         ensures repeated { IfSome self.old.refusal (λ refusal.
             (result ≡ Err refusal) × (self.new ≡ self.old) × (source.new ≡ source.old)) }

@@ -1,11 +1,14 @@
 ghost use Rattle.std.specs.Prelude.{◌≡◌, ℕ, ◌≤◌, [], ◌⊎◌, Some, None, Ok, Err, length, IfOk, IfErr, IfSome, MatchBool};
 ghost use Rattle.flow_edges.specs.Faults.{Rose, Causes};
-ghost use Rattle.flow_edges.specs.Lines.{length_refusal};
-ghost use Rattle.flow_edges.specs.LinesSteps.{told_bytes, ReadsToLineFeed, ReadsLast, ReadsPart, IsFirstRefused, IsForLength};
+ghost use Rattle.flow_edges.specs.Lines.{NoLineFeed, length_refusal};
+ghost use Rattle.flow_edges.specs.LinesSteps.{told_bytes, ReadsToLineFeed, ReadsLast, ReadsPart, IsHeld, IsFirstRefused, IsForLength};
 
 use crate::Source;
 use crate::lines::chunk::Chunk;
 use crate::lines::refusal::{LineRefusal, MAX_INPUT, MAX_LINE};
+
+#[cfg(test)]
+mod tests;
 
 /// Where a line begins: its number, and how many bytes of the input stand before it.
 #[derive(Clone, Copy)]
@@ -51,6 +54,8 @@ pub fn read_line<S: Source>(
     ensures failed { result ≡ Err LineRefusal.Fault → Rose (S.faults source.old) (S.faults source.new) }
     ensures later { S.faults source.old ≤ S.faults source.new }
     ensures small { length chunk.new ≤ 65536 }
+    ensures unread { ¬ (NoLineFeed chunk.old) → source.new ≡ source.old }
+    ensures held { IfOk result (λ closed. ¬ (NoLineFeed chunk.old) → IsHeld chunk.old chunk.new line.new.items closed) }
 {
     'reads: loop {
         let closed = chunk.take_line(line)?;

@@ -1,4 +1,4 @@
-ghost use Rattle.std.specs.Prelude.{◌≡◌, ◌≤◌, ◌<◌, ◌-◌, ◌↔◌, [], Ok, Some, true, length, take, min, IsErr, IfOk, OnErr, ◌||◌, nat_le};
+ghost use Rattle.std.specs.Prelude.{◌≡◌, ◌≤◌, ◌<◌, ◌-◌, ◌↔◌, [], Ok, Some, true, length, take, min, IsErr, IfOk, OnOk, OnErr, ◌||◌, nat_le};
 ghost use Rattle.flow_edges.specs.Faults.{counted, Rose, Causes};
 ghost use Rattle.flow_edges.specs.Flow.{written_with};
 ghost use Rattle.flow_edges.specs.Memory.{is_failing};
@@ -74,6 +74,9 @@ impl Sink for MemorySink {
         ensures fails { IsErr result ↔ (is_failing self.old.failing self.old.calls || nat_le self.old.room (length self.old.written) ≡ true) }
         ensures count { IfOk result (λ n. n ≡ min (length piece.now) (self.old.room - length self.old.written)) }
         ensures calls { self.new.calls ≡ counted self.old.calls }
+        ensures counted { OnErr result (self.new.faults ≡ counted self.old.faults) }
+        ensures uncounted { OnOk result (self.new.faults ≡ self.old.faults) }
+        ensures stays { (self.new.room ≡ self.old.room) × (self.new.failing ≡ self.old.failing) }
     {
         self.calls = self.calls.saturating_add(1);
         if self.failing.as_slice().contains(&self.calls) {

@@ -1,4 +1,4 @@
-ghost use Rattle.std.specs.Prelude.{◌≡◌, ◌≤◌, ◌<◌, ◌↔◌, Ok, Some, true, length, take, drop, min, IsErr, IfOk, OnErr};
+ghost use Rattle.std.specs.Prelude.{◌≡◌, ◌≤◌, ◌<◌, ◌↔◌, Ok, Some, true, length, take, drop, min, IsErr, IfOk, OnOk, OnErr};
 ghost use Rattle.flow_edges.specs.Faults.{counted, Causes};
 ghost use Rattle.flow_edges.specs.Flow.{left_after, IsNextOf, IsAtEnd};
 ghost use Rattle.flow_edges.specs.Memory.{is_failing};
@@ -76,6 +76,9 @@ impl Source for MemorySource {
         ensures fails { IsErr result ↔ (is_failing self.old.failing self.old.calls ≡ true) }
         ensures count { IfOk result (λ n. n ≡ min self.old.piece (min (length buffer.old) (length self.old.left))) }
         ensures calls { self.new.calls ≡ counted self.old.calls }
+        ensures counted { OnErr result (self.new.faults ≡ counted self.old.faults) }
+        ensures uncounted { OnOk result (self.new.faults ≡ self.old.faults) }
+        ensures stays { (self.new.piece ≡ self.old.piece) × (self.new.failing ≡ self.old.failing) }
     {
         self.calls = self.calls.saturating_add(1);
         if self.failing.as_slice().contains(&self.calls) {

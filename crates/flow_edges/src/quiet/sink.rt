@@ -9,6 +9,7 @@ pub struct QuietSink {
 }
 
 impl QuietSink {
+    /// A sink that has taken nothing yet.
     pub fn new() -> QuietSink {
         QuietSink { _private: () }
     }

@@ -3,16 +3,28 @@ ghost use Rattle.std.specs.Prelude.{◌≡◌, None};
 use crate::fault::counted_fault;
 use crate::{Fault, Source};
 use std::io::Read;
+use std::marker::Model;
 
-/// A reader of the system as a source. It tells no content, and counts each error.
+/// A reader of the system as a source. It tells no content, and counts each error. Contracts see the count.
 #[derive(Drop)]
 pub struct ReadSource<R: Read> {
     reader: R,
     faults: u64,
 }
 
+impl<R: Read> Model for ReadSource<R> {
+    ghost use Rattle.std.specs.Prelude.{ℕ};
+
+    ghost Value = { ℕ };
+
+    ghost view = { λ source. source.faults };
+}
+
 impl<R: Read> ReadSource<R> {
-    pub fn new(reader: R) -> ReadSource<R> {
+    /// A source over this reader, which has failed in no call yet.
+    pub fn new(reader: R) -> ReadSource<R>
+        ensures { result ≡ 0 }
+    {
         ReadSource { reader, faults: 0 }
     }
 }
@@ -20,7 +32,7 @@ impl<R: Read> ReadSource<R> {
 impl<R: Read> Source for ReadSource<R> {
     ghost left = { λ _. None };
 
-    ghost faults = { λ source. source.faults };
+    ghost faults = { λ source. source };
 
     fn read(&mut self, buffer: &mut [u8]) -> Result<usize, Fault> {
         match self.reader.read(buffer) {

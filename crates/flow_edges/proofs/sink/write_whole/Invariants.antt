@@ -1,4 +1,4 @@
-use Rattle.std.proofs.Common.{ℕ, ◌≤◌, length}
+use Rattle.std.proofs.Common.{◌≤◌, length}
 use Rattle.flow_edges.proofs.Writing.{IsPartWay}
 use Rattle.flow_edges.proofs.sink.write_whole.Given as goal
 

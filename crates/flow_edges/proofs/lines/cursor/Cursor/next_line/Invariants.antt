@@ -1,5 +1,5 @@
-use Rattle.std.proofs.Common.{◌≡◌, ℕ, ◌≤◌, ◌-◌}
-use Rattle.flow_edges.specs.Lines.{told_ahead}
+use Rattle.std.proofs.Common.{◌≡◌, ◌≤◌, ◌-◌, ◌++◌}
+use Rattle.flow_edges.specs.Lines.{told_ahead, HoldsLine, AccountsFor}
 use Rattle.flow_edges.specs.LinesSteps.{IsBetweenLines, lines_state}
 use Rattle.flow_edges.proofs.lines.cursor.Cursor.next_line.Given as goal
 
@@ -8,6 +8,9 @@ invariant-lines g l = record {
   between : IsBetweenLines l.self.line.items l.self.chunk l.self.count l.self.given;
   ahead : told_ahead (lines_state l.fn.self.line.items l.fn.self.chunk l.fn.self.count l.fn.self.given) (g.S.Source.left l.fn.source)
       ≡ told_ahead (lines_state l.self.line.items l.self.chunk l.self.count l.self.given) (g.S.Source.left l.source);
+  accounted : AccountsFor (l.fn.self.line.items ++ l.fn.self.chunk) (l.self.line.items ++ l.self.chunk) l.fn.self.given l.self.given
+      (g.S.Source.left l.fn.source) (g.S.Source.left l.source);
+  held : HoldsLine (l.fn.self.line.items ++ l.fn.self.chunk) → (l.source ≡ l.fn.source) × HoldsLine l.self.chunk;
   moved : l.fn.self.given ≤ l.self.given;
   later : g.S.Source.faults l.fn.source ≤ g.S.Source.faults l.source;
 }

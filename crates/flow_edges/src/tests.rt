@@ -1,0 +1,17 @@
+mod lines;
+mod lists;
+mod sinks;
+mod sources;
+mod system;
+
+use crate::{Items, NoMemory};
+use std::alloc::Global;
+
+/// These items as a list.
+fn listed<T: Copy + Drop>(alloc: Global, items: &[T]) -> Result<Items<T>, NoMemory> {
+    let mut list = Items::new(alloc);
+    for item in items {
+        list.push(*item)?;
+    }
+    Ok(list)
+}
