@@ -13,7 +13,7 @@ pub enum Pattern {
     Either(Box<Pattern>, Box<Pattern>),
     /// `FOLLOWEDBY`: both sides match, the second one no earlier than the first.
     Then(Box<Pattern>, Box<Pattern>),
-    /// `WITHIN x SECONDS`: the observations lie at most so many seconds apart.
+    /// `WITHIN x SECONDS`: the observations lie less than so many seconds apart.
     Within(Box<Pattern>, u32),
     /// `START .. STOP ..`: the observations are of this span of time, its end left out.
     Between(Box<Pattern>, Instant, Instant),
