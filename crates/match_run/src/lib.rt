@@ -17,3 +17,6 @@ mod tally;
 pub use end::{InputRule, MatchEnd, Mode};
 pub use refusal_text::write_input_refusal;
 pub use stream::match_stream;
+
+#[cfg(test)]
+mod tests;
