@@ -1,12 +1,12 @@
 -- A log is read in one way.
-use Rattle.std.proofs.Common.{◌≡◌, ◌↔◌, ℕ, ℤ, List, [], ◌∷◌, Bool, true, false, IsTrue, Option, Some, None, refl, sym, ap, subst, ◌∙◌}
-use Rattle.serde_json.specs.Data.{Data, string, array, item, no_items}
+use Rattle.std.proofs.Common.{◌≡◌, ◌↔◌, ℕ, ℤ, List, Bool, true, false, IsTrue, Option, Some, refl, sym, subst, ◌∙◌}
+use Rattle.serde_json.specs.Data.{Data}
 use Rattle.flow_edges.specs.Lines.{Lined, ended, refused, line_then}
 use Rattle.pattern_grammar.specs.FirstForm.{FirstForm}
 use Rattle.stix_times.specs.Reading.{IsTextOf}
-use Rattle.match_run.specs.Line.{IsBundle, IsObservedAt, IsObservation, IsFirstLine, Holds}
+use Rattle.match_run.specs.Line.{IsObservedAt, IsObservation, IsFirstLine, Holds}
 use Rattle.match_run.specs.Listing.{Row}
-use Rattle.match_run.specs.Reading.{Ending, Whole, Refused, Reads, at_end, too_long, no_row, one_row, IsNext}
+use Rattle.match_run.specs.Reading.{Ending, Reads, at_end, too_long, no_row, one_row}
 use Rattle.match_run.proofs.Observations.{one_bundle}
 
 -- a text names one instant
