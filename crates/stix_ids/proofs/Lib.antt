@@ -1,0 +1,4 @@
+pub mod KindLemmas
+pub mod ByteLemmas
+pub mod UuidLemmas
+pub mod IdLemmas

@@ -1,0 +1,36 @@
+-- Identifiers of STIX 2.1, section 2.9: `object-type "--" UUID`. An identifier is its kind and the
+-- number of its UUID. Of the bytes, 45 is `-`.
+use Rattle.std.specs.Prelude.{◌≡◌, ℕ, ◌^◌, ◌<◌, List, ◌∷◌, ◌++◌, length}
+use Rattle.stix_ids.specs.declared.id.Id.{Id}
+use Rattle.stix_ids.specs.Kind.{IsKind}
+use Rattle.stix_ids.specs.Uuid.{IsUuidOf, uuid_text}
+
+-- the text is a front, `--` and 36 bytes
+pub record IsCut (text front last : List ℕ) : Type 0 where
+  pub long : length last ≡ 36
+  pub parts : text ≡ front ++ 45 ∷ 45 ∷ last
+
+-- `--` stands before the last 36 bytes
+abbrev pub HasMark : List ℕ → Type 0
+HasMark text = (front last : List ℕ) × IsCut text front last
+
+-- the text is the identifier's: its kind, `--` and its UUID
+pub record IsTextOf (text : List ℕ) (id : Id) : Type 0 where
+  pub uuid : List ℕ
+  pub cut : IsCut text id.kind uuid
+  pub kind : IsKind id.kind
+  pub number : IsUuidOf uuid id.number
+
+-- some identifier's text
+abbrev pub IsIdText : List ℕ → Type 0
+IsIdText text = (id : Id) × IsTextOf text id
+
+-- the identifier's text in lower-case digits
+abbrev pub canonical_text : Id → List ℕ
+canonical_text id = id.kind ++ 45 ∷ 45 ∷ uuid_text id.number
+
+-- the text is the canonical one of an identifier
+pub record IsCanonicalTextOf (text : List ℕ) (id : Id) : Type 0 where
+  pub kind : IsKind id.kind
+  pub number : id.number < 2 ^ 128
+  pub spelling : text ≡ canonical_text id

@@ -1,0 +1,9 @@
+-- The rules of specs/Kind.antt byte by byte. That the two agree is proved in proofs/KindLemmas.antt.
+use Rattle.std.specs.Prelude.{◌≡◌, ◌≢◌, ℕ, ◌-◌, ◌<◌, List, slice_index}
+use Rattle.stix_ids.specs.Kind.{IsKindByte}
+
+-- the byte at this place may stand there in a kind
+pub record FitsAt (text : List ℕ) (at : ℕ) : Type 0 where
+  pub place : at < 250
+  pub byte : IsKindByte (slice_index text at)
+  pub hyphen : 0 < at → slice_index text (at - 1) ≡ 45 → slice_index text at ≢ 45

@@ -1,0 +1,7 @@
+-- The identifier whose parts lie in a text.
+use Rattle.stix_ids.specs.declared.id.Id.{Id}
+use Rattle.stix_ids.specs.declared.parts.Parts.{Parts}
+
+-- the identifier of these parts
+abbrev pub id_of : Parts → Id
+id_of parts = record { kind = parts.kind.now; number = parts.number }

@@ -1,0 +1,25 @@
+ghost use Rattle.std.specs.Prelude.{◌≡◌, length, IfSome, IfNone};
+ghost use Rattle.stix_ids.specs.Uuid.{IsUuidOf, IsUuid, uuid_text};
+
+use uuid::Uuid;
+
+/// The number of the UUID that 36 bytes are in hyphenated form, in digits of either case.
+pub(crate) fn read_number(bytes: &[u8]) -> Option<u128>
+    requires { length bytes.now ≡ 36 }
+    ensures some { IfSome result (IsUuidOf bytes.now) }
+    ensures none { IfNone result (¬ IsUuid bytes.now) }
+{
+    match Uuid::try_parse_ascii(bytes) {
+        Ok(uuid) => Some(uuid.as_u128()),
+        Err(_) => None,
+    }
+}
+
+/// Writes the number as a UUID in hyphenated form, in lower-case digits.
+pub(crate) fn write_number<'b>(number: u128, buffer: &'b mut [u8; 36]) -> &'b str
+    ensures { result.now ≡ uuid_text number }
+{
+    Uuid::from_u128(number)
+        .hyphenated()
+        .encode_lower(buffer.as_mut_slice())
+}

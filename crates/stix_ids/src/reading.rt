@@ -1,0 +1,38 @@
+ghost use Rattle.std.specs.Prelude.{◌≡◌, ◌≢◌, ◌⊎◌, ◌↔◌, Result, Ok, Err, IsTrue, IfOk, IfErr};
+ghost use Rattle.stix_ids.specs.declared.id.Id.{Id};
+ghost use Rattle.stix_ids.specs.declared.refusal.IdRefusal.{IdRefusal};
+ghost use Rattle.stix_ids.specs.declared.refusal.IdRefusal.TheVariants.{NoMemory};
+ghost use Rattle.stix_ids.specs.Identifier.{IsTextOf};
+ghost use Rattle.stix_ids.specs.Reading.{IsRefused};
+
+use crate::parts::Parts;
+use crate::{Id, IdRefusal};
+use flow_edges::Text;
+use std::alloc::Global;
+
+/// The identifier that the text is: a kind, `--` and a UUID in hyphenated form, with hex digits of
+/// either case. A text that is no identifier's is refused as such also without memory.
+pub fn read_id(alloc: Global, text: &str) -> Result<Id, IdRefusal>
+    ensures ok { IfOk result (IsTextOf text.now) }
+    ensures err { IfErr result (IsRefused text.now) }
+    ensures named { (id : Id) → IsTextOf text.now id → (result ≡ Ok id) ⊎ (result ≡ Err NoMemory) }
+    ensures refused { (refusal : IdRefusal) → refusal ≢ NoMemory → IsRefused text.now refusal
+        → result ≡ Err refusal }
+{
+    let parts = Parts::read(text.as_bytes())?;
+    let kind = Text::from_text(alloc, &text[..parts.kind.len()])?;
+    Ok(Id {
+        kind,
+        number: parts.number,
+    })
+}
+
+/// Whether the text reads as the identifier.
+pub fn is_text_of(id: &Id, text: &str) -> bool
+    ensures { IsTrue result ↔ IsTextOf text.now id.now }
+{
+    match Parts::read(text.as_bytes()) {
+        Ok(parts) => parts.number == id.number && parts.kind == id.kind.as_str().as_bytes(),
+        Err(_) => false,
+    }
+}

@@ -1,0 +1,24 @@
+ghost use Rattle.std.specs.Prelude.{IfOk};
+ghost use Rattle.stix_ids.specs.Kind.{IsKind};
+ghost use Rattle.stix_ids.specs.Identifier.{IsCanonicalTextOf};
+
+use crate::Id;
+use crate::hyphenated::write_number;
+use crate::parts::MARKED_LENGTH;
+use flow_edges::{NoMemory, Text};
+use std::alloc::Global;
+
+/// The canonical text of the identifier, in lower-case digits. Memory is taken once.
+pub fn write_id(alloc: Global, id: &Id) -> Result<Text, NoMemory>
+    requires { IsKind id.now.kind }
+    ensures { IfOk result (λ text. IsCanonicalTextOf text id.now) }
+{
+    let kind = id.kind.as_str();
+    let mut buffer = [0; 36];
+    let uuid = write_number(id.number, &mut buffer);
+    let mut text = String::with_capacity(alloc, kind.len() + MARKED_LENGTH)?;
+    text.push_str(kind)?;
+    text.push_str("--")?;
+    text.push_str(uuid)?;
+    Ok(Text::from_string(text))
+}

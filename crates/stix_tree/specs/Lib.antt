@@ -1,0 +1,7 @@
+pub mod DataOf
+pub mod Entries
+pub mod Flaws
+pub mod Ordered
+pub mod Reading
+pub mod Refusal
+pub mod Walk

@@ -1,0 +1,28 @@
+-- In each object the names rise strictly by their bytes, so that none stands twice.
+use Rattle.std.specs.Prelude.{◌≡◌, ℕ, List, ⊤}
+use Rattle.std.specs.Ordering.{nat_cmp}
+use Rattle.std.specs.declared.cmp.Ordering.TheVariants.{Less}
+use Rattle.std.specs.Cmp.Lexicographic.{slice_cmp}
+use Rattle.serde_json.specs.Data.{Data, null, boolean, number, string, array, object, Items, no_items, item, Members, no_members, member}
+
+-- a name comes before the first of these
+abbrev pub IsBefore : List ℕ → Members → Type 0
+IsBefore name no_members = ⊤
+IsBefore name (member next d ms) = slice_cmp nat_cmp name next ≡ Less
+
+abbrev mutual
+  pub IsOrdered : Data → Type 0
+  IsOrdered null = ⊤
+  IsOrdered (boolean b) = ⊤
+  IsOrdered (number n) = ⊤
+  IsOrdered (string s) = ⊤
+  IsOrdered (array ds) = ItemsAreOrdered ds
+  IsOrdered (object ms) = MembersAreOrdered ms
+
+  pub ItemsAreOrdered : Items → Type 0
+  ItemsAreOrdered no_items = ⊤
+  ItemsAreOrdered (item d ds) = IsOrdered d × ItemsAreOrdered ds
+
+  pub MembersAreOrdered : Members → Type 0
+  MembersAreOrdered no_members = ⊤
+  MembersAreOrdered (member name d ms) = IsBefore name ms × IsOrdered d × MembersAreOrdered ms

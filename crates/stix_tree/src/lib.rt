@@ -1,0 +1,30 @@
+//! JSON values without fractions and null (RFC 8259), as trees that own their texts and lists.
+//!
+//! `read_tree` gives the value that `serde_json`'s definition of reading gives, or the first reason
+//! against it, with its path. `write_tree` writes a tree so that it reads back.
+#![tactic(auto)]
+
+mod convert;
+mod depth;
+mod entries;
+mod entry;
+mod flaw;
+mod judge;
+mod limits;
+mod lookup;
+mod place;
+mod read;
+mod refusal;
+#[cfg(test)]
+mod tests;
+mod tree;
+mod write;
+
+pub use entries::read_entries;
+pub use entry::Entry;
+pub use limits::{MAX_LEVELS, MAX_WHOLE};
+pub use lookup::get;
+pub use read::read_tree;
+pub use refusal::TreeRefusal;
+pub use tree::{Field, Tree};
+pub use write::write_tree;

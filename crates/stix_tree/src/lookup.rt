@@ -1,0 +1,26 @@
+ghost use Rattle.std.specs.Prelude.{◌≡◌, map, option_map};
+ghost use Rattle.serde_json.specs.Find.{get_member, get as member_of};
+ghost use Rattle.stix_tree.specs.DataOf.{data_of, field_data, members_of};
+
+use crate::{Field, Tree};
+
+/// The value of the first field of that name. None where there is none, or the tree has no fields.
+pub fn get<'a>(tree: &'a Tree, name: &str) -> Option<&'a Tree>
+    ensures { option_map (λ value. data_of value.now) result ≡ member_of name.now (data_of tree.now) }
+{
+    match tree {
+        Tree::Fields(fields) => first_named(fields.as_slice(), name),
+        Tree::Truth(_) | Tree::Whole(_) | Tree::Words(_) | Tree::Row(_) => None,
+    }
+}
+
+fn first_named<'a>(fields: &'a [Field], name: &str) -> Option<&'a Tree>
+    ensures { option_map (λ value. data_of value.now) result ≡ get_member name.now (members_of (map field_data fields.now)) }
+{
+    for field in fields {
+        if field.name.as_str() == name {
+            return Some(&field.value);
+        }
+    }
+    None
+}
