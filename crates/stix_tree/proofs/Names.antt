@@ -1,5 +1,5 @@
 -- The first member of a name, a member at a time.
-use Rattle.std.proofs.Common.{◌≡◌, ℕ, ◌<◌, List, [], ◌∷◌, length, map, Option, Some, None, option_map, Ordering, Less, Equal, Greater, Bool, true, false, bytes_eq, is_eq, nat_cmp, drop, get_or, refl, sym, ap, ◌∙◌, ◌+◌}
+use Rattle.std.proofs.Common.{◌≡◌, ℕ, ◌<◌, List, ◌∷◌, length, map, Option, Some, Ordering, Less, Equal, Greater, true, false, bytes_eq, is_eq, nat_cmp, drop, get_or, refl, sym, ap, ◌∙◌, ◌+◌}
 use Rattle.std.specs.Ordering.{match_ordering}
 use Rattle.std.specs.Cmp.Lexicographic.{slice_cmp}
 use Rattle.std.proofs.lemmas.Map.Text.{is_eq-slice_cmp}

@@ -1,5 +1,5 @@
 -- The numbers of a tree are below zero exactly where they are written with a sign.
-use Rattle.std.proofs.Common.{◌≡◌, ℕ, List, [], ◌∷◌, map, pos, negsuc, ℤ, refl, sym, subst, rules}
+use Rattle.std.proofs.Common.{List, [], ◌∷◌, map, pos, negsuc, ℤ, sym, subst}
 use Rattle.std.specs.Prelude.{⊤}
 use Rattle.serde_json.specs.Data.{Num, unsigned, negative, float, Data, null, boolean, number, string, array, object, Items, no_items, item, Members, no_members, member}
 use Rattle.serde_json.specs.Find.{of_integer}

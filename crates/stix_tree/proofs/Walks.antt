@@ -1,9 +1,8 @@
 -- The first flaw of a value is the first in walk order, and so is the first value past the last level.
-use Rattle.std.proofs.Common.{◌≡◌, ℕ, zero, suc, ◌+◌, ◌<◌, ◌≤◌, List, [], ◌∷◌, ◌++◌, length, append_assoc, length-append, Bool, true, false, cond, nat_le, nat_lt, unsigned_abs, pos, negsuc, ℤ, Option, Some, None, option_map, refl, sym, ap, ◌∙◌, arith, rules, subst}
+use Rattle.std.proofs.Common.{◌≡◌, ℕ, zero, suc, ◌+◌, List, [], ◌∷◌, ◌++◌, length, length-append, Bool, true, false, cond, nat_le, nat_lt, unsigned_abs, ℤ, Option, Some, None, option_map, refl, sym, ap, ◌∙◌, arith}
 use Rattle.std.proofs.lemmas.Bool.Decides.{nat_tests}
 use Rattle.std.specs.Option.{option_or}
-use Rattle.std.specs.List.{join_with_byte}
-use Rattle.serde_json.specs.Data.{Num, Data, null, boolean, number, string, array, object, Items, no_items, item, Members, no_members, member}
+use Rattle.serde_json.specs.Data.{Data, null, boolean, number, string, array, object, Items, no_items, item, Members, no_members, member}
 use Rattle.serde_json.specs.Find.{as_integer}
 use Rattle.stix_tree.specs.declared.limits.TheConstants.{MAX_LEVELS, MAX_WHOLE}
 use Rattle.stix_tree.specs.declared.place.Place.{Place}
@@ -14,7 +13,7 @@ use Rattle.stix_tree.specs.declared.flaw.Flaw.{Flaw}
 use Rattle.stix_tree.specs.declared.refusal.TreeRefusal.{TreeRefusal}
 use Rattle.stix_tree.specs.declared.refusal.TreeRefusal.TheVariants.{TooDeep, NotWhole, Null, OutOfRange}
 use Rattle.stix_tree.specs.Walk.{Visit, walk, walk_items, walk_members, path_text, place_part}
-use Rattle.stix_tree.specs.Refusal.{first_told, depth_refusal, visit_refusal, value_refusal, number_refusal, refusal_of}
+use Rattle.stix_tree.specs.Refusal.{first_told, depth_refusal, visit_refusal, number_refusal, refusal_of}
 use Rattle.stix_tree.specs.Reading.{IsRefusalOf}
 use Rattle.stix_tree.specs.Flaws.{under, path_of, flaw_under, refusal_for, refusal_at, whole_flaw, flaw_here, first_flaw, items_flaw, members_flaw, too_deep, items_too_deep, members_too_deep}
 

@@ -1,6 +1,6 @@
 -- The list under a name of an object, and each entry judged by itself.
 use Rattle.std.specs.Prelude.{◌≡◌, ⊤, ℕ, List, [], ◌∷◌, Option, Some, None}
-use Rattle.serde_json.specs.Data.{Data, null, boolean, number, string, array, object, Items, no_items, item, Members}
+use Rattle.serde_json.specs.Data.{Data, null, boolean, number, string, array, object, Items, no_items, item}
 use Rattle.serde_json.specs.Find.{get_member}
 use Rattle.stix_tree.specs.declared.entry.Entry.{Entry}
 use Rattle.stix_tree.specs.declared.refusal.TreeRefusal.{TreeRefusal}

@@ -1,5 +1,5 @@
 -- The tree that some bytes are, the refusal where they are none, and the same of each entry of a list.
-use Rattle.std.specs.Prelude.{◌≡◌, ⊤, ℕ, List, Option, Some, None, IsUtf8}
+use Rattle.std.specs.Prelude.{◌≡◌, ⊤, ℕ, List, Some, None, IsUtf8}
 use Rattle.serde_json.specs.Data.{Data}
 use Rattle.serde_json.specs.Read.{read}
 use Rattle.stix_tree.specs.declared.tree.Tree.{Tree}

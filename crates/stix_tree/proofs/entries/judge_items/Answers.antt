@@ -1,4 +1,4 @@
-use Rattle.std.proofs.Common.{◌≡◌, List, [], ◌∷◌, ◌++◌, append_assoc, sym, ap, subst, ◌∙◌}
+use Rattle.std.proofs.Common.{List, [], ◌∷◌, ◌++◌, append_assoc, sym, ap, subst, ◌∙◌}
 use Rattle.serde_json.specs.View.{items_view}
 use Rattle.stix_tree.specs.Entries.{JudgesAll}
 use Rattle.stix_tree.specs.declared.entry.Entry.{Entry}

@@ -1,4 +1,4 @@
-use Rattle.std.proofs.Common.{◌≡◌, ℕ, List, Bool, true, false, bytes_eq, sym, ap, ◌∙◌}
+use Rattle.std.proofs.Common.{◌≡◌, ℕ, List, true, false, bytes_eq, sym, ap, ◌∙◌}
 use Rattle.stix_tree.proofs.Names.{found_field, passed_field}
 use Rattle.stix_tree.proofs.lookup.first_named.Goals as goal
 

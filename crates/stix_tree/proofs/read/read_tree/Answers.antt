@@ -1,9 +1,7 @@
-use Rattle.std.proofs.Common.{◌≡◌, None, sym, ap, subst, ◌∙◌, Some}
-use Rattle.serde_json.specs.Data.{Data}
+use Rattle.std.proofs.Common.{subst}
 use Rattle.serde_json.specs.View.{view}
 use Rattle.stix_tree.specs.declared.entry.Entry.{Entry}
-use Rattle.stix_tree.specs.Ordered.{IsOrdered}
-use Rattle.stix_tree.specs.Reading.{IsValueOf, Judges, IsTreeAs, IsTreeOf}
+use Rattle.stix_tree.specs.Reading.{Judges, IsTreeAs}
 use Rattle.stix_tree.proofs.Rising.{tree_of, value_ordered}
 use Rattle.stix_tree.proofs.read.read_tree.Goals as goal
 

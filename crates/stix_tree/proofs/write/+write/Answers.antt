@@ -1,6 +1,6 @@
-use Rattle.std.proofs.Common.{rules, ◌≡◌, ◌∷◌, [], ◌++◌, List, string_bytes, arith, refl, sym, ap, ◌∙◌}
+use Rattle.std.proofs.Common.{rules, ◌≡◌, ◌∷◌, [], ◌++◌, arith, ◌∙◌}
 use Rattle.std.proofs.lemmas.Result.{on_ok_weaker}
-use Rattle.json.specs.Token.{Token, key}
+use Rattle.json.specs.Token.{key}
 use Rattle.stix_tree.proofs.Front.{items_step, items_done, fields_step, fields_done}
 use Rattle.stix_tree.proofs.write.+write.Goals as goal
 

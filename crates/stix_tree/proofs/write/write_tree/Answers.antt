@@ -1,5 +1,4 @@
-use Rattle.std.proofs.Common.{rules, ◌≡◌, List, ◌++◌, [], string_bytes, sym, ap, ◌∙◌, subst, ℕ, IsUtf8}
-use Rattle.json.specs.Token.{Token}
+use Rattle.std.proofs.Common.{rules, ◌≡◌, sym, ap, ◌∙◌, subst, IsUtf8}
 use Rattle.json.specs.Lex.{tokens}
 use Rattle.json.specs.Tree.{json_tokens}
 use Rattle.json.specs.Print.{print}
