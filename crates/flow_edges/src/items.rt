@@ -1,4 +1,4 @@
-ghost use Rattle.std.specs.Prelude.{◌≡◌, [], ◌∷◌, ◌++◌, ◌↔◌, IsTrue, length, OnOk, OnErr};
+ghost use Rattle.std.specs.Prelude.{◌≡◌, [], ◌∷◌, ◌++◌, ◌↔◌, IsTrue, length, IfOk, OnOk, OnErr};
 
 use crate::NoMemory;
 use std::alloc::Global;
@@ -29,6 +29,14 @@ impl<T> Items<T> {
         Items {
             items: Vec::new(alloc),
         }
+    }
+
+    /// No items, and room for so many.
+    pub fn with_capacity(alloc: Global, capacity: usize) -> Result<Items<T>, NoMemory>
+        ensures { IfOk result (λ items. items ≡ []) }
+    {
+        let items = Vec::with_capacity(alloc, capacity)?;
+        Ok(Items { items })
     }
 
     /// The items of a `Vec`, which keeps its memory.

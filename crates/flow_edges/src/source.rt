@@ -14,7 +14,10 @@ pub trait Source {
 
     /// Takes the next bytes into the front of the buffer, and answers how many. Into a buffer that
     /// isn't empty, 0 comes only at the end of the bytes. A `Fault` has taken none, and is counted.
+    ///
+    /// No caller asks for more than 65,536 bytes at once.
     fn read(&mut self, buffer: &mut [u8]) -> Result<usize, Fault>
+        requires asks { length buffer.now ≤ 65536 }
         ensures within { IfOk result (λ n. n ≤ length buffer.old) }
         ensures given { IfOk result (λ n. IsNextOf (take n buffer.new) (left self.old)) }
         ensures rest { IfOk result (λ n. left self.new ≡ left_after n (left self.old)) }

@@ -1,4 +1,4 @@
--- Timestamps of STIX 2.1, section 3.2 `timestamp`: the `date-time` of RFC 3339, section 5.6, in UTC,
+-- Timestamps of STIX 2.1, section 2.16 `timestamp`: the `date-time` of RFC 3339, section 5.6, in UTC,
 -- with the capitals `T` and `Z`, and no leap second. A timestamp is its parts, a printer from the
 -- parts to the text, and facts that say which parts are valid. Of the bytes, 45 is `-`, 46 is `.`,
 -- 48 is `0`, 58 is `:`, 84 is `T` and 90 is `Z`.

@@ -1,4 +1,4 @@
-//! Timestamps of STIX 2.1 (section 3.2, which is the `date-time` of RFC 3339, section 5.6, in UTC):
+//! Timestamps of STIX 2.1 (section 2.16, which is the `date-time` of RFC 3339, section 5.6, in UTC):
 //! reading one from its text, exactly or with the reason why not, and writing an instant as its one
 //! canonical text. Nothing here takes memory.
 #![tactic(auto)]

@@ -12,7 +12,7 @@ fn texts_and_lists_grow_at_the_end(rt: HostRuntime) -> Result<(), Fail> {
     let owned = Text::from_string(String::from_str(rt.alloc(), "x")?);
     assert_eq!(rt; owned.as_str(), "x");
 
-    let mut texts = Items::new(rt.alloc());
+    let mut texts = Items::with_capacity(rt.alloc(), 1)?;
     assert!(rt; texts.is_empty());
     texts.push(text)?;
     texts.push(owned)?;

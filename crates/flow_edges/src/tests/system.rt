@@ -1,7 +1,8 @@
-use crate::{Fault, Lines, ReadSource, Sink, Source, WriteSink, write_whole};
+use crate::{Fault, LineRefusal, Lines, ReadSource, Sink, Source, WriteSink, write_whole};
+use std::alloc::Global;
 use std::fs::File;
 use std::test::Fail;
-use std::{env, fs, process};
+use std::{env, fs, io, process};
 
 #[test]
 fn writes_and_reads_a_file(rt: HostRuntime) -> Result<(), Fail> {
@@ -11,16 +12,34 @@ fn writes_and_reads_a_file(rt: HostRuntime) -> Result<(), Fail> {
     assert_eq!(rt; write_whole(&mut sink, b"a\r\n\nbc"), Ok(()));
     let mut source = ReadSource::new(File::open(&rt, path.as_path())?);
     fs::remove_file(&rt, path.as_path())?;
-    let mut lines = Lines::new(rt.alloc())?;
+    assert!(rt; gives_two_lines(rt.alloc(), &mut source)?);
+    Ok(())
+}
+
+#[test]
+fn writes_into_a_pipe_and_reads_from_it(rt: HostRuntime) -> Result<(), Fail> {
+    let (reader, writer) = io::pipe(&rt)?;
+    let mut sink = WriteSink::new(writer);
+    assert_eq!(rt; write_whole(&mut sink, b"a\r\n\nbc"), Ok(()));
+    // The reader meets the end once no writer is left.
+    drop(sink);
+    assert!(rt; gives_two_lines(rt.alloc(), &mut ReadSource::new(reader))?);
+    Ok(())
+}
+
+/// Whether the lines are `a`, a blank one and `bc`.
+fn gives_two_lines<S: Source>(alloc: Global, source: &mut S) -> Result<bool, LineRefusal> {
+    let mut lines = Lines::new(alloc)?;
     for (number, text) in [(1, "a"), (3, "bc")] {
-        let line = lines.next_line(&mut source)?;
+        let line = lines.next_line(source)?;
         let same = line.is_some_and(|line| {
             line.number == number && line.bytes.as_slice() == text.as_bytes()
         });
-        assert!(rt; same, "line {number}");
+        if !same {
+            return Ok(false);
+        }
     }
-    assert!(rt; lines.next_line(&mut source)?.is_none());
-    Ok(())
+    Ok(lines.next_line(source)?.is_none())
 }
 
 #[test]
