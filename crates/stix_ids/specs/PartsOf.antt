@@ -1,4 +1,4 @@
--- The identifier whose parts lie in a text.
+-- The identifier that lent parts are.
 use Rattle.stix_ids.specs.declared.id.Id.{Id}
 use Rattle.stix_ids.specs.declared.parts.Parts.{Parts}
 

@@ -16,7 +16,7 @@ pub fn read_kind(text: &str) -> Result<(), usize>
 }
 
 /// The same of bytes, which need not be text.
-pub(crate) fn check_kind(bytes: &[u8]) -> Result<(), usize>
+fn check_kind(bytes: &[u8]) -> Result<(), usize>
     ensures ok { IsOk result ↔ IsKind bytes.now }
     ensures err { IfErr result (IsLongestKindPrefix bytes.now) }
 {

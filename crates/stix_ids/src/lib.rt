@@ -17,6 +17,7 @@ mod writing;
 
 pub use id::Id;
 pub use kind::read_kind;
+pub use parts::Parts;
 pub use pick::Pick;
 pub use reading::{is_text_of, read_id};
 pub use refusal::IdRefusal;

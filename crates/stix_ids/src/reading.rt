@@ -19,8 +19,8 @@ pub fn read_id(alloc: Global, text: &str) -> Result<Id, IdRefusal>
     ensures refused { (refusal : IdRefusal) → refusal ≢ NoMemory → IsRefused text.now refusal
         → result ≡ Err refusal }
 {
-    let parts = Parts::read(text.as_bytes())?;
-    let kind = Text::from_text(alloc, &text[..parts.kind.len()])?;
+    let parts = Parts::read(text)?;
+    let kind = Text::from_text(alloc, parts.kind)?;
     Ok(Id {
         kind,
         number: parts.number,
@@ -31,8 +31,8 @@ pub fn read_id(alloc: Global, text: &str) -> Result<Id, IdRefusal>
 pub fn is_text_of(id: &Id, text: &str) -> bool
     ensures { IsTrue result ↔ IsTextOf text.now id.now }
 {
-    match Parts::read(text.as_bytes()) {
-        Ok(parts) => parts.number == id.number && parts.kind == id.kind.as_str().as_bytes(),
+    match Parts::read(text) {
+        Ok(parts) => parts.number == id.number && parts.kind == id.kind.as_str(),
         Err(_) => false,
     }
 }

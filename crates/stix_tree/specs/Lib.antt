@@ -5,3 +5,4 @@ pub mod Ordered
 pub mod Reading
 pub mod Refusal
 pub mod Walk
+pub mod Naming

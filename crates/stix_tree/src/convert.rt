@@ -70,7 +70,7 @@ fn convert_items(alloc: Global, items: Vec<Value>) -> Result<Items<Tree>, Halt>
         × (items_of (map data_of row) ≡ items_view items.items)) }
     ensures err { IfErr result (λ halt. Halts (items_flaw 0 (items_view items.items)) halt) }
 {
-    let mut row = Items::new(alloc);
+    let mut row = Items::with_capacity(alloc, items.len())?;
     for item in items {
         match convert(alloc, item) {
             Ok(tree) => row.push(tree)?,
@@ -86,7 +86,7 @@ fn convert_members(alloc: Global, members: Map<String, Value>) -> Result<Items<F
         × (members_of (map field_data fields) ≡ members_view members.entries)) }
     ensures err { IfErr result (λ halt. Halts (members_flaw (members_view members.entries)) halt) }
 {
-    let mut fields = Items::new(alloc);
+    let mut fields = Items::with_capacity(alloc, members.len())?;
     for (name, member) in members {
         match convert(alloc, member) {
             Ok(value) => fields.push(Field {

@@ -23,7 +23,7 @@ mod write;
 pub use entries::read_entries;
 pub use entry::Entry;
 pub use limits::{MAX_LEVELS, MAX_WHOLE};
-pub use lookup::get;
+pub use lookup::{get, take};
 pub use read::read_tree;
 pub use refusal::TreeRefusal;
 pub use tree::{Field, Tree};

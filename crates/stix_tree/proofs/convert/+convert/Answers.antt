@@ -46,8 +46,8 @@ convert-returns-in_ok-convert_members-in-Object-clause-ok t c =
 pub convert_items-returns-in-Err-clause-err : goal.convert_items-returns-in-Err-clause-err
 convert_items-returns-in-Err-clause-err t c =
     let inv = c.loop-item.invariant in
-    let at : c.len.result ≡ length c.loop-item.yielded = c.len.ensures ∙ same_length data_of view c.loop-item.row c.loop-item.yielded inv.2 in
-    item_halts c.args.items.items c.loop-item.yielded c.loop-item.item-iterator.rest.items c.next.new.self.rest.items c.in-Some.item c.in-Err.halt c.below_item.result c.len.result
+    let at : c.len-in-Err.result ≡ length c.loop-item.yielded = c.len-in-Err.ensures ∙ same_length data_of view c.loop-item.row c.loop-item.yielded inv.2 in
+    item_halts c.args.items.items c.loop-item.yielded c.loop-item.item-iterator.rest.items c.next.new.self.rest.items c.in-Some.item c.in-Err.halt c.below_item.result c.len-in-Err.result
     inv.0 c.in-Some.ensures.steps.0 inv.1 at c.in-Err.ensures.err (c.below_item.ensures (first_flaw (view c.in-Some.item)) c.in-Err.ensures.err)
 
 pub convert_members-returns-in-Err-clause-err : goal.convert_members-returns-in-Err-clause-err
