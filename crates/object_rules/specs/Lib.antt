@@ -1,0 +1,17 @@
+pub mod Found
+pub mod Form
+pub mod Row
+pub mod CommonRows
+pub mod StatedTypes
+pub mod ObservableTypes
+pub mod Types
+pub mod Judging
+pub mod Singles
+pub mod Forms
+pub mod Conditions
+pub mod Rows
+pub mod Breaks
+pub mod Views
+pub mod Adding
+pub mod Sound
+pub mod RuleName

@@ -1,0 +1,35 @@
+//! The rules of STIX 2.1 for one object: the properties that its type names, their forms, and what
+//! they ask of each other (sections 2 to 7). `breaks` tells each row that an object doesn't meet,
+//! with the rule that is broken and its path; the rows are tables, which one judge walks.
+//!
+//! A type's rows stand in `tables`, and in the definitions of specs/ beside them.
+#![tactic(auto)]
+
+mod broken;
+mod condition;
+mod form;
+mod found;
+mod groups;
+mod identifier;
+mod judge;
+mod kinds;
+pub mod laws;
+mod list;
+mod marking;
+mod moment;
+mod object_type;
+mod records;
+mod report;
+mod row;
+mod rule;
+mod single;
+mod tables;
+#[cfg(test)]
+mod tests;
+
+pub use broken::Break;
+pub use condition::text_at;
+pub use groups::Group;
+pub use kinds::{group, group_before};
+pub use report::breaks;
+pub use rule::Rule;
