@@ -3,3 +3,4 @@ pub mod Observations
 pub mod RowLemmas
 pub mod Following
 pub mod Unique
+pub mod Lines

@@ -4,3 +4,6 @@ pub mod Listing
 pub mod Matching
 pub mod TallyOf
 pub mod Texts
+pub mod Said
+pub mod Whole
+pub mod WholeSteps

@@ -1,7 +1,9 @@
 ghost use Rattle.std.specs.Prelude.{◌≡◌};
 ghost use Rattle.match_run.specs.declared.end.MatchEnd.TheVariants.{NoMemory as OutOfMemory};
 
+use bundle_reader::BundleRefusal;
 use flow_edges::NoMemory;
+use stix_tree::TreeRefusal;
 
 /// How the input is cut into bundles.
 #[derive(Clone, Copy, Debug, PartialEq, Eq)]
@@ -10,15 +12,21 @@ pub enum Mode {
     Lines,
 }
 
-/// Why an input line is refused.
-#[derive(Clone, Copy, Debug, PartialEq, Eq)]
+/// Why an input line is refused. An input that is read whole is line 1.
+#[derive(Debug, Drop)]
 pub enum InputRule {
     /// The line isn't of the first form, or is earlier than the one before, or is too long.
     NotYet,
+    /// The input is longer than it may be.
+    InputTooLong,
+    /// The bytes are no tree.
+    Tree(TreeRefusal),
+    /// The tree is no bundle.
+    Bundle(BundleRefusal),
 }
 
 /// How a run over a log ended.
-#[derive(Clone, Copy, Debug, PartialEq, Eq)]
+#[derive(Debug, Drop)]
 pub enum MatchEnd {
     /// The input was read to its end and all was written: how many observations there were, how many
     /// bindings, and the greatest number of the last binding, or 0.

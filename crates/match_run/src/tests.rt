@@ -1,8 +1,13 @@
-use crate::{InputRule, MatchEnd, Mode, laws, match_stream, write_input_refusal};
-use flow_edges::{Items, MemorySink, QuietSource};
+use crate::{
+    InputRule, MatchEnd, Mode, WholeRefusal, laws, match_stream, read_whole, write_input_refusal,
+};
+use bundle_reader::{BundleRefusal, ObjectBreak};
+use flow_edges::{Items, MemorySink, MemorySource, QuietSource, Text};
+use object_rules::{Break, Rule};
 use pattern_grammar::read_pattern;
 use std::alloc::Global;
 use std::test::Fail;
+use stix_tree::TreeRefusal;
 
 /// How a match of the pattern over the log ends.
 fn ending(
@@ -19,51 +24,45 @@ fn ending(
     }
 }
 
-const REFUSED: MatchEnd = MatchEnd::Input {
-    line: 1,
-    rule: InputRule::NotYet,
-};
+const REFUSED: &str = "Input { line: 1, rule: NotYet }";
 
-/// One observation, of which the bracket holds or doesn't.
-fn done(bindings: u128) -> MatchEnd {
-    MatchEnd::Done {
-        observations: 1,
-        bindings,
-        last: if bindings == 0 { 0 } else { 1 },
-    }
-}
+/// One observation, of which the bracket holds.
+const HELD: &str = "Done { observations: 1, bindings: 1, last: 1 }";
+
+/// One observation, of which it doesn't.
+const UNHELD: &str = "Done { observations: 1, bindings: 0, last: 0 }";
 
 #[test]
 fn lines_of_the_first_form(rt: HostRuntime) -> Result<(), Fail> {
     let alloc = rt.alloc();
-    let rows: [(&[u8], MatchEnd); 16] = [
+    let rows: [(&[u8], &str); 16] = [
         (
             br#"{"type":"bundle","objects":[{"type":"observed-data","first_observed":"2021-06-10T00:00:00Z","object_refs":["file--1"]},{"type":"file","id":"file--1","name":"a"}]}"#,
-            done(1),
+            HELD,
         ),
         (
             br#"{"objects":[{"object_refs":["x"],"first_observed":"2021-06-10T00:00:00.5Z","type":"observed-data"},{"name":"a","id":"x","type":"file","size":1.5}],"id":null,"type":"bundle"}"#,
-            done(1),
+            HELD,
         ),
         (
             br#"{"type":"bundle","objects":[{"type":"observed-data","first_observed":"2021-06-10T00:00:00Z","object_refs":["x"]},{"type":"file","id":"x","name":"b","name":"a"}]}"#,
-            done(1),
+            HELD,
         ),
         (
             br#"{"type":"bundle","objects":[{"type":"observed-data","first_observed":"2021-06-10T00:00:00Z","object_refs":["x"]},{"type":"file","id":"x","name":"A"}]}"#,
-            done(0),
+            UNHELD,
         ),
         (
             br#"{"type":"bundle","objects":[{"type":"observed-data","first_observed":"2021-06-10T00:00:00Z","object_refs":["x"]},{"type":"file","id":"x","name":["a"]}]}"#,
-            done(0),
+            UNHELD,
         ),
         (
             br#"{"type":"bundle","objects":[{"type":"observed-data","first_observed":"2021-06-10T00:00:00Z","object_refs":["x"]},{"type":"mutex","id":"x","name":"a"}]}"#,
-            done(0),
+            UNHELD,
         ),
         (
             br#"{"type":"bundle","objects":[{"type":"observed-data","first_observed":"2021-06-10T00:00:00Z","object_refs":["x"]},{"type":"file","id":"x"}]}"#,
-            done(0),
+            UNHELD,
         ),
         (
             br#"{"type":"bundle","objects":[{"type":"observed-data","first_observed":"2021-06-10T00:00:00Z","object_refs":["x"]},{"type":"file","id":"y","name":"a"}]}"#,
@@ -96,23 +95,63 @@ fn lines_of_the_first_form(rt: HostRuntime) -> Result<(), Fail> {
     for (line, end) in rows {
         let mut output = MemorySink::new(alloc, 64, Items::new(alloc))?;
         let seen = ending(alloc, "[file:name = 'a']", line, &mut output)?;
-        assert_eq!(rt; seen, end);
-        let listed: &[u8] = if end == done(1) { b"1: 1\n" } else { b"" };
+        let text = format!(in alloc; "{seen:?}")?;
+        assert_eq!(rt; text.as_str(), end);
+        let listed: &[u8] = if end == HELD { b"1: 1\n" } else { b"" };
         assert_eq!(rt; output.bytes(), listed);
     }
     laws::one_reading();
     Ok(())
 }
 
+/// The texts of refused lines, and what a source that is too long is told.
 #[test]
 fn a_refused_line_has_its_text(rt: HostRuntime) -> Result<(), Fail> {
-    let mut sink = MemorySink::new(rt.alloc(), 64, Items::new(rt.alloc()))?;
-    assert!(rt;
-        write_input_refusal(18_446_744_073_709_551_615, &InputRule::NotYet, &mut sink).is_ok()
-    );
-    assert_eq!(rt;
-        sink.bytes(),
-        b"line 18446744073709551615 refused: NotYet\n".as_slice()
-    );
+    let alloc = rt.alloc();
+    let path = Text::from_text(alloc, "objects.[0]")?;
+    let broken = ObjectBreak {
+        object: 7,
+        found: Break {
+            rule: Rule::Missing,
+            path: Text::from_text(alloc, "name")?,
+        },
+    };
+    let mut breaks = Items::new(alloc);
+    breaks.push(broken)?;
+    for (rule, wanted) in [
+        (InputRule::NotYet, "NotYet"),
+        (
+            InputRule::Tree(TreeRefusal::Null { path }),
+            "Null at objects.[0]",
+        ),
+        (
+            InputRule::Bundle(BundleRefusal::NotBundle {
+                path: Text::new(alloc),
+            }),
+            "NotBundle",
+        ),
+        (
+            InputRule::Bundle(BundleRefusal::Breaks(breaks)),
+            "Breaks object 7: Missing at name",
+        ),
+    ] {
+        let mut sink = MemorySink::new(alloc, 128, Items::new(alloc))?;
+        assert!(rt; write_input_refusal(18_446_744_073_709_551_615, &rule, &mut sink).is_ok());
+        let line = format!(in alloc; "line 18446744073709551615 refused: {wanted}\n")?;
+        assert_eq!(rt; sink.bytes(), line.as_bytes());
+    }
+    Ok(())
+}
+
+#[test]
+fn an_input_is_read_whole(rt: HostRuntime) -> Result<(), Fail> {
+    let alloc = rt.alloc();
+    let bytes = Items::from_vec(Vec::from_slice(alloc, b"a\nb")?);
+    let read = read_whole(alloc, &mut QuietSource::new(bytes, 2))?;
+    assert_eq!(rt; read.as_slice(), b"a\nb".as_slice());
+    let mut failing = Items::new(alloc);
+    failing.push(1)?;
+    let mut source = MemorySource::new(Items::new(alloc), 1, failing);
+    assert!(rt; matches!(read_whole(alloc, &mut source), Err(WholeRefusal::Fault)));
     Ok(())
 }

@@ -2,12 +2,12 @@
 -- brackets of an observation expression (section 9.5), as [user-account:account_login = 'a'].
 use Rattle.std.specs.Prelude.{◌≡◌, ◌≢◌, ℕ, ◌≤◌, ◌⊎◌, List, [], ◌∷◌, ◌++◌, All, codes, length, false}
 use Rattle.pattern_grammar.specs.Word.{IsWord, IsHyphenWord}
-use Rattle.pattern_grammar.specs.declared.pattern.Pattern.{Pattern}
-use Rattle.pattern_grammar.specs.declared.pattern.Pattern.TheVariants as pattern
-use Rattle.pattern_grammar.specs.declared.leaf.Leaf.TheVariants as leaf
-use Rattle.pattern_grammar.specs.declared.path.Step.TheVariants as step
-use Rattle.pattern_grammar.specs.declared.check.Check.TheVariants as check
-use Rattle.pattern_grammar.specs.declared.constant.Constant.TheVariants as constant
+use Rattle.pattern_tree.specs.declared.pattern.Pattern.{Pattern}
+use Rattle.pattern_tree.specs.declared.pattern.Pattern.TheVariants as pattern
+use Rattle.pattern_tree.specs.declared.leaf.Leaf.TheVariants as leaf
+use Rattle.pattern_tree.specs.declared.path.Step.TheVariants as step
+use Rattle.pattern_tree.specs.declared.check.Check.TheVariants as check
+use Rattle.pattern_tree.specs.declared.constant.Constant.TheVariants as constant
 use Rattle.pattern_grammar.specs.declared.comparison.Comparison.{Comparison}
 
 -- a comparison: an object's type, one of its properties, and the text that the property equals

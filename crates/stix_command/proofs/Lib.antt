@@ -1,2 +1,3 @@
 pub mod TwoWords
 pub mod Endings
+pub mod CheckEnds

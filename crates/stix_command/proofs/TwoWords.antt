@@ -1,4 +1,4 @@
--- Two words.
+-- One word, and two.
 use Rattle.std.proofs.Common.{◌≡◌, List, [], ◌∷◌, length, get_or, arith, String, string_bytes}
 use Rattle.std.specs.declared.alloc.Global.{Global}
 use Rattle.stix_command.specs.CommandLine.{texts}
@@ -8,3 +8,8 @@ two_texts [] a b two first second = cc
 two_texts (x ∷ []) a b two first second = absurd (omega arith)
 two_texts (x ∷ y ∷ []) a b two first second = cc
 two_texts (x ∷ y ∷ z ∷ zs) a b two first second = absurd (omega arith)
+
+pub one_text : (words : List (String Global)) (a : String Global) → length words ≡ 1 → a ≡ get_or words 0 a → texts words ≡ string_bytes a ∷ []
+one_text [] a one first = cc
+one_text (x ∷ []) a one first = cc
+one_text (x ∷ y ∷ zs) a one first = absurd (omega arith)

@@ -14,3 +14,7 @@ IsPosition word = (word ≡ codes "-") ⊎ (slice_get word 0 ≢ Some 45)
 pub record IsMatchLine (words : List (List ℕ)) (pattern : List ℕ) : Type 0 where
   pub line : words ≡ codes "match" ∷ pattern ∷ []
   pub position : IsPosition pattern
+
+-- check
+abbrev pub IsCheckLine : List (List ℕ) → Type 0
+IsCheckLine words = words ≡ codes "check" ∷ []

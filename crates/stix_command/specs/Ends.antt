@@ -2,7 +2,7 @@
 use Rattle.std.specs.Prelude.{ℕ, List, [], codes}
 use Rattle.match_run.specs.Texts.{input_refusal_text}
 use Rattle.stix_command.specs.declared.ending.Ending.{Ending}
-use Rattle.stix_command.specs.declared.ending.Ending.TheVariants.{Done, NoMemory, Usage, PatternRefused, InputRefused, ReadFault, WriteFault}
+use Rattle.stix_command.specs.declared.ending.Ending.TheVariants.{Done, NoMemory, Usage, PatternRefused, InputRefused, Broken, ReadFault, WriteFault}
 
 abbrev pub status_of : Ending → ℕ
 status_of Done = 0
@@ -10,6 +10,7 @@ status_of NoMemory = 1
 status_of Usage = 2
 status_of PatternRefused = 3
 status_of (InputRefused line rule) = 4
+status_of Broken = 4
 status_of ReadFault = 5
 status_of WriteFault = 6
 
@@ -20,5 +21,6 @@ ending_text NoMemory = codes "out of memory\n"
 ending_text Usage = codes "usage: stix_command (match | check | show | serve | make) WORDS\n"
 ending_text PatternRefused = codes "pattern refused: NotYet\n"
 ending_text (InputRefused line rule) = input_refusal_text line rule
+ending_text Broken = []
 ending_text ReadFault = codes "read fault\n"
 ending_text WriteFault = codes "write fault\n"

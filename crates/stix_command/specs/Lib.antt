@@ -1,4 +1,6 @@
 pub mod CommandLine
 pub mod Ends
 pub mod Matches
+pub mod Judged
+pub mod Checks
 pub mod Runs

@@ -3,7 +3,7 @@ use Rattle.std.specs.Prelude.{◌≡◌, ⊤, ℕ, List, Option}
 use Rattle.pattern_grammar.specs.FirstForm.{FirstForm, Spells}
 use Rattle.match_run.specs.Matching.{ListsWhole, ListsBefore}
 use Rattle.stix_command.specs.declared.ending.Ending.{Ending}
-use Rattle.stix_command.specs.declared.ending.Ending.TheVariants.{Done, NoMemory, Usage, PatternRefused, InputRefused, ReadFault, WriteFault}
+use Rattle.stix_command.specs.declared.ending.Ending.TheVariants.{Done, NoMemory, Usage, PatternRefused, InputRefused, Broken, ReadFault, WriteFault}
 
 -- the pattern has a form
 abbrev pub HasForm : List ℕ → Type 0
@@ -23,6 +23,7 @@ EndsLog form left left_after written written_after NoMemory = ⊤
 EndsLog form left left_after written written_after Usage = ⊥
 EndsLog form left left_after written written_after PatternRefused = ⊥
 EndsLog form left left_after written written_after (InputRefused line rule) = ListsBefore form left written written_after line
+EndsLog form left left_after written written_after Broken = ⊥
 EndsLog form left left_after written written_after ReadFault = ⊤
 EndsLog form left left_after written written_after WriteFault = ⊤
 
@@ -44,5 +45,6 @@ EndsMatch pattern left left_after written written_after NoMemory = HasForm patte
 EndsMatch pattern left left_after written written_after Usage = ⊥
 EndsMatch pattern left left_after written written_after PatternRefused = RefusesForm pattern left left_after written written_after
 EndsMatch pattern left left_after written written_after (InputRefused line rule) = MatchesForm pattern left left_after written written_after (InputRefused line rule)
+EndsMatch pattern left left_after written written_after Broken = ⊥
 EndsMatch pattern left left_after written written_after ReadFault = HasForm pattern
 EndsMatch pattern left left_after written written_after WriteFault = HasForm pattern

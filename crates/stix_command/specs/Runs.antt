@@ -3,30 +3,40 @@ use Rattle.std.specs.Prelude.{◌≡◌, ◌⊎◌, ℕ, List, Option}
 use Rattle.flow_edges.specs.Faults.{Rose}
 use Rattle.flow_edges.specs.Flow.{written_with, WritesPrefix}
 use Rattle.stix_command.specs.declared.ending.Ending.{Ending}
-use Rattle.stix_command.specs.declared.ending.Ending.TheVariants.{Done, NoMemory, Usage, PatternRefused, InputRefused, ReadFault, WriteFault}
-use Rattle.stix_command.specs.CommandLine.{IsMatchLine}
+use Rattle.stix_command.specs.declared.ending.Ending.TheVariants.{Usage}
+use Rattle.stix_command.specs.CommandLine.{IsMatchLine, IsCheckLine}
+use Rattle.stix_command.specs.Checks.{EndsCheck}
 use Rattle.stix_command.specs.Matches.{HasForm, EndsMatch}
 use Rattle.stix_command.specs.Ends.{status_of, ending_text}
 
 -- the words are no command line
 abbrev pub IsNoCommand : List (List ℕ) → Type 0
-IsNoCommand words = (pattern : List ℕ) → ¬ (IsMatchLine words pattern)
+IsNoCommand words = (¬ IsCheckLine words) × ((pattern : List ℕ) → ¬ (IsMatchLine words pattern))
 
--- the words are a command, which ended so
-pub record EndsCommand (words : List (List ℕ)) (left left_after written written_after : Option (List ℕ)) (ending : Ending) : Type 0 where
+-- the words are `match` with a pattern, which ended so
+pub record RunsMatch (words : List (List ℕ)) (left left_after written written_after : Option (List ℕ)) (ending : Ending) : Type 0 where
   pub pattern : List ℕ
   pub command : IsMatchLine words pattern
   pub match_ends : EndsMatch pattern left left_after written written_after ending
 
--- `Usage` comes for words that are no command line, and each other ending from a command
+-- the words are `check`, which ended so
+pub record RunsCheck (words : List (List ℕ)) (left left_after written written_after : Option (List ℕ)) (ending : Ending) : Type 0 where
+  pub command : IsCheckLine words
+  pub check_ends : EndsCheck left left_after written written_after ending
+
+-- the words are no command line, and nothing was read or written
+pub record RunsNothing (words : List (List ℕ)) (left left_after written written_after : Option (List ℕ)) (ending : Ending) : Type 0 where
+  pub none : IsNoCommand words
+  pub usage : ending ≡ Usage
+  pub unread : left_after ≡ left
+  pub silent : written_after ≡ written
+
+-- the words are a command that ended so, or none
 abbrev pub EndsRun : List (List ℕ) → Option (List ℕ) → Option (List ℕ) → Option (List ℕ) → Option (List ℕ) → Ending → Type 0
-EndsRun words left left_after written written_after Done = EndsCommand words left left_after written written_after Done
-EndsRun words left left_after written written_after NoMemory = EndsCommand words left left_after written written_after NoMemory
-EndsRun words left left_after written written_after Usage = IsNoCommand words × (left_after ≡ left) × (written_after ≡ written)
-EndsRun words left left_after written written_after PatternRefused = EndsCommand words left left_after written written_after PatternRefused
-EndsRun words left left_after written written_after (InputRefused line rule) = EndsCommand words left left_after written written_after (InputRefused line rule)
-EndsRun words left left_after written written_after ReadFault = EndsCommand words left left_after written written_after ReadFault
-EndsRun words left left_after written written_after WriteFault = EndsCommand words left left_after written written_after WriteFault
+EndsRun words left left_after written written_after ending =
+    RunsMatch words left left_after written written_after ending
+    ⊎ RunsCheck words left left_after written written_after ending
+    ⊎ RunsNothing words left left_after written written_after ending
 
 -- the text was written, or a prefix of it where the sink's count of faults rose
 abbrev pub Tells : List ℕ → Option (List ℕ) → Option (List ℕ) → ℕ → ℕ → Type 0

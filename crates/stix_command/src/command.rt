@@ -1,11 +1,18 @@
 ghost use Rattle.std.specs.Prelude.{◌↔◌, ℕ, List, IsTrue, IfSome, IfNone};
-ghost use Rattle.stix_command.specs.CommandLine.{texts, IsPosition, IsMatchLine};
+ghost use Rattle.stix_command.specs.CommandLine.{texts, IsPosition, IsMatchLine, IsCheckLine};
 
 /// Whether a word is no option.
 fn is_position(word: &str) -> bool
     ensures { IsTrue result ↔ IsPosition word.now }
 {
     word == "-" || word.as_bytes().first() != Some(&b'-')
+}
+
+/// Whether the words are the command line `check`.
+pub fn is_check(words: &[String]) -> bool
+    ensures { IsTrue result ↔ IsCheckLine (texts words.now) }
+{
+    words.len() == 1 && words[0].as_str() == "check"
 }
 
 /// The pattern of a command line `match PATTERN`.

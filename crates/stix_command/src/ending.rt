@@ -6,7 +6,7 @@ use flow_edges::{Fault, Sink, write_whole};
 use match_run::{InputRule, write_input_refusal};
 
 /// How the program ends.
-#[derive(Clone, Copy, Debug, PartialEq, Eq)]
+#[derive(Debug, Drop)]
 pub enum Ending {
     /// The command's work was done.
     Done,
@@ -18,6 +18,8 @@ pub enum Ending {
     PatternRefused,
     /// The line of that number is refused, the first such one.
     InputRefused { line: u64, rule: InputRule },
+    /// The input is a bundle with breaks, which were written.
+    Broken,
     /// The input failed.
     ReadFault,
     /// The output failed.
@@ -36,7 +38,7 @@ impl Ending {
             Ending::NoMemory => 1,
             Ending::Usage => 2,
             Ending::PatternRefused => 3,
-            Ending::InputRefused { .. } => 4,
+            Ending::InputRefused { .. } | Ending::Broken => 4,
             Ending::ReadFault => 5,
             Ending::WriteFault => 6,
         }
@@ -49,7 +51,7 @@ impl Ending {
         ensures causes { Causes (S.faults faults.old) (S.faults faults.new) result }
     {
         match self {
-            Ending::Done => write_whole(faults, b""),
+            Ending::Done | Ending::Broken => write_whole(faults, b""),
             Ending::NoMemory => write_whole(faults, b"out of memory\n"),
             Ending::Usage => write_whole(
                 faults,

@@ -1,12 +1,15 @@
 //! The program `stix_command`: STIX 2.1 patterns matched against observed data.
 #![tactic(auto)]
 
+mod checking;
 mod command;
 mod ending;
+mod judging;
 mod matching;
 mod run;
 #[cfg(test)]
 mod tests;
+mod verdict;
 
 use flow_edges::{ReadSource, WriteSink};
 use std::alloc::Global;

@@ -1,9 +1,11 @@
 ghost use Rattle.std.specs.Prelude.{◌≡◌, ◌↔◌};
 ghost use Rattle.flow_edges.specs.Faults.{Rose};
 ghost use Rattle.stix_command.specs.CommandLine.{texts};
-ghost use Rattle.stix_command.specs.Runs.{IsNoCommand, RefusesPattern, EndsRun, Ends};
+ghost use Rattle.stix_command.specs.Ends.{status_of, ending_text};
+ghost use Rattle.stix_command.specs.Runs.{IsNoCommand, RefusesPattern, EndsRun, Tells, Ends};
 
-use crate::command::match_pattern;
+use crate::checking::check;
+use crate::command::{is_check, match_pattern};
 use crate::ending::Ending;
 use crate::matching::match_lines;
 use flow_edges::{Sink, Source};
@@ -20,6 +22,9 @@ fn obey<I: Source, O: Sink>(
     ensures read_failed { result ≡ Ending.ReadFault → Rose (I.faults input.old) (I.faults input.new) }
     ensures write_failed { result ≡ Ending.WriteFault → Rose (O.faults output.old) (O.faults output.new) }
 {
+    if is_check(words) {
+        return check(alloc, input, output);
+    }
     match match_pattern(words) {
         Some(pattern) => match_lines(alloc, pattern, input, output),
         None => Ending::Usage,
@@ -30,11 +35,11 @@ fn obey<I: Source, O: Sink>(
 ///
 /// | Status | Comes |
 /// |---|---|
-/// | 0 | the input was read to its end, and the whole listing was written |
+/// | 0 | the input was read to its end, and all output was written |
 /// | 1 | memory ran out |
 /// | 2 | exactly where the words are no command line |
 /// | 3 | exactly where the pattern is refused |
-/// | 4 | where a line is refused, the first such one |
+/// | 4 | where a line is refused, the first such one; and where a bundle that is checked has breaks |
 /// | 5, 6 | only where the input, the output counted a fault |
 ///
 /// `faults` is told the reason in one line. A failing write there changes nothing else.
@@ -53,6 +58,14 @@ pub fn run<I: Source, O: Sink, E: Sink>(
     ensures write_fault { result ≡ 6 → Rose (O.faults output.old) (O.faults output.new) }
 {
     let ending = obey(alloc, words, input, output);
+    finish(&ending, faults)
+}
+
+/// Tells how the program ends, and answers its status.
+fn finish<E: Sink>(ending: &Ending, faults: &mut E) -> u8
+    ensures status { result ≡ status_of ending.now }
+    ensures tells { Tells (ending_text ending.now) (E.written faults.old) (E.written faults.new) (E.faults faults.old) (E.faults faults.new) }
+{
     let _ = ending.write_text(faults);
     ending.status()
 }

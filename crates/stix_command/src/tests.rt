@@ -160,3 +160,78 @@ fn each_write_fails_in_turn(rt: HostRuntime) -> Result<(), Fail> {
     }
     Ok(())
 }
+
+const IDENTITY: &str =
+    "{\"created\":\"2021-06-10T00:00:00.000Z\",\"id\":\"identity--00000000-0000-4000-8000-000000000001\",\"modified\":\"2021-06-10T00:00:00.000Z\",\"name\":\"N\",\"spec_version\":\"2.1\",\"type\":\"identity\"}";
+
+const BARE_IDENTITY: &str =
+    "{\"created\":\"2021-06-10T00:00:00.000Z\",\"id\":\"identity--00000000-0000-4000-8000-000000000001\",\"spec_version\":\"2.1\",\"type\":\"identity\"}";
+
+const FRACTION: &str =
+    "{\"confidence\":1.5,\"created\":\"2021-06-10T00:00:00.000Z\",\"id\":\"identity--00000000-0000-4000-8000-000000000001\",\"modified\":\"2021-06-10T00:00:00.000Z\",\"name\":\"N\",\"spec_version\":\"2.1\",\"type\":\"identity\"}";
+
+const MULTIPART: &str =
+    "{\"type\":\"email-message\",\"id\":\"email-message--00000000-0000-4000-8000-000000000001\",\"is_multipart\":true,\"body\":\"x\"}";
+
+const SINGLE_PART: &str =
+    "{\"type\":\"email-message\",\"id\":\"email-message--00000000-0000-4000-8000-000000000001\",\"is_multipart\":false,\"body\":\"x\"}";
+
+const LINKED: &str =
+    "{\"type\":\"artifact\",\"id\":\"artifact--00000000-0000-4000-8000-000000000001\",\"url\":\"https://example.com/a\"}";
+
+/// A bundle of these objects.
+fn bundle(alloc: Global, objects: &str) -> Result<String, AllocError> {
+    format!(in alloc;
+        "{{\"type\":\"bundle\",\"id\":\"bundle--00000000-0000-4000-8000-000000000001\",\"objects\":[{objects}]}}\n"
+    )
+}
+
+#[test]
+fn rows_of_check(rt: HostRuntime) -> Result<(), Fail> {
+    let alloc = rt.alloc();
+    let bare = "object 0: Missing at modified\nobject 0: Missing at name\n";
+    for (objects, status, output, faults) in [
+        (IDENTITY, 0, "ok 1 objects\n", ""),
+        (BARE_IDENTITY, 4, bare, ""),
+        (
+            FRACTION,
+            4,
+            "",
+            "line 1 refused: NotWhole at objects.[0].confidence\n",
+        ),
+        (MULTIPART, 4, "object 0: Excludes at body\n", ""),
+        (SINGLE_PART, 0, "ok 1 objects\n", ""),
+        (LINKED, 4, "object 0: Missing at hashes\n", ""),
+        ("", 4, "", "line 1 refused: NotBundle at objects\n"),
+        ("5", 4, "", "line 1 refused: NotBundle at objects.[0]\n"),
+        ("x", 4, "", "line 1 refused: NotJson\n"),
+    ] {
+        let input = bundle(alloc, objects)?;
+        let seen = run_on(alloc, &["check"], input.as_str(), Trouble::none(alloc))?;
+        assert_eq!(rt; seen.status, status, "{objects}");
+        assert_eq!(rt; seen.output.bytes(), output.as_bytes(), "{objects}");
+        assert_eq!(rt; seen.faults.bytes(), faults.as_bytes(), "{objects}");
+    }
+    Ok(())
+}
+
+/// A check whose second read or first write fails, and one with a word too many.
+#[test]
+fn a_check_that_fails(rt: HostRuntime) -> Result<(), Fail> {
+    let alloc = rt.alloc();
+    let input = bundle(alloc, IDENTITY)?;
+    let rows: [(&[&str], u64, u64, u8, &str); 3] = [
+        (&["check"], 2, 9, 5, "read fault\n"),
+        (&["check"], 9, 1, 6, "write fault\n"),
+        (&["check", "x"], 9, 9, 2, USAGE),
+    ];
+    for (words, read, write, status, faults) in rows {
+        let mut trouble = Trouble::none(alloc);
+        trouble.reads.push(read)?;
+        trouble.writes.push(write)?;
+        let seen = run_on(alloc, words, input.as_str(), trouble)?;
+        assert_eq!(rt; seen.status, status, "{words:?}");
+        assert_eq!(rt; seen.faults.bytes(), faults.as_bytes(), "{words:?}");
+    }
+    Ok(())
+}

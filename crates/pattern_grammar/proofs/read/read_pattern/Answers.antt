@@ -1,7 +1,7 @@
 -- A text that spells a comparison never gives `NotYet`, but its tree or want of memory.
 use Rattle.std.proofs.Common.{◌≡◌, Result, IsErrAnd, subst}
 use Rattle.pattern_grammar.specs.FirstForm.{form_of}
-use Rattle.pattern_grammar.specs.declared.pattern.Pattern.{Pattern}
+use Rattle.pattern_tree.specs.declared.pattern.Pattern.{Pattern}
 use Rattle.pattern_grammar.specs.declared.refusal.PatternRefusal.{PatternRefusal}
 use Rattle.pattern_grammar.specs.declared.refusal.PatternRefusal.TheVariants.{NotYet, NoMemory}
 use Rattle.pattern_grammar.proofs.read.read_pattern.Goals as goal

@@ -4,10 +4,18 @@ use Rattle.stix_command.specs.Runs.{IsNoCommand, RefusesPattern}
 use Rattle.stix_command.proofs.Endings.{usage-run, pattern-run}
 use Rattle.stix_command.proofs.run.run.Goals as goal
 
+pub returns-clause-ends : goal.returns-clause-ends
+returns-clause-ends g c = record {
+  ending = c.obey-ending.result;
+  status_is = c.finish.ensures.status;
+  stands = c.obey-ending.ensures.end;
+  tells = c.finish.ensures.tells;
+}
+
 pub returns-clause-usage : goal.returns-clause-usage
 returns-clause-usage g c =
-    subst (λ (n : ℕ). (n ≡ 2) ↔ IsNoCommand (texts c.args.words.now)) (sym c.status.ensures) (usage-run _ _ _ _ _ _ c.obey-ending.ensures.end)
+    subst (λ (n : ℕ). (n ≡ 2) ↔ IsNoCommand (texts c.args.words.now)) (sym c.finish.ensures.status) (usage-run _ _ _ _ _ _ c.obey-ending.ensures.end)
 
 pub returns-clause-pattern : goal.returns-clause-pattern
 returns-clause-pattern g c =
-    subst (λ (n : ℕ). (n ≡ 3) ↔ RefusesPattern (texts c.args.words.now)) (sym c.status.ensures) (pattern-run _ _ _ _ _ _ c.obey-ending.ensures.end)
+    subst (λ (n : ℕ). (n ≡ 3) ↔ RefusesPattern (texts c.args.words.now)) (sym c.finish.ensures.status) (pattern-run _ _ _ _ _ _ c.obey-ending.ensures.end)

@@ -1,0 +1,34 @@
+-- Bytes that tokens stand for, and constants that are none.
+use Rattle.std.proofs.Common.{◌≡◌, inl, inr, ℕ, ℤ, List, Option, Some, None, Result, Ok, Err, IfOk, MatchOption, sym, ◌∙◌}
+use Rattle.pattern_tokens.specs.declared.token.Token.{Token}
+use Rattle.pattern_tokens.specs.declared.token.TokenKind.TheVariants as kind
+use Rattle.pattern_tokens.specs.Values.{IsHexText, IsMomentText}
+use Rattle.pattern_tree.specs.declared.constant.Constant.{Constant}
+use Rattle.pattern_tree.specs.declared.constant.Constant.TheVariants as constant
+use Rattle.pattern_meaning.specs.Spans.{At, IsItself}
+use Rattle.pattern_meaning.specs.Meaning.{IsConstantOf}
+use Rattle.pattern_meaning.proofs.Values.{no_value, a_value}
+
+-- what the token's text stands for, the token stands for
+pub found_at : {V E : Type 0} (IsTextOf : List ℕ → V → Type 0) (text : List ℕ) (token : Token) (part : List ℕ) (r : Result (Option V) E) → At IsItself text token part → IfOk r (λ o. MatchOption o ((v : V) → ¬ IsTextOf part v) (IsTextOf part)) → IfOk r (λ o. MatchOption o ((v : V) → ¬ At IsTextOf text token v) (At IsTextOf text token))
+found_at T text token part (Err e) p h = tt
+found_at T text token part (Ok (Some v)) p h = a_value text token part v p h
+found_at T text token part (Ok None) p h = λ v. no_value text token part p h v
+
+pub no_hex : (text : List ℕ) (token : Token) → token.kind ≡ kind.Hex → ((bytes : List ℕ) → ¬ At IsHexText text token bytes) → (other : Constant) → ¬ IsConstantOf text token other
+no_hex text token e none (constant.Whole whole) h = let g = sym e ∙ h.0 in absurd (cc)
+no_hex text token e none (constant.Words words) h = let g = sym e ∙ h.0 in absurd (cc)
+no_hex text token e none (constant.Truth truth) (inl h) = let g = sym e ∙ h.0 in absurd (cc)
+no_hex text token e none (constant.Truth truth) (inr h) = let g = sym e ∙ h.0 in absurd (cc)
+no_hex text token e none (constant.Hexed bytes) h = none bytes h.1
+no_hex text token e none (constant.Based bytes) h = let g = sym e ∙ h.0 in absurd (cc)
+no_hex text token e none (constant.Moment instant) h = let g = sym e ∙ h.0 in absurd (cc)
+
+pub no_time : (text : List ℕ) (token : Token) → token.kind ≡ kind.Time → ((instant : ℤ) → ¬ At IsMomentText text token instant) → (other : Constant) → ¬ IsConstantOf text token other
+no_time text token e none (constant.Whole whole) h = let g = sym e ∙ h.0 in absurd (cc)
+no_time text token e none (constant.Words words) h = let g = sym e ∙ h.0 in absurd (cc)
+no_time text token e none (constant.Truth truth) (inl h) = let g = sym e ∙ h.0 in absurd (cc)
+no_time text token e none (constant.Truth truth) (inr h) = let g = sym e ∙ h.0 in absurd (cc)
+no_time text token e none (constant.Hexed bytes) h = let g = sym e ∙ h.0 in absurd (cc)
+no_time text token e none (constant.Based bytes) h = let g = sym e ∙ h.0 in absurd (cc)
+no_time text token e none (constant.Moment instant) h = none instant h.1

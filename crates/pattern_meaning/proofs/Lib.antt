@@ -1,0 +1,5 @@
+mod Values
+mod Lists
+mod Bytes
+mod Rows
+mod Spanned

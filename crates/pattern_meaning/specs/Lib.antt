@@ -1,0 +1,5 @@
+pub mod Spans
+pub mod Numbers
+pub mod Meaning
+pub mod Formula
+pub mod Meant

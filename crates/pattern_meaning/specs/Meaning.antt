@@ -1,0 +1,73 @@
+-- What the parts of a syntax tree mean: the path, the check and the test that their tokens stand for.
+use Rattle.std.specs.Prelude.{◌≡◌, ◌≢◌, ◌⊎◌, ℕ, true, false, List, [], ◌∷◌}
+use Rattle.pattern_tokens.specs.declared.token.Token.{Token}
+use Rattle.pattern_tokens.specs.declared.token.TokenKind.TheVariants as kind
+use Rattle.pattern_tokens.specs.Values.{IsWholeText, IsWordsText, IsHexText, IsBaseText, IsMomentText}
+use Rattle.pattern_syntax.specs.declared.path.StepTree.{StepTree}
+use Rattle.pattern_syntax.specs.declared.path.StepTree.TheVariants.{Name, Index}
+use Rattle.pattern_syntax.specs.declared.path.PathTree.{PathTree}
+use Rattle.pattern_syntax.specs.declared.comparison.CheckTree.{CheckTree}
+use Rattle.pattern_syntax.specs.declared.comparison.CheckTree.TheVariants as check_tree
+use Rattle.pattern_syntax.specs.declared.comparison.TestTree.{TestTree}
+use Rattle.pattern_tree.specs.declared.path.Step.{Step}
+use Rattle.pattern_tree.specs.declared.path.Step.TheVariants as step
+use Rattle.pattern_tree.specs.declared.path.Path.{Path}
+use Rattle.pattern_tree.specs.declared.constant.Constant.{Constant}
+use Rattle.pattern_tree.specs.declared.constant.Constant.TheVariants as constant
+use Rattle.pattern_tree.specs.declared.check.Check.{Check}
+use Rattle.pattern_tree.specs.declared.check.Check.TheVariants as check
+use Rattle.pattern_tree.specs.declared.leaf.Test.{Test}
+use Rattle.pattern_meaning.specs.Spans.{At, IsItself}
+use Rattle.pattern_meaning.specs.Numbers.{IsPlace}
+
+-- each of these is related to the one at its place
+abbrev pub Each : {A B : Type 0} → (A → B → Type 0) → List A → List B → Type 0
+Each R [] [] = Unit {0}
+Each R (x ∷ xs) (y ∷ ys) = R x y × Each R xs ys
+Each R [] (y ∷ ys) = ⊥
+Each R (x ∷ xs) [] = ⊥
+
+-- a name is a word, or what stands in quotes
+abbrev pub IsNameOf : List ℕ → Token → List ℕ → Type 0
+IsNameOf text token name = ((token.kind ≡ kind.Words) × At IsWordsText text token name) ⊎ ((token.kind ≢ kind.Words) × At IsItself text token name)
+
+abbrev pub IsStepOf : List ℕ → StepTree → Step → Type 0
+IsStepOf text (Name token) (step.Name name) = IsNameOf text token name
+IsStepOf text (Name token) (step.Place place) = ⊥
+IsStepOf text (Name token) step.Each = ⊥
+IsStepOf text (Index token) (step.Name name) = ⊥
+IsStepOf text (Index token) (step.Place place) = (token.kind ≡ kind.Number) × IsPlace text token place
+IsStepOf text (Index token) step.Each = token.kind ≡ kind.Star
+
+pub record IsPathOf (text : List ℕ) (tree : PathTree) (path : Path) : Type 0 where
+  pub root : At IsItself text tree.root path.kind
+  pub steps : Each (IsStepOf text) tree.steps path.steps
+
+abbrev pub IsConstantOf : List ℕ → Token → Constant → Type 0
+IsConstantOf text token (constant.Whole whole) = (token.kind ≡ kind.Number) × At IsWholeText text token whole
+IsConstantOf text token (constant.Words words) = (token.kind ≡ kind.Words) × At IsWordsText text token words
+IsConstantOf text token (constant.Truth truth) = ((token.kind ≡ kind.TrueWord) × (truth ≡ true)) ⊎ ((token.kind ≡ kind.FalseWord) × (truth ≡ false))
+IsConstantOf text token (constant.Hexed bytes) = (token.kind ≡ kind.Hex) × At IsHexText text token bytes
+IsConstantOf text token (constant.Based bytes) = (token.kind ≡ kind.Base) × At IsBaseText text token bytes
+IsConstantOf text token (constant.Moment instant) = (token.kind ≡ kind.Time) × At IsMomentText text token instant
+
+-- what is asked of a value
+abbrev pub IsCheckOf : List ℕ → CheckTree → Check → Type 0
+IsCheckOf text (check_tree.Compare operator token) (check.Equal value) = (operator.kind ≡ kind.Equal) × IsConstantOf text token value
+IsCheckOf text (check_tree.Compare operator token) (check.Differ value) = (operator.kind ≡ kind.Differ) × IsConstantOf text token value
+IsCheckOf text (check_tree.Compare operator token) (check.Less value) = (operator.kind ≡ kind.Less) × IsConstantOf text token value
+IsCheckOf text (check_tree.Compare operator token) (check.LessEqual value) = (operator.kind ≡ kind.LessEqual) × IsConstantOf text token value
+IsCheckOf text (check_tree.Compare operator token) (check.Greater value) = (operator.kind ≡ kind.Greater) × IsConstantOf text token value
+IsCheckOf text (check_tree.Compare operator token) (check.GreaterEqual value) = (operator.kind ≡ kind.GreaterEqual) × IsConstantOf text token value
+IsCheckOf text (check_tree.Among tokens) (check.Among values) = Each (IsConstantOf text) tokens values
+IsCheckOf text (check_tree.Textual operator token) (check.Like words) = (operator.kind ≡ kind.Like) × At IsWordsText text token words
+IsCheckOf text (check_tree.Textual operator token) (check.Subset words) = (operator.kind ≡ kind.Subset) × At IsWordsText text token words
+IsCheckOf text (check_tree.Textual operator token) (check.Superset words) = (operator.kind ≡ kind.Superset) × At IsWordsText text token words
+IsCheckOf text check_tree.Exists check.Exists = Unit {0}
+IsCheckOf text _ _ = ⊥
+
+-- one comparison
+pub record IsTestOf (text : List ℕ) (tree : TestTree) (test : Test) : Type 0 where
+  pub path : IsPathOf text tree.path test.path
+  pub negated : test.negated ≡ tree.negated
+  pub asks : IsCheckOf text tree.check test.check

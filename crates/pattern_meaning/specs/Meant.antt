@@ -1,0 +1,52 @@
+-- What a syntax tree means: patterns without where they lie in memory.
+use Rattle.std.specs.Prelude.{ℕ, ◌+◌, List}
+use Rattle.pattern_tokens.specs.Values.{IsMomentText}
+use Rattle.pattern_syntax.specs.declared.qualifier.Qualifier.{Qualifier}
+use Rattle.pattern_syntax.specs.declared.qualifier.Qualifier.TheVariants as qualifier
+use Rattle.pattern_syntax.specs.Tree.{Comparison, Tree, leaf, both, either, followed, qualified}
+use Rattle.pattern_tree.specs.declared.pattern.Pattern.{Pattern}
+use Rattle.pattern_tree.specs.declared.pattern.Pattern.TheVariants.{Leaf, Both', Either', Then', Within', Between', Repeats'}
+use Rattle.pattern_meaning.specs.declared.limits.Limit.{Limit}
+use Rattle.pattern_meaning.specs.declared.limits.Limit.TheVariants as limit
+use Rattle.pattern_meaning.specs.Spans.{At}
+use Rattle.pattern_meaning.specs.Numbers.{IsCount}
+use Rattle.pattern_meaning.specs.Formula.{Formula, formula, Means}
+
+pub data Meant : Type 0 where
+  a_leaf : Formula → Meant
+  a_both : Meant → Meant → Meant
+  an_either : Meant → Meant → Meant
+  a_then : Meant → Meant → Meant
+  a_limited : Meant → Limit → Meant
+
+abbrev pub meant : Pattern → Meant
+meant (Leaf l) = a_leaf (formula l)
+meant (Both' a p b q) = a_both (meant p) (meant q)
+meant (Either' a p b q) = an_either (meant p) (meant q)
+meant (Then' a p b q) = a_then (meant p) (meant q)
+meant (Within' a p n) = a_limited (meant p) (limit.Within n)
+meant (Between' a p i j) = a_limited (meant p) (limit.Between i j)
+meant (Repeats' a p n) = a_limited (meant p) (limit.Repeats n)
+
+-- what a qualifier limits by
+abbrev pub IsLimitOf : List ℕ → Qualifier → Limit → Type 0
+IsLimitOf text (qualifier.Within number) (limit.Within seconds) = IsCount text number seconds
+IsLimitOf text (qualifier.Repeats number) (limit.Repeats times) = IsCount text number times
+IsLimitOf text (qualifier.Between start from to) (limit.Between begins ends) = At IsMomentText text from begins × At IsMomentText text to ends
+IsLimitOf text _ _ = ⊥
+
+-- operators join what both sides mean, and qualifiers limit it, the last one outermost
+pub data MeansPattern (text : List ℕ) : Tree → Meant → Type 0 where
+  means_leaf : {c : Comparison} {f : Formula} → Means text c f → MeansPattern text (leaf c) (a_leaf f)
+  means_both : {p q : Tree} {m n : Meant} → MeansPattern text p m → MeansPattern text q n → MeansPattern text (both p q) (a_both m n)
+  means_either : {p q : Tree} {m n : Meant} → MeansPattern text p m → MeansPattern text q n → MeansPattern text (either p q) (an_either m n)
+  means_then : {p q : Tree} {m n : Meant} → MeansPattern text p m → MeansPattern text q n → MeansPattern text (followed p q) (a_then m n)
+  means_limited : {p : Tree} {q : Qualifier} {m : Meant} {l : Limit} → MeansPattern text p m → IsLimitOf text q l → MeansPattern text (qualified p q) (a_limited m l)
+
+-- how many patterns and operators there are
+abbrev pub patterns_in : Tree → ℕ
+patterns_in (leaf c) = 1
+patterns_in (both p q) = patterns_in p + patterns_in q + 1
+patterns_in (either p q) = patterns_in p + patterns_in q + 1
+patterns_in (followed p q) = patterns_in p + patterns_in q + 1
+patterns_in (qualified p q) = patterns_in p + 1

@@ -1,0 +1,16 @@
+mod SameKind
+mod Leads
+mod Completions
+mod Exits
+mod Chain
+mod Paths
+mod Checks
+mod Comparisons
+mod Patterns
+mod Runs
+mod Ends
+mod Builder
+mod Trees
+mod Prefixes
+mod Derived
+mod Deep

@@ -1,0 +1,33 @@
+//! The grammar of patterns (STIX 2.1, section 9) over tokens: `parse` gives the syntax tree that a
+//! list of tokens spells, or the first token that doesn't fit. `Grammar` of specs/ has one rule for
+//! each line of the grammar; `fronts` and `one_tree` are laws about it.
+#![tactic(auto)]
+
+mod class;
+mod comparison;
+mod depth;
+mod laws;
+mod make;
+mod parse_check;
+mod parse_comparison;
+mod parse_path;
+mod parse_pattern;
+mod path;
+mod pattern;
+mod qualifier;
+mod read;
+mod stop;
+mod take;
+
+pub use class::Class;
+pub use comparison::{CheckTree, ComparisonTree, TestTree};
+pub use laws::{fronts, one_pattern};
+pub use parse_pattern::parse;
+pub use path::{PathTree, StepTree};
+pub use pattern::PatternTree;
+pub use qualifier::Qualifier;
+pub use read::read_tree;
+pub use stop::Stop;
+
+#[cfg(test)]
+mod tests;

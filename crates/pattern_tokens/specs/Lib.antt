@@ -1,0 +1,5 @@
+pub mod Refusal
+pub mod Word
+pub mod Values
+pub mod Table
+pub mod Reading

@@ -1,0 +1,140 @@
+-- What reading the tokens of a text answers: the tokens, or the first fault from the left.
+use Rattle.std.specs.Prelude.{◌≡◌, ℕ, ◌+◌, ◌-◌, ◌<◌, ◌≤◌, ◌⊎◌, List, [], ◌∷◌, ◌++◌, length, slice_get, Some, All, codes, Result, Ok, Err}
+use Rattle.std.specs.Char.{IsAsciiDigit}
+use Rattle.pattern_tokens.specs.declared.token.Token.{Token}
+use Rattle.pattern_tokens.specs.declared.token.TokenKind.{TokenKind}
+use Rattle.pattern_tokens.specs.declared.token.TokenKind.TheVariants.{Equal, Less, Number, Hex, Base, Time}
+use Rattle.pattern_tokens.specs.declared.refusal.LeftWord.{LeftWord}
+use Rattle.pattern_tokens.specs.declared.refusal.LeftWord.TheVariants.{Matches, Fraction, DoubleEqual, LessGreater}
+use Rattle.pattern_tokens.specs.declared.refusal.PatternRefusal.{PatternRefusal}
+use Rattle.pattern_tokens.specs.declared.refusal.PatternRefusal.TheVariants.{TooLong, BadToken, LeftOut, BadNumber, BadTime, BadBytes, Syntax, TooDeep, BadCount, LongPath, BadAddress, EmptySpan, NoCommonRoot, TooWide, NotYet, NoMemory}
+use Rattle.pattern_tokens.specs.Word.{IsWordStart, HasAt}
+use Rattle.pattern_tokens.specs.Values.{HasValue}
+use Rattle.pattern_tokens.specs.Table.{IsToken}
+
+-- a space, a tab, a carriage return or a line feed, which belongs to no token
+abbrev pub IsBlank : ℕ → Type 0
+IsBlank c = (c ≡ 32) ⊎ (c ≡ 9) ⊎ (c ≡ 13) ⊎ (c ≡ 10)
+
+-- the token at the start of a text: the longest text that the table has there, and what follows it
+pub record IsFirst (whole : List ℕ) (kind : TokenKind) (text after : List ℕ) : Type 0 where
+  pub spelled : whole ≡ text ++ after
+  pub token : IsToken kind text
+  pub longest : (other : TokenKind) (longer more : List ℕ) → whole ≡ longer ++ more → IsToken other longer → length longer ≤ length text
+
+-- a Number that is directly followed by a letter or `_`
+pub record RunsOn (kind : TokenKind) (after : List ℕ) : Type 0 where
+  pub number : kind ≡ Number
+  pub letter : HasAt 0 IsWordStart after
+
+-- a token that no pattern here may use: the word MATCHES, a Number directly followed by `.` and a
+-- digit, `==` and `<>`
+abbrev pub IsLeftOut : LeftWord → TokenKind → List ℕ → List ℕ → Type 0
+IsLeftOut Matches kind text after = text ≡ codes "MATCHES"
+IsLeftOut Fraction kind text after = (kind ≡ Number) × (slice_get after 0 ≡ Some 46) × HasAt 1 IsAsciiDigit after
+IsLeftOut DoubleEqual kind text after = (kind ≡ Equal) × (slice_get after 0 ≡ Some 61)
+IsLeftOut LessGreater kind text after = (kind ≡ Less) × (slice_get after 0 ≡ Some 62)
+
+-- the token has an end there, and may be used
+pub record IsUsable (kind : TokenKind) (text after : List ℕ) : Type 0 where
+  pub ends : ¬ RunsOn kind after
+  pub used : (word : LeftWord) → ¬ IsLeftOut word kind text after
+
+-- the token stands behind blanks in what is left of a text, and has no fault; what is left begins at
+-- the place
+pub record IsNext (at : ℕ) (left : List ℕ) (token : Token) (after : List ℕ) : Type 0 where
+  pub blanks : List ℕ
+  pub text : List ℕ
+  pub blank : All IsBlank blanks
+  pub spelled : left ≡ blanks ++ text ++ after
+  pub first : IsFirst (text ++ after) token.kind text after
+  pub usable : IsUsable token.kind text after
+  pub value : HasValue token.kind text
+  pub from : token.from ≡ at + length blanks
+  pub to : token.to ≡ token.from + length text
+
+-- the tokens stand one after another in what is left of a text, which begins at the place; the rest
+-- follows them
+abbrev pub AreTokens : ℕ → List ℕ → List Token → List ℕ → Type 0
+AreTokens at left [] rest = left ≡ rest
+AreTokens at left (token ∷ tokens) rest = (after : List ℕ) × IsNext at left token after × AreTokens token.to after tokens rest
+
+-- the text has these tokens, with blanks after the last
+pub record TokensOf (text : List ℕ) (tokens : List Token) : Type 0 where
+  pub short : length text ≤ 65_536
+  pub rest : List ℕ
+  pub stand : AreTokens 0 text tokens rest
+  pub blank : All IsBlank rest
+
+-- no token begins the text: so too at a `'` that is not closed, and at one with a backslash before a
+-- character other than `'` and `\` behind it
+abbrev pub HasNoToken : List ℕ → Type 0
+HasNoToken whole = (kind : TokenKind) (text after : List ℕ) → whole ≡ text ++ after → ¬ IsToken kind text
+
+-- the token at the start of the text has no end
+pub record IsEndless (whole : List ℕ) : Type 0 where
+  pub kind : TokenKind
+  pub text : List ℕ
+  pub after : List ℕ
+  pub first : IsFirst whole kind text after
+  pub runs_on : RunsOn kind after
+
+-- it has one, and is one that may not be used
+pub record IsUseless (whole : List ℕ) (word : LeftWord) : Type 0 where
+  pub kind : TokenKind
+  pub text : List ℕ
+  pub after : List ℕ
+  pub first : IsFirst whole kind text after
+  pub ends : ¬ RunsOn kind after
+  pub left_out : IsLeftOut word kind text after
+
+-- it has one and may be used, is of this kind, and stands for nothing
+pub record IsWorthless (whole : List ℕ) (kind : TokenKind) : Type 0 where
+  pub text : List ℕ
+  pub after : List ℕ
+  pub first : IsFirst whole kind text after
+  pub usable : IsUsable kind text after
+  pub worthless : ¬ HasValue kind text
+
+-- the fault of the token that begins the text, which begins at the place
+abbrev pub IsFault : ℕ → List ℕ → PatternRefusal → Type 0
+IsFault place whole TooLong = ⊥
+IsFault place whole (BadToken at) = (at ≡ place) × (HasNoToken whole ⊎ IsEndless whole)
+IsFault place whole (LeftOut at word) = (at ≡ place) × IsUseless whole word
+IsFault place whole (BadNumber at) = (at ≡ place) × IsWorthless whole Number
+IsFault place whole (BadTime at) = (at ≡ place) × IsWorthless whole Time
+IsFault place whole (BadBytes at) = (at ≡ place) × (IsWorthless whole Hex ⊎ IsWorthless whole Base)
+IsFault place whole (Syntax at) = ⊥
+IsFault place whole (TooDeep at) = ⊥
+IsFault place whole (BadCount at) = ⊥
+IsFault place whole (LongPath at) = ⊥
+IsFault place whole (BadAddress at) = ⊥
+IsFault place whole (EmptySpan at) = ⊥
+IsFault place whole (NoCommonRoot at) = ⊥
+IsFault place whole TooWide = ⊥
+IsFault place whole NotYet = ⊥
+IsFault place whole NoMemory = ⊥
+
+-- tokens without fault stand in the text, then blanks, then what is no blank and has the fault
+pub record HasFault (text : List ℕ) (refusal : PatternRefusal) : Type 0 where
+  pub short : length text ≤ 65_536
+  pub tokens : List Token
+  pub blanks : List ℕ
+  pub rest : List ℕ
+  pub stand : AreTokens 0 text tokens (blanks ++ rest)
+  pub blank : All IsBlank blanks
+  pub begins : HasAt 0 (λ c. ¬ IsBlank c) rest
+  pub fault : IsFault (length text - length rest) rest refusal
+
+-- why the text has no tokens
+abbrev pub IsRefused : List ℕ → PatternRefusal → Type 0
+IsRefused text refusal = ((refusal ≡ TooLong) × (65_536 < length text)) ⊎ HasFault text refusal
+
+-- what reading the tokens of the text answers, but for memory
+abbrev pub Reads : List ℕ → Result (List Token) PatternRefusal → Type 0
+Reads text (Ok tokens) = TokensOf text tokens
+Reads text (Err refusal) = IsRefused text refusal
+
+-- the answer is this one, unless memory ran out
+abbrev pub Agrees : {T : Type 0} → Result T PatternRefusal → Result T PatternRefusal → Type 0
+Agrees answer other = (answer ≡ Err NoMemory) ⊎ (answer ≡ other)

@@ -1,0 +1,91 @@
+/// What a token is, in the order of the table of tokens: the marks, the keywords, then the other kinds.
+#[derive(Clone, Copy, Debug, PartialEq, Eq, Hash)]
+pub enum TokenKind {
+    /// `[`
+    SquareOpen,
+    /// `]`
+    SquareClose,
+    /// `(`
+    RoundOpen,
+    /// `)`
+    RoundClose,
+    /// `.`
+    Dot,
+    /// `:`
+    Colon,
+    /// `,`
+    Comma,
+    /// `*`
+    Star,
+    /// `=`
+    Equal,
+    /// `!=`
+    Differ,
+    /// `<`
+    Less,
+    /// `<=`
+    LessEqual,
+    /// `>`
+    Greater,
+    /// `>=`
+    GreaterEqual,
+    /// `AND`
+    And,
+    /// `OR`
+    Or,
+    /// `NOT`
+    Not,
+    /// `FOLLOWEDBY`
+    FollowedBy,
+    /// `WITHIN`
+    Within,
+    /// `SECONDS`
+    Seconds,
+    /// `REPEATS`
+    Repeats,
+    /// `TIMES`
+    Times,
+    /// `START`
+    Start,
+    /// `STOP`
+    Stop,
+    /// `IN`
+    Among,
+    /// `LIKE`
+    Like,
+    /// `ISSUBSET`
+    Subset,
+    /// `ISSUPERSET`
+    Superset,
+    /// `EXISTS`
+    Exists,
+    /// `true`
+    TrueWord,
+    /// `false`
+    FalseWord,
+    /// A name, as `value`.
+    Word,
+    /// A name with a hyphen, as `ipv4-addr`.
+    HyphenWord,
+    /// An integer, as `-5`.
+    Number,
+    /// A text in quotes, as `'a'`.
+    Words,
+    /// Bytes in hexadecimal digits, as `h'ff00'`.
+    Hex,
+    /// Bytes in base64, as `b'/w=='`.
+    Base,
+    /// A timestamp, as `t'2026-01-01T00:00:00Z'`.
+    Time,
+}
+
+/// A token: its text is the slice of the source from `from` to before `to`.
+#[derive(Clone, Copy, Debug, PartialEq, Eq, Hash)]
+pub struct Token {
+    /// What the token is.
+    pub kind: TokenKind,
+    /// Where its text begins, in bytes.
+    pub from: usize,
+    /// Where its text ends, in bytes.
+    pub to: usize,
+}

@@ -1,0 +1,45 @@
+-- What an input is found to be, as a bundle.
+use Rattle.std.specs.Prelude.{◌≡◌, ◌≢◌, ℕ, List, length}
+use Rattle.serde_json.specs.Data.{Data}
+use Rattle.stix_tree.specs.declared.tree.Tree.{Tree}
+use Rattle.stix_tree.specs.declared.refusal.TreeRefusal.TheVariants as tree_refusal
+use Rattle.stix_tree.specs.DataOf.{data_of}
+use Rattle.stix_tree.specs.Reading.{IsTreeOf, IsRefusedAs}
+use Rattle.bundle_reader.specs.declared.refusal.BundleRefusal.TheVariants.{NotBundle, Breaks, NoMemory}
+use Rattle.bundle_reader.specs.Bundle.{IsBundle, IsRefused}
+use Rattle.match_run.specs.declared.end.InputRule.{InputRule}
+use Rattle.match_run.specs.declared.end.InputRule.TheVariants.{NotYet, InputTooLong, Tree as NoTree, Bundle as NoBundle}
+use Rattle.stix_command.specs.declared.verdict.Verdict.{Verdict}
+use Rattle.stix_command.specs.declared.verdict.Verdict.TheVariants.{Sound, Broken, Refused}
+
+-- a value that is no bundle is refused for the first condition that fails
+abbrev pub IsNotBundleFor : Data → InputRule → Type 0
+IsNotBundleFor d NotYet = ⊥
+IsNotBundleFor d InputTooLong = ⊥
+IsNotBundleFor d (NoTree refusal) = ⊥
+IsNotBundleFor d (NoBundle (NotBundle path)) = IsRefused d (NotBundle path)
+IsNotBundleFor d (NoBundle (Breaks breaks)) = ⊥
+IsNotBundleFor d (NoBundle NoMemory) = ⊥
+
+-- a value is a bundle of so many objects, or one with these breaks, or none
+abbrev pub IsBundleJudged : Data → Verdict → Type 0
+IsBundleJudged d (Sound count) = (objects : List Data) × IsBundle d objects × (count ≡ length objects)
+IsBundleJudged d (Broken breaks) = IsRefused d (Breaks breaks)
+IsBundleJudged d (Refused rule) = IsNotBundleFor d rule
+
+-- some bytes are a tree of which that is known
+abbrev pub HasTree : List ℕ → (Data → Type 0) → Type 0
+HasTree bytes P = (tree : Tree) × IsTreeOf bytes tree × P (data_of tree)
+
+-- why bytes are refused, of which there aren't too many: they are no tree, or it is no bundle
+abbrev pub IsRefusedFor : List ℕ → InputRule → Type 0
+IsRefusedFor bytes NotYet = ⊥
+IsRefusedFor bytes InputTooLong = ⊥
+IsRefusedFor bytes (NoTree refusal) = (refusal ≢ tree_refusal.NoMemory) × IsRefusedAs bytes refusal
+IsRefusedFor bytes (NoBundle refusal) = HasTree bytes (λ d. IsNotBundleFor d (NoBundle refusal))
+
+-- what bytes are
+abbrev pub IsJudged : List ℕ → Verdict → Type 0
+IsJudged bytes (Sound count) = HasTree bytes (λ d. IsBundleJudged d (Sound count))
+IsJudged bytes (Broken breaks) = HasTree bytes (λ d. IsBundleJudged d (Broken breaks))
+IsJudged bytes (Refused rule) = IsRefusedFor bytes rule

@@ -1,0 +1,124 @@
+ghost use Rattle.std.specs.Prelude.{◌≡◌, ◌++◌, IfOk, codes, decimal};
+ghost use Rattle.std.specs.List.{flat_map};
+ghost use Rattle.flow_edges.specs.Faults.{Rose};
+ghost use Rattle.stix_command.specs.Checks.{break_line, verdict_text as told_text, verdict_ending, EndsCheck, EndsTelling, TellsVerdict};
+ghost use Rattle.stix_command.specs.Judged.{IsJudged};
+
+use crate::ending::Ending;
+use crate::judging::judge;
+use crate::verdict::Verdict;
+use bundle_reader::ObjectBreak;
+use flow_edges::{NoMemory, Sink, Source, Text, write_whole};
+use match_run::{InputRule, WholeRefusal, read_whole};
+use std::alloc::Global;
+
+/// The command `check`: writes the breaks of a bundle's objects, or how many objects are sound.
+pub fn check<I: Source, O: Sink>(alloc: Global, input: &mut I, output: &mut O) -> Ending
+    ensures end { EndsCheck (I.left input.old) (I.left input.new) (O.written output.old) (O.written output.new) result }
+    ensures read_failed { result ≡ Ending.ReadFault → Rose (I.faults input.old) (I.faults input.new) }
+    ensures write_failed { result ≡ Ending.WriteFault → Rose (O.faults output.old) (O.faults output.new) }
+{
+    match read_whole(alloc, input) {
+        Ok(bytes) => check_bytes(alloc, bytes.as_slice(), output),
+        Err(WholeRefusal::Fault) => Ending::ReadFault,
+        Err(WholeRefusal::TooLong) => Ending::InputRefused {
+            line: 1,
+            rule: InputRule::InputTooLong,
+        },
+        Err(WholeRefusal::NoMemory) => Ending::NoMemory,
+    }
+}
+
+/// Checks bytes, and writes what they are.
+fn check_bytes<O: Sink>(alloc: Global, bytes: &[u8], output: &mut O) -> Ending
+    ensures end { EndsTelling bytes.now (O.written output.old) (O.written output.new) result }
+    ensures write_failed { result ≡ Ending.WriteFault → Rose (O.faults output.old) (O.faults output.new) }
+{
+    match judge(alloc, bytes) {
+        Ok(verdict) => tell(alloc, verdict, output),
+        Err(NoMemory) => Ending::NoMemory,
+    }
+}
+
+/// Writes a verdict.
+fn tell<O: Sink>(alloc: Global, verdict: Verdict, output: &mut O) -> Ending
+    ensures end { TellsVerdict verdict (O.written output.old) (O.written output.new) result }
+    ensures write_failed { result ≡ Ending.WriteFault → Rose (O.faults output.old) (O.faults output.new) }
+{
+    let Ok(text) = verdict_text(alloc, &verdict) else {
+        return Ending::NoMemory;
+    };
+    match write_whole(output, text.as_str().as_bytes()) {
+        Ok(()) => ending_of(verdict),
+        Err(_) => Ending::WriteFault,
+    }
+}
+
+/// How a check ends that has written its verdict.
+fn ending_of(verdict: Verdict) -> Ending
+    ensures { result ≡ verdict_ending verdict }
+{
+    match verdict {
+        Verdict::Sound { .. } => Ending::Done,
+        Verdict::Broken(_) => Ending::Broken,
+        Verdict::Refused(rule) => Ending::InputRefused { line: 1, rule },
+    }
+}
+
+/// What is written of a verdict.
+fn verdict_text(alloc: Global, verdict: &Verdict) -> Result<Text, NoMemory>
+    ensures { IfOk result (λ text. text ≡ told_text verdict.now) }
+{
+    match verdict {
+        Verdict::Sound { objects } => sound_text(alloc, *objects),
+        Verdict::Broken(breaks) => breaks_text(alloc, breaks.as_slice()),
+        Verdict::Refused(_) => Ok(Text::new(alloc)),
+    }
+}
+
+fn sound_text(alloc: Global, objects: usize) -> Result<Text, NoMemory>
+    ensures { IfOk result (λ text. text ≡ told_text (Verdict.Sound objects)) }
+{
+    let text = format!(in alloc; "ok {objects} objects\n")?;
+    Ok(Text::from_string(text))
+}
+
+fn breaks_text(alloc: Global, breaks: &[ObjectBreak]) -> Result<Text, NoMemory>
+    ensures { IfOk result (λ text. text ≡ flat_map break_line breaks.now) }
+{
+    let mut text = Text::new(alloc);
+    for broken in breaks {
+        let line = break_text(alloc, broken)?;
+        text.push(line.as_str())?;
+    }
+    Ok(text)
+}
+
+/// The line of a break.
+fn break_text(alloc: Global, broken: &ObjectBreak) -> Result<Text, NoMemory>
+    ensures { IfOk result (λ text. text ≡ break_line broken.now) }
+{
+    let object = broken.object;
+    let rule = broken.found.rule.name();
+    let path = broken.found.path.as_str();
+    if path.is_empty() {
+        return plain_line(alloc, object, rule);
+    }
+    placed_line(alloc, object, rule, path)
+}
+
+/// The line of a break of the whole object.
+fn plain_line(alloc: Global, object: u32, rule: &str) -> Result<Text, NoMemory>
+    ensures { IfOk result (λ text. text ≡ codes "object " ++ (decimal object ++ (codes ": " ++ (rule.now ++ codes "\n")))) }
+{
+    let text = format!(in alloc; "object {object}: {rule}\n")?;
+    Ok(Text::from_string(text))
+}
+
+/// The line of a break at a path.
+fn placed_line(alloc: Global, object: u32, rule: &str, path: &str) -> Result<Text, NoMemory>
+    ensures { IfOk result (λ text. text ≡ codes "object " ++ (decimal object ++ (codes ": " ++ (rule.now ++ (codes " at " ++ (path.now ++ codes "\n")))))) }
+{
+    let text = format!(in alloc; "object {object}: {rule} at {path}\n")?;
+    Ok(Text::from_string(text))
+}
