@@ -1,0 +1,14 @@
+pub mod Lists
+pub mod Parts
+pub mod Many
+pub mod Binds
+pub mod Logs
+pub mod Rules
+pub mod Judging
+pub mod Pairs
+pub mod Counting
+pub mod Fitting
+pub mod Finding
+pub mod Sorting
+pub mod Ranking
+pub mod Lasting

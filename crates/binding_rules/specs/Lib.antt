@@ -1,0 +1,13 @@
+pub mod Formula
+pub mod Tree
+pub mod Log
+pub mod Span
+pub mod Binding
+pub mod Test
+pub mod Once
+pub mod Flat
+pub mod Listing
+pub mod Line
+pub mod Found
+pub mod Ranks
+pub mod Kinds

@@ -1,0 +1,33 @@
+//! Bindings: which observations of a log match a pattern of STIX 2.1 (sections 9.3 to 9.5), and how.
+//!
+//! `IsBinding` in specs/Binding.antt is the rule, `check_binding` its test, and `listing` lists every
+//! binding of a pattern over a log, each once.
+#![tactic(auto)]
+
+mod bind;
+mod bindings;
+mod check;
+mod copy;
+mod flat_list;
+mod found;
+mod held;
+mod join;
+pub mod laws;
+mod line;
+mod log;
+mod numbers;
+mod order;
+mod ranked;
+mod row;
+mod span;
+#[cfg(test)]
+mod tests;
+mod window;
+
+pub use bind::Bind;
+pub use bindings::listing;
+pub use check::check_binding;
+pub use copy::copy_bind;
+pub use flat_list::flat;
+pub use line::line_of;
+pub use log::Log;
