@@ -1,3 +1,4 @@
 pub mod TwoWords
 pub mod Endings
 pub mod CheckEnds
+pub mod Verdicts

@@ -5,6 +5,7 @@ mod checking;
 mod command;
 mod ending;
 mod judging;
+mod laws;
 mod matching;
 mod run;
 #[cfg(test)]

@@ -1,3 +1,4 @@
+use crate::laws::one_verdict;
 use crate::run::run;
 use flow_edges::{Items, MemorySink, MemorySource};
 use std::alloc::{AllocError, Global};
@@ -212,6 +213,7 @@ fn rows_of_check(rt: HostRuntime) -> Result<(), Fail> {
         assert_eq!(rt; seen.output.bytes(), output.as_bytes(), "{objects}");
         assert_eq!(rt; seen.faults.bytes(), faults.as_bytes(), "{objects}");
     }
+    one_verdict();
     Ok(())
 }
 

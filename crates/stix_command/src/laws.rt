@@ -1,0 +1,14 @@
+//! What follows from the definitions: the contracts are the laws, and the functions do nothing.
+
+ghost use Rattle.std.specs.Prelude.{◌≡◌, ℕ, List};
+ghost use Rattle.stix_command.specs.declared.verdict.Verdict.{Verdict};
+ghost use Rattle.stix_command.specs.Judged.{IsJudged};
+
+use object_rules::laws::one_list;
+
+/// Some bytes have one verdict. So what a check writes, and its status, are functions of the bytes.
+pub fn one_verdict()
+    ensures { (bytes : List ℕ) (first second : Verdict) → IsJudged bytes first → IsJudged bytes second → first ≡ second }
+{
+    one_list();
+}
