@@ -1,6 +1,5 @@
 mod Cuts
 pub mod Laws
-mod Texts
 mod Earliest
 mod Meanings
 mod Parts

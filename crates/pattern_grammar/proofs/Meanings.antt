@@ -7,7 +7,7 @@ use Rattle.pattern_tokens.specs.declared.refusal.PatternRefusal.{PatternRefusal}
 use Rattle.pattern_tokens.specs.Values.{IsWordsText, IsMomentText}
 use Rattle.pattern_syntax.specs.declared.path.StepTree.{StepTree}
 use Rattle.pattern_syntax.specs.declared.path.StepTree.TheVariants.{Name, Index}
-use Rattle.pattern_grammar.specs.Spans.{text_at, At, IsItself}
+use Rattle.pattern_tokens.specs.Spans.{text_at, At, IsItself}
 use Rattle.pattern_grammar.specs.Order.{IsEarliestOf, earlier}
 use Rattle.pattern_grammar.proofs.Earliest.{earliest_both, earliest_same}
 use Rattle.pattern_grammar.specs.Faults.{FaultOfSteps, IsAddress, IsSpan}

@@ -3,7 +3,7 @@ use Rattle.std.proofs.Common.{◌≡◌, inl, inr, ℕ, List, Option, Some, None
 use Rattle.pattern_tokens.specs.declared.token.Token.{Token}
 use Rattle.pattern_tokens.specs.declared.refusal.PatternRefusal.{PatternRefusal}
 use Rattle.pattern_tokens.specs.declared.refusal.PatternRefusal.TheVariants.{NoMemory}
-use Rattle.pattern_tokens.specs.Reading.{Reads, Agrees}
+use Rattle.pattern_lexer.specs.Reading.{Reads, Agrees}
 use Rattle.pattern_syntax.specs.Tree.{Tree}
 use Rattle.pattern_syntax.specs.Place.{IsTreeOf}
 use Rattle.pattern_grammar.specs.Order.{IsEarliestOf}

@@ -3,7 +3,7 @@ use Rattle.std.specs.Prelude.{◌≡◌, ℕ, ◌⊎◌, List, length}
 use Rattle.pattern_tokens.specs.declared.token.Token.{Token}
 use Rattle.pattern_tokens.specs.declared.refusal.PatternRefusal.{PatternRefusal}
 use Rattle.pattern_tokens.specs.declared.refusal.PatternRefusal.TheVariants.{NoMemory}
-use Rattle.pattern_tokens.specs.Reading.{TokensOf, IsRefused}
+use Rattle.pattern_lexer.specs.Reading.{TokensOf, IsRefused}
 use Rattle.pattern_syntax.specs.Tree.{Tree}
 use Rattle.pattern_syntax.specs.Place.{IsTreeOf, IsMisread}
 use Rattle.pattern_grammar.specs.Order.{IsEarliest}

@@ -16,7 +16,7 @@ use Rattle.pattern_syntax.specs.declared.comparison.TestTree.{TestTree}
 use Rattle.pattern_syntax.specs.declared.qualifier.Qualifier.{Qualifier}
 use Rattle.pattern_syntax.specs.declared.qualifier.Qualifier.TheVariants.{Within, Repeats, Between}
 use Rattle.pattern_syntax.specs.Tree.{Comparison, test, group, all, any, Tree, leaf, both, either, followed, qualified}
-use Rattle.pattern_grammar.specs.Spans.{At, IsItself}
+use Rattle.pattern_tokens.specs.Spans.{At, IsItself}
 
 -- a whole number between two others
 pub record IsWithinBounds (least greatest : ℕ) (text : List ℕ) (token : Token) (value : ℕ) : Type 0 where

@@ -1,7 +1,6 @@
 pub mod FirstForm
 pub mod Refusal
 pub mod Word
-pub mod Spans
 pub mod Order
 pub mod Faults
 pub mod Checked

@@ -1,19 +1,12 @@
--- Bytes that tokens stand for, and constants that are none.
+-- Constants that tokens don't stand for.
 use Rattle.std.proofs.Common.{◌≡◌, inl, inr, ℕ, ℤ, List, Option, Some, None, Result, Ok, Err, IfOk, MatchOption, sym, ◌∙◌}
 use Rattle.pattern_tokens.specs.declared.token.Token.{Token}
 use Rattle.pattern_tokens.specs.declared.token.TokenKind.TheVariants as kind
 use Rattle.pattern_tokens.specs.Values.{IsHexText, IsMomentText}
 use Rattle.pattern_tree.specs.declared.constant.Constant.{Constant}
 use Rattle.pattern_tree.specs.declared.constant.Constant.TheVariants as constant
-use Rattle.pattern_meaning.specs.Spans.{At, IsItself}
+use Rattle.pattern_tokens.specs.Spans.{At}
 use Rattle.pattern_meaning.specs.Meaning.{IsConstantOf}
-use Rattle.pattern_meaning.proofs.Values.{no_value, a_value}
-
--- what the token's text stands for, the token stands for
-pub found_at : {V E : Type 0} (IsTextOf : List ℕ → V → Type 0) (text : List ℕ) (token : Token) (part : List ℕ) (r : Result (Option V) E) → At IsItself text token part → IfOk r (λ o. MatchOption o ((v : V) → ¬ IsTextOf part v) (IsTextOf part)) → IfOk r (λ o. MatchOption o ((v : V) → ¬ At IsTextOf text token v) (At IsTextOf text token))
-found_at T text token part (Err e) p h = tt
-found_at T text token part (Ok (Some v)) p h = a_value text token part v p h
-found_at T text token part (Ok None) p h = λ v. no_value text token part p h v
 
 pub no_hex : (text : List ℕ) (token : Token) → token.kind ≡ kind.Hex → ((bytes : List ℕ) → ¬ At IsHexText text token bytes) → (other : Constant) → ¬ IsConstantOf text token other
 no_hex text token e none (constant.Whole whole) h = let g = sym e ∙ h.0 in absurd (cc)

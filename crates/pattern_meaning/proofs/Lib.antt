@@ -1,4 +1,3 @@
-mod Values
 mod Lists
 mod Bytes
 mod Rows

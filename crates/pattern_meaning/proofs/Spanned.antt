@@ -5,7 +5,7 @@ use Rattle.pattern_tokens.specs.Values.{IsMomentText}
 use Rattle.pattern_syntax.specs.declared.qualifier.Qualifier.TheVariants as qualifier
 use Rattle.pattern_meaning.specs.declared.limits.Limit.{Limit}
 use Rattle.pattern_meaning.specs.declared.limits.Limit.TheVariants as limit
-use Rattle.pattern_meaning.specs.Spans.{At}
+use Rattle.pattern_tokens.specs.Spans.{At}
 use Rattle.pattern_meaning.specs.Meant.{IsLimitOf}
 
 pub no_span : (text : List ℕ) (start from to : Token) → ((i : ℤ) → ¬ At IsMomentText text from i) ⊎ ((i : ℤ) → ¬ At IsMomentText text to i) → (other : Limit) → ¬ IsLimitOf text (qualifier.Between start from to) other

@@ -17,7 +17,7 @@ use Rattle.pattern_tree.specs.declared.constant.Constant.TheVariants as constant
 use Rattle.pattern_tree.specs.declared.check.Check.{Check}
 use Rattle.pattern_tree.specs.declared.check.Check.TheVariants as check
 use Rattle.pattern_tree.specs.declared.leaf.Test.{Test}
-use Rattle.pattern_meaning.specs.Spans.{At, IsItself}
+use Rattle.pattern_tokens.specs.Spans.{At, IsItself}
 use Rattle.pattern_meaning.specs.Numbers.{IsPlace}
 
 -- each of these is related to the one at its place

@@ -2,7 +2,7 @@
 use Rattle.std.specs.Prelude.{ℕ, ◌≤◌, List, pos}
 use Rattle.pattern_tokens.specs.declared.token.Token.{Token}
 use Rattle.pattern_tokens.specs.Values.{IsWholeText}
-use Rattle.pattern_meaning.specs.Spans.{At}
+use Rattle.pattern_tokens.specs.Spans.{At}
 
 -- the number in the brackets of a path: 0 to 4294967295
 pub record IsPlace (text : List ℕ) (token : Token) (place : ℕ) : Type 0 where

@@ -5,10 +5,9 @@ ghost use Rattle.pattern_tree.specs.declared.leaf.Test.{Test};
 
 use crate::constants::{constant_of, constants_of};
 use crate::paths::path_of;
-use crate::spans::words_at;
 use flow_edges::NoMemory;
 use pattern_syntax::{CheckTree, TestTree};
-use pattern_tokens::{Token, TokenKind};
+use pattern_tokens::{Token, TokenKind, words_at};
 use pattern_tree::{Check, Test};
 use std::alloc::Global;
 

@@ -1,34 +1,11 @@
-ghost use Rattle.std.specs.Prelude.{List, ℕ, IfOk, MatchOption};
+ghost use Rattle.std.specs.Prelude.{List, IfOk, MatchOption};
 ghost use Rattle.pattern_meaning.specs.Meaning.{IsConstantOf, Each};
-ghost use Rattle.pattern_meaning.specs.Spans.{At};
-ghost use Rattle.pattern_tokens.specs.Values.{IsHexText, IsBaseText};
 ghost use Rattle.pattern_tree.specs.declared.constant.Constant.{Constant};
 
-use crate::spans::{moment_at, text_of, whole_at, words_at};
 use flow_edges::{Items, NoMemory};
-use pattern_tokens::{Token, TokenKind, base_of, hex_of};
+use pattern_tokens::{Token, TokenKind, base_at, hex_at, moment_at, whole_at, words_at};
 use pattern_tree::Constant;
 use std::alloc::Global;
-
-/// The bytes that a Hex stands for.
-fn hex_at(alloc: Global, text: &str, token: Token) -> Result<Option<Items<u8>>, NoMemory>
-    ensures { IfOk result (λ found. MatchOption found ((bytes : List ℕ) → ¬ At IsHexText text.now token bytes) (At IsHexText text.now token)) }
-{
-    match text_of(text, token) {
-        Some(part) => hex_of(alloc, part),
-        None => Ok(None),
-    }
-}
-
-/// The bytes that a Base stands for.
-fn base_at(alloc: Global, text: &str, token: Token) -> Result<Option<Items<u8>>, NoMemory>
-    ensures { IfOk result (λ found. MatchOption found ((bytes : List ℕ) → ¬ At IsBaseText text.now token bytes) (At IsBaseText text.now token)) }
-{
-    match text_of(text, token) {
-        Some(part) => base_of(alloc, part),
-        None => Ok(None),
-    }
-}
 
 /// The constant that the token stands for.
 pub fn constant_of(alloc: Global, text: &str, token: Token) -> Result<Option<Constant>, NoMemory>

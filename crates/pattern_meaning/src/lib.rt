@@ -10,7 +10,6 @@ mod limits;
 mod numbers;
 mod paths;
 mod patterns;
-mod spans;
 #[cfg(test)]
 mod tests;
 
@@ -18,5 +17,6 @@ pub use checks::test_of;
 pub use constants::constant_of;
 pub use leaves::leaf_of;
 pub use limits::Limit;
+pub use numbers::{count_at, place_at};
 pub use paths::path_of;
 pub use patterns::pattern_of;

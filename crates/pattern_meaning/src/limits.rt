@@ -3,9 +3,8 @@ ghost use Rattle.pattern_meaning.specs.Meant.{IsLimitOf};
 ghost use Rattle.pattern_meaning.specs.declared.limits.Limit.{Limit};
 
 use crate::numbers::count_at;
-use crate::spans::moment_at;
 use pattern_syntax::Qualifier;
-use pattern_tokens::Token;
+use pattern_tokens::{Token, moment_at};
 use stix_times::Instant;
 
 /// What a qualifier limits a pattern by.

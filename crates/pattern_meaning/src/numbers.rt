@@ -1,11 +1,10 @@
 ghost use Rattle.std.specs.Prelude.{ℕ, IfSome, IfNone};
 ghost use Rattle.pattern_meaning.specs.Numbers.{IsPlace, IsCount};
 
-use crate::spans::whole_at;
-use pattern_tokens::Token;
+use pattern_tokens::{Token, whole_at};
 
-/// The place in a list that the token stands for.
-pub(crate) fn place_at(text: &str, token: Token) -> Option<u32>
+/// The place in a list that the token stands for: 0 to 4294967295. Takes no memory.
+pub fn place_at(text: &str, token: Token) -> Option<u32>
     ensures some { IfSome result (IsPlace text.now token) }
     ensures none { IfNone result ((place : ℕ) → ¬ IsPlace text.now token place) }
 {
@@ -15,8 +14,8 @@ pub(crate) fn place_at(text: &str, token: Token) -> Option<u32>
     u32::try_from(whole).ok()
 }
 
-/// The count that the token stands for.
-pub(crate) fn count_at(text: &str, token: Token) -> Option<u32>
+/// The count that the token stands for: 1 to 4294967295. Takes no memory.
+pub fn count_at(text: &str, token: Token) -> Option<u32>
     ensures some { IfSome result (IsCount text.now token) }
     ensures none { IfNone result ((count : ℕ) → ¬ IsCount text.now token count) }
 {

@@ -2,7 +2,7 @@
 use Rattle.std.specs.Prelude.{◌≡◌, ◌≤◌, ℕ, ◌+◌, List, [], ◌∷◌, length, take, drop, Some, None, IfSome, Result, Ok, Err}
 use Rattle.pattern_tokens.specs.declared.token.Token.{Token}
 use Rattle.pattern_tokens.specs.declared.refusal.PatternRefusal.{PatternRefusal}
-use Rattle.pattern_tokens.specs.declared.refusal.PatternRefusal.TheVariants.{TooLong, BadToken, LeftOut, BadNumber, BadTime, BadBytes, Syntax, TooDeep, BadCount, LongPath, BadAddress, EmptySpan, NoCommonRoot, TooWide, NotYet, NoMemory}
+use Rattle.pattern_tokens.specs.declared.refusal.PatternRefusal.TheVariants.{TooLong, BadToken, LeftOut, BadNumber, BadTime, BadBytes, Syntax, TooDeep, BadCount, LongPath, BadAddress, EmptySpan, NoCommonRoot, TooWide, NoMemory}
 use Rattle.pattern_syntax.specs.declared.pattern.PatternTree.{PatternTree}
 use Rattle.pattern_syntax.specs.Tree.{Tree, shape}
 use Rattle.pattern_syntax.specs.Grammar.{IsPattern}
@@ -46,7 +46,6 @@ IsMisread ts end (BadAddress at) = ⊥
 IsMisread ts end (EmptySpan at) = ⊥
 IsMisread ts end (NoCommonRoot at) = ⊥
 IsMisread ts end TooWide = ⊥
-IsMisread ts end NotYet = ⊥
 
 -- the tokens spell the tree, and none of them is one too many
 pub record IsTreeOf (ts : List Token) (tree : Tree) : Type 0 where

@@ -1,2 +1,4 @@
 mod Insides
 mod Escapes
+mod Tokens
+mod Texts

@@ -2,4 +2,5 @@ pub mod Refusal
 pub mod Word
 pub mod Values
 pub mod Table
-pub mod Reading
+pub mod Spans
+pub mod Sound

@@ -1,7 +1,7 @@
 -- The text of a refusal.
 use Rattle.std.specs.Prelude.{ℕ, List, ◌++◌, codes, decimal}
 use Rattle.pattern_tokens.specs.declared.refusal.PatternRefusal.{PatternRefusal}
-use Rattle.pattern_tokens.specs.declared.refusal.PatternRefusal.TheVariants.{TooLong, BadToken, LeftOut, BadNumber, BadTime, BadBytes, Syntax, TooDeep, BadCount, LongPath, BadAddress, EmptySpan, NoCommonRoot, TooWide, NotYet, NoMemory}
+use Rattle.pattern_tokens.specs.declared.refusal.PatternRefusal.TheVariants.{TooLong, BadToken, LeftOut, BadNumber, BadTime, BadBytes, Syntax, TooDeep, BadCount, LongPath, BadAddress, EmptySpan, NoCommonRoot, TooWide, NoMemory}
 
 -- its name, with its place where it has one, and want of memory in words
 abbrev pub refusal_text : PatternRefusal → List ℕ
@@ -19,5 +19,4 @@ refusal_text (BadAddress at) = codes "BadAddress at " ++ decimal at
 refusal_text (EmptySpan at) = codes "EmptySpan at " ++ decimal at
 refusal_text (NoCommonRoot at) = codes "NoCommonRoot at " ++ decimal at
 refusal_text TooWide = codes "TooWide"
-refusal_text NotYet = codes "NotYet"
 refusal_text NoMemory = codes "out of memory"

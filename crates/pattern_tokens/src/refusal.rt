@@ -48,8 +48,6 @@ pub enum PatternRefusal {
     NoCommonRoot { at: usize },
     /// The pattern is wider than 64, or has more than 1,024 leaves.
     TooWide,
-    /// The text isn't of a form that is read yet.
-    NotYet,
     /// Memory ran out.
     NoMemory,
 }
@@ -75,7 +73,6 @@ impl fmt::Display for PatternRefusal {
             PatternRefusal::EmptySpan { at } => write!(f, "EmptySpan at {at}"),
             PatternRefusal::NoCommonRoot { at } => write!(f, "NoCommonRoot at {at}"),
             PatternRefusal::TooWide => write!(f, "TooWide"),
-            PatternRefusal::NotYet => write!(f, "NotYet"),
             PatternRefusal::NoMemory => write!(f, "out of memory"),
         }
     }

@@ -1,9 +1,8 @@
 ghost use Rattle.std.specs.Prelude.{◌↔◌, IsTrue, Contains};
-ghost use Rattle.pattern_grammar.specs.Word.{IsWordStart, IsWordPart, IsHyphenWordPart, StartsAsWord, reserved_words, IsWord, IsHyphenWord};
+ghost use Rattle.pattern_tokens.specs.Word.{IsWordStart, IsWordPart, HasAt, keywords, IsWord};
 
-/// The keywords, and `MATCHES`, an operator of the standard that no pattern here may use.
-const RESERVED_WORDS: [&str; 18] = [
-    "MATCHES",
+/// The words that have a meaning of their own.
+const KEYWORDS: [&str; 17] = [
     "AND",
     "OR",
     "NOT",
@@ -39,7 +38,7 @@ fn is_word_part(byte: u8) -> bool
 
 /// Whether the text begins as a word does.
 fn starts_as_word(text: &str) -> bool
-    ensures { IsTrue result ↔ StartsAsWord text.now }
+    ensures { IsTrue result ↔ HasAt 0 IsWordStart text.now }
 {
     match text.as_bytes().first() {
         Some(byte) => is_word_start(*byte),
@@ -47,30 +46,19 @@ fn starts_as_word(text: &str) -> bool
     }
 }
 
-/// Whether the text is a keyword, or `MATCHES`.
-fn is_reserved(text: &str) -> bool
-    ensures { IsTrue result ↔ Contains reserved_words text.now }
+/// Whether the text is a keyword.
+fn is_keyword(text: &str) -> bool
+    ensures { IsTrue result ↔ Contains keywords text.now }
 {
-    RESERVED_WORDS.contains(&text)
+    KEYWORDS.contains(&text)
 }
 
-/// Whether the text is a Word.
-pub(crate) fn is_word(text: &str) -> bool
+/// Whether the text is a Word: a letter or `_`, then letters, digits and `_`, and no keyword. Takes no
+/// memory.
+pub fn is_word(text: &str) -> bool
     ensures { IsTrue result ↔ IsWord text.now }
 {
     starts_as_word(text)
         && text.as_bytes().iter().all(|byte| is_word_part(*byte))
-        && !is_reserved(text)
-}
-
-/// Whether the text is a HyphenWord.
-pub(crate) fn is_hyphen_word(text: &str) -> bool
-    ensures { IsTrue result ↔ IsHyphenWord text.now }
-{
-    starts_as_word(text)
-        && text
-            .as_bytes()
-            .iter()
-            .all(|byte| is_word_part(*byte) || *byte == b'-')
-        && text.as_bytes().contains(&b'-')
+        && !is_keyword(text)
 }

@@ -7,7 +7,7 @@ use Rattle.pattern_tokens.specs.declared.token.TokenKind.TheVariants.{Equal, Les
 use Rattle.pattern_tokens.specs.declared.refusal.LeftWord.{LeftWord}
 use Rattle.pattern_tokens.specs.declared.refusal.LeftWord.TheVariants.{Matches, Fraction, DoubleEqual, LessGreater}
 use Rattle.pattern_tokens.specs.declared.refusal.PatternRefusal.{PatternRefusal}
-use Rattle.pattern_tokens.specs.declared.refusal.PatternRefusal.TheVariants.{TooLong, BadToken, LeftOut, BadNumber, BadTime, BadBytes, Syntax, TooDeep, BadCount, LongPath, BadAddress, EmptySpan, NoCommonRoot, TooWide, NotYet, NoMemory}
+use Rattle.pattern_tokens.specs.declared.refusal.PatternRefusal.TheVariants.{TooLong, BadToken, LeftOut, BadNumber, BadTime, BadBytes, Syntax, TooDeep, BadCount, LongPath, BadAddress, EmptySpan, NoCommonRoot, TooWide, NoMemory}
 use Rattle.pattern_tokens.specs.Word.{IsWordStart, HasAt}
 use Rattle.pattern_tokens.specs.Values.{HasValue}
 use Rattle.pattern_tokens.specs.Table.{IsToken}
@@ -112,7 +112,6 @@ IsFault place whole (BadAddress at) = ⊥
 IsFault place whole (EmptySpan at) = ⊥
 IsFault place whole (NoCommonRoot at) = ⊥
 IsFault place whole TooWide = ⊥
-IsFault place whole NotYet = ⊥
 IsFault place whole NoMemory = ⊥
 
 -- tokens without fault stand in the text, then blanks, then what is no blank and has the fault

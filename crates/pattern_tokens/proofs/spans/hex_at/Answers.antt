@@ -1,6 +1,6 @@
 use Rattle.pattern_tokens.specs.Values.{IsHexText}
-use Rattle.pattern_meaning.proofs.Bytes.{found_at}
-use Rattle.pattern_meaning.proofs.constants.hex_at.Goals as goal
+use Rattle.pattern_tokens.proofs.Tokens.{found_at}
+use Rattle.pattern_tokens.proofs.spans.hex_at.Goals as goal
 
 pub returns-in-Some : goal.returns-in-Some
 returns-in-Some c = found_at IsHexText _ _ _ _ c.in-Some.ensures.some c.hex_of.ensures

@@ -1,10 +1,10 @@
 ghost use Rattle.std.specs.Prelude.{◌≡◌, ◌⊎◌, List, Result, IfOk, IfErr};
 ghost use Rattle.pattern_tokens.specs.declared.refusal.PatternRefusal.{PatternRefusal};
 ghost use Rattle.pattern_tokens.specs.declared.token.Token.{Token};
-ghost use Rattle.pattern_tokens.specs.Reading.{TokensOf, IsRefused, Reads, Agrees};
+ghost use Rattle.pattern_lexer.specs.Reading.{TokensOf, IsRefused, Reads, Agrees};
 
-use crate::{PatternRefusal, Token};
 use flow_edges::Items;
+use pattern_tokens::{PatternRefusal, Token};
 use std::alloc::Global;
 
 /// The tokens of a text of at most 65,536 bytes, each the longest at its place, with blanks between

@@ -1,0 +1,68 @@
+ghost use Rattle.std.specs.Prelude.{◌≡◌, ℕ, ℤ, List, IfOk, IfSome, IfNone, MatchOption};
+ghost use Rattle.pattern_tokens.specs.Spans.{IsCut, text_at, At, IsItself};
+ghost use Rattle.pattern_tokens.specs.Values.{IsWholeText, IsWordsText, IsHexText, IsBaseText, IsMomentText};
+
+use flow_edges::{Items, NoMemory, Text};
+use crate::{Token, base_of, hex_of, moment_of, whole_of, words_of};
+use std::alloc::Global;
+use stix_times::Instant;
+
+/// The token's text, where the token lies in the text.
+pub fn text_of<'a>(text: &'a str, token: Token) -> Option<&'a str>
+    ensures some { IfSome result (λ part. At IsItself text.now token part.now) }
+    ensures none { IfNone result (¬ IsCut text.now token) }
+{
+    if token.from > token.to
+        || !text.is_char_boundary(token.from)
+        || !text.is_char_boundary(token.to)
+    {
+        return None;
+    }
+    Some(&text[token.from..token.to])
+}
+
+/// The whole number that the token stands for.
+pub fn whole_at(text: &str, token: Token) -> Option<i64>
+    ensures some { IfSome result (At IsWholeText text.now token) }
+    ensures none { IfNone result ((whole : ℤ) → ¬ At IsWholeText text.now token whole) }
+{
+    whole_of(text_of(text, token)?)
+}
+
+/// The instant that the token stands for.
+pub fn moment_at(text: &str, token: Token) -> Option<Instant>
+    ensures some { IfSome result (At IsMomentText text.now token) }
+    ensures none { IfNone result ((instant : ℤ) → ¬ At IsMomentText text.now token instant) }
+{
+    moment_of(text_of(text, token)?)
+}
+
+/// The words that the token stands for.
+pub fn words_at(alloc: Global, text: &str, token: Token) -> Result<Option<Text>, NoMemory>
+    ensures { IfOk result (λ found. MatchOption found ((words : List ℕ) → ¬ At IsWordsText text.now token words) (At IsWordsText text.now token)) }
+{
+    match text_of(text, token) {
+        Some(part) => words_of(alloc, part),
+        None => Ok(None),
+    }
+}
+
+/// The bytes that the token, a Hex, stands for.
+pub fn hex_at(alloc: Global, text: &str, token: Token) -> Result<Option<Items<u8>>, NoMemory>
+    ensures { IfOk result (λ found. MatchOption found ((bytes : List ℕ) → ¬ At IsHexText text.now token bytes) (At IsHexText text.now token)) }
+{
+    match text_of(text, token) {
+        Some(part) => hex_of(alloc, part),
+        None => Ok(None),
+    }
+}
+
+/// The bytes that the token, a Base, stands for.
+pub fn base_at(alloc: Global, text: &str, token: Token) -> Result<Option<Items<u8>>, NoMemory>
+    ensures { IfOk result (λ found. MatchOption found ((bytes : List ℕ) → ¬ At IsBaseText text.now token bytes) (At IsBaseText text.now token)) }
+{
+    match text_of(text, token) {
+        Some(part) => base_of(alloc, part),
+        None => Ok(None),
+    }
+}
