@@ -1,6 +1,3 @@
-mod Cuts
-pub mod Laws
-mod Earliest
-mod Meanings
-mod Parts
 mod Only
+mod Existing
+mod Widths

@@ -6,8 +6,8 @@ use Rattle.pattern_tokens.specs.declared.refusal.PatternRefusal.TheVariants.{NoM
 use Rattle.pattern_lexer.specs.Reading.{Reads, Agrees}
 use Rattle.pattern_syntax.specs.Tree.{Tree}
 use Rattle.pattern_syntax.specs.Place.{IsTreeOf}
-use Rattle.pattern_grammar.specs.Order.{IsEarliestOf}
-use Rattle.pattern_grammar.specs.Faults.{FaultOf}
+use Rattle.pattern_faults.specs.Order.{IsEarliestOf}
+use Rattle.pattern_faults.specs.Faults.{FaultOf}
 use Rattle.pattern_grammar.specs.Checked.{IsSound}
 
 pub no_tokens : (refusal : PatternRefusal) (ts : List Token) → Agrees {T = List Token} (Err refusal) (Ok ts) → refusal ≡ NoMemory

@@ -6,8 +6,8 @@ use Rattle.pattern_tokens.specs.declared.refusal.PatternRefusal.TheVariants.{NoM
 use Rattle.pattern_lexer.specs.Reading.{TokensOf, IsRefused}
 use Rattle.pattern_syntax.specs.Tree.{Tree}
 use Rattle.pattern_syntax.specs.Place.{IsTreeOf, IsMisread}
-use Rattle.pattern_grammar.specs.Order.{IsEarliest}
-use Rattle.pattern_grammar.specs.Faults.{FaultOf}
+use Rattle.pattern_faults.specs.Order.{IsEarliest}
+use Rattle.pattern_faults.specs.Faults.{FaultOf}
 
 -- the tokens of the text spell the tree, within the limits of depth
 pub record IsSpelled (text : List ℕ) (tree : Tree) : Type 0 where

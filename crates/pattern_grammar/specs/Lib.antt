@@ -1,7 +1,3 @@
-pub mod FirstForm
-pub mod Refusal
-pub mod Word
-pub mod Order
-pub mod Faults
 pub mod Checked
 pub mod Width
+pub mod Read

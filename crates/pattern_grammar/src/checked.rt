@@ -3,9 +3,10 @@ ghost use Rattle.pattern_grammar.specs.Checked.{IsSound, IsUnsound};
 ghost use Rattle.pattern_syntax.specs.Place.{GivesTree};
 ghost use Rattle.pattern_syntax.specs.Tree.{Tree, shape};
 
-use crate::comparison_faults::pattern_fault;
+use pattern_faults::pattern_fault;
+use pattern_lexer::tokens;
 use pattern_syntax::{PatternTree, read_tree};
-use pattern_tokens::{PatternRefusal, tokens};
+use pattern_tokens::PatternRefusal;
 use std::alloc::Global;
 
 /// The syntax tree of a pattern's text, where nothing in it is refused but its width; or the first

@@ -1,72 +1,72 @@
-ghost use Rattle.std.specs.Prelude.{◌≡◌, ◌↔◌, List, ℕ, IsTrue, IfOk, IfSome, IfNone, IsSomeAnd};
-ghost use Rattle.pattern_grammar.specs.FirstForm.{FirstForm, Spells, IsPlain, text_of, pattern_of, form_of};
+ghost use Rattle.std.specs.Prelude.{◌≡◌, IfOk, IfErr};
+ghost use Rattle.pattern_grammar.specs.Read.{IsReadAs, IsRefusedAs, Gives};
+ghost use Rattle.pattern_grammar.specs.Width.{IsTooWide};
+ghost use Rattle.pattern_tree.specs.declared.pattern.Pattern.{Pattern};
+ghost use Rattle.pattern_tokens.specs.declared.refusal.PatternRefusal.TheVariants as PatternRefusal;
+ghost use Rattle.pattern_grammar.specs.Checked.{IsSound};
+ghost use Rattle.pattern_meaning.specs.Meant.{meant, MeansPattern};
+ghost use Rattle.pattern_syntax.specs.Tree.{shape};
 
-use crate::word::{is_hyphen_word, is_word};
-use crate::{Comparison, Pattern, PatternRefusal};
+use crate::checked::checked_tree;
+use crate::width::is_too_wide;
+use flow_edges::NoMemory;
+use pattern_lexer::laws::sound_tokens;
+use pattern_meaning::laws::one_meaning;
+use pattern_meaning::pattern_of;
+use pattern_syntax::PatternTree;
+use pattern_tokens::PatternRefusal;
+use pattern_tree::Pattern;
 use std::alloc::Global;
 
-/// The longest text that is read as a pattern, in bytes.
-const LONGEST: usize = 65_536;
-
-/// Reads a pattern of the first form, as `[user-account:account_login = 'a']`. The text has at most
-/// 65,536 bytes. `NotYet` comes exactly for every other text.
+/// Reads a pattern of STIX 2.1 (section 9), of at most 65,536 bytes; or tells the first reason why the
+/// text is none: TooLong; a fault of its tokens, from the left; Syntax or TooDeep, whichever stands
+/// first; a value that is refused, by place; TooWide.
 pub fn read_pattern(alloc: Global, text: &str) -> Result<Pattern, PatternRefusal>
-    ensures ok { IfOk result (λ pattern. (form : FirstForm) × Spells text.now form × (pattern ≡ pattern_of form)) }
-    ensures not_yet { (result ≡ Err PatternRefusal.NotYet) ↔ ((form : FirstForm) → ¬ (Spells text.now form)) }
-    ensures memory { result ≡ Err PatternRefusal.NoMemory → (form : FirstForm) × Spells text.now form }
+    ensures ok { IfOk result (IsReadAs text.now) }
+    ensures err { IfErr result (IsRefusedAs text.now) }
+    ensures only { (pattern : Pattern) → IsReadAs text.now pattern → Gives pattern result }
 {
-    match spelled(text) {
-        Some(comparison) => Ok(comparison.to_pattern(alloc)?),
-        None => Err(PatternRefusal::NotYet),
+    let tree = match checked_tree(alloc, text) {
+        Ok(tree) => tree,
+        Err(refusal) => return Err(refusal),
+    };
+    pattern_in(alloc, text, &tree)
+}
+
+/// The pattern that a tree without faults means, unless it is too wide.
+fn pattern_in(alloc: Global, text: &str, tree: &PatternTree) -> Result<Pattern, PatternRefusal>
+    requires { IsSound text.now (shape tree.now) }
+    ensures ok { IfOk result (IsReadAs text.now) }
+    ensures err { IfErr result (IsRefusedAs text.now) }
+    ensures only { (pattern : Pattern) → MeansPattern text.now (shape tree.now) (meant pattern)
+        → (¬ IsTooWide pattern) → Gives pattern result }
+{
+    one_meaning();
+    match meaning_of(alloc, text, tree) {
+        Ok(pattern) => narrow(pattern),
+        Err(NoMemory) => Err(PatternRefusal::NoMemory),
     }
 }
 
-/// The laws of the first form: a text spells one comparison at most, and a tree is that of one at
-/// most. So what `read_pattern` read is what `first_form` tells.
-pub fn one_form()
-    ensures spelled { (text : List ℕ) (a b : FirstForm) → Spells text a → Spells text b → a ≡ b }
-    ensures tree { (a b : FirstForm) → pattern_of a ≡ pattern_of b → a ≡ b }
-{}
-
-/// The comparison that the text spells.
-fn spelled(text: &str) -> Option<Comparison<'_>>
-    ensures some { IfSome result (λ comparison. Spells text.now (form_of comparison)) }
-    ensures none { IfNone result ((form : FirstForm) → ¬ (Spells text.now form)) }
+/// The pattern, unless it is too wide.
+fn narrow(pattern: Pattern) -> Result<Pattern, PatternRefusal>
+    ensures ok { IfOk result (λ same. (same ≡ pattern) × (¬ IsTooWide pattern)) }
+    ensures err { IfErr result (λ refusal. (refusal ≡ PatternRefusal.TooWide) × IsTooWide pattern) }
 {
-    if text.len() > LONGEST {
-        return None;
+    if is_too_wide(&pattern) {
+        return Err(PatternRefusal::TooWide);
     }
-    let comparison = cut(text)?;
-    let kind_is_named = is_word(comparison.kind) || is_hyphen_word(comparison.kind);
-    if kind_is_named && is_word(comparison.property) && is_plain(comparison.words) {
-        Some(comparison)
-    } else {
-        None
-    }
+    Ok(pattern)
 }
 
-/// The parts of `[kind:property = 'words']`, where the text is cut at its first `:` and the first
-/// space after it.
-fn cut(text: &str) -> Option<Comparison<'_>>
-    ensures written { IfSome result (λ comparison. text.now ≡ text_of (form_of comparison)) }
-    ensures found { (form : FirstForm) → Spells text.now form → IsSomeAnd result (λ comparison. form_of comparison ≡ form) }
+/// The pattern that a tree without faults means.
+fn meaning_of(alloc: Global, text: &str, tree: &PatternTree) -> Result<Pattern, NoMemory>
+    requires { IsSound text.now (shape tree.now) }
+    ensures { IfOk result (λ pattern. MeansPattern text.now (shape tree.now) (meant pattern)) }
 {
-    let inside = text.strip_prefix('[')?.strip_suffix("']")?;
-    let (kind, rest) = inside.split_once(':')?;
-    let (property, rest) = rest.split_once(' ')?;
-    let words = rest.strip_prefix("= '")?;
-    Some(Comparison {
-        kind,
-        property,
-        words,
-    })
-}
-
-/// Whether neither `'` nor `\` is in the text.
-fn is_plain(text: &str) -> bool
-    ensures { IsTrue result ↔ IsPlain text.now }
-{
-    text.as_bytes()
-        .iter()
-        .all(|byte| *byte != b'\'' && *byte != b'\\')
+    sound_tokens();
+    match pattern_of(alloc, text, tree)? {
+        Some(pattern) => Ok(pattern),
+        None => unreachable!(),
+    }
 }

@@ -2,3 +2,4 @@ mod Lists
 mod Bytes
 mod Rows
 mod Spanned
+mod Unique

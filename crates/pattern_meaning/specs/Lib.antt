@@ -1,4 +1,3 @@
-pub mod Numbers
 pub mod Meaning
 pub mod Formula
 pub mod Meant

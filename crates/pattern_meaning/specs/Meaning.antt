@@ -18,7 +18,7 @@ use Rattle.pattern_tree.specs.declared.check.Check.{Check}
 use Rattle.pattern_tree.specs.declared.check.Check.TheVariants as check
 use Rattle.pattern_tree.specs.declared.leaf.Test.{Test}
 use Rattle.pattern_tokens.specs.Spans.{At, IsItself}
-use Rattle.pattern_meaning.specs.Numbers.{IsPlace}
+use Rattle.pattern_tokens.specs.Numbers.{IsPlace}
 
 -- each of these is related to the one at its place
 abbrev pub Each : {A B : Type 0} → (A → B → Type 0) → List A → List B → Type 0

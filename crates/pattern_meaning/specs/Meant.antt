@@ -9,7 +9,7 @@ use Rattle.pattern_tree.specs.declared.pattern.Pattern.TheVariants.{Leaf, Both',
 use Rattle.pattern_meaning.specs.declared.limits.Limit.{Limit}
 use Rattle.pattern_meaning.specs.declared.limits.Limit.TheVariants as limit
 use Rattle.pattern_tokens.specs.Spans.{At}
-use Rattle.pattern_meaning.specs.Numbers.{IsCount}
+use Rattle.pattern_tokens.specs.Numbers.{IsCount}
 use Rattle.pattern_meaning.specs.Formula.{Formula, formula, Means}
 
 pub data Meant : Type 0 where

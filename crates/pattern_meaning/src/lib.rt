@@ -5,9 +5,9 @@
 
 mod checks;
 mod constants;
+pub mod laws;
 mod leaves;
 mod limits;
-mod numbers;
 mod paths;
 mod patterns;
 #[cfg(test)]
@@ -17,6 +17,5 @@ pub use checks::test_of;
 pub use constants::constant_of;
 pub use leaves::leaf_of;
 pub use limits::Limit;
-pub use numbers::{count_at, place_at};
 pub use paths::path_of;
 pub use patterns::pattern_of;

@@ -2,9 +2,8 @@ ghost use Rattle.std.specs.Prelude.{MatchOption};
 ghost use Rattle.pattern_meaning.specs.Meant.{IsLimitOf};
 ghost use Rattle.pattern_meaning.specs.declared.limits.Limit.{Limit};
 
-use crate::numbers::count_at;
 use pattern_syntax::Qualifier;
-use pattern_tokens::{Token, moment_at};
+use pattern_tokens::{Token, count_at, moment_at};
 use stix_times::Instant;
 
 /// What a qualifier limits a pattern by.

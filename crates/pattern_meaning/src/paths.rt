@@ -3,10 +3,9 @@ ghost use Rattle.pattern_meaning.specs.Meaning.{IsNameOf, IsStepOf, Each, IsPath
 ghost use Rattle.pattern_tree.specs.declared.path.Step.{Step};
 ghost use Rattle.pattern_tree.specs.declared.path.Path.{Path};
 
-use crate::numbers::place_at;
 use flow_edges::{Items, NoMemory, Text};
 use pattern_syntax::{PathTree, StepTree};
-use pattern_tokens::{Token, TokenKind, text_of, words_at};
+use pattern_tokens::{Token, TokenKind, place_at, text_of, words_at};
 use pattern_tree::{Path, Step};
 use std::alloc::Global;
 

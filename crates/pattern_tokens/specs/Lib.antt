@@ -4,3 +4,4 @@ pub mod Values
 pub mod Table
 pub mod Spans
 pub mod Sound
+pub mod Numbers

@@ -5,6 +5,7 @@
 #![tactic(auto)]
 
 mod laws;
+mod numbers;
 mod refusal;
 mod spans;
 mod token;
@@ -12,6 +13,7 @@ mod values;
 mod word;
 
 pub use laws::one_meaning;
+pub use numbers::{count_at, place_at};
 pub use refusal::{LeftWord, PatternRefusal};
 pub use spans::{base_at, hex_at, moment_at, text_of, whole_at, words_at};
 pub use token::{Token, TokenKind};

@@ -1,0 +1,3 @@
+mod Earliest
+mod Meanings
+mod Parts

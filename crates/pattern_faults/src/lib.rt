@@ -1,0 +1,13 @@
+//! What is refused in the syntax tree of a pattern by the values of its tokens (STIX 2.1, section 9): a
+//! number out of its range, a path that is too long, a text that is no address block, a span that ends
+//! before it begins, parts of an `AND` that no object can meet. `pattern_fault` gives the first by place.
+#![tactic(auto)]
+
+mod comparison_faults;
+mod faults;
+mod order;
+mod roots;
+#[cfg(test)]
+mod tests;
+
+pub use comparison_faults::pattern_fault;

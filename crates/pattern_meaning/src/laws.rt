@@ -1,0 +1,13 @@
+//! What follows from the definitions: the contract is the law, and the function does nothing.
+
+ghost use Rattle.std.specs.Prelude.{◌≡◌, ℕ, List};
+ghost use Rattle.pattern_syntax.specs.Tree.{Tree};
+ghost use Rattle.pattern_meaning.specs.Meant.{Meant, MeansPattern};
+
+/// A syntax tree over a text means one pattern at most.
+pub fn one_meaning()
+    ensures { (text : List ℕ) (tree : Tree) (first second : Meant) → MeansPattern text tree first
+        → MeansPattern text tree second → first ≡ second }
+{
+    pattern_tokens::one_meaning();
+}
