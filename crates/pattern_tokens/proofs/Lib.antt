@@ -2,3 +2,4 @@ mod Insides
 mod Escapes
 mod Tokens
 mod Texts
+mod Unescapes

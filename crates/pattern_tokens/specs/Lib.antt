@@ -4,3 +4,5 @@ pub mod Values
 pub mod Table
 pub mod Spans
 pub mod Sound
+pub mod Escapes
+pub mod Shown

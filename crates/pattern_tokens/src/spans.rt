@@ -2,8 +2,8 @@ ghost use Rattle.std.specs.Prelude.{◌≡◌, ℕ, ℤ, List, IfOk, IfSome, IfN
 ghost use Rattle.pattern_tokens.specs.Spans.{IsCut, text_at, At, IsItself};
 ghost use Rattle.pattern_tokens.specs.Values.{IsWholeText, IsWordsText, IsHexText, IsBaseText, IsMomentText};
 
-use flow_edges::{Items, NoMemory, Text};
 use crate::{Token, base_of, hex_of, moment_of, whole_of, words_of};
+use flow_edges::{Items, NoMemory, Text};
 use std::alloc::Global;
 use stix_times::Instant;
 
