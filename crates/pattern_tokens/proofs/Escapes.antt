@@ -1,21 +1,20 @@
 -- A Words' text is that of one list of characters.
 use Rattle.std.proofs.Common.{◌≡◌, ℕ, Bool, true, false, ◌||◌, ◌==◌, List, [], ◌∷◌, ◌++◌, flat_map, if◌then◌else◌, codes, refl, sym, ap, ◌∙◌, subst, ℤ}
-use Rattle.std.proofs.lemmas.List.{append_cancel_left, append_cancel_right}
 use Rattle.stix_times.specs.Reading.{IsTextOf}
-use Rattle.pattern_tokens.specs.Values.{escaped, words_text, IsWordsText, IsMomentText}
+use Rattle.pattern_tokens.specs.Values.{escaped, IsWordsText, IsMomentText}
 use Rattle.pattern_tokens.proofs.Insides.{one_inside}
 
 -- whether a backslash is written before it
-abbrev special : ℕ → Bool
+abbrev pub special : ℕ → Bool
 special c = c == 39 || c == 92
 
-same_first : (b d : Bool) (x y : ℕ) (xs ys : List ℕ) → special x ≡ b → special y ≡ d → (if b then 92 ∷ x ∷ [] else x ∷ []) ++ xs ≡ (if d then 92 ∷ y ∷ [] else y ∷ []) ++ ys → (x ≡ y) × (xs ≡ ys)
+pub same_first : (b d : Bool) (x y : ℕ) (xs ys : List ℕ) → special x ≡ b → special y ≡ d → (if b then 92 ∷ x ∷ [] else x ∷ []) ++ xs ≡ (if d then 92 ∷ y ∷ [] else y ∷ []) ++ ys → (x ≡ y) × (xs ≡ ys)
 same_first true true x y xs ys p q e = (cc, cc)
 same_first false false x y xs ys p q e = (cc, cc)
 same_first true false x y xs ys p q e = let h : 92 ≡ y = cc in let g : true ≡ false = ap special h ∙ q in absurd (cc)
 same_first false true x y xs ys p q e = let h : x ≡ 92 = cc in let g : true ≡ false = sym (ap special h) ∙ p in absurd (cc)
 
-nothing_first : (b : Bool) (c : ℕ) (l : List ℕ) → [] ≡ (if b then 92 ∷ c ∷ [] else c ∷ []) ++ l → ⊥
+pub nothing_first : (b : Bool) (c : ℕ) (l : List ℕ) → [] ≡ (if b then 92 ∷ c ∷ [] else c ∷ []) ++ l → ⊥
 nothing_first true c l h = cc
 nothing_first false c l h = cc
 

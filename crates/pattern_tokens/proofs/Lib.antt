@@ -3,3 +3,4 @@ mod Escapes
 mod Tokens
 mod Texts
 mod OneValue
+mod Unescapes

@@ -5,3 +5,5 @@ pub mod Table
 pub mod Spans
 pub mod Sound
 pub mod Numbers
+pub mod Escapes
+pub mod Shown

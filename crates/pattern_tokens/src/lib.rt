@@ -7,14 +7,17 @@
 mod laws;
 mod numbers;
 mod refusal;
+mod refusal_text;
 mod spans;
 mod token;
+mod unescape;
 mod values;
 mod word;
 
 pub use laws::one_meaning;
 pub use numbers::{count_at, place_at};
 pub use refusal::{LeftWord, PatternRefusal};
+pub use refusal_text::write_refusal;
 pub use spans::{base_at, hex_at, moment_at, text_of, whole_at, words_at};
 pub use token::{Token, TokenKind};
 pub use values::{base_of, hex_of, moment_of, whole_of, words_of};

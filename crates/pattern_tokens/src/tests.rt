@@ -1,4 +1,4 @@
-use crate::{PatternRefusal, base_of, hex_of, moment_of, whole_of};
+use crate::{PatternRefusal, base_of, hex_of, moment_of, whole_of, words_of};
 use std::test::Fail;
 use stix_times::nanos;
 
@@ -26,6 +26,18 @@ fn bytes(rt: HostRuntime) -> Result<(), Fail> {
         "one byte"
     );
     assert!(rt; base_of(alloc, "b'/w'")?.is_none(), "no padding");
+    Ok(())
+}
+
+#[test]
+fn words(rt: HostRuntime) -> Result<(), Fail> {
+    let alloc = rt.alloc();
+    let found = words_of(alloc, r"'a\'b\\c'")?;
+    assert!(rt;
+        found.is_some_and(|words| words.as_str() == r"a'b\c"),
+        "two escapes"
+    );
+    assert!(rt; words_of(alloc, r"'\n'")?.is_none(), "no escape");
     Ok(())
 }
 

@@ -2,6 +2,7 @@ ghost use Rattle.std.specs.Prelude.{◌≡◌, ◌≢◌, ◌++◌, ℕ, ℤ, Li
 ghost use Rattle.std.specs.Str.Parse.{without_leading_sign};
 ghost use Rattle.pattern_tokens.specs.Values.{HasNoLeadingZero, IsWholeText, IsWordsText, IsHexText, IsBaseText, IsMomentText};
 
+use crate::unescape::unescaped;
 use base64::DecodeAllocError;
 use base64::engine::general_purpose::STANDARD;
 use flow_edges::{Items, NoMemory, Text};
@@ -21,10 +22,13 @@ pub fn whole_of(text: &str) -> Option<i64>
 }
 
 /// The text of a Words' text, without the quotes and the backslashes before `'` and `\`.
-pub fn words_of(_alloc: Global, _text: &str) -> Result<Option<Text>, NoMemory>
-    ensures { IfOk result (λ words. MatchOption words ((other : List ℕ) → ¬ IsWordsText _text.now other) (IsWordsText _text.now)) }
+pub fn words_of(alloc: Global, text: &str) -> Result<Option<Text>, NoMemory>
+    ensures { IfOk result (λ words. MatchOption words ((other : List ℕ) → ¬ IsWordsText text.now other) (IsWordsText text.now)) }
 {
-    Err(NoMemory)
+    match inside(text, "'") {
+        Some(inside) => unescaped(alloc, inside),
+        None => Ok(None),
+    }
 }
 
 /// The bytes of a Hex's text, where it is pairs of hexadecimal digits.

@@ -1,0 +1,39 @@
+ghost use Rattle.std.specs.Prelude.{◌↔◌, IsTrue};
+ghost use Rattle.pattern_lexer.specs.Steps.{InClass, IsRun};
+
+/// The bytes that stand together.
+#[derive(Clone, Copy)]
+pub enum Class {
+    /// Spaces and the ends of lines.
+    Blank,
+    /// The digits.
+    Digit,
+    /// What follows the first letter of a name.
+    NamePart,
+    /// All but `'`.
+    Unquoted,
+}
+
+impl Class {
+    fn has(self, byte: u8) -> bool
+        ensures { IsTrue result ↔ InClass self byte }
+    {
+        match self {
+            Class::Blank => matches!(byte, b' ' | b'\t' | b'\r' | b'\n'),
+            Class::Digit => byte.is_ascii_digit(),
+            Class::NamePart => byte.is_ascii_alphanumeric() || byte == b'_' || byte == b'-',
+            Class::Unquoted => byte != b'\'',
+        }
+    }
+}
+
+/// The longest front of the bytes that is of the class, and the rest.
+pub fn split_run(bytes: &[u8], class: Class) -> (&[u8], &[u8])
+    ensures { IsRun (InClass class) bytes.now result.0.now result.1.now }
+{
+    let end = bytes
+        .iter()
+        .position(|byte| !class.has(*byte))
+        .unwrap_or(bytes.len());
+    bytes.split_at(end)
+}
