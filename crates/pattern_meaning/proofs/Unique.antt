@@ -1,5 +1,5 @@
 -- A syntax tree over a text means one pattern at most, by one value at most of each token's text.
-use Rattle.std.proofs.Common.{◌≡◌, ◌⊎◌, inl, inr, ℕ, ℤ, pos, List, [], ◌∷◌, Bool, true, false, refl, sym, ap, subst, ◌∙◌}
+use Rattle.std.proofs.Common.{◌≡◌, inl, inr, ℕ, pos, List, [], ◌∷◌, refl, sym, ap, ◌∙◌}
 use Rattle.pattern_tokens.specs.declared.token.Token.{Token}
 use Rattle.pattern_tokens.specs.declared.token.TokenKind.{TokenKind}
 use Rattle.pattern_tokens.specs.declared.token.TokenKind.TheVariants as kind
@@ -25,8 +25,8 @@ use Rattle.pattern_tree.specs.declared.leaf.Test.{Test}
 use Rattle.pattern_meaning.specs.declared.limits.Limit.{Limit}
 use Rattle.pattern_meaning.specs.declared.limits.Limit.TheVariants as limit
 use Rattle.pattern_meaning.specs.Meaning.{Each, IsNameOf, IsStepOf, IsPathOf, IsConstantOf, IsCheckOf, IsTestOf}
-use Rattle.pattern_meaning.specs.Formula.{Formula, Formulas, one, every, some, none, more, put, Means, means_test, means_group, means_all, means_any, AllParts, all_first, all_more, AnyParts, any_first, any_more}
-use Rattle.pattern_meaning.specs.Meant.{Meant, a_leaf, a_both, an_either, a_then, a_limited, IsLimitOf, MeansPattern, means_leaf, means_both, means_either, means_then, means_limited}
+use Rattle.pattern_meaning.specs.Formula.{Formula, Formulas, one, every, some, none, more, Means, means_test, means_group, means_all, means_any, AllParts, all_first, all_more, AnyParts, any_first, any_more}
+use Rattle.pattern_meaning.specs.Meant.{Meant, a_leaf, IsLimitOf, MeansPattern, means_leaf, means_both, means_either, means_then, means_limited}
 
 -- a text stands for one value at most
 abbrev pub IsOne : {V : Type 0} → (List ℕ → V → Type 0) → Type 0

@@ -1,5 +1,5 @@
 -- The text of a Number, a Hex or a Base stands for one value at most.
-use Rattle.std.proofs.Common.{◌≡◌, ℕ, ℤ, List, Result, Ok, Err, codes, refl, sym, subst, ap, ◌∙◌}
+use Rattle.std.proofs.Common.{◌≡◌, ℕ, ℤ, List, Result, Ok, codes, refl, sym, ap, ◌∙◌}
 use Rattle.hex.specs.Hex.{decode_of}
 use Rattle.base64.specs.Engines.{standard}
 use Rattle.base64.specs.GeneralPurpose.{encode_of}
