@@ -6,7 +6,7 @@ use Rattle.flow_edges.specs.Flow.{written_with}
 use Rattle.flow_edges.specs.Lines.{Lined, ended, refused, line_then, lines_of, LinesState, told_ahead, AnswersLine, GivesLine}
 use Rattle.flow_edges.specs.declared.lines.line.Line.{Line}
 use Rattle.flow_edges.specs.declared.lines.refusal.LineRefusal.{LineRefusal}
-use Rattle.pattern_grammar.specs.FirstForm.{FirstForm}
+use Rattle.match_run.specs.FirstForm.{FirstForm}
 use Rattle.match_run.specs.Listing.{Row, listing_text}
 use Rattle.match_run.specs.Reading.{Ending, Whole, Refused, Reads, at_end, too_long, no_row, one_row, IsNext, refused_number, ToldReading}
 use Rattle.match_run.specs.Matching.{IsRowOf, ListsWhole, ListsBefore, AnswersMatch, end_of}

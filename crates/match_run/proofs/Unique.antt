@@ -2,7 +2,7 @@
 use Rattle.std.proofs.Common.{◌≡◌, ◌↔◌, ℕ, ℤ, List, Bool, true, false, IsTrue, Option, Some, refl, sym, subst, ◌∙◌}
 use Rattle.serde_json.specs.Data.{Data}
 use Rattle.flow_edges.specs.Lines.{Lined, ended, refused, line_then}
-use Rattle.pattern_grammar.specs.FirstForm.{FirstForm}
+use Rattle.match_run.specs.FirstForm.{FirstForm}
 use Rattle.stix_times.specs.Reading.{IsTextOf}
 use Rattle.match_run.specs.Line.{IsObservedAt, IsObservation, IsFirstLine, Holds}
 use Rattle.match_run.specs.Listing.{Row}

@@ -1,36 +1,19 @@
--- The first form of a pattern: one comparison expression (STIX 2.1, section 9.6) of one property with one text, in the
--- brackets of an observation expression (section 9.5), as [user-account:account_login = 'a'].
-use Rattle.std.specs.Prelude.{◌≡◌, ◌≢◌, ℕ, ◌≤◌, ◌⊎◌, List, [], ◌∷◌, ◌++◌, All, codes, length, false}
-use Rattle.pattern_grammar.specs.Word.{IsWord, IsHyphenWord}
+-- The form of a pattern that is matched so far: one comparison (STIX 2.1, section 9.6) of one property with one text, in
+-- the brackets of an observation expression (section 9.5), as [user-account:account_login = 'a'].
+use Rattle.std.specs.Prelude.{◌≡◌, ℕ, List, [], ◌∷◌, false}
 use Rattle.pattern_tree.specs.declared.pattern.Pattern.{Pattern}
 use Rattle.pattern_tree.specs.declared.pattern.Pattern.TheVariants as pattern
 use Rattle.pattern_tree.specs.declared.leaf.Leaf.TheVariants as leaf
 use Rattle.pattern_tree.specs.declared.path.Step.TheVariants as step
 use Rattle.pattern_tree.specs.declared.check.Check.TheVariants as check
 use Rattle.pattern_tree.specs.declared.constant.Constant.TheVariants as constant
-use Rattle.pattern_grammar.specs.declared.comparison.Comparison.{Comparison}
+use Rattle.match_run.specs.declared.comparison.Comparison.{Comparison}
 
 -- a comparison: an object's type, one of its properties, and the text that the property equals
 pub record FirstForm : Type 0 where
   pub kind : List ℕ
   pub property : List ℕ
   pub words : List ℕ
-
--- how it is written: [kind:property = 'words']
-abbrev pub text_of : FirstForm → List ℕ
-text_of form = codes "[" ++ form.kind ++ codes ":" ++ form.property ++ codes " = '" ++ form.words ++ codes "']"
-
--- neither ' nor \ is in the text
-abbrev pub IsPlain : List ℕ → Type 0
-IsPlain = All (λ c. (c ≢ 39) × (c ≢ 92))
-
--- the text is a comparison, written in at most 65,536 bytes
-pub record Spells (text : List ℕ) (form : FirstForm) : Type 0 where
-  pub kind : IsWord form.kind ⊎ IsHyphenWord form.kind
-  pub property : IsWord form.property
-  pub words : IsPlain form.words
-  pub short : length text ≤ 65536
-  pub written : text ≡ text_of form
 
 -- its tree: a leaf of one test that isn't negated, whose path is one name and whose check is equality with a text
 abbrev pub pattern_of : FirstForm → Pattern
@@ -43,3 +26,7 @@ pattern_of form = pattern.Leaf (leaf.Test (record {
 -- what a `Comparison` lends, as a comparison
 abbrev pub form_of : Comparison → FirstForm
 form_of comparison = record { kind = comparison.kind.now; property = comparison.property.now; words = comparison.words.now }
+
+-- the pattern is of that form
+abbrev pub IsBuilt : Pattern → Type 0
+IsBuilt pattern = (form : FirstForm) × (pattern ≡ pattern_of form)

@@ -1,3 +1,4 @@
+pub mod FirstForm
 pub mod Line
 pub mod Reading
 pub mod Listing

@@ -1,11 +1,11 @@
 -- A line of a log in its first form: one bundle of two objects, an observed-data and the object that it refers to
--- (STIX 2.1, section 8 and section 4.14).
+-- (STIX 2.1, section 8 and section 4.13).
 use Rattle.std.specs.Prelude.{◌≡◌, ℕ, ℤ, List, Option, Some, IsSome, IsUtf8, codes, option_and_then}
 use Rattle.serde_json.specs.Data.{Data, string, array, item, no_items}
 use Rattle.serde_json.specs.Find.{get, as_str}
 use Rattle.serde_json.specs.Read.{read}
 use Rattle.stix_times.specs.Reading.{IsTextOf}
-use Rattle.pattern_grammar.specs.FirstForm.{FirstForm}
+use Rattle.match_run.specs.FirstForm.{FirstForm}
 
 -- the text of a property, where it is one
 abbrev pub text_at : List ℕ → Data → Option (List ℕ)

@@ -4,7 +4,7 @@ use Rattle.serde_json.specs.Data.{Data}
 use Rattle.flow_edges.specs.Flow.{IsAtEnd, written_with}
 use Rattle.flow_edges.specs.declared.lines.refusal.LineRefusal.{LineRefusal}
 use Rattle.flow_edges.specs.declared.lines.refusal.LineRefusal.TheVariants as refusal
-use Rattle.pattern_grammar.specs.FirstForm.{FirstForm}
+use Rattle.match_run.specs.FirstForm.{FirstForm}
 use Rattle.match_run.specs.Line.{Holds}
 use Rattle.match_run.specs.Listing.{Row, holding, listing_text, last_or_zero}
 use Rattle.match_run.specs.Reading.{Whole, Refused, ToldReading, IsNext}

@@ -4,7 +4,7 @@ use Rattle.serde_json.specs.Data.{Data}
 use Rattle.flow_edges.specs.Lines.{Lined, ended, refused, line_then, lines_of}
 use Rattle.flow_edges.specs.declared.lines.refusal.LineRefusal.{LineRefusal}
 use Rattle.flow_edges.specs.declared.lines.refusal.LineRefusal.TheVariants.{Fault, LineTooLong, InputTooLong, NoMemory}
-use Rattle.pattern_grammar.specs.FirstForm.{FirstForm}
+use Rattle.match_run.specs.FirstForm.{FirstForm}
 use Rattle.match_run.specs.Line.{IsFirstLine, Holds}
 use Rattle.match_run.specs.Listing.{Row}
 

@@ -3,7 +3,7 @@ use Rattle.std.specs.Prelude.{◌≡◌, ⊤, ℕ, ℤ, ◌+◌, List, [], ◌�
 use Rattle.serde_json.specs.Data.{Data}
 use Rattle.flow_edges.specs.Flow.{written_with}
 use Rattle.flow_edges.specs.Lines.{Lined}
-use Rattle.pattern_grammar.specs.FirstForm.{FirstForm}
+use Rattle.match_run.specs.FirstForm.{FirstForm}
 use Rattle.match_run.specs.Listing.{Row, holding, line_text, listing_text, last_or_zero}
 use Rattle.match_run.specs.Reading.{Ending, Reads, IsNext}
 use Rattle.match_run.specs.Matching.{IsRowOf}

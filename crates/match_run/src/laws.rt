@@ -1,6 +1,6 @@
 //! Laws of the definitions, as functions that do nothing.
 ghost use Rattle.std.specs.Prelude.{◌≡◌, List, ℕ};
-ghost use Rattle.pattern_grammar.specs.FirstForm.{FirstForm};
+ghost use Rattle.match_run.specs.FirstForm.{FirstForm};
 ghost use Rattle.match_run.specs.Listing.{Row};
 ghost use Rattle.match_run.specs.Reading.{Ending, Reading};
 

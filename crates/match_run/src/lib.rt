@@ -5,6 +5,7 @@
 //! cut into reads; the first line that is refused ends it.
 #![tactic(auto)]
 
+mod comparison;
 mod end;
 pub mod laws;
 mod observation;
@@ -16,6 +17,7 @@ mod stream;
 mod tally;
 mod whole;
 
+pub use comparison::is_built;
 pub use end::{InputRule, MatchEnd, Mode};
 pub use refusal_text::write_input_refusal;
 pub use stream::match_stream;

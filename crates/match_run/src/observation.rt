@@ -2,11 +2,11 @@ ghost use Rattle.std.specs.Prelude.{◌≡◌, ◌≢◌, ◌↔◌, ℤ, List, 
 ghost use Rattle.serde_json.specs.Data.{Data, Items, string, array, item, no_items};
 ghost use Rattle.serde_json.specs.Find.{get};
 ghost use Rattle.serde_json.specs.View.{view, items_view};
-ghost use Rattle.pattern_grammar.specs.FirstForm.{form_of};
+ghost use Rattle.match_run.specs.FirstForm.{form_of};
 ghost use Rattle.match_run.specs.Line.{text_at, IsBundle, IsObservedAt, RefersTo, IsObject, IsObservation, IsFirstLine, Holds};
 
+use crate::comparison::Comparison;
 use flow_edges::NoMemory;
-use pattern_grammar::Comparison;
 use serde_json::{Category, Value};
 use std::alloc::Global;
 use stix_times::Instant;

@@ -2,15 +2,15 @@ ghost use Rattle.std.specs.Prelude.{◌≡◌, ◌↔◌, ℤ, ◌≤◌, ◌⊎
 ghost use Rattle.serde_json.specs.Data.{Data};
 ghost use Rattle.flow_edges.specs.Faults.{Rose};
 ghost use Rattle.flow_edges.specs.Flow.{written_with};
-ghost use Rattle.pattern_grammar.specs.FirstForm.{form_of};
+ghost use Rattle.match_run.specs.FirstForm.{form_of};
 ghost use Rattle.match_run.specs.Listing.{line_text};
 ghost use Rattle.match_run.specs.Reading.{IsInOrder, IsNext};
 ghost use Rattle.match_run.specs.Matching.{IsRowOf};
 
 use crate::MatchEnd;
+use crate::comparison::Comparison;
 use crate::observation::Observation;
 use flow_edges::{NoMemory, Sink, write_whole};
-use pattern_grammar::Comparison;
 use std::alloc::Global;
 use stix_times::Instant;
 

@@ -1,14 +1,15 @@
 ghost use Rattle.std.specs.Prelude.{◌≡◌, ◌+◌, ◌≤◌, ◌<◌, ◌^◌, ℕ, Option, Err, IfOk, IfErr, OnOk};
 ghost use Rattle.flow_edges.specs.Faults.{Rose};
-ghost use Rattle.pattern_grammar.specs.FirstForm.{FirstForm, form_of, pattern_of};
+ghost use Rattle.match_run.specs.FirstForm.{FirstForm, form_of, pattern_of, IsBuilt};
 ghost use Rattle.match_run.specs.Matching.{AnswersMatch, ListsWhole};
 ghost use Rattle.match_run.specs.TallyOf.{AddsRow, EndsInLine};
 
+use crate::comparison::{Comparison, first_form};
 use crate::rows::{read_row, write_binding};
 use crate::tally::Tally;
 use crate::{InputRule, MatchEnd, Mode};
 use flow_edges::{Line, Lines, NoMemory, Sink, Source};
-use pattern_grammar::{Comparison, Pattern, first_form};
+use pattern_tree::Pattern;
 use std::alloc::Global;
 
 /// Takes a line as the next row of the log, and writes its binding, where it is one.
@@ -88,7 +89,7 @@ pub fn match_stream<I: Source, O: Sink>(
     _cap: u64,
     _mode: Mode,
 ) -> MatchEnd
-    requires { (form : FirstForm) × (pattern.now ≡ pattern_of form) }
+    requires { IsBuilt pattern.now }
 
     ensures end { (form : FirstForm) → pattern.now ≡ pattern_of form
         → AnswersMatch form (I.left input.old) (I.left input.new) (O.written output.old) (O.written output.new) result }

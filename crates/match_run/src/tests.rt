@@ -1,27 +1,44 @@
 use crate::{
-    InputRule, MatchEnd, Mode, WholeRefusal, laws, match_stream, read_whole, write_input_refusal,
+    InputRule, MatchEnd, Mode, WholeRefusal, is_built, laws, match_stream, read_whole,
+    write_input_refusal,
 };
 use bundle_reader::{BundleRefusal, ObjectBreak};
-use flow_edges::{Items, MemorySink, MemorySource, QuietSource, Text};
+use flow_edges::{Items, MemorySink, MemorySource, NoMemory, QuietSource, Text};
 use object_rules::{Break, Rule};
-use pattern_grammar::read_pattern;
+use pattern_tree::{Check, Constant, Leaf, Path, Pattern, Step, Test};
 use std::alloc::Global;
 use std::test::Fail;
 use stix_tree::TreeRefusal;
 
+/// The pattern `[file:name = 'a']`.
+fn named_a(alloc: Global) -> Result<Pattern, NoMemory> {
+    let mut steps = Items::new(alloc);
+    steps.push(Step::Name(Text::from_text(alloc, "name")?))?;
+    let path = Path {
+        kind: Text::from_text(alloc, "file")?,
+        steps,
+    };
+    let words = Text::from_text(alloc, "a")?;
+    Ok(Pattern::Leaf(Leaf::Test(Test {
+        path,
+        negated: false,
+        check: Check::Equal(Constant::Words(words)),
+    })))
+}
+
 /// How a match of the pattern over the log ends.
 fn ending(
     alloc: Global,
-    pattern: &str,
+    pattern: &Pattern,
     log: &[u8],
     output: &mut MemorySink,
 ) -> Result<MatchEnd, Fail> {
+    if !is_built(pattern) {
+        return Ok(MatchEnd::NoMemory);
+    }
     let bytes = Items::from_vec(Vec::from_slice(alloc, log)?);
     let mut input = QuietSource::new(bytes, 64);
-    match read_pattern(alloc, pattern) {
-        Ok(pattern) => Ok(match_stream(alloc, &pattern, &mut input, output, 1, Mode::Lines)),
-        Err(_) => Ok(MatchEnd::NoMemory),
-    }
+    Ok(match_stream(alloc, pattern, &mut input, output, 1, Mode::Lines))
 }
 
 const REFUSED: &str = "Input { line: 1, rule: NotYet }";
@@ -92,9 +109,10 @@ fn lines_of_the_first_form(rt: HostRuntime) -> Result<(), Fail> {
         (b"{", REFUSED),
         (b"\xff", REFUSED),
     ];
+    let pattern = named_a(alloc)?;
     for (line, end) in rows {
         let mut output = MemorySink::new(alloc, 64, Items::new(alloc))?;
-        let seen = ending(alloc, "[file:name = 'a']", line, &mut output)?;
+        let seen = ending(alloc, &pattern, line, &mut output)?;
         let text = format!(in alloc; "{seen:?}")?;
         assert_eq!(rt; text.as_str(), end);
         let listed: &[u8] = if end == HELD { b"1: 1\n" } else { b"" };

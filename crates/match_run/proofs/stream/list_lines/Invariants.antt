@@ -1,6 +1,6 @@
 use Rattle.std.proofs.Common.{◌≡◌, ◌≤◌, ◌-◌, None, option_map}
 use Rattle.flow_edges.specs.Lines.{told_ahead, lines_of}
-use Rattle.pattern_grammar.specs.FirstForm.{form_of}
+use Rattle.match_run.specs.FirstForm.{form_of}
 use Rattle.match_run.specs.TallyOf.{ReadsSoFar}
 use Rattle.match_run.proofs.stream.list_lines.Given as goal
 

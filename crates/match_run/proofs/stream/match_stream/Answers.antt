@@ -1,5 +1,5 @@
 use Rattle.std.proofs.Common.{sym, subst}
-use Rattle.pattern_grammar.specs.FirstForm.{FirstForm}
+use Rattle.match_run.specs.FirstForm.{FirstForm}
 use Rattle.match_run.specs.Matching.{AnswersMatch, ListsWhole}
 use Rattle.match_run.proofs.stream.match_stream.Goals as goal
 
