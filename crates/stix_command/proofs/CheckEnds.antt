@@ -6,7 +6,7 @@ use Rattle.match_run.specs.Whole.{IsWhole}
 use Rattle.stix_command.specs.declared.verdict.Verdict.{Verdict}
 use Rattle.stix_command.specs.declared.verdict.Verdict.TheVariants as verdict
 use Rattle.stix_command.specs.declared.ending.Ending.{Ending}
-use Rattle.stix_command.specs.declared.ending.Ending.TheVariants.{Done, NoMemory, Usage, PatternRefused, InputRefused, Broken, ReadFault, WriteFault}
+use Rattle.stix_command.specs.declared.ending.Ending.TheVariants.{Done, NoMemory, Usage, PatternRefused, NotBuilt, InputRefused, Broken, ReadFault, WriteFault}
 use Rattle.stix_command.specs.Judged.{IsJudged}
 use Rattle.stix_command.specs.Checks.{verdict_text, verdict_ending, Finds, IsInputRefused, EndsTelling, EndsCheck}
 
@@ -55,9 +55,12 @@ bytes-check bytes left left_after written written_after (InputRefused line rule)
 bytes-check bytes left left_after written written_after Usage whole (verdict.Sound count, judged, (is, told)) = absurd (cc)
 bytes-check bytes left left_after written written_after Usage whole (verdict.Broken breaks, judged, (is, told)) = absurd (cc)
 bytes-check bytes left left_after written written_after Usage whole (verdict.Refused why, judged, (is, told)) = absurd (cc)
-bytes-check bytes left left_after written written_after PatternRefused whole (verdict.Sound count, judged, (is, told)) = absurd (cc)
-bytes-check bytes left left_after written written_after PatternRefused whole (verdict.Broken breaks, judged, (is, told)) = absurd (cc)
-bytes-check bytes left left_after written written_after PatternRefused whole (verdict.Refused why, judged, (is, told)) = absurd (cc)
+bytes-check bytes left left_after written written_after (PatternRefused refusal) whole (verdict.Sound count, judged, (is, told)) = absurd (cc)
+bytes-check bytes left left_after written written_after (PatternRefused refusal) whole (verdict.Broken breaks, judged, (is, told)) = absurd (cc)
+bytes-check bytes left left_after written written_after (PatternRefused refusal) whole (verdict.Refused why, judged, (is, told)) = absurd (cc)
+bytes-check bytes left left_after written written_after NotBuilt whole (verdict.Sound count, judged, (is, told)) = absurd (cc)
+bytes-check bytes left left_after written written_after NotBuilt whole (verdict.Broken breaks, judged, (is, told)) = absurd (cc)
+bytes-check bytes left left_after written written_after NotBuilt whole (verdict.Refused why, judged, (is, told)) = absurd (cc)
 bytes-check bytes left left_after written written_after ReadFault whole (verdict.Sound count, judged, (is, told)) = absurd (cc)
 bytes-check bytes left left_after written written_after ReadFault whole (verdict.Broken breaks, judged, (is, told)) = absurd (cc)
 bytes-check bytes left left_after written written_after ReadFault whole (verdict.Refused why, judged, (is, told)) = absurd (cc)

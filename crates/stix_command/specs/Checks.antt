@@ -9,7 +9,7 @@ use Rattle.match_run.specs.Whole.{IsWhole, IsTooLong}
 use Rattle.stix_command.specs.declared.verdict.Verdict.{Verdict}
 use Rattle.stix_command.specs.declared.verdict.Verdict.TheVariants as verdict
 use Rattle.stix_command.specs.declared.ending.Ending.{Ending}
-use Rattle.stix_command.specs.declared.ending.Ending.TheVariants.{Done, NoMemory, Usage, PatternRefused, InputRefused, Broken, ReadFault, WriteFault}
+use Rattle.stix_command.specs.declared.ending.Ending.TheVariants.{Done, NoMemory, Usage, PatternRefused, NotBuilt, InputRefused, Broken, ReadFault, WriteFault}
 use Rattle.stix_command.specs.Judged.{IsJudged}
 
 -- object I: RULE at PATH
@@ -42,7 +42,8 @@ EndsCheck left left_after written written_after Done =
     (count : ℕ) × Tells left left_after written written_after (verdict.Sound count)
 EndsCheck left left_after written written_after NoMemory = written_after ≡ written
 EndsCheck left left_after written written_after Usage = ⊥
-EndsCheck left left_after written written_after PatternRefused = ⊥
+EndsCheck left left_after written written_after (PatternRefused refusal) = ⊥
+EndsCheck left left_after written written_after NotBuilt = ⊥
 EndsCheck left left_after written written_after (InputRefused line rule) =
     (line ≡ 1) × (written_after ≡ written) × IsInputRefused left left_after rule
 EndsCheck left left_after written written_after Broken =

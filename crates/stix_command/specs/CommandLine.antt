@@ -10,10 +10,18 @@ texts words = map string_bytes words
 abbrev pub IsPosition : List ℕ → Type 0
 IsPosition word = (word ≡ codes "-") ⊎ (slice_get word 0 ≢ Some 45)
 
--- match PATTERN
-pub record IsMatchLine (words : List (List ℕ)) (pattern : List ℕ) : Type 0 where
-  pub line : words ≡ codes "match" ∷ pattern ∷ []
+-- a command's name, and a pattern
+pub record IsPatternLine (command : List ℕ) (words : List (List ℕ)) (pattern : List ℕ) : Type 0 where
+  pub line : words ≡ command ∷ pattern ∷ []
   pub position : IsPosition pattern
+
+-- match PATTERN
+abbrev pub IsMatchLine : List (List ℕ) → List ℕ → Type 0
+IsMatchLine = IsPatternLine (codes "match")
+
+-- show PATTERN
+abbrev pub IsShowLine : List (List ℕ) → List ℕ → Type 0
+IsShowLine = IsPatternLine (codes "show")
 
 -- check
 abbrev pub IsCheckLine : List (List ℕ) → Type 0

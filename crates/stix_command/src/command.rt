@@ -1,5 +1,5 @@
 ghost use Rattle.std.specs.Prelude.{◌↔◌, ℕ, List, IsTrue, IfSome, IfNone};
-ghost use Rattle.stix_command.specs.CommandLine.{texts, IsPosition, IsMatchLine, IsCheckLine};
+ghost use Rattle.stix_command.specs.CommandLine.{texts, IsPosition, IsPatternLine, IsCheckLine};
 
 /// Whether a word is no option.
 fn is_position(word: &str) -> bool
@@ -15,12 +15,12 @@ pub fn is_check(words: &[String]) -> bool
     words.len() == 1 && words[0].as_str() == "check"
 }
 
-/// The pattern of a command line `match PATTERN`.
-pub fn match_pattern(words: &[String]) -> Option<&str>
-    ensures some { IfSome result (λ pattern. IsMatchLine (texts words.now) pattern.now) }
-    ensures none { IfNone result ((pattern : List ℕ) → ¬ (IsMatchLine (texts words.now) pattern)) }
+/// The pattern of a command line that is a command's name and a pattern.
+pub fn pattern_after<'a>(words: &'a [String], command: &str) -> Option<&'a str>
+    ensures some { IfSome result (λ pattern. IsPatternLine command.now (texts words.now) pattern.now) }
+    ensures none { IfNone result ((pattern : List ℕ) → ¬ IsPatternLine command.now (texts words.now) pattern) }
 {
-    if words.len() != 2 || words[0].as_str() != "match" {
+    if words.len() != 2 || words[0].as_str() != command {
         return None;
     }
     let pattern = words[1].as_str();

@@ -1,9 +1,11 @@
 ghost use Rattle.std.specs.Prelude.{◌≡◌, OnOk, OnErr};
 ghost use Rattle.flow_edges.specs.Faults.{Causes};
 ghost use Rattle.flow_edges.specs.Flow.{written_with, WritesPrefix};
+ghost use Rattle.stix_command.specs.Ends.{pattern_text};
 
 use flow_edges::{Fault, Sink, write_whole};
 use match_run::{InputRule, write_input_refusal};
+use pattern_tokens::{PatternRefusal, write_refusal};
 
 /// How the program ends.
 #[derive(Debug, Drop)]
@@ -15,7 +17,9 @@ pub enum Ending {
     /// The words are no command line.
     Usage,
     /// The pattern is refused.
-    PatternRefused,
+    PatternRefused(PatternRefusal),
+    /// The pattern is one that isn't matched yet.
+    NotBuilt,
     /// The line of that number is refused, the first such one.
     InputRefused { line: u64, rule: InputRule },
     /// The input is a bundle with breaks, which were written.
@@ -37,7 +41,7 @@ impl Ending {
             Ending::Done => 0,
             Ending::NoMemory => 1,
             Ending::Usage => 2,
-            Ending::PatternRefused => 3,
+            Ending::PatternRefused(_) | Ending::NotBuilt => 3,
             Ending::InputRefused { .. } | Ending::Broken => 4,
             Ending::ReadFault => 5,
             Ending::WriteFault => 6,
@@ -57,10 +61,22 @@ impl Ending {
                 faults,
                 b"usage: stix_command (match | check | show | serve | make) WORDS\n",
             ),
-            Ending::PatternRefused => write_whole(faults, b"pattern refused: NotYet\n"),
+            Ending::PatternRefused(refusal) => write_pattern_refusal(refusal, faults),
+            Ending::NotBuilt => write_whole(faults, b"pattern refused: NotYet\n"),
             Ending::InputRefused { line, rule } => write_input_refusal(*line, rule, faults),
             Ending::ReadFault => write_whole(faults, b"read fault\n"),
             Ending::WriteFault => write_whole(faults, b"write fault\n"),
         }
     }
+}
+
+/// Writes why a pattern is refused, as `pattern refused: Syntax at 5` and a line feed.
+fn write_pattern_refusal<S: Sink>(refusal: &PatternRefusal, faults: &mut S) -> Result<(), Fault>
+    ensures whole { OnOk result (S.written faults.new ≡ written_with (pattern_text refusal.now) (S.written faults.old)) }
+    ensures part { OnErr result (WritesPrefix (pattern_text refusal.now) (S.written faults.old) (S.written faults.new)) }
+    ensures causes { Causes (S.faults faults.old) (S.faults faults.new) result }
+{
+    write_whole(faults, b"pattern refused: ")?;
+    write_refusal(refusal, faults)?;
+    write_whole(faults, b"\n")
 }

@@ -8,6 +8,7 @@ mod judging;
 mod laws;
 mod matching;
 mod run;
+mod showing;
 #[cfg(test)]
 mod tests;
 mod verdict;

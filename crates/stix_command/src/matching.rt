@@ -1,11 +1,11 @@
-ghost use Rattle.std.specs.Prelude.{◌≡◌, ◌≤◌};
+ghost use Rattle.std.specs.Prelude.{◌≡◌};
 ghost use Rattle.flow_edges.specs.Faults.{Rose};
-ghost use Rattle.pattern_grammar.specs.FirstForm.{FirstForm, pattern_of};
-ghost use Rattle.stix_command.specs.Matches.{EndsLog, EndsMatch};
+ghost use Rattle.match_run.specs.FirstForm.{FirstForm, pattern_of, IsBuilt};
+ghost use Rattle.stix_command.specs.Matches.{EndsLog, EndsMatch, EndsPattern};
 
 use crate::ending::Ending;
 use flow_edges::{Sink, Source};
-use match_run::{MatchEnd, Mode, match_stream};
+use match_run::{MatchEnd, Mode, is_built, match_stream};
 use pattern_grammar::{Pattern, PatternRefusal, read_pattern};
 use std::alloc::Global;
 
@@ -19,7 +19,7 @@ fn match_log<I: Source, O: Sink>(
     input: &mut I,
     output: &mut O,
 ) -> Ending
-    requires { (form : FirstForm) × (pattern.now ≡ pattern_of form) }
+    requires { IsBuilt pattern.now }
 
     ensures end { (form : FirstForm) → pattern.now ≡ pattern_of form
         → EndsLog form (I.left input.old) (I.left input.new) (O.written output.old) (O.written output.new) result }
@@ -35,6 +35,23 @@ fn match_log<I: Source, O: Sink>(
     }
 }
 
+/// The same, unless the pattern is one that isn't matched yet.
+fn match_built<I: Source, O: Sink>(
+    alloc: Global,
+    pattern: &Pattern,
+    input: &mut I,
+    output: &mut O,
+) -> Ending
+    ensures end { EndsPattern pattern.now (I.left input.old) (I.left input.new) (O.written output.old) (O.written output.new) result }
+    ensures read_failed { result ≡ Ending.ReadFault → Rose (I.faults input.old) (I.faults input.new) }
+    ensures write_failed { result ≡ Ending.WriteFault → Rose (O.faults output.old) (O.faults output.new) }
+{
+    if !is_built(pattern) {
+        return Ending::NotBuilt;
+    }
+    match_log(alloc, pattern, input, output)
+}
+
 /// The command `match`: lists the bindings of a pattern over a log, one bundle a line.
 pub fn match_lines<I: Source, O: Sink>(
     alloc: Global,
@@ -47,8 +64,8 @@ pub fn match_lines<I: Source, O: Sink>(
     ensures write_failed { result ≡ Ending.WriteFault → Rose (O.faults output.old) (O.faults output.new) }
 {
     match read_pattern(alloc, pattern) {
-        Ok(pattern) => match_log(alloc, &pattern, input, output),
-        Err(PatternRefusal::NotYet) => Ending::PatternRefused,
+        Ok(read) => match_built(alloc, &read, input, output),
         Err(PatternRefusal::NoMemory) => Ending::NoMemory,
+        Err(refusal) => Ending::PatternRefused(refusal),
     }
 }
