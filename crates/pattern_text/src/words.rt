@@ -10,11 +10,13 @@ use flow_edges::{NoMemory, Text};
 fn write_character(character: char, out: &mut Text) -> Result<(), NoMemory>
     ensures { OnOk result (out.new ≡ out.old ++ flat_map escaped (encode_utf8 character)) }
 {
-    match character {
-        '\'' => out.push("\\'"),
-        '\\' => out.push("\\\\"),
-        _ => out.push(character.encode_utf8(&mut [0; 4])),
+    if character == '\'' {
+        return out.push("\\'");
     }
+    if character == '\\' {
+        return out.push("\\\\");
+    }
+    out.push(character.encode_utf8(&mut [0; 4]))
 }
 
 /// Writes the characters of words.
