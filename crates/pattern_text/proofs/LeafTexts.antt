@@ -1,5 +1,5 @@
 -- The texts of a list of leaves.
-use Rattle.std.proofs.Common.{◌≡◌, ℕ, List, [], ◌∷◌, refl, ap, subst, rules}
+use Rattle.std.proofs.Common.{◌≡◌, ℕ, List, [], ◌∷◌, refl, ap, subst, rules, Result, OnOk}
 use Rattle.std.specs.Prelude.{codes}
 use Rattle.pattern_tree.specs.declared.leaf.Leaf.{Leaf, Row_of-Leaf, end_of-Leaf, more_of-Leaf, items-the_row-Leaf, the_lemmas}
 use Rattle.pattern_tree.specs.declared.leaf.Leaf.TheVariants as leaf
@@ -25,8 +25,15 @@ formulas-items : {m : _} (k : Row_of-Leaf m) → formulas k ≡ listed (items-th
 formulas-items end_of-Leaf = refl
 formulas-items (more_of-Leaf l r) = ap (more (formula l)) (formulas-items r)
 
-pub every_of : (parts : List Leaf) → formula (leaf.All parts) ≡ every (listed parts)
+every_of : (parts : List Leaf) → every (listed parts) ≡ formula (leaf.All parts)
 every_of parts = search (rules, the_lemmas, formulas-items)
 
-pub some_of : (parts : List Leaf) → formula (leaf.Any parts) ≡ some (listed parts)
+some_of : (parts : List Leaf) → some (listed parts) ≡ formula (leaf.Any parts)
 some_of parts = search (rules, the_lemmas, formulas-items)
+
+-- the parts of AND and of OR are the text of their leaf
+pub ok_all : {T E : Type 0} (r : Result T E) (parts : List Leaf) (old new : List ℕ) → OnOk r (Adds (AreParts 2 (codes " AND ") (listed parts)) old new) → OnOk r (Adds (IsFormulaText (formula (leaf.All parts))) old new)
+ok_all r parts old new h = subst (λ (f : Formula). OnOk r (Adds (IsFormulaText f) old new)) (every_of parts) h
+
+pub ok_any : {T E : Type 0} (r : Result T E) (parts : List Leaf) (old new : List ℕ) → OnOk r (Adds (AreParts 1 (codes " OR ") (listed parts)) old new) → OnOk r (Adds (IsFormulaText (formula (leaf.Any parts))) old new)
+ok_any r parts old new h = subst (λ (f : Formula). OnOk r (Adds (IsFormulaText f) old new)) (some_of parts) h
