@@ -58,12 +58,7 @@ fn write_among(
 }
 
 /// Writes a comparison with words.
-fn write_textual(
-    test: &Test,
-    operator: &str,
-    words: &str,
-    out: &mut Text,
-) -> Result<(), NoMemory>
+fn write_textual(test: &Test, operator: &str, words: &str, out: &mut Text) -> Result<(), NoMemory>
     ensures { OnOk result (Adds (IsAsked test.now.path test.now.negated operator.now (AreWords words.now)) out.old out.new) }
 {
     write_path(&test.path, out)?;

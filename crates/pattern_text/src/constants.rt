@@ -77,11 +77,7 @@ pub(crate) fn write_constant(
 }
 
 /// Writes constants with commas between them.
-fn write_constants(
-    alloc: Global,
-    constants: &[Constant],
-    out: &mut Text,
-) -> Result<(), NoMemory>
+fn write_constants(alloc: Global, constants: &[Constant], out: &mut Text) -> Result<(), NoMemory>
     ensures { OnOk result (Adds (AreJoined (codes ", ") IsConstantText constants.now) out.old out.new) }
 {
     for (index, constant) in constants.iter().enumerate() {

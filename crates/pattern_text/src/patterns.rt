@@ -16,7 +16,10 @@ fn tightness(pattern: &Pattern) -> u8
     ensures { result ≡ level (meant pattern.now) }
 {
     match pattern {
-        Pattern::Leaf(_) | Pattern::Within(_, _) | Pattern::Between(_, _, _) | Pattern::Repeats(_, _) => 3,
+        Pattern::Leaf(_)
+        | Pattern::Within(_, _)
+        | Pattern::Between(_, _, _)
+        | Pattern::Repeats(_, _) => 3,
         Pattern::Both(_, _) => 2,
         Pattern::Either(_, _) => 1,
         Pattern::Then(_, _) => 0,

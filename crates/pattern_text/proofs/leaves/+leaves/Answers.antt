@@ -5,11 +5,11 @@ use Rattle.pattern_text.proofs.LeafTexts.{IsPart, adds_parts, ok_all, ok_any}
 use Rattle.pattern_text.proofs.leaves.+leaves.Goals as goal
 
 pub write_leaf-returns-in-All : goal.write_leaf-returns-in-All
-write_leaf-returns-in-All t c = 
+write_leaf-returns-in-All t c =
     rw c.in-All.is (ok_all c.write_parts.result c.in-All.parts c.args.out.now c.write_parts.new.out (rw c.as_slice.ensures at c.write_parts.ensures))
 
 pub write_leaf-returns-in-Any : goal.write_leaf-returns-in-Any
-write_leaf-returns-in-Any t c = 
+write_leaf-returns-in-Any t c =
     rw c.in-Any.is (ok_any c.write_parts-in-Any.result c.in-Any.parts c.args.out.now c.write_parts-in-Any.new.out (rw c.as_slice-in-Any.ensures at c.write_parts-in-Any.ensures))
 
 pub write_parts-loop-index-preserved : goal.write_parts-loop-index-preserved
