@@ -1,0 +1,5 @@
+mod Adding
+mod Characters
+mod Times
+mod LeafTexts
+mod Sizes
