@@ -3,3 +3,7 @@ mod Characters
 mod Times
 mod LeafTexts
 mod Sizes
+mod Longest
+mod Alone
+mod Pieces
+mod Written
