@@ -211,8 +211,8 @@ end_differs : (d : ℕ) (a rest : List ℕ) → 39 ∷ a ≡ escaped d ++ rest �
 end_differs d a rest e = case (escape_view d)
   where
     case : IsEscaped d ⊎ IsBareByte d → ⊥
-    case (inl x) = let q = x.1 in let f : 39 ≡ 92 = first_bytes 39 92 a (d ∷ rest) (rw q at e) in omega arith
-    case (inr x) = let q = x.2 in x.0 (sym (first_bytes 39 d a rest (rw q at e)))
+    case (inl x) = let q = x.1 in let h : 39 ∷ a ≡ 92 ∷ d ∷ rest = rw q at e in let f : 39 ≡ 92 = first_bytes 39 92 a (d ∷ rest) h in omega (arith, f)
+    case (inr x) = let q = x.2 in let h : 39 ∷ a ≡ d ∷ rest = rw q at e in x.0 (sym (first_bytes 39 d a rest h))
 
 same_step : (c d : ℕ) (x y : List ℕ) → escaped c ++ x ≡ escaped d ++ y → (c ≡ d) × (x ≡ y)
 same_step c d x y e = case (escape_view c) (escape_view d)

@@ -7,3 +7,5 @@ mod Longest
 mod Alone
 mod Pieces
 mod Written
+mod Numerals
+mod Tokens
