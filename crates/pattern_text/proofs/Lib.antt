@@ -9,3 +9,6 @@ mod Pieces
 mod Written
 mod Numerals
 mod Tokens
+mod Fit
+mod Values
+mod PathLines

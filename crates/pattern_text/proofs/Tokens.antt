@@ -84,7 +84,7 @@ fits_plain k text after is value p stops ends = record {
 not_matches : (text : List ℕ) → get_or text 0 0 ≢ 77 → text ≢ codes "MATCHES"
 not_matches text h e = h (ap (λ (x : List ℕ). get_or x 0 0) e)
 
-abbrev no_quotes : List ℕ → Bool
+abbrev pub no_quotes : List ℕ → Bool
 no_quotes [] = true
 no_quotes (b ∷ bs) = not (b == 39) && no_quotes bs
 
@@ -106,7 +106,7 @@ differ b c h e = let g : not (c == c) ≡ true = rw e at h in grind (arith, nat_
 below : (b c : ℕ) → nat_lt b c ≡ true → b < c
 below b c h = grind (arith, nat_tests)
 
-all_plain : (text : List ℕ) → no_quotes text ≡ true → All (λ b. b ≢ 39) text
+pub all_plain : (text : List ℕ) → no_quotes text ≡ true → All (λ b. b ≢ 39) text
 all_plain [] e = λ k d b. absurd (omega arith)
 all_plain (c ∷ text) e = All-cons (λ b. b ≢ 39) c text (differ c 39 (and_left (not (c == 39)) (no_quotes text) e)) (all_plain text (and_right (not (c == 39)) (no_quotes text) e))
 
@@ -160,7 +160,7 @@ start_ascii c (inl (inl h)) = omega (arith, h.1)
 start_ascii c (inl (inr h)) = omega (arith, h.1)
 start_ascii c (inr h) = omega arith
 
-plain_name : (text : List ℕ) → HasAt 0 IsWordStart text → All IsHyphenWordPart text → text ≢ codes "MATCHES" → IsPlainText text
+pub plain_name : (text : List ℕ) → HasAt 0 IsWordStart text → All IsHyphenWordPart text → text ≢ codes "MATCHES" → IsPlainText text
 plain_name [] h all free = absurd h
 plain_name (c ∷ text) h all free = record { some = omega arith; plain = λ k d b. part_quote _ (all k d b); ascii = start_ascii c h; free = free }
 

@@ -42,24 +42,21 @@ pub data IsOne (class : Class) : List Token → Token → Type 0 where
   is_one : (t : Token) → IsA class t → IsOne class (t ∷ []) t
 
 -- two parts one after the other
-pub data IsPair {S T : Type 0} (IsS : List Token → S → Type 0) (IsT : List Token → T → Type 0) : List Token → S → T → Type 0 where
-  is_pair : {a b : List Token} {s : S} {t : T} → IsS a s → IsT b t → IsPair IsS IsT (a ++ b) s t
-
-abbrev pub IsPairOf : {S T : Type 0} (IsS : List Token → S → Type 0) (IsT : List Token → T → Type 0) → List Token → S × T → Type 0
-IsPairOf IsS IsT ts x = IsPair IsS IsT ts x.0 x.1
+pub data IsPair {S T : Type 0} (IsS : List Token → S → Type 0) (IsT : List Token → T → Type 0) : List Token → S × T → Type 0 where
+  is_pair : {a b : List Token} {s : S} {t : T} → IsS a s → IsT b t → IsPair IsS IsT (a ++ b) (s, t)
 
 abbrev pub MeanPair : {S T : Type 0} (MeansS : List ℕ → S → Type 0) (MeansT : List ℕ → T → Type 0) → List ℕ → S × T → Type 0
 MeanPair MeansS MeansT whole x = MeansS whole x.0 × MeansT whole x.1
 
 read_pair : {S T : Type 0} (IsS : List Token → S → Type 0) (IsT : List Token → T → Type 0) (MeansS : List ℕ → S → Type 0) (MeansT : List ℕ → T → Type 0) (whole : List ℕ) (ps qs : List Piece)
     → ((ts : List Token) → Match whole ps ts → (tree : S) × IsS ts tree × MeansS whole tree) → ((ts : List Token) → Match whole qs ts → (tree : T) × IsT ts tree × MeansT whole tree)
-    → (ts : List Token) → Split whole ps qs ts → (tree : S × T) × IsPairOf IsS IsT ts tree × MeanPair MeansS MeansT whole tree
+    → (ts : List Token) → Split whole ps qs ts → (tree : S × T) × IsPair IsS IsT ts tree × MeanPair MeansS MeansT whole tree
 read_pair IsS IsT MeansS MeansT whole ps qs f g ts (split left right h k) =
     let a = f left h in let b = g right k in ((a.0, b.0), is_pair a.1 b.1, (a.2, b.2))
 
 -- one part after another
 pub pair : {S T : Type 0} (IsS : List Token → S → Type 0) (IsT : List Token → T → Type 0) (MeansS : List ℕ → S → Type 0) (MeansT : List ℕ → T → Type 0) (EndsS EndsT : List ℕ → Type 0) (a b : List ℕ)
-    → ((after : List ℕ) → EndsT after → EndsS (b ++ after)) → Written IsS MeansS EndsS a → Written IsT MeansT EndsT b → Written (IsPairOf IsS IsT) (MeanPair MeansS MeansT) EndsT (a ++ b)
+    → ((after : List ℕ) → EndsT after → EndsS (b ++ after)) → Written IsS MeansS EndsS a → Written IsT MeansT EndsT b → Written (IsPair IsS IsT) (MeanPair MeansS MeansT) EndsT (a ++ b)
 pair IsS IsT MeansS MeansT EndsS EndsT a b goes v w = record {
   pieces = v.pieces ++ w.pieces;
   spelled = printed-append v.pieces w.pieces ∙ ap (λ (x : List ℕ). x ++ printed w.pieces) v.spelled ∙ ap (λ (x : List ℕ). a ++ x) w.spelled;
@@ -99,3 +96,11 @@ token class kind Ends text is fits = record {
     one : (whole : List ℕ) (ts : List Token) → Match whole (piece kind text ∷ []) ts → (t : Token) × IsOne class ts t × Stands whole t kind text
     one whole [] h = absurd h
     one whole (t ∷ ts) h = (t, subst (λ (us : List Token). IsOne class (t ∷ us) t) (sym h.1) (is_one t (ap (is_in class) h.0.kind ∙ is)), h.0)
+
+-- the text in another form
+pub as_text : {T : Type 0} {IsT : List Token → T → Type 0} {Means : List ℕ → T → Type 0} {Ends : List ℕ → Type 0} {a b : List ℕ} → a ≡ b → Written IsT Means Ends a → Written IsT Means Ends b
+as_text e w = record { pieces = w.pieces; spelled = w.spelled ∙ e; fit = w.fit; read = w.read }
+
+-- where less may follow
+pub before : {T : Type 0} {IsT : List Token → T → Type 0} {Means : List ℕ → T → Type 0} {EndsS : List ℕ → Type 0} (EndsT : List ℕ → Type 0) {text : List ℕ} → ((after : List ℕ) → EndsT after → EndsS after) → Written IsT Means EndsS text → Written IsT Means EndsT text
+before EndsT f w = record { pieces = w.pieces; spelled = w.spelled; fit = λ after e. w.fit after (f after e); read = w.read }
