@@ -12,3 +12,4 @@ mod Tokens
 mod Fit
 mod Values
 mod PathLines
+mod TestLines

@@ -18,7 +18,7 @@ use Rattle.pattern_tree.specs.declared.path.Step.TheVariants as step
 use Rattle.pattern_tree.specs.declared.path.Path.{Path}
 use Rattle.pattern_meaning.specs.Meaning.{Each, IsNameOf, IsStepOf, IsPathOf}
 use Rattle.pattern_text.specs.Parts.{joined}
-use Rattle.pattern_text.specs.Path.{IsNameText, IsStepText, IsPathText}
+use Rattle.pattern_text.specs.Path.{IsNameText, IsStepText, AreStepsText, IsPathText}
 use Rattle.pattern_text.proofs.Longest.{IsStop, Stops, Ends, ends_stops}
 use Rattle.pattern_text.proofs.Adding.{each_more}
 use Rattle.pattern_text.proofs.Pieces.{Stands}
@@ -26,7 +26,7 @@ use Rattle.pattern_text.proofs.Written.{Written, IsOne, is_one, IsPair, is_pair,
 use Rattle.pattern_text.proofs.Tokens.{Anything, IsFree, literal, mark, number, root}
 use Rattle.pattern_text.proofs.Values.{at, name}
 use Rattle.pattern_text.proofs.Numerals.{count_text, count_shape}
-use Rattle.pattern_text.proofs.Fit.{FitStep, FitFurther, FitPath}
+use Rattle.pattern_text.proofs.Fit.{FitStep, FitFurther, FitSteps, FitPath}
 
 no_part : (c : ℕ) → (c < 45) ⊎ ((45 < c × (c < 48)) ⊎ ((57 < c × (c < 65)) ⊎ (90 < c × (c < 95)))) → ¬ IsHyphenWordPart c
 no_part c (inl h) (inl (inl (inl (inl x)))) = omega (arith, x.0)
@@ -154,3 +154,19 @@ first_steps p n b fit h =
     as_tree IsPath (MeansPath (path_of p.kind (step.Name n ∷ []))) (λ whole ts x i m. (record { root = x.0.0; steps = step_tree.Name x.1 ∷ [] }, first_path ts x i, record { root = m.0.0; steps = (m.1, tt) }))
     (pair (IsPair (IsOne Root) (IsOne (Only kind.Colon))) (IsOne Name) (MeanPair (λ (whole : List ℕ) (t : Token). At IsItself whole t p.kind) (λ (whole : List ℕ) (t : Token). Stands whole t kind.Colon (codes ":"))) (λ (whole : List ℕ) (t : Token). IsNameOf whole t n) Anything Stops (p.kind ++ codes ":") b (λ after e. tt)
     (pair (IsOne Root) (IsOne (Only kind.Colon)) (λ (whole : List ℕ) (t : Token). At IsItself whole t p.kind) (λ (whole : List ℕ) (t : Token). Stands whole t kind.Colon (codes ":")) Stops Anything p.kind (codes ":") (λ after e. stop_colon) (root p.kind fit.root fit.free) colon) (name n b h))
+
+whole_path : (p : Path) (rest : List Step) (n a texts : _) → FitPath p → FitFurther rest → IsNameText n a → Each IsStepText rest texts → Written IsPath (MeansPath (path_of p.kind (step.Name n ∷ rest))) Stops ((p.kind ++ codes ":") ++ (a ++ [] ++ joined [] texts))
+whole_path p rest n a texts fit further h k =
+    let w = all_further p.kind (step.Name n ∷ []) rest ((p.kind ++ codes ":") ++ a) texts further k (first_steps p n a fit h) in
+    as_text (append_assoc (p.kind ++ codes ":") a (flat_map (λ y. [] ++ y) texts) ∙ ap (λ (x : List ℕ). (p.kind ++ codes ":") ++ x) (ap (λ (x : List ℕ). x ++ flat_map (λ y. [] ++ y) texts) (sym (append-nil a)) ∙ ap (λ (x : List ℕ). (a ++ []) ++ x) (sym (joined_plain texts)))) w
+
+path_by : (p : Path) (steps : List Step) → p.steps ≡ steps → FitPath p → FitSteps steps → (inner : List ℕ) → AreStepsText steps inner → Written IsPath (MeansPath (path_of p.kind steps)) Stops ((p.kind ++ codes ":") ++ inner)
+path_by p [] e fit steps inner h = absurd steps
+path_by p (step.Name n ∷ rest) e fit steps inner h =
+    let w = whole_path p rest n h.0 h.3.0 fit steps h.2 h.3.1 in
+    as_text (ap (λ (x : List ℕ). (p.kind ++ codes ":") ++ x) (ap (λ (x : List ℕ). h.0 ++ [] ++ x) (sym h.3.2) ∙ sym h.4)) w
+path_by p (step.Place q ∷ rest) e fit steps inner h = absurd steps
+path_by p (step.Each ∷ rest) e fit steps inner h = absurd steps
+
+pub path : (p : Path) (text : List ℕ) → FitPath p → IsPathText p text → Written IsPath (MeansPath p) Stops text
+path p text fit h = as_text (sym h.2) (path_by p p.steps refl fit fit.steps h.0 h.1)
