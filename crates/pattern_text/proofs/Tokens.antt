@@ -88,7 +88,7 @@ abbrev pub no_quotes : List ℕ → Bool
 no_quotes [] = true
 no_quotes (b ∷ bs) = not (b == 39) && no_quotes bs
 
-abbrev plain_test : List ℕ → Bool
+abbrev pub plain_test : List ℕ → Bool
 plain_test [] = false
 plain_test (b ∷ bs) = (nat_lt b 128 && not (b == 77)) && no_quotes (b ∷ bs)
 
