@@ -13,3 +13,5 @@ mod Fit
 mod Values
 mod PathLines
 mod TestLines
+mod FormulaLines
+mod PatternLines

@@ -182,7 +182,7 @@ existence p false ptext w = before Ends ends_stops (as_tree IsTest (MeansTest (r
 existence p true ptext w = before Ends ends_stops (as_tree IsTest (MeansTest (record { path = p; negated = true; check = check.Exists })) (λ whole ts x i m. (test (record { first = x.0; path = x.1.1; negated = true; check = check_tree.Exists }), not_exists ts x i, means_test (record { path = m.1.1; negated = refl; asks = tt })))
     (pair (IsOne (Only kind.Not)) (IsPair (IsOne (Only kind.Exists)) IsPath) (MeansOne kind.Not (codes "NOT")) (MeanPair (MeansOne kind.Exists (codes "EXISTS")) (MeansPath p)) Stops Stops (codes "NOT") (32 ∷ (codes "EXISTS" ++ 32 ∷ ptext)) (λ after e. stop_space) no (spaced (there p ptext w))))
 
-sign : (class : Class) (k : TokenKind) (operator : List ℕ) → is_in class k ≡ true → IsToken k operator → HasValue k operator → plain_test operator ≡ true → k ≢ kind.Number → Written (IsOne class) (MeansOne k operator) Stops operator
+pub sign : (class : Class) (k : TokenKind) (operator : List ℕ) → is_in class k ≡ true → IsToken k operator → HasValue k operator → plain_test operator ≡ true → k ≢ kind.Number → Written (IsOne class) (MeansOne k operator) Stops operator
 sign class k operator among is value p n = literal class k operator among is value p n
 
 checked : (p : Path) (negated : Bool) (c : Check) (text : List ℕ) → FitPath p → FitCheck c → IsCheckedText p negated c text → Written IsTest (MeansTest (record { path = p; negated = negated; check = c })) Ends text
