@@ -15,3 +15,4 @@ mod PathLines
 mod TestLines
 mod FormulaLines
 mod PatternLines
+mod Cutting

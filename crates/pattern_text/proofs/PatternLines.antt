@@ -130,3 +130,54 @@ limit (Between i j) text fit h =
     let text_is : (codes "START " ++ h.2.0) ++ codes " STOP " ++ h.1 ≡ text = ap (λ (x : List ℕ). x ++ codes " STOP " ++ h.1) (sym h.2.2) ∙ sym h.4 in
     before Ends (λ after e. tt) (as_text (sym (append_assoc (codes "START " ++ h.2.0) (codes " STOP ") h.1) ∙ text_is) (as_tree IsQualifier (MeansLimit (Between i j)) (λ whole ts x o m. (qualifier.Between x.0.0 x.0.1 x.1.1, four_between ts x o, (m.0.1.1, m.1.1.1)))
     (pair (IsPair (IsOne (Only kind.Start)) (IsOne (Only kind.Time))) (IsPair (IsOne (Only kind.Stop)) (IsOne (Only kind.Time))) (MeanPair (MeansOne kind.Start (codes "START")) (λ (whole : List ℕ) (t : Token). (t.kind ≡ kind.Time) × At IsMomentText whole t i)) (MeanPair (MeansOne kind.Stop (codes "STOP")) (λ (whole : List ℕ) (t : Token). (t.kind ≡ kind.Time) × At IsMomentText whole t j)) Anything Anything (codes "START " ++ h.2.0) (32 ∷ (codes "STOP" ++ 32 ∷ h.1)) (λ after e. tt) start (spaced stop))))
+
+-- patterns
+bracketed : (ts : List Token) (x : (Token × Comparison) × Token) → IsPair (IsPair (IsOne (Only kind.SquareOpen)) IsCor) (IsOne (Only kind.SquareClose)) ts x → IsUnit ts (leaf x.0.1)
+bracketed ts x (is_pair (is_pair (is_one a h) k) (is_one b l)) = unit_one (start_leaf a b h k l)
+
+in_square : (f : Formula) (inner : List ℕ) → Written IsCor (MeansFormula f) Ends inner → Written IsUnit (MeansTree (a_leaf f)) Ends ((codes "[" ++ inner) ++ codes "]")
+in_square f inner w =
+    before Ends ends_stops (as_tree IsUnit (MeansTree (a_leaf f)) (λ whole ts x i y. (leaf x.0.1, bracketed ts x i, means_leaf y.0.1))
+    (pair (IsPair (IsOne (Only kind.SquareOpen)) IsCor) (IsOne (Only kind.SquareClose)) (MeanPair (MeansOne kind.SquareOpen (codes "[")) (MeansFormula f)) (MeansOne kind.SquareClose (codes "]")) Ends Stops (codes "[" ++ inner) (codes "]") (λ after e. (stop_square, λ x. omega arith))
+    (pair (IsOne (Only kind.SquareOpen)) IsCor (MeansOne kind.SquareOpen (codes "[")) (MeansFormula f) Anything Ends (codes "[") inner (λ after e. tt) square w) close_square))
+
+-- an operator between two sides
+operated : (k : TokenKind) (operator : List ℕ) (a b : ℕ) (m n : Meant) (left right : List ℕ) → Written (IsOne (Only k)) (MeansOne k operator) Stops operator → Written (IsLevel a) (MeansTree m) Ends left → Written (IsLevel b) (MeansTree n) Ends right
+    → Written (IsPair (IsLevel a) (IsPair (IsOne (Only k)) (IsLevel b))) (MeanPair (MeansTree m) (MeanPair (MeansOne k operator) (MeansTree n))) Ends (left ++ 32 ∷ (operator ++ 32 ∷ right))
+operated k operator a b m n left right o v w =
+    pair (IsLevel a) (IsPair (IsOne (Only k)) (IsLevel b)) (MeansTree m) (MeanPair (MeansOne k operator) (MeansTree n)) Ends Ends left (32 ∷ (operator ++ 32 ∷ right)) (λ after e. (stop_space, λ x. omega arith)) v
+    (spaced (pair (IsOne (Only k)) (IsLevel b) (MeansOne k operator) (MeansTree n) Stops Ends operator (32 ∷ right) (λ after e. stop_space) o (spaced w)))
+
+sides_text : (left operator right : List ℕ) → left ++ 32 ∷ (operator ++ 32 ∷ right) ≡ (left ++ (32 ∷ (operator ++ 32 ∷ []))) ++ right
+sides_text left operator right = sym (append_assoc left (32 ∷ (operator ++ 32 ∷ [])) right ∙ ap (λ (x : List ℕ). left ++ 32 ∷ x) (append_assoc operator (32 ∷ []) right))
+
+and_sides : (ts : List Token) (x : Tree × (Token × Tree)) → IsPair IsAnds (IsPair (IsOne (Only kind.And)) IsUnit) ts x → IsAnds ts (both x.0 x.1.1)
+and_sides ts x (is_pair h (is_pair (is_one o i) k)) = ands_more o h i k
+
+or_sides : (ts : List Token) (x : Tree × (Token × Tree)) → IsPair IsOrs (IsPair (IsOne (Only kind.Or)) IsAnds) ts x → IsOrs ts (either x.0 x.1.1)
+or_sides ts x (is_pair h (is_pair (is_one o i) k)) = ors_more o h i k
+
+then_sides : (ts : List Token) (x : Tree × (Token × Tree)) → IsPair IsPattern (IsPair (IsOne (Only kind.FollowedBy)) IsOrs) ts x → IsPattern ts (followed x.0 x.1.1)
+then_sides ts x (is_pair h (is_pair (is_one o i) k)) = pattern_more o h i k
+
+limited : (ts : List Token) (x : Tree × Qualifier) → IsPair IsUnit IsQualifier ts x → IsUnit ts (qualified x.0 x.1)
+limited ts x (is_pair h k) = unit_more h k
+
+pub canonical : (m : Meant) (text : List ℕ) → FitMeant m → IsCanonical m text → Written (IsLevel (level m)) (MeansTree m) Ends text
+canonical (a_leaf f) text fit h = as_text (sym h.2) (in_square f h.0 (lowered 0 (binds f) f h.0 (omega arith) (binds_low f) (formula f h.0 fit h.1)))
+canonical (a_both m n) text fit h =
+    as_text (sides_text h.0 (codes "AND") h.1 ∙ sym h.4) (as_tree IsAnds (MeansTree (a_both m n)) (λ whole ts x i y. (both x.0 x.1.1, and_sides ts x i, means_both y.0 y.1.1))
+    (operated kind.And (codes "AND") 2 3 m n h.0 h.1 (sign (Only kind.And) kind.And (codes "AND") refl refl tt refl (λ e. cc)) (within 2 m h.0 (omega arith) (λ inner k. canonical m inner fit.0 k) h.2) (within 3 n h.1 (omega arith) (λ inner k. canonical n inner fit.1 k) h.3)))
+canonical (an_either m n) text fit h =
+    as_text (sides_text h.0 (codes "OR") h.1 ∙ sym h.4) (as_tree IsOrs (MeansTree (an_either m n)) (λ whole ts x i y. (either x.0 x.1.1, or_sides ts x i, means_either y.0 y.1.1))
+    (operated kind.Or (codes "OR") 1 2 m n h.0 h.1 (sign (Only kind.Or) kind.Or (codes "OR") refl refl tt refl (λ e. cc)) (within 1 m h.0 (omega arith) (λ inner k. canonical m inner fit.0 k) h.2) (within 2 n h.1 (omega arith) (λ inner k. canonical n inner fit.1 k) h.3)))
+canonical (a_then m n) text fit h =
+    as_text (sides_text h.0 (codes "FOLLOWEDBY") h.1 ∙ sym h.4) (as_tree IsPattern (MeansTree (a_then m n)) (λ whole ts x i y. (followed x.0 x.1.1, then_sides ts x i, means_then y.0 y.1.1))
+    (operated kind.FollowedBy (codes "FOLLOWEDBY") 0 1 m n h.0 h.1 (sign (Only kind.FollowedBy) kind.FollowedBy (codes "FOLLOWEDBY") refl refl tt refl (λ e. cc)) (within 0 m h.0 (omega arith) (λ inner k. canonical m inner fit.0 k) h.2) (within 1 n h.1 (omega arith) (λ inner k. canonical n inner fit.1 k) h.3)))
+canonical (a_limited m l) text fit h =
+    as_text (sym (append_assoc h.0 (codes " ") h.1) ∙ sym h.4) (as_tree IsUnit (MeansTree (a_limited m l)) (λ whole ts x i y. (qualified x.0 x.1, limited ts x i, means_limited y.0 y.1))
+    (pair IsUnit IsQualifier (MeansTree m) (MeansLimit l) Ends Ends h.0 (32 ∷ h.1) (λ after e. (stop_space, λ x. omega arith)) (within 3 m h.0 (omega arith) (λ inner k. canonical m inner fit.0 k) h.2) (spaced (limit l h.1 fit.1 h.3))))
+
+-- as a whole pattern
+pub whole_pattern : (m : Meant) (text : List ℕ) → FitMeant m → IsCanonical m text → Written IsPattern (MeansTree m) Ends text
+whole_pattern m text fit h = downed 0 (level m) m text (omega arith) (level_low m) (canonical m text fit h)
