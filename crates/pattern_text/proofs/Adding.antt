@@ -1,12 +1,11 @@
 -- Texts that are added one after another.
 use Rattle.std.proofs.Common.{◌≡◌, ℕ, ◌+◌, ◌<◌, List, [], ◌∷◌, ◌++◌, length, get_or, take, refl, sym, ◌∙◌, ap, append_assoc, append-nil, if◌then◌else◌, ◌==◌, arith, Result, Ok, Err, OnOk}
-use Rattle.std.specs.Prelude.{flat_map}
 use Rattle.std.proofs.lemmas.Grind.{flat_map-append, common_steps}
 use Rattle.std.proofs.lemmas.List.{take_more}
 use Rattle.std.proofs.lemmas.List.{length-take}
 use Rattle.std.proofs.lemmas.Bool.Decides.{nat_tests}
 use Rattle.pattern_meaning.specs.Meaning.{Each}
-use Rattle.pattern_text.specs.Parts.{IsAfter, IsBetween, AreSides, IsWithin, joined, AreJoined, Adds}
+use Rattle.pattern_text.specs.Parts.{IsAfter, IsBetween, AreSides, joined, AreJoined, Adds}
 
 pub two_added : (old mid new a b : List ℕ) → mid ≡ old ++ a → new ≡ mid ++ b → new ≡ old ++ (a ++ b)
 two_added old mid new a b e f = f ∙ ap (λ (x : List ℕ). x ++ b) e ∙ append_assoc old a b

@@ -1,14 +1,14 @@
 -- Tokens that end by themselves: brackets, dots and colons, words in quotes, and what stands in quotes
 -- behind a letter.
-use Rattle.std.proofs.Common.{◌≡◌, ◌≢◌, ◌⊎◌, inl, inr, ℕ, zero, suc, ◌+◌, ◌-◌, ◌<◌, ◌≤◌, Bool, true, false, cond, not, ◌&&◌, ◌||◌, ◌==◌, if◌then◌else◌, List, [], ◌∷◌, ◌++◌, length, get_or, drop, refl, sym, ap, ◌∙◌, subst, arith, append_assoc, append-nil, length-append}
-use Rattle.std.specs.Prelude.{All, codes, nat_le, nat_lt, flat_map}
-use Rattle.std.specs.Str.Parse.{IsNumeral, AllDigits, without_leading_sign, starts_with_minus}
-use Rattle.std.proofs.lemmas.Bool.Decides.{nat_tests, leb_tells, eqb_tells}
+use Rattle.std.proofs.Common.{◌≡◌, ◌≢◌, ◌⊎◌, inl, inr, ℕ, suc, ◌<◌, ◌≤◌, Bool, true, false, not, ◌&&◌, ◌||◌, ◌==◌, List, [], ◌∷◌, ◌++◌, length, get_or, refl, sym, ◌∙◌, subst, arith, append_assoc}
+use Rattle.std.specs.Prelude.{All, codes, nat_le, flat_map}
+use Rattle.std.specs.Str.Parse.{IsNumeral, AllDigits}
+use Rattle.std.proofs.lemmas.Bool.Decides.{eqb_tells}
 use Rattle.std.proofs.lemmas.Str.Parse.{digit_at}
 use Rattle.pattern_tokens.specs.declared.token.TokenKind.{TokenKind}
 use Rattle.pattern_tokens.specs.declared.token.TokenKind.TheVariants.{SquareOpen, SquareClose, RoundOpen, RoundClose, Dot, Colon, Comma, Star, Equal, Differ, Less, LessEqual, Greater, GreaterEqual, And, Or, Not, FollowedBy, Within, Seconds, Repeats, Times, Start, Stop, Among, Like, Subset, Superset, Exists, TrueWord, FalseWord, Word, HyphenWord, Number, Words, Hex, Base, Time}
-use Rattle.pattern_tokens.specs.Word.{IsWordStart, IsWordPart, IsHyphenWordPart, HasAt}
-use Rattle.pattern_tokens.specs.Values.{IsNumberText, IsLetteredText, quoted, escaped, words_text}
+use Rattle.pattern_tokens.specs.Word.{IsWordStart, IsHyphenWordPart, HasAt}
+use Rattle.pattern_tokens.specs.Values.{IsNumberText, quoted, escaped, words_text}
 use Rattle.pattern_tokens.specs.Table.{IsToken}
 use Rattle.pattern_text.proofs.Longest.{IsSigned, signed}
 

@@ -1,14 +1,13 @@
 -- Pieces that fit are the tokens of their text.
-use Rattle.std.proofs.Common.{◌≡◌, ◌≢◌, ◌⊎◌, inl, inr, ℕ, zero, suc, ◌+◌, ◌-◌, ◌<◌, ◌≤◌, List, [], ◌∷◌, ◌++◌, length, get_or, take, drop, refl, sym, ap, ◌∙◌, subst, arith, append_assoc, append-nil, length-append, length-drop}
-use Rattle.std.specs.Prelude.{All, slice_range}
+use Rattle.std.proofs.Common.{◌≡◌, inl, ℕ, ◌+◌, ◌-◌, ◌<◌, ◌≤◌, List, [], ◌∷◌, ◌++◌, length, get_or, take, drop, refl, sym, ap, ◌∙◌, subst, arith, append-nil, length-append, length-drop}
+use Rattle.std.specs.Prelude.{All}
 use Rattle.std.specs.Str.{IsCharBoundary}
 use Rattle.std.proofs.lemmas.List.Elements.{All-cons, All-nil}
 use Rattle.std.proofs.lemmas.List.{get_or-drop, drop-drop}
 use Rattle.std.proofs.Math.Seq.{drop-append_seam, take-append_seam}
 use Rattle.pattern_tokens.specs.declared.token.Token.{Token}
-use Rattle.pattern_tokens.specs.Spans.{IsCut, text_at}
-use Rattle.pattern_lexer.specs.Reading.{IsBlank, IsNext, AreTokens, TokensOf}
-use Rattle.pattern_text.proofs.Pieces.{Piece, space, piece, printed, Stands, Match}
+use Rattle.pattern_lexer.specs.Reading.{IsBlank, AreTokens}
+use Rattle.pattern_text.proofs.Pieces.{Piece, space, piece, printed, Match}
 use Rattle.pattern_text.proofs.Written.{Fits, AllFit}
 
 -- the tokens of pieces from a place on

@@ -1,23 +1,21 @@
 -- What stands in the brackets of a canonical text reads back.
-use Rattle.std.proofs.Common.{◌≡◌, ◌≢◌, ◌⊎◌, inl, inr, ℕ, zero, suc, ◌<◌, ◌≤◌, true, false, Bool, cond, List, [], ◌∷◌, ◌++◌, refl, sym, ap, ◌∙◌, subst, arith, append_assoc, append-nil}
+use Rattle.std.proofs.Common.{◌≡◌, ℕ, zero, suc, ◌≤◌, true, false, Bool, List, [], ◌∷◌, ◌++◌, refl, sym, ap, subst, arith, append_assoc, append-nil}
 use Rattle.std.specs.Prelude.{codes, flat_map, nat_le, if◌then◌else◌}
 use Rattle.std.proofs.lemmas.Bool.Decides.{nat_tests}
 use Rattle.pattern_tokens.specs.declared.token.Token.{Token}
-use Rattle.pattern_tokens.specs.declared.token.TokenKind.{TokenKind}
 use Rattle.pattern_tokens.specs.declared.token.TokenKind.TheVariants as kind
 use Rattle.pattern_syntax.specs.declared.class.Class.TheVariants.{Only}
-use Rattle.pattern_syntax.specs.Tree.{Comparison, test, group, all, any}
+use Rattle.pattern_syntax.specs.Tree.{Comparison, group, all, any}
 use Rattle.pattern_syntax.specs.Grammar.{IsTest, test_group, test_exists, test_not_exists, test_compare, test_not_compare, IsCand, cand_one, cand_more, IsCor, cor_one, cor_more}
 use Rattle.pattern_meaning.specs.Formula.{Formula, one, every, some, Formulas, none, more, put, IsNoAll, IsNoAny, Means, means_group, means_all, means_any, AllParts, all_first, all_more, AnyParts, any_first, any_more}
-use Rattle.pattern_text.specs.Parts.{joined, enclosed, IsWithin}
+use Rattle.pattern_text.specs.Parts.{joined, IsWithin}
 use Rattle.pattern_text.specs.Leaf.{binds, IsFormulaText, AreTextsOf}
-use Rattle.pattern_text.proofs.Longest.{IsStop, Stops, Ends, ends_stops}
-use Rattle.pattern_text.proofs.Pieces.{Stands}
+use Rattle.pattern_text.proofs.Longest.{Stops, Ends, ends_stops}
 use Rattle.pattern_text.proofs.Written.{Written, IsOne, is_one, IsPair, is_pair, MeanPair, pair, spaced, as_tree, as_text, before}
 use Rattle.pattern_text.proofs.Tokens.{Anything, literal}
 use Rattle.pattern_text.proofs.PathLines.{stop_space, stop_close}
 use Rattle.pattern_text.proofs.TestLines.{MeansOne, round, close_round, a_test}
-use Rattle.pattern_text.proofs.Fit.{AreSome, FitFormula, FitFormulas}
+use Rattle.pattern_text.specs.Fit.{AreSome, FitFormula, FitFormulas}
 
 -- the line of the grammar for what binds so
 abbrev pub IsBound : ℕ → List Token → Comparison → Type 0

@@ -9,10 +9,11 @@ mod Pieces
 mod Written
 mod Numerals
 mod Tokens
-mod Fit
 mod Values
 mod PathLines
 mod TestLines
 mod FormulaLines
 mod PatternLines
 mod Cutting
+mod OneText
+mod Spelling

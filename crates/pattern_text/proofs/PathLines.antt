@@ -1,13 +1,11 @@
 -- Paths of a canonical text read back.
-use Rattle.std.proofs.Common.{◌≡◌, ◌≢◌, ◌⊎◌, inl, inr, ℕ, ◌<◌, ◌≤◌, ℤ, pos, List, [], ◌∷◌, ◌++◌, refl, sym, ap, ◌∙◌, subst, arith, append_assoc, append-nil}
+use Rattle.std.proofs.Common.{◌≡◌, ◌⊎◌, inl, inr, ℕ, ◌<◌, pos, List, [], ◌∷◌, ◌++◌, refl, sym, ap, ◌∙◌, subst, arith, append_assoc, append-nil}
 use Rattle.std.specs.Prelude.{codes, decimal, flat_map}
 use Rattle.pattern_tokens.specs.declared.token.Token.{Token}
 use Rattle.pattern_tokens.specs.declared.token.TokenKind.TheVariants as kind
-use Rattle.pattern_tokens.specs.Word.{IsWordStart, IsHyphenWordPart}
-use Rattle.pattern_tokens.specs.Numbers.{IsPlace}
+use Rattle.pattern_tokens.specs.Word.{IsHyphenWordPart}
 use Rattle.pattern_tokens.specs.Values.{IsWholeText}
 use Rattle.pattern_tokens.specs.Spans.{At, IsItself}
-use Rattle.pattern_syntax.specs.declared.class.Class.{Class}
 use Rattle.pattern_syntax.specs.declared.class.Class.TheVariants.{Only, Root, Name, Index}
 use Rattle.pattern_syntax.specs.declared.path.StepTree.{StepTree}
 use Rattle.pattern_syntax.specs.declared.path.StepTree.TheVariants as step_tree
@@ -23,10 +21,10 @@ use Rattle.pattern_text.proofs.Longest.{IsStop, Stops, Ends, ends_stops}
 use Rattle.pattern_text.proofs.Adding.{each_more}
 use Rattle.pattern_text.proofs.Pieces.{Stands}
 use Rattle.pattern_text.proofs.Written.{Written, IsOne, is_one, IsPair, is_pair, MeanPair, pair, as_tree, as_text, before}
-use Rattle.pattern_text.proofs.Tokens.{Anything, IsFree, literal, mark, number, root}
+use Rattle.pattern_text.proofs.Tokens.{Anything, literal, mark, number, root}
 use Rattle.pattern_text.proofs.Values.{at, name}
 use Rattle.pattern_text.proofs.Numerals.{count_text, count_shape}
-use Rattle.pattern_text.proofs.Fit.{FitStep, FitFurther, FitSteps, FitPath}
+use Rattle.pattern_text.specs.Fit.{FitStep, FitFurther, FitSteps, FitPath}
 
 no_part : (c : ℕ) → (c < 45) ⊎ ((45 < c × (c < 48)) ⊎ ((57 < c × (c < 65)) ⊎ (90 < c × (c < 95)))) → ¬ IsHyphenWordPart c
 no_part c (inl h) (inl (inl (inl (inl x)))) = omega (arith, x.0)

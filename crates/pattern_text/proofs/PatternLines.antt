@@ -1,7 +1,6 @@
 -- A canonical text reads back: the tokens of its pieces spell a pattern that means what was written.
-use Rattle.std.proofs.Common.{◌≡◌, ◌≢◌, ◌⊎◌, inl, inr, ℕ, zero, suc, ◌+◌, ◌<◌, ◌≤◌, ℤ, pos, true, false, Bool, cond, List, [], ◌∷◌, ◌++◌, refl, sym, ap, ◌∙◌, subst, arith, append_assoc, append-nil}
+use Rattle.std.proofs.Common.{◌≡◌, ℕ, zero, suc, ◌≤◌, pos, true, false, Bool, List, [], ◌∷◌, ◌++◌, refl, sym, ap, ◌∙◌, arith, append_assoc}
 use Rattle.std.specs.Prelude.{codes, decimal, nat_le, if◌then◌else◌}
-use Rattle.std.proofs.lemmas.Bool.Decides.{nat_tests}
 use Rattle.pattern_tokens.specs.declared.token.Token.{Token}
 use Rattle.pattern_tokens.specs.declared.token.TokenKind.{TokenKind}
 use Rattle.pattern_tokens.specs.declared.token.TokenKind.TheVariants as kind
@@ -12,25 +11,25 @@ use Rattle.pattern_syntax.specs.declared.class.Class.TheVariants.{Only}
 use Rattle.pattern_syntax.specs.declared.qualifier.Qualifier.{Qualifier}
 use Rattle.pattern_syntax.specs.declared.qualifier.Qualifier.TheVariants as qualifier
 use Rattle.pattern_syntax.specs.Tree.{Tree, leaf, both, either, followed, qualified, Comparison}
-use Rattle.pattern_syntax.specs.Grammar.{IsCor, IsQualifier, qualifier_within, qualifier_repeats, qualifier_between, IsStart, start_leaf, start_group, IsUnit, unit_one, unit_more, IsAnds, ands_one, ands_more, IsOrs, ors_one, ors_more, IsPattern, pattern_one, pattern_more}
+use Rattle.pattern_syntax.specs.Grammar.{IsCor, IsQualifier, qualifier_within, qualifier_repeats, qualifier_between, start_leaf, start_group, IsUnit, unit_one, unit_more, IsAnds, ands_one, ands_more, IsOrs, ors_one, ors_more, IsPattern, pattern_one, pattern_more}
 use Rattle.pattern_meaning.specs.declared.limits.Limit.{Limit}
 use Rattle.pattern_meaning.specs.declared.limits.Limit.TheVariants.{Within, Repeats, Between}
-use Rattle.pattern_meaning.specs.Formula.{Formula, Means}
+use Rattle.pattern_meaning.specs.Formula.{Formula}
 use Rattle.pattern_meaning.specs.Meant.{Meant, a_leaf, a_both, an_either, a_then, a_limited, IsLimitOf, MeansPattern, means_leaf, means_both, means_either, means_then, means_limited}
-use Rattle.pattern_text.specs.Parts.{enclosed, IsWithin}
-use Rattle.pattern_text.specs.Leaf.{binds, IsFormulaText}
+use Rattle.pattern_text.specs.Parts.{IsWithin}
+use Rattle.pattern_text.specs.Leaf.{binds}
 use Rattle.pattern_text.specs.Limit.{IsLimitText}
 use Rattle.pattern_text.specs.Canonical.{level, IsCanonical}
-use Rattle.pattern_text.proofs.Longest.{IsStop, Stops, Ends, ends_stops}
+use Rattle.pattern_text.proofs.Longest.{Stops, Ends, ends_stops}
 use Rattle.pattern_text.proofs.Pieces.{Stands}
 use Rattle.pattern_text.proofs.Written.{Written, IsOne, is_one, IsPair, is_pair, MeanPair, pair, spaced, as_tree, as_text, before}
-use Rattle.pattern_text.proofs.Tokens.{Anything, plain_test, literal, number}
+use Rattle.pattern_text.proofs.Tokens.{Anything, number}
 use Rattle.pattern_text.proofs.Numerals.{count_text, count_shape}
 use Rattle.pattern_text.proofs.Values.{at, time}
 use Rattle.pattern_text.proofs.PathLines.{stop_space, stop_close, stop_square, square, close_square}
 use Rattle.pattern_text.proofs.TestLines.{MeansOne, sign, round, close_round}
 use Rattle.pattern_text.proofs.FormulaLines.{MeansFormula, formula, lowered, binds_low, le_from}
-use Rattle.pattern_text.proofs.Fit.{FitFormula, FitLimit, FitMeant}
+use Rattle.pattern_text.specs.Fit.{FitLimit, FitMeant}
 
 -- the line of the grammar for what binds so
 abbrev pub IsLevel : ℕ → List Token → Tree → Type 0

@@ -1,5 +1,5 @@
 -- A text as pieces, tokens and the spaces between them, and the tokens that stand for pieces.
-use Rattle.std.proofs.Common.{◌≡◌, ℕ, ◌+◌, ◌-◌, ◌<◌, ◌≤◌, List, [], ◌∷◌, ◌++◌, length, refl, sym, ap, ◌∙◌, append_assoc}
+use Rattle.std.proofs.Common.{◌≡◌, ℕ, List, [], ◌∷◌, ◌++◌, refl, sym, ap, ◌∙◌, append_assoc}
 use Rattle.pattern_tokens.specs.declared.token.Token.{Token}
 use Rattle.pattern_tokens.specs.declared.token.TokenKind.{TokenKind}
 use Rattle.pattern_tokens.specs.Spans.{IsCut, text_at}

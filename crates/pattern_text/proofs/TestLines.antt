@@ -1,10 +1,10 @@
 -- Tests of a canonical text read back.
-use Rattle.std.proofs.Common.{◌≡◌, ◌≢◌, ◌⊎◌, inl, inr, ℕ, ◌<◌, ◌≤◌, true, false, Bool, List, [], ◌∷◌, ◌++◌, refl, sym, ap, ◌∙◌, subst, arith, append_assoc, append-nil}
+use Rattle.std.proofs.Common.{◌≡◌, ◌≢◌, inl, ℕ, true, false, Bool, List, [], ◌∷◌, ◌++◌, refl, sym, ap, ◌∙◌, subst, arith, append_assoc, append-nil}
 use Rattle.std.specs.Prelude.{codes, flat_map}
 use Rattle.pattern_tokens.specs.declared.token.Token.{Token}
 use Rattle.pattern_tokens.specs.declared.token.TokenKind.{TokenKind}
 use Rattle.pattern_tokens.specs.declared.token.TokenKind.TheVariants as kind
-use Rattle.pattern_tokens.specs.Values.{HasValue, IsWordsText, words_text}
+use Rattle.pattern_tokens.specs.Values.{HasValue, IsWordsText}
 use Rattle.pattern_tokens.specs.Table.{IsToken}
 use Rattle.pattern_tokens.specs.Spans.{At}
 use Rattle.pattern_syntax.specs.declared.class.Class.{Class}
@@ -21,19 +21,19 @@ use Rattle.pattern_tree.specs.declared.constant.Constant.TheVariants.{Whole, Wor
 use Rattle.pattern_tree.specs.declared.check.Check.{Check}
 use Rattle.pattern_tree.specs.declared.check.Check.TheVariants as check
 use Rattle.pattern_tree.specs.declared.leaf.Test.{Test}
-use Rattle.pattern_meaning.specs.Meaning.{Each, IsConstantOf, IsCheckOf, IsTestOf}
+use Rattle.pattern_meaning.specs.Meaning.{Each, IsConstantOf, IsCheckOf}
 use Rattle.pattern_meaning.specs.Formula.{Means, one, means_test}
 use Rattle.pattern_text.specs.Parts.{joined}
 use Rattle.pattern_text.specs.Constant.{IsConstantText}
 use Rattle.pattern_text.specs.Check.{AreWords, AreAmong, not_text, operator_text, IsCheckedText, IsTestText}
-use Rattle.pattern_text.proofs.Longest.{IsStop, Stops, Ends, ends_stops}
+use Rattle.pattern_text.proofs.Longest.{Stops, Ends, ends_stops}
 use Rattle.pattern_text.proofs.Adding.{each_more}
 use Rattle.pattern_text.proofs.Pieces.{Stands}
 use Rattle.pattern_text.proofs.Written.{Written, IsOne, is_one, IsPair, is_pair, MeanPair, pair, spaced, as_tree, as_text, before}
-use Rattle.pattern_text.proofs.Tokens.{Anything, IsFree, plain_test, literal, mark, words}
+use Rattle.pattern_text.proofs.Tokens.{Anything, plain_test, literal, mark, words}
 use Rattle.pattern_text.proofs.Values.{at, constant}
 use Rattle.pattern_text.proofs.PathLines.{stop_space, stop_comma, stop_close, path, MeansPath}
-use Rattle.pattern_text.proofs.Fit.{FitConstant, FitConstants, FitOrdered, FitList, FitCheck, FitTest, FitPath, kind_of}
+use Rattle.pattern_text.specs.Fit.{FitConstant, FitConstants, FitOrdered, FitList, FitCheck, FitTest, FitPath, kind_of}
 
 abbrev pub MeansOne : TokenKind → List ℕ → List ℕ → Token → Type 0
 MeansOne k text whole t = Stands whole t k text

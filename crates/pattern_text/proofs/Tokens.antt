@@ -1,15 +1,15 @@
 -- The tokens of a canonical text, each with the end that it has there.
-use Rattle.std.proofs.Common.{◌≡◌, ◌≢◌, ◌⊎◌, inl, inr, ℕ, ◌<◌, ◌≤◌, Bool, true, false, cond, not, ◌&&◌, ◌==◌, List, [], ◌∷◌, ◌++◌, length, get_or, refl, sym, ap, ◌∙◌, subst, arith, Some, ℤ, pos}
-use Rattle.std.specs.Prelude.{All, codes, decimal, slice_get, nat_lt, Ok}
+use Rattle.std.proofs.Common.{◌≡◌, ◌≢◌, ◌⊎◌, inl, inr, ℕ, ◌<◌, Bool, true, false, not, ◌&&◌, ◌==◌, List, [], ◌∷◌, length, get_or, refl, sym, ap, subst, arith, Some, ℤ}
+use Rattle.std.specs.Prelude.{All, codes, slice_get, nat_lt}
 use Rattle.std.proofs.lemmas.Bool.Decides.{nat_tests}
 use Rattle.std.proofs.lemmas.List.Elements.{All-cons}
 use Rattle.pattern_tokens.specs.declared.token.Token.{Token}
 use Rattle.pattern_tokens.specs.declared.token.TokenKind.{TokenKind}
 use Rattle.pattern_tokens.specs.declared.token.TokenKind.TheVariants as kind
-use Rattle.pattern_tokens.specs.Word.{IsWordStart, IsWordPart, IsHyphenWordPart, HasAt, IsWord, IsHyphenWord}
-use Rattle.pattern_tokens.specs.Values.{HasValue, quoted, words_text, IsLetteredText, IsWholeText}
+use Rattle.pattern_tokens.specs.Word.{IsWordStart, IsHyphenWordPart, HasAt, IsWord, IsHyphenWord}
+use Rattle.pattern_tokens.specs.Values.{HasValue, quoted, words_text, IsWholeText}
 use Rattle.pattern_tokens.specs.Table.{IsToken}
-use Rattle.pattern_lexer.specs.Reading.{IsFirst, RunsOn, IsLeftOut, IsUsable}
+use Rattle.pattern_lexer.specs.Reading.{IsLeftOut, IsUsable}
 use Rattle.pattern_tokens.specs.declared.refusal.LeftWord.{LeftWord}
 use Rattle.pattern_tokens.specs.declared.refusal.LeftWord.TheVariants.{Matches, Fraction, DoubleEqual, LessGreater}
 use Rattle.pattern_syntax.specs.declared.class.Class.{Class}
@@ -17,7 +17,7 @@ use Rattle.pattern_syntax.specs.declared.class.Class.TheVariants.{Root}
 use Rattle.pattern_syntax.specs.Class.{is_in}
 use Rattle.pattern_tokens.specs.Spans.{At, IsItself}
 use Rattle.pattern_text.proofs.Numerals.{IsNumeralShape}
-use Rattle.pattern_text.proofs.Longest.{IsStop, Stops, Ends, ends_stops, longest_plain}
+use Rattle.pattern_text.proofs.Longest.{Stops, Ends, ends_stops, longest_plain}
 use Rattle.pattern_text.proofs.Alone.{IsAlone, longest_alone, longest_words, longest_lettered}
 use Rattle.pattern_text.proofs.Pieces.{Stands}
 use Rattle.pattern_text.proofs.Written.{Fits, Written, IsOne, token, as_tree}

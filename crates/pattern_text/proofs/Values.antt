@@ -1,5 +1,5 @@
 -- Names and constants of a canonical text read back.
-use Rattle.std.proofs.Common.{◌≡◌, ◌≢◌, ◌⊎◌, inl, inr, ℕ, zero, suc, ◌<◌, ◌≤◌, ◌/◌, ◌%◌, ℤ, true, false, Bool, not, ◌&&◌, ◌==◌, List, [], ◌∷◌, ◌++◌, length, get_or, refl, sym, ap, ◌∙◌, subst, arith}
+use Rattle.std.proofs.Common.{◌≡◌, ◌≢◌, inl, inr, ℕ, zero, suc, ◌/◌, ◌%◌, ℤ, true, false, List, [], ◌∷◌, refl, sym, subst, arith}
 use Rattle.std.specs.Prelude.{All, codes, slice_index}
 use Rattle.std.specs.Fmt.{signed_decimal}
 use Rattle.std.proofs.lemmas.List.Elements.{All-cons, All-nil}
@@ -7,28 +7,26 @@ use Rattle.hex.specs.Hex.{encode_with, encode_lower, lower_digits}
 use Rattle.hex.proofs.HexLemmas.{decode_of-encode_lower}
 use Rattle.base64.specs.Engines.{standard}
 use Rattle.base64.specs.GeneralPurpose.{encode_of}
-use Rattle.stix_times.specs.Writing.{IsCanonicalTextOf}
 use Rattle.pattern_tokens.specs.declared.token.Token.{Token}
 use Rattle.pattern_tokens.specs.declared.token.TokenKind.{TokenKind}
 use Rattle.pattern_tokens.specs.declared.token.TokenKind.TheVariants as kind
-use Rattle.pattern_tokens.specs.Word.{IsWord}
 use Rattle.pattern_tokens.specs.Values.{quoted, words_text, IsWholeText, IsWordsText, IsHexText, IsBaseText, IsMomentText}
-use Rattle.pattern_tokens.specs.Spans.{At, IsItself, text_at}
+use Rattle.pattern_tokens.specs.Spans.{At}
 use Rattle.pattern_syntax.specs.declared.class.Class.{Class}
 use Rattle.pattern_syntax.specs.declared.class.Class.TheVariants.{Name}
 use Rattle.pattern_syntax.specs.Class.{is_in}
 use Rattle.pattern_tree.specs.declared.constant.Constant.{Constant}
 use Rattle.pattern_tree.specs.declared.constant.Constant.TheVariants.{Whole, Words, Truth, Hexed, Based, Moment}
 use Rattle.pattern_meaning.specs.Meaning.{IsNameOf, IsConstantOf}
-use Rattle.pattern_text.specs.Path.{IsBare, IsNameText}
+use Rattle.pattern_text.specs.Path.{IsNameText}
 use Rattle.pattern_text.specs.Constant.{IsTimeText, IsConstantText}
 use Rattle.pattern_text.proofs.Longest.{Stops, Ends, ends_stops}
 use Rattle.pattern_text.proofs.Pieces.{Stands}
 use Rattle.pattern_text.proofs.Written.{Written, IsOne, token, as_tree, as_text, before}
-use Rattle.pattern_text.proofs.Tokens.{Anything, IsFree, fits_plain, plain_name, all_plain, literal, words, lettered, number}
+use Rattle.pattern_text.proofs.Tokens.{Anything, fits_plain, plain_name, all_plain, literal, words, lettered, number}
 use Rattle.pattern_text.proofs.Numerals.{whole_text, whole_shape}
 use Rattle.pattern_text.proofs.Times.{unquoted_time}
-use Rattle.pattern_text.proofs.Fit.{FitConstant, kind_of}
+use Rattle.pattern_text.specs.Fit.{FitConstant, kind_of}
 
 -- a token that stands for a value, by its text
 pub at : {V : Type 0} (IsTextOf : List ℕ → V → Type 0) (whole : List ℕ) (t : Token) (k : TokenKind) (text : List ℕ) (value : V) → Stands whole t k text → IsTextOf text value → At IsTextOf whole t value

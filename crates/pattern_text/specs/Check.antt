@@ -1,6 +1,6 @@
 -- How one comparison is written (STIX 2.1, section 9.6): a path, NOT where it is negated, an operator and
 -- what it compares with.
-use Rattle.std.specs.Prelude.{◌≡◌, ℕ, Bool, if◌then◌else◌, List, [], ◌++◌, codes}
+use Rattle.std.specs.Prelude.{ℕ, Bool, if◌then◌else◌, List, [], ◌++◌, codes}
 use Rattle.pattern_tokens.specs.Values.{IsWordsText}
 use Rattle.pattern_tree.specs.declared.path.Path.{Path}
 use Rattle.pattern_tree.specs.declared.constant.Constant.{Constant}

@@ -4,6 +4,7 @@
 
 mod checks;
 mod constants;
+pub mod laws;
 mod leaves;
 mod limits;
 mod parts;

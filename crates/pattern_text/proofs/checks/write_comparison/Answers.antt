@@ -1,7 +1,6 @@
-use Rattle.std.specs.Prelude.{codes}
 use Rattle.pattern_text.specs.Path.{IsPathText}
 use Rattle.pattern_text.specs.Constant.{IsConstantText}
-use Rattle.pattern_text.specs.Check.{operator_text, AreAmong, AreWords}
+use Rattle.pattern_text.specs.Check.{operator_text}
 use Rattle.pattern_text.proofs.Adding.{ok_sides}
 use Rattle.pattern_text.proofs.checks.write_comparison.Goals as goal
 

@@ -1,4 +1,3 @@
-use Rattle.std.proofs.Common.{length, arith, take}
 use Rattle.std.proofs.lemmas.List.{take_all}
 use Rattle.pattern_text.proofs.Adding.{adds_next}
 use Rattle.pattern_text.proofs.LeafTexts.{IsPart, adds_parts, ok_all, ok_any}

@@ -1,4 +1,3 @@
-use Rattle.std.proofs.Common.{[]}
 use Rattle.pattern_text.specs.Path.{IsStepText}
 use Rattle.pattern_text.proofs.Adding.{adds_next_bare}
 use Rattle.pattern_text.proofs.paths.write_steps.Goals as goal

@@ -1,7 +1,3 @@
-use Rattle.std.proofs.Common.{◌≡◌, ◌++◌, [], ◌∷◌, append-nil}
-use Rattle.std.specs.Prelude.{flat_map}
-use Rattle.std.specs.Char.{encode_utf8}
-use Rattle.pattern_tokens.specs.Values.{escaped}
 use Rattle.pattern_text.proofs.Adding.{two_added}
 use Rattle.pattern_text.proofs.Characters.{escaped_more}
 use Rattle.pattern_text.proofs.words.write_characters.Goals as goal

@@ -1,0 +1,23 @@
+//! What follows from the definitions: the contract is the law, and the function does nothing.
+
+ghost use Rattle.std.specs.Prelude.{◌≡◌, ◌≤◌, ℕ, List, length};
+ghost use Rattle.pattern_meaning.specs.Meant.{Meant};
+ghost use Rattle.pattern_text.specs.Canonical.{IsCanonical};
+ghost use Rattle.pattern_text.specs.Fit.{FitMeant};
+ghost use Rattle.pattern_text.specs.Spelled.{Spells};
+
+use stix_times::laws::one_canonical_text;
+
+/// A pattern has one canonical text.
+pub fn one_text()
+    ensures { (pattern : Meant) (first second : List ℕ) → IsCanonical pattern first
+        → IsCanonical pattern second → first ≡ second }
+{
+    one_canonical_text();
+}
+
+/// The canonical text of a fit pattern spells it.
+pub fn canonical_text_spells()
+    ensures { (pattern : Meant) (text : List ℕ) → FitMeant pattern → IsCanonical pattern text
+        → length text ≤ 65_536 → Spells text pattern }
+{}
