@@ -28,17 +28,21 @@ behind_space at left (t ∷ ts) c =
     let n = c.stand.1 in
     record {
       rest = c.rest;
-      stand = (c.stand.0, record {
-        blanks = 32 ∷ n.blanks;
-        text = n.text;
-        blank = All-cons IsBlank 32 n.blanks (inl refl) n.blank;
-        spelled = ap (λ (x : List ℕ). 32 ∷ x) n.spelled;
-        first = n.first;
-        usable = n.usable;
-        value = n.value;
-        from = let e = n.from in omega arith;
-        to = n.to;
-      }, c.stand.2);
+      stand = (
+        c.stand.0,
+        record {
+          blanks = 32 ∷ n.blanks;
+          text = n.text;
+          blank = All-cons IsBlank 32 n.blanks (inl refl) n.blank;
+          spelled = ap (λ (x : List ℕ). 32 ∷ x) n.spelled;
+          first = n.first;
+          usable = n.usable;
+          value = n.value;
+          from = let e = n.from in omega arith;
+          to = n.to;
+        },
+        c.stand.2,
+      );
       blank = c.blank;
     }
 
@@ -51,17 +55,21 @@ cut_pieces at (piece kind text ∷ ps) h =
     let f : Fits kind text (printed ps) = subst (λ (x : List ℕ). Fits kind text x) after h.0 in
     record {
       rest = c.rest;
-      stand = (printed ps, record {
-        blanks = [];
-        text = text;
-        blank = All-nil IsBlank;
-        spelled = refl;
-        first = f.first;
-        usable = f.usable;
-        value = f.value;
-        from = omega arith;
-        to = refl;
-      }, c.stand);
+      stand = (
+        printed ps,
+        record {
+          blanks = [];
+          text = text;
+          blank = All-nil IsBlank;
+          spelled = refl;
+          first = f.first;
+          usable = f.usable;
+          value = f.value;
+          from = omega arith;
+          to = refl;
+        },
+        c.stand,
+      );
       blank = c.blank;
     }
 
@@ -81,17 +89,21 @@ boundary whole at ps b e h =
 further_drop : (whole : List ℕ) (at : ℕ) (text rest : List ℕ) → at ≤ length whole → drop at whole ≡ text ++ rest → (at + length text ≤ length whole) × (drop (at + length text) whole ≡ rest) × (take (at + length text - at) (drop at whole) ≡ text)
 further_drop whole at text rest b e =
     let n = ap length e in
-    let more : at + length text ≤ length whole = omega (arith, n, length-drop at whole, length-append text rest) in
-    (more, sym (drop-drop (length text) at whole) ∙ ap (λ (x : List ℕ). drop (length text) x) e ∙ drop-append_seam text rest,
-    ap (λ (i : ℕ). take i (drop at whole)) (omega arith) ∙ ap (λ (x : List ℕ). take (length text) x) e ∙ take-append_seam text rest)
+    let more : at + length text ≤ length whole = omega (arith, n, length-drop at whole, length-append text rest) in (
+      more,
+      sym (drop-drop (length text) at whole) ∙ ap (λ (x : List ℕ). drop (length text) x) e ∙ drop-append_seam text rest,
+      ap (λ (i : ℕ). take i (drop at whole)) (omega arith) ∙ ap (λ (x : List ℕ). take (length text) x) e ∙ take-append_seam text rest,
+    )
 
 pub stand_for : (whole : List ℕ) (at : ℕ) (ps : List Piece) → at ≤ length whole → drop at whole ≡ printed ps → AllFit ps [] → Match whole ps (tokens_at at ps)
 stand_for whole at [] b e h = refl
 stand_for whole at (space ∷ ps) b e h = let d = further_drop whole at (32 ∷ []) (printed ps) b e in stand_for whole (at + 1) ps d.0 d.1 h
 stand_for whole at (piece kind text ∷ ps) b e h =
-    let d = further_drop whole at text (printed ps) b e in
-    (record {
-      kind = refl;
-      cut = record { ordered = omega arith; from = boundary whole at (piece kind text ∷ ps) b e h; to = boundary whole (at + length text) ps d.0 d.1 h.1 };
-      text = d.2;
-    }, stand_for whole (at + length text) ps d.0 d.1 h.1)
+    let d = further_drop whole at text (printed ps) b e in (
+      record {
+        kind = refl;
+        cut = record { ordered = omega arith; from = boundary whole at (piece kind text ∷ ps) b e h; to = boundary whole (at + length text) ps d.0 d.1 h.1 };
+        text = d.2;
+      },
+      stand_for whole (at + length text) ps d.0 d.1 h.1,
+    )

@@ -112,7 +112,7 @@ all_constants done (v ∷ vs) a [] fit h w = absurd h
 all_constants done (v ∷ vs) a (t ∷ ts) fit h w =
     let next = pair (IsOne (Only kind.Comma)) (IsOne Constant) (MeansOne kind.Comma (codes ",")) (λ (whole : List ℕ) (x : Token). IsConstantOf whole x v) Stops Ends (codes ",") (32 ∷ t) (λ after e. stop_space) comma (spaced (constant Constant v t (constant_in v) fit.0 h.0)) in
     let joint = as_tree AreConstants (MeanConstants (done ++ v ∷ [])) (λ whole ts x i m. (x.0 ++ x.1.1 ∷ [], one_more ts x i, each_more (IsConstantOf whole) x.0 done x.1.1 v m.0 m.1.1))
-        (pair AreConstants (IsPair (IsOne (Only kind.Comma)) (IsOne Constant)) (MeanConstants done) (MeanPair (MeansOne kind.Comma (codes ",")) (λ (whole : List ℕ) (x : Token). IsConstantOf whole x v)) Ends Ends a (codes ", " ++ t) (λ after e. (stop_comma, λ x. omega arith)) w next) in
+    (pair AreConstants (IsPair (IsOne (Only kind.Comma)) (IsOne Constant)) (MeanConstants done) (MeanPair (MeansOne kind.Comma (codes ",")) (λ (whole : List ℕ) (x : Token). IsConstantOf whole x v)) Ends Ends a (codes ", " ++ t) (λ after e. (stop_comma, λ x. omega arith)) w next) in
     let all = all_constants (done ++ v ∷ []) vs (a ++ (codes ", " ++ t)) ts fit.1 h.1 joint in
     as_text (append_assoc a (codes ", " ++ t) (flat_map (λ y. codes ", " ++ y) ts)) (subst (λ (x : List Value). Written AreConstants (MeanConstants x) Ends ((a ++ (codes ", " ++ t)) ++ flat_map (λ y. codes ", " ++ y) ts)) (append_assoc done (v ∷ []) vs) all)
 
