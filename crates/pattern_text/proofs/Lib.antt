@@ -4,6 +4,8 @@ mod Times
 mod LeafTexts
 mod Sizes
 mod Longest
+mod Depths
+mod DepthLines
 mod Alone
 mod Pieces
 mod Written
