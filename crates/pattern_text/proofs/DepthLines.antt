@@ -1,4 +1,4 @@
--- How deep what spells a pattern nests at least: as deep as its canonical text.
+-- How deep what spells a pattern nests: at least as deep as its canonical text.
 use Rattle.std.proofs.Common.{◌≡◌, ℕ, zero, suc, ◌+◌, ◌≤◌, Bool, true, false, not, ◌||◌, ◌==◌, List, [], ◌∷◌, ◌++◌, refl, sym, ap, subst, ◌∙◌, arith, nat_le, nat_eq, max, if◌then◌else◌}
 use Rattle.std.proofs.lemmas.Bool.Decides.{nat_tests}
 use Rattle.pattern_tokens.specs.declared.token.Token.{Token}
@@ -10,7 +10,7 @@ use Rattle.pattern_syntax.specs.declared.path.PathTree.{PathTree}
 use Rattle.pattern_syntax.specs.declared.comparison.CheckTree.{CheckTree}
 use Rattle.pattern_syntax.specs.declared.qualifier.Qualifier.{Qualifier}
 use Rattle.pattern_syntax.specs.Class.{code, same, IsA, is_root, is_name, is_index, is_equality, is_order, is_textual, is_ordered, is_constant}
-use Rattle.pattern_syntax.specs.Tree.{Comparison, Tree, all, any}
+use Rattle.pattern_syntax.specs.Tree.{Comparison, Tree, test, all, any}
 use Rattle.pattern_syntax.specs.Grammar.{IsStep, step_name, step_index, IsPath, path_first, path_further, AreConstants, constants_one, constants_more, IsCheck, check_equality, check_order, check_among, check_textual, IsTest, test_group, test_exists, test_not_exists, test_compare, test_not_compare, IsCand, cand_one, cand_more, IsCor, cor_one, cor_more, IsQualifier, qualifier_within, qualifier_repeats, qualifier_between, IsStart, start_leaf, start_group, IsUnit, unit_one, unit_more, IsAnds, ands_one, ands_more, IsOrs, ors_one, ors_more, IsPattern, pattern_one, pattern_more}
 use Rattle.pattern_meaning.specs.Formula.{Formula, one, every, some, Formulas, none, more, put, IsNoAll, IsNoAny, Means, means_test, means_group, means_all, means_any, AllParts, all_first, all_more, AnyParts, any_first, any_more}
 use Rattle.pattern_meaning.specs.Meant.{Meant, a_leaf, a_both, an_either, a_then, a_limited, MeansPattern, means_leaf, means_both, means_either, means_then, means_limited}
@@ -217,7 +217,7 @@ qualifiers_in (an_either m n) = qualifiers_in m + qualifiers_in n
 qualifiers_in (a_then m n) = qualifiers_in m + qualifiers_in n
 qualifiers_in (a_limited m l) = qualifiers_in m + 1
 
-wrapped_least : (b n : ℕ) → wrapped 0 b n ≡ n
+pub wrapped_least : (b n : ℕ) → wrapped 0 b n ≡ n
 wrapped_least b n = grind (arith, nat_tests)
 
 wrapped_high : (k b n : ℕ) → wrapped k b n ≤ n + 1
@@ -226,7 +226,7 @@ wrapped_high k b n = grind (arith, nat_tests)
 wrapped_down : (j k b n : ℕ) → j ≤ k → wrapped j b n ≤ wrapped k b n
 wrapped_down j k b n h = grind (arith, nat_tests)
 
-put_need : (least : ℕ) (fs : Formulas) (f : Formula) → parts_need least (put fs f) ≡ max (parts_need least fs) (wrapped least (binds f) (formula_need f))
+pub put_need : (least : ℕ) (fs : Formulas) (f : Formula) → parts_need least (put fs f) ≡ max (parts_need least fs) (wrapped least (binds f) (formula_need f))
 put_need least none f = omega arith
 put_need least (more g fs) f = let e = put_need least fs f in omega (arith, e)
 
@@ -266,6 +266,18 @@ cand_apart (cand_more o h k l) = tt
 two_measured : (xs ys : List Token) → Flat xs → Measured ys 0 0 → Measured (xs ++ ys) 0 0
 two_measured xs ys h m = measured_is (xs ++ ys) (max 0 0) (0 + 0) 0 0 refl refl (joined xs ys 0 0 0 0 (flats xs h) m)
 
+-- a test that stands in no parentheses
+abbrev pub IsPlain : Comparison → Type 0
+IsPlain (test t) = Unit {0}
+IsPlain _ = ⊥
+
+pub plain_measured : {ts : List Token} {c : Comparison} → IsTest ts c → IsPlain c → Measured ts 0 0
+plain_measured (test_group a b h x k) p = absurd p
+plain_measured (test_exists a {ts = ts} h x) p = flats (a ∷ ts) (only_flat kind.Exists a.kind h refl, path_flat x)
+plain_measured (test_not_exists a b {ts = ts} h k x) p = flats (a ∷ b ∷ ts) (only_flat kind.Not a.kind h refl, (only_flat kind.Exists b.kind k refl, path_flat x))
+plain_measured (test_compare {a = a} {b = b} x y) p = two_measured a b (path_flat x) (check_measured y)
+plain_measured (test_not_compare {a = a} {b = b} o x h y) p = two_measured a (o ∷ b) (path_flat x) (first_flat o b 0 0 (only_flat kind.Not o.kind h refl) (check_measured y))
+
 -- one part more
 part_more : (least : ℕ) (xs ys : List Token) (o : Token) (fs : Formulas) (f : Formula) → is_flat o.kind ≡ true → Deep xs 0 (parts_need least fs) → Deep ys 0 (wrapped least (binds f) (formula_need f)) → Deep (xs ++ o ∷ ys) 0 (parts_need least (put fs f))
 part_more least xs ys o fs f e c d =
@@ -276,10 +288,10 @@ mutual
   test_deep text {f = f} (test_group a b {ts = ts} h x k) (means_group m) =
       let d = cor_deep text x m in
       deep_less _ 0 (wrapped 2 (binds f) (formula_need f)) (wrapped 0 (binds f) (formula_need f) + 1) (let e = wrapped_least (binds f) (formula_need f) in let g = wrapped_high 2 (binds f) (formula_need f) in omega (arith, e, g)) (deep_round a b ts 0 (wrapped 0 (binds f) (formula_need f)) h k d)
-  test_deep text (test_exists a {ts = ts} h x) (means_test m) = deep_flat _ (flats (a ∷ ts) (only_flat kind.Exists a.kind h refl, path_flat x))
-  test_deep text (test_not_exists a b {ts = ts} h k x) (means_test m) = deep_flat _ (flats (a ∷ b ∷ ts) (only_flat kind.Not a.kind h refl, (only_flat kind.Exists b.kind k refl, path_flat x)))
-  test_deep text (test_compare {a = a} {b = b} x y) (means_test m) = deep_flat _ (two_measured a b (path_flat x) (check_measured y))
-  test_deep text (test_not_compare {a = a} {b = b} o x h y) (means_test m) = deep_flat _ (two_measured a (o ∷ b) (path_flat x) (first_flat o b 0 0 (only_flat kind.Not o.kind h refl) (check_measured y)))
+  test_deep text (test_exists a h x) (means_test m) = deep_flat _ (plain_measured (test_exists a h x) tt)
+  test_deep text (test_not_exists a b h k x) (means_test m) = deep_flat _ (plain_measured (test_not_exists a b h k x) tt)
+  test_deep text (test_compare x y) (means_test m) = deep_flat _ (plain_measured (test_compare x y) tt)
+  test_deep text (test_not_compare o x h y) (means_test m) = deep_flat _ (plain_measured (test_not_compare o x h y) tt)
 
   all_deep : (text : List ℕ) {ts : List Token} {c : Comparison} {fs : Formulas} → IsCand ts c → AllParts text c fs → Deep ts 0 (parts_need 2 fs)
   all_deep text (cand_one x) (all_first {f = f} n m) = deep_less _ 0 (max (wrapped 2 (binds f) (formula_need f)) 0) (wrapped 2 (binds f) (formula_need f)) (omega arith) (test_deep text x m)

@@ -132,10 +132,10 @@ flat t e = record {
 pub measured_is : (ts : List Token) (n q m r : ℕ) → n ≡ m → q ≡ r → Measured ts n q → Measured ts m r
 measured_is ts n q m r e g h = subst (λ (k : ℕ). Measured ts k r) e (subst (λ (k : ℕ). Measured ts n k) g h)
 
-max_first : (n : ℕ) → max 0 n ≡ n
+pub max_first : (n : ℕ) → max 0 n ≡ n
 max_first n = omega arith
 
-max_last : (n : ℕ) → max n 0 ≡ n
+pub max_last : (n : ℕ) → max n 0 ≡ n
 max_last n = omega arith
 
 none_first_sum : (q : ℕ) → 0 + q ≡ q

@@ -1,5 +1,5 @@
 -- A canonical text reads back: the tokens of its pieces spell a pattern that means what was written.
-use Rattle.std.proofs.Common.{◌≡◌, ℕ, zero, suc, ◌≤◌, pos, true, false, Bool, List, [], ◌∷◌, ◌++◌, refl, sym, ap, ◌∙◌, arith, append_assoc}
+use Rattle.std.proofs.Common.{◌≡◌, ℕ, zero, suc, ◌+◌, ◌≤◌, pos, true, false, Bool, List, [], ◌∷◌, ◌++◌, refl, sym, ap, ◌∙◌, arith, append_assoc, max}
 use Rattle.std.specs.Prelude.{codes, decimal, nat_le, if◌then◌else◌}
 use Rattle.pattern_tokens.specs.declared.token.Token.{Token}
 use Rattle.pattern_tokens.specs.declared.token.TokenKind.{TokenKind}
@@ -28,7 +28,10 @@ use Rattle.pattern_text.proofs.Numerals.{count_text, count_shape}
 use Rattle.pattern_text.proofs.Values.{at, time}
 use Rattle.pattern_text.proofs.PathLines.{stop_space, stop_close, stop_square, square, close_square}
 use Rattle.pattern_text.proofs.TestLines.{MeansOne, sign, round, close_round}
-use Rattle.pattern_text.proofs.FormulaLines.{MeansFormula, formula, lowered, binds_low, le_from}
+use Rattle.pattern_text.proofs.FormulaLines.{IsDeep, MeansFormula, formula, lowered, binds_low, le_from}
+use Rattle.pattern_text.proofs.Depths.{Measured, measured_is, max_last, joined, first_flat, last_flat, mid_flat}
+use Rattle.pattern_text.proofs.Depths as depth
+use Rattle.pattern_text.proofs.DepthLines.{only_flat, qualifier_measured, wrapped, formula_need, need, qualifiers_in}
 use Rattle.pattern_text.specs.Fit.{FitLimit, FitMeant}
 
 -- the line of the grammar for what binds so
@@ -37,6 +40,10 @@ IsLevel zero = IsPattern
 IsLevel (suc zero) = IsOrs
 IsLevel (suc (suc zero)) = IsAnds
 IsLevel (suc (suc (suc n))) = IsUnit
+
+-- and opens so many parentheses at once, with so many qualifiers
+abbrev pub IsDeepLine : {T : Type 0} → (List Token → T → Type 0) → ℕ → ℕ → List Token → T → Type 0
+IsDeepLine IsLine n q ts x = IsLine ts x × Measured ts n q
 
 abbrev pub MeansTree : Meant → List ℕ → Tree → Type 0
 MeansTree m whole p = MeansPattern whole p m
@@ -59,21 +66,21 @@ down (suc (suc (suc a))) (suc zero) h k ts p w = absurd (omega arith)
 down (suc (suc (suc a))) (suc (suc zero)) h k ts p w = absurd (omega arith)
 down (suc (suc (suc a))) (suc (suc (suc b))) h k ts p w = w
 
-downed : (a b : ℕ) (m : Meant) (text : List ℕ) → a ≤ b → b ≤ 3 → Written (IsLevel b) (MeansTree m) Ends text → Written (IsLevel a) (MeansTree m) Ends text
-downed a b m text h k w = as_tree (IsLevel a) (MeansTree m) (λ whole ts p i x. (p, down a b h k ts p i, x)) w
+downed : (a b n q : ℕ) (m : Meant) (text : List ℕ) → a ≤ b → b ≤ 3 → Written (IsDeepLine (IsLevel b) n q) (MeansTree m) Ends text → Written (IsDeepLine (IsLevel a) n q) (MeansTree m) Ends text
+downed a b n q m text h k w = as_tree (IsDeepLine (IsLevel a) n q) (MeansTree m) (λ whole ts p i x. (p, (down a b h k ts p i.0, i.1), x)) w
 
-grouped : (ts : List Token) (x : (Token × Tree) × Token) → IsPair (IsPair (IsOne (Only kind.RoundOpen)) IsPattern) (IsOne (Only kind.RoundClose)) ts x → IsUnit ts x.0.1
-grouped ts x (is_pair (is_pair (is_one a h) k) (is_one b l)) = unit_one (start_group a b h k l)
+grouped : (n q : ℕ) (ts : List Token) (x : (Token × Tree) × Token) → IsPair (IsPair (IsOne (Only kind.RoundOpen)) (IsDeepLine IsPattern n q)) (IsOne (Only kind.RoundClose)) ts x → IsDeepLine IsUnit (n + 1) q ts x.0.1
+grouped n q ts x (is_pair (is_pair (is_one a h) k) (is_one b l)) = (unit_one (start_group a b h k.0 l), depth.round a b _ n q h l k.1)
 
-in_round : (m : Meant) (inner : List ℕ) → Written IsPattern (MeansTree m) Ends inner → Written IsUnit (MeansTree m) Ends ((codes "(" ++ inner) ++ codes ")")
-in_round m inner w =
-    before Ends ends_stops (as_tree IsUnit (MeansTree m) (λ whole ts x i y. (x.0.1, grouped ts x i, y.0.1))
-    (pair (IsPair (IsOne (Only kind.RoundOpen)) IsPattern) (IsOne (Only kind.RoundClose)) (MeanPair (MeansOne kind.RoundOpen (codes "(")) (MeansTree m)) (MeansOne kind.RoundClose (codes ")")) Ends Stops (codes "(" ++ inner) (codes ")") (λ after e. (stop_close, λ x. omega arith))
-    (pair (IsOne (Only kind.RoundOpen)) IsPattern (MeansOne kind.RoundOpen (codes "(")) (MeansTree m) Anything Ends (codes "(") inner (λ after e. tt) round w) close_round))
+in_round : (m : Meant) (n q : ℕ) (inner : List ℕ) → Written (IsDeepLine IsPattern n q) (MeansTree m) Ends inner → Written (IsDeepLine IsUnit (n + 1) q) (MeansTree m) Ends ((codes "(" ++ inner) ++ codes ")")
+in_round m n q inner w =
+    before Ends ends_stops (as_tree (IsDeepLine IsUnit (n + 1) q) (MeansTree m) (λ whole ts x i y. (x.0.1, grouped n q ts x i, y.0.1))
+    (pair (IsPair (IsOne (Only kind.RoundOpen)) (IsDeepLine IsPattern n q)) (IsOne (Only kind.RoundClose)) (MeanPair (MeansOne kind.RoundOpen (codes "(")) (MeansTree m)) (MeansOne kind.RoundClose (codes ")")) Ends Stops (codes "(" ++ inner) (codes ")") (λ after e. (stop_close, λ x. omega arith))
+    (pair (IsOne (Only kind.RoundOpen)) (IsDeepLine IsPattern n q) (MeansOne kind.RoundOpen (codes "(")) (MeansTree m) Anything Ends (codes "(") inner (λ after e. tt) round w) close_round))
 
-within_by : (q : Bool) (least b : ℕ) (m : Meant) (inner : List ℕ) → (q ≡ true → least ≤ b) → least ≤ 3 → b ≤ 3 → Written (IsLevel b) (MeansTree m) Ends inner → Written (IsLevel least) (MeansTree m) Ends (if q then inner else codes "(" ++ inner ++ codes ")")
-within_by true least b m inner h k l w = downed least b m inner (h refl) l w
-within_by false least b m inner h k l w = downed least 3 m (codes "(" ++ inner ++ codes ")") k (omega arith) (in_round m inner (downed 0 b m inner (omega arith) l w))
+within_by : (t : Bool) (least b n q : ℕ) (m : Meant) (inner : List ℕ) → (t ≡ true → least ≤ b) → least ≤ 3 → b ≤ 3 → Written (IsDeepLine (IsLevel b) n q) (MeansTree m) Ends inner → Written (IsDeepLine (IsLevel least) (if t then n else n + 1) q) (MeansTree m) Ends (if t then inner else codes "(" ++ inner ++ codes ")")
+within_by true least b n q m inner h k l w = downed least b n q m inner (h refl) l w
+within_by false least b n q m inner h k l w = downed least 3 (n + 1) q m (codes "(" ++ inner ++ codes ")") k (omega arith) (in_round m n q inner (downed 0 b n q m inner (omega arith) l w))
 
 level_low : (m : Meant) → level m ≤ 3
 level_low (a_leaf f) = omega arith
@@ -82,8 +89,11 @@ level_low (an_either m n) = omega arith
 level_low (a_then m n) = omega arith
 level_low (a_limited m l) = omega arith
 
-within : (least : ℕ) (m : Meant) (text : List ℕ) → least ≤ 3 → ((inner : List ℕ) → IsCanonical m inner → Written (IsLevel (level m)) (MeansTree m) Ends inner) → IsWithin least (level m) (IsCanonical m) text → Written (IsLevel least) (MeansTree m) Ends text
-within least m text k w h = as_text (sym h.2) (within_by (nat_le least (level m)) least (level m) m h.0 (le_from least (level m)) k (level_low m) (w h.0 h.1))
+abbrev IsNeeded : ℕ → Meant → List Token → Tree → Type 0
+IsNeeded least m = IsDeepLine (IsLevel least) (wrapped least (level m) (need m)) (qualifiers_in m)
+
+within : (least : ℕ) (m : Meant) (text : List ℕ) → least ≤ 3 → ((inner : List ℕ) → IsCanonical m inner → Written (IsDeepLine (IsLevel (level m)) (need m) (qualifiers_in m)) (MeansTree m) Ends inner) → IsWithin least (level m) (IsCanonical m) text → Written (IsNeeded least m) (MeansTree m) Ends text
+within least m text k w h = as_text (sym h.2) (within_by (nat_le least (level m)) least (level m) (need m) (qualifiers_in m) m h.0 (le_from least (level m)) k (level_low m) (w h.0 h.1))
 
 -- qualifiers
 abbrev MeansLimit : Limit → List ℕ → Qualifier → Type 0
@@ -131,52 +141,52 @@ limit (Between i j) text fit h =
     (pair (IsPair (IsOne (Only kind.Start)) (IsOne (Only kind.Time))) (IsPair (IsOne (Only kind.Stop)) (IsOne (Only kind.Time))) (MeanPair (MeansOne kind.Start (codes "START")) (λ (whole : List ℕ) (t : Token). (t.kind ≡ kind.Time) × At IsMomentText whole t i)) (MeanPair (MeansOne kind.Stop (codes "STOP")) (λ (whole : List ℕ) (t : Token). (t.kind ≡ kind.Time) × At IsMomentText whole t j)) Anything Anything (codes "START " ++ h.2.0) (32 ∷ (codes "STOP" ++ 32 ∷ h.1)) (λ after e. tt) start (spaced stop))))
 
 -- patterns
-bracketed : (ts : List Token) (x : (Token × Comparison) × Token) → IsPair (IsPair (IsOne (Only kind.SquareOpen)) IsCor) (IsOne (Only kind.SquareClose)) ts x → IsUnit ts (leaf x.0.1)
-bracketed ts x (is_pair (is_pair (is_one a h) k) (is_one b l)) = unit_one (start_leaf a b h k l)
+bracketed : (n : ℕ) (ts : List Token) (x : (Token × Comparison) × Token) → IsPair (IsPair (IsOne (Only kind.SquareOpen)) (IsDeep IsCor n)) (IsOne (Only kind.SquareClose)) ts x → IsDeepLine IsUnit n 0 ts (leaf x.0.1)
+bracketed n ts x (is_pair (is_pair (is_one a h) k) (is_one b l)) = (unit_one (start_leaf a b h k.0 l), first_flat a _ n 0 (only_flat kind.SquareOpen a.kind h refl) (last_flat b _ n 0 (only_flat kind.SquareClose b.kind l refl) k.1))
 
-in_square : (f : Formula) (inner : List ℕ) → Written IsCor (MeansFormula f) Ends inner → Written IsUnit (MeansTree (a_leaf f)) Ends ((codes "[" ++ inner) ++ codes "]")
-in_square f inner w =
-    before Ends ends_stops (as_tree IsUnit (MeansTree (a_leaf f)) (λ whole ts x i y. (leaf x.0.1, bracketed ts x i, means_leaf y.0.1))
-    (pair (IsPair (IsOne (Only kind.SquareOpen)) IsCor) (IsOne (Only kind.SquareClose)) (MeanPair (MeansOne kind.SquareOpen (codes "[")) (MeansFormula f)) (MeansOne kind.SquareClose (codes "]")) Ends Stops (codes "[" ++ inner) (codes "]") (λ after e. (stop_square, λ x. omega arith))
-    (pair (IsOne (Only kind.SquareOpen)) IsCor (MeansOne kind.SquareOpen (codes "[")) (MeansFormula f) Anything Ends (codes "[") inner (λ after e. tt) square w) close_square))
+in_square : (f : Formula) (n : ℕ) (inner : List ℕ) → Written (IsDeep IsCor n) (MeansFormula f) Ends inner → Written (IsDeepLine IsUnit n 0) (MeansTree (a_leaf f)) Ends ((codes "[" ++ inner) ++ codes "]")
+in_square f n inner w =
+    before Ends ends_stops (as_tree (IsDeepLine IsUnit n 0) (MeansTree (a_leaf f)) (λ whole ts x i y. (leaf x.0.1, bracketed n ts x i, means_leaf y.0.1))
+    (pair (IsPair (IsOne (Only kind.SquareOpen)) (IsDeep IsCor n)) (IsOne (Only kind.SquareClose)) (MeanPair (MeansOne kind.SquareOpen (codes "[")) (MeansFormula f)) (MeansOne kind.SquareClose (codes "]")) Ends Stops (codes "[" ++ inner) (codes "]") (λ after e. (stop_square, λ x. omega arith))
+    (pair (IsOne (Only kind.SquareOpen)) (IsDeep IsCor n) (MeansOne kind.SquareOpen (codes "[")) (MeansFormula f) Anything Ends (codes "[") inner (λ after e. tt) square w) close_square))
 
 -- an operator between two sides
-operated : (k : TokenKind) (operator : List ℕ) (a b : ℕ) (m n : Meant) (left right : List ℕ) → Written (IsOne (Only k)) (MeansOne k operator) Stops operator → Written (IsLevel a) (MeansTree m) Ends left → Written (IsLevel b) (MeansTree n) Ends right
-    → Written (IsPair (IsLevel a) (IsPair (IsOne (Only k)) (IsLevel b))) (MeanPair (MeansTree m) (MeanPair (MeansOne k operator) (MeansTree n))) Ends (left ++ 32 ∷ (operator ++ 32 ∷ right))
+operated : (k : TokenKind) (operator : List ℕ) (a b : ℕ) (m n : Meant) (left right : List ℕ) → Written (IsOne (Only k)) (MeansOne k operator) Stops operator → Written (IsNeeded a m) (MeansTree m) Ends left → Written (IsNeeded b n) (MeansTree n) Ends right
+    → Written (IsPair (IsNeeded a m) (IsPair (IsOne (Only k)) (IsNeeded b n))) (MeanPair (MeansTree m) (MeanPair (MeansOne k operator) (MeansTree n))) Ends (left ++ 32 ∷ (operator ++ 32 ∷ right))
 operated k operator a b m n left right o v w =
-    pair (IsLevel a) (IsPair (IsOne (Only k)) (IsLevel b)) (MeansTree m) (MeanPair (MeansOne k operator) (MeansTree n)) Ends Ends left (32 ∷ (operator ++ 32 ∷ right)) (λ after e. (stop_space, λ x. omega arith)) v
-    (spaced (pair (IsOne (Only k)) (IsLevel b) (MeansOne k operator) (MeansTree n) Stops Ends operator (32 ∷ right) (λ after e. stop_space) o (spaced w)))
+    pair (IsNeeded a m) (IsPair (IsOne (Only k)) (IsNeeded b n)) (MeansTree m) (MeanPair (MeansOne k operator) (MeansTree n)) Ends Ends left (32 ∷ (operator ++ 32 ∷ right)) (λ after e. (stop_space, λ x. omega arith)) v
+    (spaced (pair (IsOne (Only k)) (IsNeeded b n) (MeansOne k operator) (MeansTree n) Stops Ends operator (32 ∷ right) (λ after e. stop_space) o (spaced w)))
 
 sides_text : (left operator right : List ℕ) → left ++ 32 ∷ (operator ++ 32 ∷ right) ≡ (left ++ (32 ∷ (operator ++ 32 ∷ []))) ++ right
 sides_text left operator right = sym (append_assoc left (32 ∷ (operator ++ 32 ∷ [])) right ∙ ap (λ (x : List ℕ). left ++ 32 ∷ x) (append_assoc operator (32 ∷ []) right))
 
-and_sides : (ts : List Token) (x : Tree × (Token × Tree)) → IsPair IsAnds (IsPair (IsOne (Only kind.And)) IsUnit) ts x → IsAnds ts (both x.0 x.1.1)
-and_sides ts x (is_pair h (is_pair (is_one o i) k)) = ands_more o h i k
+and_sides : (m n : Meant) (ts : List Token) (x : Tree × (Token × Tree)) → IsPair (IsNeeded 2 m) (IsPair (IsOne (Only kind.And)) (IsNeeded 3 n)) ts x → IsDeepLine IsAnds (need (a_both m n)) (qualifiers_in (a_both m n)) ts (both x.0 x.1.1)
+and_sides m n ts x (is_pair h (is_pair (is_one o i) k)) = (ands_more o h.0 i k.0, mid_flat _ o _ _ _ _ _ (only_flat kind.And o.kind i refl) h.1 k.1)
 
-or_sides : (ts : List Token) (x : Tree × (Token × Tree)) → IsPair IsOrs (IsPair (IsOne (Only kind.Or)) IsAnds) ts x → IsOrs ts (either x.0 x.1.1)
-or_sides ts x (is_pair h (is_pair (is_one o i) k)) = ors_more o h i k
+or_sides : (m n : Meant) (ts : List Token) (x : Tree × (Token × Tree)) → IsPair (IsNeeded 1 m) (IsPair (IsOne (Only kind.Or)) (IsNeeded 2 n)) ts x → IsDeepLine IsOrs (need (an_either m n)) (qualifiers_in (an_either m n)) ts (either x.0 x.1.1)
+or_sides m n ts x (is_pair h (is_pair (is_one o i) k)) = (ors_more o h.0 i k.0, mid_flat _ o _ _ _ _ _ (only_flat kind.Or o.kind i refl) h.1 k.1)
 
-then_sides : (ts : List Token) (x : Tree × (Token × Tree)) → IsPair IsPattern (IsPair (IsOne (Only kind.FollowedBy)) IsOrs) ts x → IsPattern ts (followed x.0 x.1.1)
-then_sides ts x (is_pair h (is_pair (is_one o i) k)) = pattern_more o h i k
+then_sides : (m n : Meant) (ts : List Token) (x : Tree × (Token × Tree)) → IsPair (IsNeeded 0 m) (IsPair (IsOne (Only kind.FollowedBy)) (IsNeeded 1 n)) ts x → IsDeepLine IsPattern (need (a_then m n)) (qualifiers_in (a_then m n)) ts (followed x.0 x.1.1)
+then_sides m n ts x (is_pair h (is_pair (is_one o i) k)) = (pattern_more o h.0 i k.0, mid_flat _ o _ _ _ _ _ (only_flat kind.FollowedBy o.kind i refl) h.1 k.1)
 
-limited : (ts : List Token) (x : Tree × Qualifier) → IsPair IsUnit IsQualifier ts x → IsUnit ts (qualified x.0 x.1)
-limited ts x (is_pair h k) = unit_more h k
+limited : (m : Meant) (l : Limit) (ts : List Token) (x : Tree × Qualifier) → IsPair (IsNeeded 3 m) IsQualifier ts x → IsDeepLine IsUnit (need (a_limited m l)) (qualifiers_in (a_limited m l)) ts (qualified x.0 x.1)
+limited m l ts x (is_pair h k) = (unit_more h.0 k, measured_is _ (max (need (a_limited m l)) 0) (qualifiers_in m + 1) (need (a_limited m l)) (qualifiers_in m + 1) (max_last (need (a_limited m l))) refl (joined _ _ (need (a_limited m l)) (qualifiers_in m) 0 1 h.1 (qualifier_measured k)))
 
-pub canonical : (m : Meant) (text : List ℕ) → FitMeant m → IsCanonical m text → Written (IsLevel (level m)) (MeansTree m) Ends text
-canonical (a_leaf f) text fit h = as_text (sym h.2) (in_square f h.0 (lowered 0 (binds f) f h.0 (omega arith) (binds_low f) (formula f h.0 fit h.1)))
+pub canonical : (m : Meant) (text : List ℕ) → FitMeant m → IsCanonical m text → Written (IsDeepLine (IsLevel (level m)) (need m) (qualifiers_in m)) (MeansTree m) Ends text
+canonical (a_leaf f) text fit h = as_text (sym h.2) (in_square f (formula_need f) h.0 (lowered 0 (binds f) (formula_need f) f h.0 (omega arith) (binds_low f) (formula f h.0 fit h.1)))
 canonical (a_both m n) text fit h =
-    as_text (sides_text h.0 (codes "AND") h.1 ∙ sym h.4) (as_tree IsAnds (MeansTree (a_both m n)) (λ whole ts x i y. (both x.0 x.1.1, and_sides ts x i, means_both y.0 y.1.1))
+    as_text (sides_text h.0 (codes "AND") h.1 ∙ sym h.4) (as_tree (IsDeepLine IsAnds (need (a_both m n)) (qualifiers_in (a_both m n))) (MeansTree (a_both m n)) (λ whole ts x i y. (both x.0 x.1.1, and_sides m n ts x i, means_both y.0 y.1.1))
     (operated kind.And (codes "AND") 2 3 m n h.0 h.1 (sign (Only kind.And) kind.And (codes "AND") refl refl tt refl (λ e. cc)) (within 2 m h.0 (omega arith) (λ inner k. canonical m inner fit.0 k) h.2) (within 3 n h.1 (omega arith) (λ inner k. canonical n inner fit.1 k) h.3)))
 canonical (an_either m n) text fit h =
-    as_text (sides_text h.0 (codes "OR") h.1 ∙ sym h.4) (as_tree IsOrs (MeansTree (an_either m n)) (λ whole ts x i y. (either x.0 x.1.1, or_sides ts x i, means_either y.0 y.1.1))
+    as_text (sides_text h.0 (codes "OR") h.1 ∙ sym h.4) (as_tree (IsDeepLine IsOrs (need (an_either m n)) (qualifiers_in (an_either m n))) (MeansTree (an_either m n)) (λ whole ts x i y. (either x.0 x.1.1, or_sides m n ts x i, means_either y.0 y.1.1))
     (operated kind.Or (codes "OR") 1 2 m n h.0 h.1 (sign (Only kind.Or) kind.Or (codes "OR") refl refl tt refl (λ e. cc)) (within 1 m h.0 (omega arith) (λ inner k. canonical m inner fit.0 k) h.2) (within 2 n h.1 (omega arith) (λ inner k. canonical n inner fit.1 k) h.3)))
 canonical (a_then m n) text fit h =
-    as_text (sides_text h.0 (codes "FOLLOWEDBY") h.1 ∙ sym h.4) (as_tree IsPattern (MeansTree (a_then m n)) (λ whole ts x i y. (followed x.0 x.1.1, then_sides ts x i, means_then y.0 y.1.1))
+    as_text (sides_text h.0 (codes "FOLLOWEDBY") h.1 ∙ sym h.4) (as_tree (IsDeepLine IsPattern (need (a_then m n)) (qualifiers_in (a_then m n))) (MeansTree (a_then m n)) (λ whole ts x i y. (followed x.0 x.1.1, then_sides m n ts x i, means_then y.0 y.1.1))
     (operated kind.FollowedBy (codes "FOLLOWEDBY") 0 1 m n h.0 h.1 (sign (Only kind.FollowedBy) kind.FollowedBy (codes "FOLLOWEDBY") refl refl tt refl (λ e. cc)) (within 0 m h.0 (omega arith) (λ inner k. canonical m inner fit.0 k) h.2) (within 1 n h.1 (omega arith) (λ inner k. canonical n inner fit.1 k) h.3)))
 canonical (a_limited m l) text fit h =
-    as_text (sym (append_assoc h.0 (codes " ") h.1) ∙ sym h.4) (as_tree IsUnit (MeansTree (a_limited m l)) (λ whole ts x i y. (qualified x.0 x.1, limited ts x i, means_limited y.0 y.1))
-    (pair IsUnit IsQualifier (MeansTree m) (MeansLimit l) Ends Ends h.0 (32 ∷ h.1) (λ after e. (stop_space, λ x. omega arith)) (within 3 m h.0 (omega arith) (λ inner k. canonical m inner fit.0 k) h.2) (spaced (limit l h.1 fit.1 h.3))))
+    as_text (sym (append_assoc h.0 (codes " ") h.1) ∙ sym h.4) (as_tree (IsDeepLine IsUnit (need (a_limited m l)) (qualifiers_in (a_limited m l))) (MeansTree (a_limited m l)) (λ whole ts x i y. (qualified x.0 x.1, limited m l ts x i, means_limited y.0 y.1))
+    (pair (IsNeeded 3 m) IsQualifier (MeansTree m) (MeansLimit l) Ends Ends h.0 (32 ∷ h.1) (λ after e. (stop_space, λ x. omega arith)) (within 3 m h.0 (omega arith) (λ inner k. canonical m inner fit.0 k) h.2) (spaced (limit l h.1 fit.1 h.3))))
 
 -- as a whole pattern
-pub whole_pattern : (m : Meant) (text : List ℕ) → FitMeant m → IsCanonical m text → Written IsPattern (MeansTree m) Ends text
-whole_pattern m text fit h = downed 0 (level m) m text (omega arith) (level_low m) (canonical m text fit h)
+pub whole_pattern : (m : Meant) (text : List ℕ) → FitMeant m → IsCanonical m text → Written (IsDeepLine IsPattern (need m) (qualifiers_in m)) (MeansTree m) Ends text
+whole_pattern m text fit h = downed 0 (level m) (need m) (qualifiers_in m) m text (omega arith) (level_low m) (canonical m text fit h)

@@ -25,6 +25,7 @@ use Rattle.pattern_meaning.specs.Meaning.{Each, IsConstantOf, IsCheckOf}
 use Rattle.pattern_meaning.specs.Formula.{Means, one, means_test}
 use Rattle.pattern_text.specs.Parts.{joined}
 use Rattle.pattern_text.specs.Constant.{IsConstantText}
+use Rattle.pattern_text.proofs.DepthLines.{IsPlain}
 use Rattle.pattern_text.specs.Check.{AreWords, AreAmong, not_text, operator_text, IsCheckedText, IsTestText}
 use Rattle.pattern_text.proofs.Longest.{Stops, Ends, ends_stops}
 use Rattle.pattern_text.proofs.Adding.{each_more}
@@ -145,7 +146,7 @@ is_among vs text fit h =
 
 -- tests
 abbrev pub MeansTest : Test → List ℕ → Comparison → Type 0
-MeansTest t whole c = Means whole c (one t)
+MeansTest t whole c = Means whole c (one t) × IsPlain c
 
 regroup : (p lead operator v : List ℕ) → p ++ (lead ++ (operator ++ 32 ∷ v)) ≡ (p ++ (lead ++ (operator ++ 32 ∷ []))) ++ v
 regroup p lead operator v = sym (append_assoc p (lead ++ (operator ++ 32 ∷ [])) v ∙ ap (λ (x : List ℕ). p ++ x) (append_assoc lead (operator ++ 32 ∷ []) v ∙ ap (λ (x : List ℕ). lead ++ x) (append_assoc operator (32 ∷ []) v)))
@@ -161,10 +162,10 @@ no = literal (Only kind.Not) kind.Not (codes "NOT") refl refl tt refl (λ e. cc)
 
 asked : (p : Path) (negated : Bool) (c : Check) (ptext operator v : List ℕ) → Written IsPath (MeansPath p) Stops ptext → Written IsCheck (MeansCheck c) Ends (operator ++ 32 ∷ v) → Written IsTest (MeansTest (record { path = p; negated = negated; check = c })) Ends (ptext ++ operator_text negated operator ++ v)
 asked p false c ptext operator v w k =
-    as_text (regroup ptext (32 ∷ []) operator v) (as_tree IsTest (MeansTest (record { path = p; negated = false; check = c })) (λ whole ts x i m. (test (record { first = x.0.root; path = x.0; negated = false; check = x.1 }), compared ts x i, means_test (record { path = m.0; negated = refl; asks = m.1 })))
+    as_text (regroup ptext (32 ∷ []) operator v) (as_tree IsTest (MeansTest (record { path = p; negated = false; check = c })) (λ whole ts x i m. (test (record { first = x.0.root; path = x.0; negated = false; check = x.1 }), compared ts x i, (means_test (record { path = m.0; negated = refl; asks = m.1 }), tt)))
     (pair IsPath IsCheck (MeansPath p) (MeansCheck c) Stops Ends ptext (32 ∷ (operator ++ 32 ∷ v)) (λ after e. stop_space) w (spaced k)))
 asked p true c ptext operator v w k =
-    as_text (regroup ptext (codes " NOT ") operator v) (as_tree IsTest (MeansTest (record { path = p; negated = true; check = c })) (λ whole ts x i m. (test (record { first = x.0.root; path = x.0; negated = true; check = x.1.1 }), not_compared ts x i, means_test (record { path = m.0; negated = refl; asks = m.1.1 })))
+    as_text (regroup ptext (codes " NOT ") operator v) (as_tree IsTest (MeansTest (record { path = p; negated = true; check = c })) (λ whole ts x i m. (test (record { first = x.0.root; path = x.0; negated = true; check = x.1.1 }), not_compared ts x i, (means_test (record { path = m.0; negated = refl; asks = m.1.1 }), tt)))
     (pair IsPath (IsPair (IsOne (Only kind.Not)) IsCheck) (MeansPath p) (MeanPair (MeansOne kind.Not (codes "NOT")) (MeansCheck c)) Stops Ends ptext (32 ∷ (codes "NOT" ++ 32 ∷ (operator ++ 32 ∷ v))) (λ after e. stop_space) w
     (spaced (pair (IsOne (Only kind.Not)) IsCheck (MeansOne kind.Not (codes "NOT")) (MeansCheck c) Stops Ends (codes "NOT") (32 ∷ (operator ++ 32 ∷ v)) (λ after e. stop_space) no (spaced k)))))
 
@@ -178,8 +179,8 @@ there : (p : Path) (ptext : List ℕ) → Written IsPath (MeansPath p) Stops pte
 there p ptext w = pair (IsOne (Only kind.Exists)) IsPath (MeansOne kind.Exists (codes "EXISTS")) (MeansPath p) Stops Stops (codes "EXISTS") (32 ∷ ptext) (λ after e. stop_space) (literal (Only kind.Exists) kind.Exists (codes "EXISTS") refl refl tt refl (λ e. cc)) (spaced w)
 
 existence : (p : Path) (negated : Bool) (ptext : List ℕ) → Written IsPath (MeansPath p) Stops ptext → Written IsTest (MeansTest (record { path = p; negated = negated; check = check.Exists })) Ends ((not_text negated ++ codes "EXISTS ") ++ ptext)
-existence p false ptext w = before Ends ends_stops (as_tree IsTest (MeansTest (record { path = p; negated = false; check = check.Exists })) (λ whole ts x i m. (test (record { first = x.0; path = x.1; negated = false; check = check_tree.Exists }), exists ts x i, means_test (record { path = m.1; negated = refl; asks = tt }))) (there p ptext w))
-existence p true ptext w = before Ends ends_stops (as_tree IsTest (MeansTest (record { path = p; negated = true; check = check.Exists })) (λ whole ts x i m. (test (record { first = x.0; path = x.1.1; negated = true; check = check_tree.Exists }), not_exists ts x i, means_test (record { path = m.1.1; negated = refl; asks = tt })))
+existence p false ptext w = before Ends ends_stops (as_tree IsTest (MeansTest (record { path = p; negated = false; check = check.Exists })) (λ whole ts x i m. (test (record { first = x.0; path = x.1; negated = false; check = check_tree.Exists }), exists ts x i, (means_test (record { path = m.1; negated = refl; asks = tt }), tt))) (there p ptext w))
+existence p true ptext w = before Ends ends_stops (as_tree IsTest (MeansTest (record { path = p; negated = true; check = check.Exists })) (λ whole ts x i m. (test (record { first = x.0; path = x.1.1; negated = true; check = check_tree.Exists }), not_exists ts x i, (means_test (record { path = m.1.1; negated = refl; asks = tt }), tt)))
     (pair (IsOne (Only kind.Not)) (IsPair (IsOne (Only kind.Exists)) IsPath) (MeansOne kind.Not (codes "NOT")) (MeanPair (MeansOne kind.Exists (codes "EXISTS")) (MeansPath p)) Stops Stops (codes "NOT") (32 ∷ (codes "EXISTS" ++ 32 ∷ ptext)) (λ after e. stop_space) no (spaced (there p ptext w))))
 
 pub sign : (class : Class) (k : TokenKind) (operator : List ℕ) → is_in class k ≡ true → IsToken k operator → HasValue k operator → plain_test operator ≡ true → k ≢ kind.Number → Written (IsOne class) (MeansOne k operator) Stops operator
