@@ -16,4 +16,7 @@ mod FormulaLines
 mod PatternLines
 mod Cutting
 mod OneText
+mod Lexed
+mod Fitness
+mod FitPatterns
 mod Spelling

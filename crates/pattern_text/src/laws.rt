@@ -21,3 +21,17 @@ pub fn canonical_text_spells()
     ensures { (pattern : Meant) (text : List ℕ) → FitMeant pattern → IsCanonical pattern text
         → length text ≤ 65_536 → Spells text pattern }
 {}
+
+/// A pattern that some text spells is fit.
+pub fn spelled_is_fit()
+    ensures { (pattern : Meant) (text : List ℕ) → Spells text pattern → FitMeant pattern }
+{}
+
+/// The canonical text of a pattern that some text spells reads back: it spells the pattern too.
+pub fn reads_back()
+    ensures { (pattern : Meant) (text canonical : List ℕ) → Spells text pattern
+        → IsCanonical pattern canonical → length canonical ≤ 65_536 → Spells canonical pattern }
+{
+    spelled_is_fit();
+    canonical_text_spells();
+}
