@@ -16,6 +16,7 @@ mod FormulaLines
 mod PatternLines
 mod Cutting
 mod OneText
+mod Faulty
 mod Lexed
 mod Fitness
 mod FitPatterns
