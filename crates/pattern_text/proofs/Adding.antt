@@ -21,7 +21,7 @@ pub adds_between : (IsText : List ℕ → Type 0) (before after old begun inside
 adds_between IsText before after old begun inside new e h f =
     (before ++ h.0 ++ after, (h.0, h.1, refl), two_added old inside new (before ++ h.0) after (two_added old begun inside before h.0 e h.2) f)
 
-each_length : {A B : Type 0} (R : A → B → Type 0) (xs : List A) (ys : List B) → Each R xs ys → length ys ≡ length xs
+pub each_length : {A B : Type 0} (R : A → B → Type 0) (xs : List A) (ys : List B) → Each R xs ys → length ys ≡ length xs
 each_length R [] [] h = refl
 each_length R [] (y ∷ ys) h = absurd h
 each_length R (x ∷ xs) [] h = absurd h

@@ -86,7 +86,7 @@ boundary whole at ps b e h =
     let low : get_or whole at 0 < 128 = subst (λ (x : ℕ). x < 128) here (ascii_left ps h) in
     (b, λ i k. absurd (omega arith))
 
-further_drop : (whole : List ℕ) (at : ℕ) (text rest : List ℕ) → at ≤ length whole → drop at whole ≡ text ++ rest → (at + length text ≤ length whole) × (drop (at + length text) whole ≡ rest) × (take (at + length text - at) (drop at whole) ≡ text)
+pub further_drop : (whole : List ℕ) (at : ℕ) (text rest : List ℕ) → at ≤ length whole → drop at whole ≡ text ++ rest → (at + length text ≤ length whole) × (drop (at + length text) whole ≡ rest) × (take (at + length text - at) (drop at whole) ≡ text)
 further_drop whole at text rest b e =
     let n = ap length e in
     let more : at + length text ≤ length whole = omega (arith, n, length-drop at whole, length-append text rest) in (

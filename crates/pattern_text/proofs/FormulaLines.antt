@@ -86,14 +86,14 @@ append-none none = refl
 append-none (more f fs) = ap (more f) (append-none fs)
 
 -- tests and chains of AND are no chains of what binds less
-test_apart : (ts : List Token) (c : Comparison) → IsTest ts c → IsNoAll c × IsNoAny c
+pub test_apart : (ts : List Token) (c : Comparison) → IsTest ts c → IsNoAll c × IsNoAny c
 test_apart ts c (test_group a b h k l) = (tt, tt)
 test_apart ts c (test_exists a h k) = (tt, tt)
 test_apart ts c (test_not_exists a b h k l) = (tt, tt)
 test_apart ts c (test_compare h k) = (tt, tt)
 test_apart ts c (test_not_compare o h k l) = (tt, tt)
 
-cand_apart : (ts : List Token) (c : Comparison) → IsCand ts c → IsNoAny c
+pub cand_apart : (ts : List Token) (c : Comparison) → IsCand ts c → IsNoAny c
 cand_apart ts c (cand_one h) = (test_apart ts c h).1
 cand_apart ts c (cand_more o h k l) = tt
 

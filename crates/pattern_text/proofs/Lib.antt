@@ -18,4 +18,8 @@ mod FormulaLines
 mod PatternLines
 mod Cutting
 mod OneText
+mod Faulty
+mod Lexed
+mod Fitness
+mod FitPatterns
 mod Spelling
