@@ -13,7 +13,7 @@ use Rattle.pattern_meaning.specs.Formula.{Formula, Formulas, none, more, put, Me
 use Rattle.pattern_meaning.specs.declared.limits.Limit.{Limit}
 use Rattle.pattern_meaning.specs.declared.limits.Limit.TheVariants.{Within, Repeats, Between}
 use Rattle.pattern_meaning.specs.Meant.{Meant, IsLimitOf, MeansPattern, means_leaf, means_both, means_either, means_then, means_limited}
-use Rattle.pattern_text.specs.Fit.{FitCheck, AreSome, FitFormula, FitFormulas, FitLimit, FitMeant}
+use Rattle.pattern_text.proofs.Fit.{FitCheck, AreSome, FitFormula, FitFormulas, FitLimit, FitMeant}
 use Rattle.pattern_text.proofs.Lexed.{AllLexed, lexed_left, lexed_right}
 use Rattle.pattern_text.proofs.Fitness.{fit_path, fit_check}
 use Rattle.pattern_text.proofs.FormulaLines.{test_apart, cand_apart}

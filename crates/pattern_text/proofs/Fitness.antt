@@ -27,7 +27,7 @@ use Rattle.pattern_tree.specs.declared.constant.Constant.TheVariants.{Whole, Wor
 use Rattle.pattern_tree.specs.declared.check.Check.{Check}
 use Rattle.pattern_tree.specs.declared.check.Check.TheVariants as check
 use Rattle.pattern_meaning.specs.Meaning.{Each, IsStepOf, IsPathOf, IsConstantOf, IsCheckOf}
-use Rattle.pattern_text.specs.Fit.{FitStep, FitFurther, FitSteps, FitPath, FitConstant, FitOrdered, FitConstants, FitList, FitCheck}
+use Rattle.pattern_text.proofs.Fit.{FitStep, FitFurther, FitSteps, FitPath, FitConstant, FitOrdered, FitConstants, FitList, FitCheck}
 use Rattle.pattern_tokens.specs.Word.{IsWord, IsHyphenWord}
 use Rattle.pattern_text.proofs.Alone.{rests}
 use Rattle.pattern_text.proofs.Lexed.{Lexed, AllLexed, lexed_left, lexed_right, root_word}

@@ -18,7 +18,7 @@ use Rattle.pattern_text.proofs.TestLines.{MeansOne, round, close_round, a_test}
 use Rattle.pattern_text.proofs.Depths.{Measured, measured_is, max_last, mid_flat}
 use Rattle.pattern_text.proofs.Depths as depth
 use Rattle.pattern_text.proofs.DepthLines.{only_flat, plain_measured, wrapped, formula_need, parts_need, put_need}
-use Rattle.pattern_text.specs.Fit.{AreSome, FitFormula, FitFormulas}
+use Rattle.pattern_text.proofs.Fit.{AreSome, FitFormula, FitFormulas}
 
 -- the line of the grammar for what binds so
 abbrev pub IsBound : ℕ → List Token → Comparison → Type 0

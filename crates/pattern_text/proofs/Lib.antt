@@ -11,6 +11,7 @@ mod Pieces
 mod Written
 mod Numerals
 mod Tokens
+mod Fit
 mod Values
 mod PathLines
 mod TestLines

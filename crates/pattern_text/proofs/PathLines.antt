@@ -24,7 +24,7 @@ use Rattle.pattern_text.proofs.Written.{Written, IsOne, is_one, IsPair, is_pair,
 use Rattle.pattern_text.proofs.Tokens.{Anything, literal, mark, number, root}
 use Rattle.pattern_text.proofs.Values.{at, name}
 use Rattle.pattern_text.proofs.Numerals.{count_text, count_shape}
-use Rattle.pattern_text.specs.Fit.{FitStep, FitFurther, FitSteps, FitPath}
+use Rattle.pattern_text.proofs.Fit.{FitStep, FitFurther, FitSteps, FitPath}
 
 no_part : (c : ℕ) → (c < 45) ⊎ ((45 < c × (c < 48)) ⊎ ((57 < c × (c < 65)) ⊎ (90 < c × (c < 95)))) → ¬ IsHyphenWordPart c
 no_part c (inl h) (inl (inl (inl (inl x)))) = omega (arith, x.0)

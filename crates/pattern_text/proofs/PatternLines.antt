@@ -32,7 +32,7 @@ use Rattle.pattern_text.proofs.FormulaLines.{IsDeep, MeansFormula, formula, lowe
 use Rattle.pattern_text.proofs.Depths.{Measured, measured_is, max_last, joined, first_flat, last_flat, mid_flat}
 use Rattle.pattern_text.proofs.Depths as depth
 use Rattle.pattern_text.proofs.DepthLines.{only_flat, qualifier_measured, wrapped, formula_need, need, qualifiers_in}
-use Rattle.pattern_text.specs.Fit.{FitLimit, FitMeant}
+use Rattle.pattern_text.proofs.Fit.{FitLimit, FitMeant}
 
 -- the line of the grammar for what binds so
 abbrev pub IsLevel : ℕ → List Token → Tree → Type 0

@@ -34,7 +34,7 @@ use Rattle.pattern_text.proofs.Written.{Written, IsOne, is_one, IsPair, is_pair,
 use Rattle.pattern_text.proofs.Tokens.{Anything, plain_test, literal, mark, words}
 use Rattle.pattern_text.proofs.Values.{at, constant}
 use Rattle.pattern_text.proofs.PathLines.{stop_space, stop_comma, stop_close, path, MeansPath}
-use Rattle.pattern_text.specs.Fit.{FitConstant, FitConstants, FitOrdered, FitList, FitCheck, FitTest, FitPath, kind_of}
+use Rattle.pattern_text.proofs.Fit.{FitConstant, FitConstants, FitOrdered, FitList, FitCheck, FitTest, FitPath, kind_of}
 
 abbrev pub MeansOne : TokenKind → List ℕ → List ℕ → Token → Type 0
 MeansOne k text whole t = Stands whole t k text

@@ -26,7 +26,7 @@ use Rattle.pattern_text.proofs.Written.{Written, IsOne, token, as_tree, as_text,
 use Rattle.pattern_text.proofs.Tokens.{Anything, fits_plain, plain_name, all_plain, literal, words, lettered, number}
 use Rattle.pattern_text.proofs.Numerals.{whole_text, whole_shape}
 use Rattle.pattern_text.proofs.Times.{unquoted_time}
-use Rattle.pattern_text.specs.Fit.{FitConstant, kind_of}
+use Rattle.pattern_text.proofs.Fit.{FitConstant, kind_of}
 
 -- a token that stands for a value, by its text
 pub at : {V : Type 0} (IsTextOf : List ℕ → V → Type 0) (whole : List ℕ) (t : Token) (k : TokenKind) (text : List ℕ) (value : V) → Stands whole t k text → IsTextOf text value → At IsTextOf whole t value

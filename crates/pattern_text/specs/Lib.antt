@@ -5,5 +5,3 @@ pub mod Check
 pub mod Leaf
 pub mod Limit
 pub mod Canonical
-pub mod Fit
-pub mod Spelled
