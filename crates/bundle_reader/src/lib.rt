@@ -4,14 +4,25 @@
 #![tactic(auto)]
 
 mod bundle;
+mod index;
+mod latest;
+pub mod laws;
+mod lookup;
+mod moment;
 mod object_break;
+mod observation;
+mod observe;
 mod outline;
+mod property;
 mod read;
 mod refusal;
 #[cfg(test)]
 mod tests;
 
 pub use bundle::{Bundle, object};
+pub use lookup::find;
 pub use object_break::ObjectBreak;
+pub use observation::{Observation, ObservationRefusal};
+pub use observe::observations;
 pub use read::read_bundle;
 pub use refusal::BundleRefusal;
