@@ -1,3 +1,9 @@
 pub mod Members
 pub mod Outlines
 pub mod Breaking
+pub mod Properties
+pub mod Places
+pub mod Meanings
+pub mod Versions
+pub mod Overtaking
+pub mod Putting

@@ -47,6 +47,7 @@ fn add(alloc: Global, objects: &[Tree], at: usize, index: &mut Index) -> Result<
 fn is_overtaken(objects: &[Tree], at: Option<u32>, time: Option<Instant>) -> bool
     ensures { IsTrue result ↔ Overtakes (data_in objects.now) at time }
 {
+    one_modified();
     let Some(at) = at else {
         return false;
     };

@@ -11,5 +11,8 @@ pub fn find(bundle: &Bundle, text: &str) -> Option<u32>
     ensures { Means (data_in bundle.now) text.now result }
 {
     one_identifier();
-    bundle.latest(Parts::read(text).ok()?)
+    match Parts::read(text) {
+        Ok(id) => bundle.latest(id),
+        Err(_) => None,
+    }
 }
