@@ -7,3 +7,4 @@ pub mod Meanings
 pub mod Versions
 pub mod Overtaking
 pub mod Putting
+pub mod Adding

@@ -149,7 +149,7 @@ same_parts id other kinds numbers =
 not_eqb : (a b : ℕ) → (a ≡ b → ⊥) → (a == b) ≡ false
 not_eqb a b different = grind (arith, nat_tests)
 
-same_cases : (id other : Id) → ((same_id id other ≡ true) × (id ≡ other)) ⊎ ((same_id id other ≡ false) × (id ≢ other))
+pub same_cases : (id other : Id) → ((same_id id other ≡ true) × (id ≡ other)) ⊎ ((same_id id other ≡ false) × (id ≢ other))
 same_cases id other =
     elim (cases_Bool (bytes_eq id.kind other.kind)) [
       | inl kinds ↦ elim (cases_eq id.number other.number) [
