@@ -8,3 +8,6 @@ pub mod Versions
 pub mod Overtaking
 pub mod Putting
 pub mod Adding
+pub mod Unbroken
+pub mod Embedding
+pub mod Moments

@@ -1,5 +1,6 @@
 -- For private clauses: the observed-data objects by the times at which they were last observed.
-use Rattle.std.specs.Prelude.{◌≡◌, ◌⊎◌, ◌==◌, ℕ, ◌+◌, ◌<◌, ◌≤◌, ◌<ℤ◌, List, length, map, take, All, Contains, count_by, Some, slice_get, codes}
+use Rattle.std.specs.Prelude.{◌≡◌, ◌⊎◌, ◌==◌, ℕ, ◌+◌, ◌<◌, ◌≤◌, ◌<ℤ◌, List, length, map, take, All, Contains, Some, slice_get, codes}
+use Rattle.std.specs.List.{IsDistinct}
 use Rattle.serde_json.specs.Data.{Data}
 use Rattle.bundle_reader.specs.declared.moment.Moment.{Moment}
 use Rattle.bundle_reader.specs.declared.observation.Observation.{Observation}
@@ -17,7 +18,7 @@ pub record AreMomentsBefore (objects : List Data) (end : ℕ) (moments : List Mo
   pub each : All (IsMomentOf objects) moments
   pub before : All (λ m. m.at < end) moments
   pub all : (at : ℕ) → at < end → IsObservedAt objects at → (m : Moment) × Contains moments m × (m.at ≡ at)
-  pub once : (at : ℕ) → count_by (λ m. m.at == at) moments ≤ 1
+  pub once : IsDistinct (λ m n. m.at == n.at) moments
   pub count : length moments ≡ how_many (take end objects)
 
 -- the moments of all observed-data of the objects

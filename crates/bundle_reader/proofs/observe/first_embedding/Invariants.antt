@@ -1,12 +1,7 @@
-use Rattle.std.proofs.Common.{◌≡◌, ◌↔◌, IsTrue, ◌+◌, ◌≤◌, ◌^◌, [], length, All, filter_map, None, MatchOption, IfSome, IfNone, IfOk, IfErr, OnOk, codes, ℕ, ◌-◌, ◌*◌, ◌<◌}
-use Rattle.serde_json.specs.Find.{as_str}
-use Rattle.stix_tree.specs.DataOf.{data_of}
-use Rattle.object_rules.specs.Breaks.{AreBreaksOf}
-use Rattle.bundle_reader.specs.Objects.{data_in, HasId}
-use Rattle.bundle_reader.specs.Lookup.{Means}
-use Rattle.bundle_reader.specs.Observed.{how_many, NoneEmbeds, Embeds, IsFirstEmbedding, IsObservedData, IsTimeAt, references, AreMeant, IsSeenAt, AreObservations, AreRefused}
-use Rattle.bundle_reader.specs.Moments.{IsMomentOf, AreSeenAt}
+use Rattle.std.proofs.Common.{ℕ, ◌<◌}
+use Rattle.bundle_reader.specs.Objects.{data_in}
+use Rattle.bundle_reader.specs.Observed.{EmbedsAt}
 use Rattle.bundle_reader.proofs.observe.first_embedding.Given as goal
 
 abbrev pub invariant-loop-at : goal.invariant-loop-at
-invariant-loop-at l = ?
+invariant-loop-at l = (n : ℕ) → n < l.at → ¬ EmbedsAt (data_in l.objects) n
