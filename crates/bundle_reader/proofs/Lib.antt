@@ -11,3 +11,5 @@ pub mod Adding
 pub mod Unbroken
 pub mod Embedding
 pub mod Moments
+pub mod Order
+pub mod Meant

@@ -7,7 +7,10 @@ use Rattle.std.proofs.lemmas.Option.{slice_get_within, slice_get-get_or, get_or_
 use Rattle.std.proofs.lemmas.List.{get_or_append_left, get_or_push}
 use Rattle.std.proofs.lemmas.List.Elements.{All-nil, All-push, All-weaker, Contains-push, Contains-append_left}
 use Rattle.std.proofs.lemmas.List.Sums.{count_by_more_yes, count_by_more_no}
-use Rattle.std.proofs.lemmas.Map.Keys.{IsDistinct-from_apart, apart_from_distinct}
+use Rattle.std.proofs.lemmas.Map.Keys.{IsDistinct-from_apart, apart_from_distinct, IsDistinct-IsPermutation}
+use Rattle.std.proofs.lemmas.List.Sorted.{All-permutation, Contains-permutation, length_permutation}
+use Rattle.std.proofs.lemmas.Bool.Decides.{nat_tests}
+use Rattle.std.specs.List.Sorted.{IsPermutation}
 use Rattle.std.proofs.lemmas.Slice.Eq.{bytes_eq-Decides}
 use Rattle.serde_json.specs.Data.{Data, null}
 use Rattle.bundle_reader.specs.declared.moment.Moment.{Moment}
@@ -116,3 +119,18 @@ push_place ds at d ms m there here is are =
 -- and a place with one adds its moment
 pub push_at : (ds : List Data) (at : ℕ) (ms : List Moment) (m : Moment) → m.at ≡ at → IsMomentOf ds m → AreMomentsBefore ds at ms → AreMomentsBefore ds (at + 1) (ms ++ m ∷ [])
 push_at ds at ms m here is are = push_place ds at is.object ms m (ap (slice_get ds) (sym here) ∙ is.there) here is are
+
+eqb_flips : (a b : ℕ) → (a == b) ≡ (b == a)
+eqb_flips a b = grind (arith, nat_tests)
+
+-- in another order they are the moments still
+pub moments_moved : (ds : List Data) (end : ℕ) (ms ns : List Moment) → IsPermutation ms ns → AreMomentsBefore ds end ms → AreMomentsBefore ds end ns
+moments_moved ds end ms ns moves are = record {
+  each = All-permutation (IsMomentOf ds) ms ns moves are.each;
+  before = All-permutation (λ m. m.at < end) ms ns moves are.before;
+  all = λ at less is.
+      let found = are.all at less is in
+      (found.0, Contains-permutation ms ns found.0 moves found.1, found.2);
+  once = IsDistinct-IsPermutation same_place (λ m n. eqb_flips m.at n.at) ms ns moves are.once;
+  count = length_permutation ms ns moves ∙ are.count;
+}
