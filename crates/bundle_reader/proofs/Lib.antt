@@ -13,3 +13,6 @@ pub mod Embedding
 pub mod Moments
 pub mod Order
 pub mod Meant
+pub mod Telling
+pub mod References
+pub mod Standing
