@@ -1,5 +1,5 @@
 -- The moments in order, and the observations that are told at them.
-use Rattle.std.proofs.Common.{arith, ◌≡◌, ◌≢◌, ◌⊎◌, inl, inr, ◌==◌, ◌+◌, ◌-◌, ◌<◌, ◌≤◌, ◌<ℤ◌, ℕ, zero, suc, ℤ, List, [], ◌∷◌, ◌++◌, length, map, Contains, get_or, slice_get, Option, Some, None, option_map, true, false, is_lt, int_cmp, nat_cmp, sym, ap, refl, subst, ◌∙◌}
+use Rattle.std.proofs.Common.{arith, ◌≡◌, ◌≢◌, ◌⊎◌, inl, inr, ◌==◌, ◌+◌, ◌-◌, ◌<◌, ◌≤◌, ◌<ℤ◌, ℕ, zero, suc, ℤ, List, [], ◌∷◌, ◌++◌, length, map, Contains, get_or, slice_get, Option, Some, None, option_map, Result, Ok, Err, IfOk, true, false, is_lt, int_cmp, nat_cmp, sym, ap, refl, subst, ◌∙◌}
 use Rattle.std.specs.declared.cmp.Ordering.{Ordering}
 use Rattle.std.specs.declared.cmp.Ordering.TheVariants.{Less, Equal, Greater}
 use Rattle.std.specs.Ordering.{ordering_then, MatchOrdering}
@@ -12,6 +12,7 @@ use Rattle.std.proofs.lemmas.Bool.{eqb-false, false≢true}
 use Rattle.std.proofs.lemmas.Option.{slice_get_within, slice_get-get_or, slice_get-map, get_or_from_slice_get}
 use Rattle.std.proofs.lemmas.Map.Keys.{apart_from_distinct}
 use Rattle.serde_json.specs.Data.{Data}
+use Rattle.flow_edges.specs.declared.no_memory.NoMemory.{NoMemory}
 use Rattle.bundle_reader.specs.declared.moment.Moment.{Moment}
 use Rattle.bundle_reader.specs.declared.observation.Observation.{Observation}
 use Rattle.bundle_reader.specs.Observed.{Seen, IsBefore, IsObservedAt, AreObservations}
@@ -111,3 +112,8 @@ observations_of ds first ms list are ordered told = record {
   in_order = λ j k s t less here there.
       before_far ms ordered are.once j k (moment_of s) (moment_of t) less (moment_at ms told.seen told.at j s here) (moment_at ms told.seen told.at k t there);
 }
+
+pub observations_well : (ds : List Data) (first : ℕ) (ms : List Moment) → AreMoments ds ms → AreInOrder ms → (outcome : Result (List Observation) NoMemory)
+    → IfOk outcome (AreSeenAt ds first ms) → IfOk outcome (AreObservations ds first)
+observations_well ds first ms are ordered (Ok list) told = observations_of ds first ms list are ordered told
+observations_well ds first ms are ordered (Err error) told = tt

@@ -59,7 +59,7 @@ impl Bundle {
     }
 
     /// Its objects, which are not too many and break no rule.
-    pub(crate) fn objects(&self) -> &[Tree]
+    pub fn objects(&self) -> &[Tree]
         ensures value { result.now ≡ self.now }
         ensures counted { length self.now ≤ 8_388_608 }
         ensures unbroken { AreAllBreaks 0 (data_in self.now) [] }

@@ -31,13 +31,26 @@ pub fn observations(
     ensures whole { OnOk result (NoneEmbeds (data_in bundle.now)) }
     ensures err { IfErr result (AreRefused (data_in bundle.now)) }
 {
-    let objects = bundle.objects();
-    if let Some(object) = first_embedding(objects) {
+    if let Some(object) = first_embedding(bundle.objects()) {
         return Err(ObservationRefusal::EmbeddedObjects { object });
     }
-    let moments = moments_in_order(alloc, objects)?;
-    let observations = observed(alloc, bundle, first, moments.as_slice())?;
-    Ok(observations)
+    match all_observed(alloc, bundle, first) {
+        Ok(observations) => Ok(observations),
+        Err(NoMemory) => Err(ObservationRefusal::NoMemory),
+    }
+}
+
+/// The same, whether or not an observed-data holds its objects itself.
+fn all_observed(
+    alloc: Global,
+    bundle: &Bundle,
+    first: u64,
+) -> Result<Items<Observation>, NoMemory>
+    requires { first + how_many (data_in bundle.now) ≤ 2 ^ 63 }
+    ensures { IfOk result (AreObservations (data_in bundle.now) first) }
+{
+    let moments = moments_in_order(alloc, bundle.objects())?;
+    observed(alloc, bundle, first, moments.as_slice())
 }
 
 /// The first observed-data that holds its objects itself.
