@@ -53,13 +53,13 @@ pub one_latest : (objects : List Data) (id : Id) (a b : ℕ) → IsLatest object
 one_latest objects id a b first second =
     elim (first.latest b second.modified second.version) [
       | inl earlier ↦ elim (second.latest a first.modified first.version) [
-          | inl later ↦ absurd (not_both_earlier second.modified first.modified earlier later)
-          | inr same ↦ absurd (not_earlier_than_itself second.modified (subst (λ (t : Option ℤ). IsEarlier second.modified t) same.0 earlier))
-        ]
+        | inl later ↦ absurd (not_both_earlier second.modified first.modified earlier later)
+        | inr same ↦ absurd (not_earlier_than_itself second.modified (subst (λ (t : Option ℤ). IsEarlier second.modified t) same.0 earlier))
+      ]
       | inr same ↦ elim (second.latest a first.modified first.version) [
-          | inl later ↦ absurd (not_earlier_than_itself first.modified (subst (λ (t : Option ℤ). IsEarlier first.modified t) same.0 later))
-          | inr also ↦ omega arith
-        ]
+        | inl later ↦ absurd (not_earlier_than_itself first.modified (subst (λ (t : Option ℤ). IsEarlier first.modified t) same.0 later))
+        | inr also ↦ omega arith
+      ]
     ]
 
 pub one_meaning : OneIdentifier → (objects : List Data) (text : List ℕ) (first second : Option ℕ) → Means objects text first → Means objects text second → first ≡ second

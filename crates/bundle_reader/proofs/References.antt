@@ -16,5 +16,5 @@ pub references_of : (d : Data) (row : Tree) (items : List Tree) → Some (data_o
     → references d ≡ filter_map as_str (data_in items)
 references_of d row items there is =
     let value : get (codes "object_refs") d ≡ Some (array (items_of (data_in items))) =
-        sym there ∙ ap (λ (t : Tree). Some (data_of t)) is ∙ ap Some (data_of-Row items) in
+    sym there ∙ ap (λ (t : Tree). Some (data_of t)) is ∙ ap Some (data_of-Row items) in
     ap (λ (o : Option Data). filter_map as_str (option_map_or listed (option_and_then as_array o) [])) value ∙ ap (filter_map as_str) (listed_items (data_in items))

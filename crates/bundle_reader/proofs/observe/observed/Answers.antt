@@ -12,4 +12,4 @@ loop-at-preserved c =
     let at = c.loop-at.at in
     subst (λ (os : List Observation). AreSeenAt ds c.args.first (take (at + 1) ms) os) (sym c.in_ok-push.ensures.ok)
     (told_more ds c.args.first ms at c.index-moments-at.result c.loop-at.observations c.in_ok-observation.field-0 c.loop-at-test.true (sym c.index-moments-at.is) c.loop-at.invariant
-      c.in_ok-observation.ensures.seen c.in_ok-observation.ensures.last)
+    c.in_ok-observation.ensures.seen c.in_ok-observation.ensures.last)
