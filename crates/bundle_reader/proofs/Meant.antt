@@ -1,5 +1,5 @@
 -- The places that the texts of a list mean, one text more.
-use Rattle.std.proofs.Common.{◌≡◌, ◌+◌, ◌<◌, ℕ, List, [], ◌∷◌, ◌++◌, map, take, filter_map, get_or, length, Option, Some, None, MatchOption, option_to_list, append-nil, append_assoc, sym, ap, refl, subst, ◌∙◌}
+use Rattle.std.proofs.Common.{◌≡◌, ◌+◌, ◌<◌, ℕ, List, [], ◌∷◌, ◌++◌, take, filter_map, get_or, length, Option, Some, None, MatchOption, option_to_list, append-nil, append_assoc, sym, ap, refl, subst, ◌∙◌}
 use Rattle.std.proofs.lemmas.List.{take_more, map-append}
 use Rattle.std.proofs.lemmas.List.Elements.{filter_map-append}
 use Rattle.std.specs.List.{cons_option}

@@ -1,5 +1,5 @@
 -- The moments of the observed-data before a place, and of the one at the place.
-use Rattle.std.proofs.Common.{arith, ◌≡◌, ◌≢◌, ◌⊎◌, inl, inr, ◌==◌, ◌+◌, ◌<◌, ◌≤◌, ℕ, List, [], ◌∷◌, ◌++◌, length, map, take, All, Contains, get_or, slice_get, Option, Some, None, Bool, true, false, bytes_eq, codes, length-append, sym, ap, refl, subst, ◌∙◌}
+use Rattle.std.proofs.Common.{arith, ◌≡◌, ◌≢◌, inl, inr, ◌==◌, ◌+◌, ◌<◌, ℕ, List, [], ◌∷◌, ◌++◌, length, All, get_or, slice_get, Option, Some, None, Bool, true, false, bytes_eq, codes, length-append, sym, ap, refl, subst, ◌∙◌}
 use Rattle.std.specs.Option.{option_map_or}
 use Rattle.std.specs.List.{IsDistinct}
 use Rattle.std.proofs.lemmas.Bool.{cases_lt, cases_Bool, ne_eqb}
@@ -14,8 +14,8 @@ use Rattle.std.specs.List.Sorted.{IsPermutation}
 use Rattle.std.proofs.lemmas.Slice.Eq.{bytes_eq-Decides}
 use Rattle.serde_json.specs.Data.{Data, null}
 use Rattle.bundle_reader.specs.declared.moment.Moment.{Moment}
-use Rattle.bundle_reader.specs.Observed.{IsObservedData, is_observed_data, IsObservedAt, how_many}
-use Rattle.bundle_reader.specs.Moments.{IsMomentOf, AreMomentsBefore, AreMoments}
+use Rattle.bundle_reader.specs.Observed.{IsObservedData, is_observed_data, IsObservedAt}
+use Rattle.bundle_reader.specs.Moments.{IsMomentOf, AreMomentsBefore}
 use Rattle.object_rules.specs.Conditions.{text_at}
 use Rattle.bundle_reader.proofs.Properties.{same_some}
 

@@ -1,5 +1,5 @@
 -- The moments in order, and the observations that are told at them.
-use Rattle.std.proofs.Common.{arith, ◌≡◌, ◌≢◌, ◌⊎◌, inl, inr, ◌==◌, ◌+◌, ◌-◌, ◌<◌, ◌≤◌, ◌<ℤ◌, ℕ, zero, suc, ℤ, List, [], ◌∷◌, ◌++◌, length, map, Contains, get_or, slice_get, Option, Some, None, option_map, Result, Ok, Err, IfOk, true, false, is_lt, int_cmp, nat_cmp, sym, ap, refl, subst, ◌∙◌}
+use Rattle.std.proofs.Common.{arith, ◌≡◌, ◌≢◌, ◌⊎◌, inl, inr, ◌+◌, ◌-◌, ◌<◌, ◌<ℤ◌, ℕ, zero, suc, ℤ, List, map, get_or, slice_get, Option, Some, None, option_map, Result, Ok, Err, IfOk, false, is_lt, int_cmp, nat_cmp, sym, ap, refl, subst, ◌∙◌}
 use Rattle.std.specs.declared.cmp.Ordering.{Ordering}
 use Rattle.std.specs.declared.cmp.Ordering.TheVariants.{Less, Equal, Greater}
 use Rattle.std.specs.Ordering.{ordering_then, MatchOrdering}
@@ -15,7 +15,7 @@ use Rattle.serde_json.specs.Data.{Data}
 use Rattle.flow_edges.specs.declared.no_memory.NoMemory.{NoMemory}
 use Rattle.bundle_reader.specs.declared.moment.Moment.{Moment}
 use Rattle.bundle_reader.specs.declared.observation.Observation.{Observation}
-use Rattle.bundle_reader.specs.Observed.{Seen, IsBefore, IsObservedAt, AreObservations}
+use Rattle.bundle_reader.specs.Observed.{Seen, AreObservations}
 use Rattle.bundle_reader.specs.Moments.{AreMoments, IsUpTo, AreInOrder, moment_of, AreSeenAt}
 use Rattle.bundle_reader.proofs.Properties.{same_some}
 use Rattle.bundle_reader.proofs.Moments.{same_place}

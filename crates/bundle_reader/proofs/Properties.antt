@@ -1,5 +1,5 @@
 -- What reading the text of a property tells of it.
-use Rattle.std.proofs.Common.{◌≡◌, List, ℕ, ℤ, Option, Some, None, Result, Ok, Err, IfOk, IfNone, IsOkAnd, unwrap_or, codes, sym, ap, subst, ◌∙◌}
+use Rattle.std.proofs.Common.{◌≡◌, List, ℕ, ℤ, Option, Some, Result, Ok, Err, IfOk, IfNone, IsOkAnd, unwrap_or, codes, sym, ap, subst, ◌∙◌}
 use Rattle.std.specs.Result.{result_ok}
 use Rattle.serde_json.specs.Data.{Data}
 use Rattle.stix_times.specs.declared.refusal.TimeRefusal.{TimeRefusal}
@@ -11,7 +11,7 @@ use Rattle.stix_ids.specs.Identifier.{IsTextOf}
 use Rattle.stix_ids.specs.PartsOf.{id_of}
 use Rattle.object_rules.specs.Conditions.{text_at}
 use Rattle.bundle_reader.specs.Objects.{HasId}
-use Rattle.bundle_reader.specs.Lookup.{IsModifiedAt, IsModified}
+use Rattle.bundle_reader.specs.Lookup.{IsModified}
 use Rattle.bundle_reader.specs.Observed.{IsTimeAt}
 
 pub same_some : {A : Type 0} (x y : A) → Some x ≡ Some y → x ≡ y

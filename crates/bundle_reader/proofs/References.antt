@@ -1,5 +1,5 @@
 -- The references of an object, where its `object_refs` is a list of trees.
-use Rattle.std.proofs.Common.{◌≡◌, ℕ, List, [], Option, Some, filter_map, option_and_then, codes, sym, ap, ◌∙◌}
+use Rattle.std.proofs.Common.{◌≡◌, List, [], Option, Some, filter_map, option_and_then, codes, sym, ap, ◌∙◌}
 use Rattle.std.specs.Option.{option_map_or}
 use Rattle.serde_json.specs.Data.{Data, array}
 use Rattle.serde_json.specs.Find.{get, as_array, as_str}

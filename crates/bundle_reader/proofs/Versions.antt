@@ -12,7 +12,7 @@ use Rattle.bundle_reader.specs.Lookup.{IsModified, IsEarlier, IsOf, IsVersion, I
 use Rattle.bundle_reader.specs.Indexed.{held, same_id, Puts, Overtakes, IsHeld, IsIndexOf}
 use Rattle.bundle_reader.proofs.Properties.{same_some}
 use Rattle.bundle_reader.proofs.Places.{taken, taken_before, in_taken}
-use Rattle.bundle_reader.proofs.Meanings.{of_version, not_both_earlier}
+use Rattle.bundle_reader.proofs.Meanings.{of_version}
 
 -- an object was modified at one time or at none, and has one identifier
 abbrev pub OneModified : Type 0

@@ -2,7 +2,7 @@ use Rattle.std.proofs.Common.{List, ◌+◌, take, sym, subst}
 use Rattle.bundle_reader.specs.declared.observation.Observation.{Observation}
 use Rattle.bundle_reader.specs.Objects.{data_in}
 use Rattle.bundle_reader.specs.Moments.{AreSeenAt}
-use Rattle.bundle_reader.proofs.Telling.{none_told, told_more}
+use Rattle.bundle_reader.proofs.Telling.{told_more}
 use Rattle.bundle_reader.proofs.observe.observed.Goals as goal
 
 pub loop-at-preserved : goal.loop-at-preserved

@@ -10,4 +10,4 @@ pub observations-requires : goal.observations-requires
 observations-requires c =
     let count = length-map c.args.bundle.now data_of in
     let most = count_by-le-length is_observed_data (data_in c.args.bundle.now) in
-    omega (arith, c.objects.ensures.counted)
+    omega (arith, c.objects-objects.ensures.counted)
