@@ -1,0 +1,5 @@
+use Rattle.pattern_lexer.proofs.Sound.{sound}
+use Rattle.pattern_lexer.proofs.laws.sound_tokens.Goals as goal
+
+pub returns : goal.returns
+returns c = sound
