@@ -1,15 +1,15 @@
 -- The edges of a token are ASCII, so that a text may be cut there.
-use Rattle.std.proofs.Common.{◌≡◌, ℕ, ◌+◌, ◌-◌, ◌<◌, ◌≤◌, ◌⊎◌, inl, inr, Bool, true, false, cond, ◌&&◌, ◌==◌, nat_lt, List, [], ◌∷◌, ◌++◌, length, get_or, take, drop, All, IsUtf8, slice_get, codes, flat_map, suc, refl, sym, ap, ◌∙◌, subst, arith, lit<, append_assoc, length-append}
+use Rattle.std.proofs.Common.{◌≡◌, ℕ, ◌+◌, ◌-◌, ◌<◌, inl, inr, Bool, true, false, cond, ◌&&◌, ◌==◌, nat_lt, List, [], ◌∷◌, ◌++◌, length, get_or, take, drop, All, IsUtf8, flat_map, suc, refl, sym, ap, ◌∙◌, subst, arith, lit<, length-append}
 use Rattle.std.specs.Str.{IsCharBoundary}
-use Rattle.std.specs.Str.Parse.{IsNumeral, AllDigits, without_leading_sign}
+use Rattle.std.specs.Str.Parse.{IsNumeral}
 use Rattle.std.proofs.lemmas.Bool.Decides.{nat_tests}
 use Rattle.std.proofs.lemmas.List.{get_or_append_left, get_or-append-add, take_at, drop_at}
 use Rattle.std.proofs.lemmas.Str.{IsCharBoundary-before_ascii, IsCharBoundary-after_ascii}
 use Rattle.std.proofs.lemmas.Str.Parse.{digit_at}
 use Rattle.pattern_tokens.specs.declared.token.TokenKind.{TokenKind}
 use Rattle.pattern_tokens.specs.declared.token.TokenKind.TheVariants.{SquareOpen, SquareClose, RoundOpen, RoundClose, Dot, Colon, Comma, Star, Equal, Differ, Less, LessEqual, Greater, GreaterEqual, And, Or, Not, FollowedBy, Within, Seconds, Repeats, Times, Start, Stop, Among, Like, Subset, Superset, Exists, TrueWord, FalseWord, Word, HyphenWord, Number, Words, Hex, Base, Time}
-use Rattle.pattern_tokens.specs.Word.{IsWordStart, IsWordPart, IsHyphenWordPart, HasAt, IsWord, IsHyphenWord}
-use Rattle.pattern_tokens.specs.Values.{escaped, quoted, IsNumberText, IsWordsText, IsLetteredText}
+use Rattle.pattern_tokens.specs.Word.{IsWordStart, IsWordPart, IsHyphenWordPart, HasAt}
+use Rattle.pattern_tokens.specs.Values.{escaped, IsNumberText, IsLetteredText}
 use Rattle.pattern_tokens.specs.Table.{IsToken}
 
 -- there is a first and a last byte, and both are ASCII
@@ -78,8 +78,8 @@ cons_edges c (d ∷ text) p e = record {
   some = omega arith;
   first = p;
   last =
-    let n : length (c ∷ d ∷ text) - 1 ≡ suc (length (d ∷ text) - 1) = omega arith in
-    subst (λ (i : ℕ). get_or (c ∷ d ∷ text) i 0 < 128) (sym n) e.last;
+      let n : length (c ∷ d ∷ text) - 1 ≡ suc (length (d ∷ text) - 1) = omega arith in
+      subst (λ (i : ℕ). get_or (c ∷ d ∷ text) i 0 < 128) (sym n) e.last;
 }
 
 number_by : (b d : Bool) (c : ℕ) (cs : List ℕ) → (c == 45) ≡ b → (c == 43) ≡ d → IsNumeral 10 (cond b cs (drop (cond d 1 0) (c ∷ cs))) → Edges (c ∷ cs)
@@ -149,7 +149,7 @@ cut_there text front part after utf8 e edges =
     let some = edges.some in
     let n : length text ≡ length front + (length part + length after) = ap length e ∙ simp length-append in
     let read : (i : ℕ) → i < length part → get_or text (length front + i) 0 ≡ get_or part i 0 = λ i l.
-      ap (λ (xs : List ℕ). get_or xs (length front + i) 0) e ∙ get_or-append-add front (part ++ after) i 0 ∙ get_or_append_left part after 0 i l in
+    ap (λ (xs : List ℕ). get_or xs (length front + i) 0) e ∙ get_or-append-add front (part ++ after) i 0 ∙ get_or_append_left part after 0 i l in
     let start : length front + 0 < length text = omega arith in
     let stop : length front + (length part - 1) < length text = omega arith in
     let first : get_or text (length front + 0) 0 < 128 = subst (λ (c : ℕ). c < 128) (sym (read 0 some)) edges.first in
@@ -161,10 +161,10 @@ cut_there text front part after utf8 e edges =
       from = subst (λ (i : ℕ). IsCharBoundary text i) zero (IsCharBoundary-before_ascii text (length front + 0) start first);
       to = subst (λ (i : ℕ). IsCharBoundary text i) end (IsCharBoundary-after_ascii text (length front + (length part - 1)) utf8 stop last);
       is =
-        ap (λ (k : ℕ). take k (drop (length front) text)) width
-        ∙ ap (λ (xs : List ℕ). take (length part) (drop (length front) xs)) e
-        ∙ ap (λ (xs : List ℕ). take (length part) xs) (drop_at front (part ++ after) (length front) refl)
-        ∙ take_at part after (length part) refl;
+          ap (λ (k : ℕ). take k (drop (length front) text)) width
+          ∙ ap (λ (xs : List ℕ). take (length part) (drop (length front) xs)) e
+          ∙ ap (λ (xs : List ℕ). take (length part) xs) (drop_at front (part ++ after) (length front) refl)
+          ∙ take_at part after (length part) refl;
     }
 
 pub cuts : (text front part after : List ℕ) (start end : ℕ) → IsUtf8 text → text ≡ front ++ (part ++ after) → start ≡ length front → end ≡ start + length part → Edges part → Cuts text start end part

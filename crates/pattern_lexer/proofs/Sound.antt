@@ -1,9 +1,8 @@
 -- The tokens of a text lie in it and stand for something.
-use Rattle.std.proofs.Common.{◌≡◌, ℕ, ◌+◌, ◌-◌, ◌≤◌, List, [], ◌∷◌, ◌++◌, length, take, drop, All, IsUtf8, refl, sym, ap, ◌∙◌, subst, arith, append_assoc, length-append}
+use Rattle.std.proofs.Common.{◌≡◌, ℕ, ◌+◌, List, [], ◌∷◌, ◌++◌, length, All, IsUtf8, refl, sym, ap, ◌∙◌, subst, arith, append_assoc, length-append}
 use Rattle.std.proofs.lemmas.List.Elements.{All-nil, All-cons}
 use Rattle.pattern_tokens.specs.declared.token.Token.{Token}
 use Rattle.pattern_tokens.specs.Sound.{IsSound}
-use Rattle.pattern_tokens.specs.Spans.{text_at}
 use Rattle.pattern_tokens.specs.Table.{IsToken}
 use Rattle.pattern_tokens.specs.Values.{HasValue}
 use Rattle.pattern_lexer.specs.Reading.{TokensOf, AreTokens, IsNext}
@@ -14,7 +13,7 @@ sound_next text front left at token after utf8 e p next =
     let blanks = next.blanks in
     let part = next.text in
     let spelled : text ≡ (front ++ blanks) ++ (part ++ after) =
-      e ∙ ap (λ (xs : List ℕ). front ++ xs) (next.spelled ∙ append_assoc blanks part after) ∙ sym (append_assoc front blanks (part ++ after)) in
+    e ∙ ap (λ (xs : List ℕ). front ++ xs) (next.spelled ∙ append_assoc blanks part after) ∙ sym (append_assoc front blanks (part ++ after)) in
     let start : token.from ≡ length (front ++ blanks) = next.from ∙ ap (λ (n : ℕ). n + length blanks) p ∙ sym (length-append front blanks) in
     let h = cuts text (front ++ blanks) part after token.from token.to utf8 spelled start next.to (token_edges token.kind part next.first.token) in
     let to = next.to in
