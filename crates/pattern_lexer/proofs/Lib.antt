@@ -1,2 +1,5 @@
 mod Edges
 mod Sound
+mod Shapes
+mod Escaping
+mod Leads

@@ -3,7 +3,7 @@ use Rattle.std.specs.Prelude.{◌≡◌, ◌≢◌, ℕ, ◌<◌, ◌≤◌, ◌
 use Rattle.std.specs.Char.{IsAsciiDigit}
 use Rattle.pattern_tokens.specs.declared.token.Token.{Token}
 use Rattle.pattern_tokens.specs.declared.token.TokenKind.{TokenKind}
-use Rattle.pattern_tokens.specs.declared.token.TokenKind.TheVariants.{Number, Hex, Base, Time}
+use Rattle.pattern_tokens.specs.declared.token.TokenKind.TheVariants.{SquareOpen, SquareClose, RoundOpen, RoundClose, Dot, Colon, Comma, Star, Equal, Differ, Less, LessEqual, Greater, GreaterEqual, Number, Hex, Base, Time}
 use Rattle.pattern_tokens.specs.declared.refusal.PatternRefusal.{PatternRefusal}
 use Rattle.pattern_tokens.specs.declared.refusal.PatternRefusal.TheVariants.{BadNumber, BadTime, BadBytes}
 use Rattle.pattern_tokens.specs.Word.{IsWordStart, IsHyphenWordPart, HasAt}
@@ -85,3 +85,16 @@ pub record ArePassed (text : List ℕ) (from to : ℕ) : Type 0 where
   pub within : to ≤ length text
   pub blank : All IsBlank (slice_range text from to)
   pub ends : ¬ HasAt 0 IsBlank (drop to text)
+
+-- `'` or `\`
+abbrev pub IsSpecial : ℕ → Type 0
+IsSpecial c = (c ≡ 39) ⊎ (c ≡ 92)
+
+-- the kind of the mark that is this byte
+abbrev pub single_kind : ℕ → Option TokenKind
+single_kind c =
+    if c == 91 then Some SquareOpen else if c == 93 then Some SquareClose else if c == 40 then Some RoundOpen else if c == 41 then Some RoundClose else if c == 46 then Some Dot else if c == 58 then Some Colon else if c == 44 then Some Comma else if c == 42 then Some Star else if c == 61 then Some Equal else if c == 60 then Some Less else if c == 62 then Some Greater else None
+
+-- the kind of the mark that is this byte and `=`
+abbrev pub double_kind : ℕ → Option TokenKind
+double_kind c = if c == 33 then Some Differ else if c == 60 then Some LessEqual else if c == 62 then Some GreaterEqual else None

@@ -1,32 +1,10 @@
-ghost use Rattle.std.specs.Prelude.{IfSome, IfNone};
+ghost use Rattle.std.specs.Prelude.{◌≡◌, ◌≢◌, ◌∷◌, ℕ, List, Some, IsSome, IfSome, IfNone};
 ghost use Rattle.pattern_lexer.specs.Reading.{HasNoToken};
-ghost use Rattle.pattern_lexer.specs.Steps.{Begins, StartsAsMark};
+ghost use Rattle.pattern_lexer.specs.Steps.{Begins, StartsAsMark, single_kind, double_kind};
 
 use crate::first::First;
+use crate::runs::behind;
 use pattern_tokens::TokenKind;
-
-/// The marks, the longer ones first.
-const MARKS: [&str; 14] = [
-    "!=", "<=", ">=", "[", "]", "(", ")", ".", ":", ",", "*", "=", "<", ">",
-];
-
-/// Their kinds.
-const MARK_KINDS: [TokenKind; 14] = [
-    TokenKind::Differ,
-    TokenKind::LessEqual,
-    TokenKind::GreaterEqual,
-    TokenKind::SquareOpen,
-    TokenKind::SquareClose,
-    TokenKind::RoundOpen,
-    TokenKind::RoundClose,
-    TokenKind::Dot,
-    TokenKind::Colon,
-    TokenKind::Comma,
-    TokenKind::Star,
-    TokenKind::Equal,
-    TokenKind::Less,
-    TokenKind::Greater,
-];
 
 /// The longest mark that begins the bytes.
 pub fn first_mark(bytes: &[u8]) -> Option<First<'_>>
@@ -34,13 +12,52 @@ pub fn first_mark(bytes: &[u8]) -> Option<First<'_>>
     ensures some { IfSome result (λ found. Begins bytes.now found.kind found.after.now) }
     ensures none { IfNone result (HasNoToken bytes.now) }
 {
-    for (place, mark) in MARKS.iter().enumerate() {
-        if let Some(after) = bytes.strip_prefix(mark.as_bytes()) {
-            return Some(First {
-                kind: MARK_KINDS[place],
-                after,
-            });
-        }
+    let (first, more) = bytes.split_first()?;
+    if let Some(found) = double_mark(*first, more) {
+        return Some(found);
     }
-    None
+    let kind = kind_of_mark(*first)?;
+    Some(First { kind, after: more })
+}
+
+/// The mark of two bytes, of which the second is `=`.
+fn double_mark(first: u8, more: &[u8]) -> Option<First<'_>>
+    ensures some { IfSome result (λ found. (double_kind first ≡ Some found.kind) × (more.now ≡ 61 ∷ found.after.now)) }
+    ensures none { IfNone result ((after : List ℕ) → IsSome (double_kind first) → more.now ≢ 61 ∷ after) }
+{
+    let after = behind(more, b'=')?;
+    let kind = kind_before_equal(first)?;
+    Some(First { kind, after })
+}
+
+/// The kind of the mark that is this byte.
+fn kind_of_mark(byte: u8) -> Option<TokenKind>
+    ensures { result ≡ single_kind byte }
+{
+    match byte {
+        b'[' => Some(TokenKind::SquareOpen),
+        b']' => Some(TokenKind::SquareClose),
+        b'(' => Some(TokenKind::RoundOpen),
+        b')' => Some(TokenKind::RoundClose),
+        b'.' => Some(TokenKind::Dot),
+        b':' => Some(TokenKind::Colon),
+        b',' => Some(TokenKind::Comma),
+        b'*' => Some(TokenKind::Star),
+        b'=' => Some(TokenKind::Equal),
+        b'<' => Some(TokenKind::Less),
+        b'>' => Some(TokenKind::Greater),
+        _ => None,
+    }
+}
+
+/// The kind of the mark that is this byte and `=`.
+fn kind_before_equal(byte: u8) -> Option<TokenKind>
+    ensures { result ≡ double_kind byte }
+{
+    match byte {
+        b'!' => Some(TokenKind::Differ),
+        b'<' => Some(TokenKind::LessEqual),
+        b'>' => Some(TokenKind::GreaterEqual),
+        _ => None,
+    }
 }

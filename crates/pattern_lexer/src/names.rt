@@ -1,4 +1,4 @@
-ghost use Rattle.std.specs.Prelude.{IfSome, IfNone, Contains};
+ghost use Rattle.std.specs.Prelude.{◌≡◌, IfSome, IfNone, Contains};
 ghost use Rattle.pattern_tokens.specs.Word.{IsWordStart, HasAt, keywords};
 ghost use Rattle.pattern_tokens.specs.Table.{IsToken};
 ghost use Rattle.pattern_lexer.specs.Steps.{Begins, IsName};
@@ -7,48 +7,6 @@ use crate::first::First;
 use crate::quoted::first_lettered;
 use crate::runs::{Class, split_run};
 use pattern_tokens::TokenKind;
-
-/// The keywords, in the order of the table of tokens.
-const KEYWORDS: [&str; 17] = [
-    "AND",
-    "OR",
-    "NOT",
-    "FOLLOWEDBY",
-    "WITHIN",
-    "SECONDS",
-    "REPEATS",
-    "TIMES",
-    "START",
-    "STOP",
-    "IN",
-    "LIKE",
-    "ISSUBSET",
-    "ISSUPERSET",
-    "EXISTS",
-    "true",
-    "false",
-];
-
-/// Their kinds.
-const KEYWORD_KINDS: [TokenKind; 17] = [
-    TokenKind::And,
-    TokenKind::Or,
-    TokenKind::Not,
-    TokenKind::FollowedBy,
-    TokenKind::Within,
-    TokenKind::Seconds,
-    TokenKind::Repeats,
-    TokenKind::Times,
-    TokenKind::Start,
-    TokenKind::Stop,
-    TokenKind::Among,
-    TokenKind::Like,
-    TokenKind::Subset,
-    TokenKind::Superset,
-    TokenKind::Exists,
-    TokenKind::TrueWord,
-    TokenKind::FalseWord,
-];
 
 /// The token of the bytes that begin with a letter or `_`.
 pub fn first_name(bytes: &[u8]) -> First<'_>
@@ -81,10 +39,24 @@ fn keyword(name: &[u8]) -> Option<TokenKind>
     ensures some { IfSome result (λ kind. IsToken kind name.now) }
     ensures none { IfNone result (¬ Contains keywords name.now) }
 {
-    for (place, word) in KEYWORDS.iter().enumerate() {
-        if word.as_bytes() == name {
-            return Some(KEYWORD_KINDS[place]);
-        }
+    match name {
+        b"AND" => Some(TokenKind::And),
+        b"OR" => Some(TokenKind::Or),
+        b"NOT" => Some(TokenKind::Not),
+        b"FOLLOWEDBY" => Some(TokenKind::FollowedBy),
+        b"WITHIN" => Some(TokenKind::Within),
+        b"SECONDS" => Some(TokenKind::Seconds),
+        b"REPEATS" => Some(TokenKind::Repeats),
+        b"TIMES" => Some(TokenKind::Times),
+        b"START" => Some(TokenKind::Start),
+        b"STOP" => Some(TokenKind::Stop),
+        b"IN" => Some(TokenKind::Among),
+        b"LIKE" => Some(TokenKind::Like),
+        b"ISSUBSET" => Some(TokenKind::Subset),
+        b"ISSUPERSET" => Some(TokenKind::Superset),
+        b"EXISTS" => Some(TokenKind::Exists),
+        b"true" => Some(TokenKind::TrueWord),
+        b"false" => Some(TokenKind::FalseWord),
+        _ => None,
     }
-    None
 }

@@ -1,11 +1,11 @@
-ghost use Rattle.std.specs.Prelude.{◌≡◌, ◌≢◌, ◌∷◌, ◌++◌, ℕ, List, IfSome, IfNone, flat_map};
+ghost use Rattle.std.specs.Prelude.{◌≡◌, ◌≢◌, ◌∷◌, ◌++◌, ℕ, List, IfSome, IfNone, All, flat_map};
 ghost use Rattle.pattern_tokens.specs.Word.{HasAt};
 ghost use Rattle.pattern_tokens.specs.Values.{escaped};
 ghost use Rattle.pattern_lexer.specs.Reading.{HasNoToken};
-ghost use Rattle.pattern_lexer.specs.Steps.{Begins, HasNoLettered, letter_kind};
+ghost use Rattle.pattern_lexer.specs.Steps.{Begins, HasNoLettered, IsSpecial, letter_kind};
 
 use crate::first::First;
-use crate::runs::{Class, split_run};
+use crate::runs::{Class, behind, split_run};
 use pattern_tokens::TokenKind;
 
 /// The text in quotes that begins with a `'`.
@@ -14,8 +14,7 @@ pub fn first_words(bytes: &[u8]) -> Option<First<'_>>
     ensures some { IfSome result (λ found. Begins bytes.now found.kind found.after.now) }
     ensures none { IfNone result (HasNoToken bytes.now) }
 {
-    let (_quote, inside) = bytes.split_first()?;
-    let after = behind_words(inside)?;
+    let after = behind_words(behind(bytes, b'\'')?)?;
     Some(First {
         kind: TokenKind::Words,
         after,
@@ -28,13 +27,24 @@ fn behind_words(inside: &[u8]) -> Option<&[u8]>
     ensures none { IfNone result ((words more : List ℕ) → inside.now ≢ flat_map escaped words ++ 39 ∷ more) }
 {
     let mut rest = inside;
-    loop {
-        match rest {
-            [b'\'', after @ ..] => return Some(after),
-            [b'\\', b'\'' | b'\\', more @ ..] => rest = more,
-            [] | [b'\\', ..] => return None,
-            [_, more @ ..] => rest = more,
+    while let Some((first, more)) = rest.split_first() {
+        match *first {
+            b'\'' => return Some(more),
+            b'\\' => rest = behind_special(more)?,
+            _ => rest = more,
         }
+    }
+    None
+}
+
+/// What follows the `'` or `\` that begins the bytes.
+fn behind_special(bytes: &[u8]) -> Option<&[u8]>
+    ensures some { IfSome result (λ after. (c : ℕ) × IsSpecial c × (bytes.now ≡ c ∷ after.now)) }
+    ensures none { IfNone result ((c : ℕ) (after : List ℕ) → IsSpecial c → bytes.now ≢ c ∷ after) }
+{
+    match bytes.split_first()? {
+        (b'\'' | b'\\', after) => Some(after),
+        _ => None,
     }
 }
 
@@ -43,13 +53,19 @@ pub fn first_lettered(bytes: &[u8]) -> Option<First<'_>>
     ensures some { IfSome result (λ found. Begins bytes.now found.kind found.after.now) }
     ensures none { IfNone result (HasNoLettered bytes.now) }
 {
-    let [letter, b'\'', quoted @ ..] = bytes else {
-        return None;
-    };
+    let (letter, more) = bytes.split_first()?;
     let kind = kind_of_letter(*letter)?;
-    let (_inside, rest) = split_run(quoted, Class::Unquoted);
-    let (_quote, after) = rest.split_first()?;
+    let after = behind_unquoted(behind(more, b'\'')?)?;
     Some(First { kind, after })
+}
+
+/// What follows the first `'`.
+fn behind_unquoted(quoted: &[u8]) -> Option<&[u8]>
+    ensures some { IfSome result (λ after. (inside : List ℕ) × All (λ c. c ≢ 39) inside × (quoted.now ≡ inside ++ 39 ∷ after.now)) }
+    ensures none { IfNone result ((inside after : List ℕ) → All (λ c. c ≢ 39) inside → quoted.now ≢ inside ++ 39 ∷ after) }
+{
+    let (_inside, rest) = split_run(quoted, Class::Unquoted);
+    behind(rest, b'\'')
 }
 
 /// The kind of what a quote behind the letter opens.

@@ -1,4 +1,4 @@
-ghost use Rattle.std.specs.Prelude.{◌↔◌, IsTrue};
+ghost use Rattle.std.specs.Prelude.{◌≡◌, ◌≢◌, ◌∷◌, ◌↔◌, IsTrue, List, ℕ, IfSome, IfNone};
 ghost use Rattle.pattern_lexer.specs.Steps.{InClass, IsRun};
 
 /// The bytes that stand together.
@@ -36,4 +36,13 @@ pub fn split_run(bytes: &[u8], class: Class) -> (&[u8], &[u8])
         .position(|byte| !class.has(*byte))
         .unwrap_or(bytes.len());
     bytes.split_at(end)
+}
+
+/// What follows the byte that begins the bytes.
+pub fn behind(bytes: &[u8], first: u8) -> Option<&[u8]>
+    ensures some { IfSome result (λ after. bytes.now ≡ first ∷ after.now) }
+    ensures none { IfNone result ((after : List ℕ) → bytes.now ≢ first ∷ after) }
+{
+    let (byte, after) = bytes.split_first()?;
+    if *byte == first { Some(after) } else { None }
 }
