@@ -1,5 +1,5 @@
 -- The bytes that begin the tokens of each shape.
-use Rattle.std.proofs.Common.{◌≡◌, ◌≢◌, ℕ, ◌<◌, ◌≤◌, ◌⊎◌, inl, inr, Bool, true, false, cond, ◌&&◌, ◌||◌, ◌==◌, nat_le, if◌then◌else◌, List, [], ◌∷◌, ◌++◌, length, drop, flat_map, All, Option, Some, None, IsSome, refl, sym, ap, ◌∙◌, subst, arith, lit<, append_assoc, length-append}
+use Rattle.std.proofs.Common.{◌≡◌, ◌≢◌, ℕ, ◌<◌, ◌≤◌, ◌⊎◌, inl, inr, Bool, true, false, cond, ◌&&◌, ◌||◌, ◌==◌, nat_le, nat_lt, if◌then◌else◌, List, [], ◌∷◌, ◌++◌, length, drop, flat_map, All, Option, Some, None, IsSome, refl, sym, ap, ◌∙◌, subst, arith, lit<, append_assoc, length-append}
 use Rattle.std.specs.Char.{IsAsciiDigit}
 use Rattle.std.specs.Str.Parse.{IsNumeral, AllDigits, without_leading_sign}
 use Rattle.std.proofs.lemmas.Bool.Decides.{nat_tests}
@@ -38,7 +38,7 @@ number_true c (inl h) = grind (arith, nat_tests, h.0, h.1)
 number_true c (inr (inl h)) = grind (arith, nat_tests)
 number_true c (inr (inr h)) = grind (arith, nat_tests)
 
-letter_number : (c : ℕ) → IsWordStart c → IsNumberStart c → ⊥
+pub letter_number : (c : ℕ) → IsWordStart c → IsNumberStart c → ⊥
 letter_number c (inl (inl h)) (inl d) = absurd (omega (arith, h.0, h.1, d.0, d.1))
 letter_number c (inl (inr h)) (inl d) = absurd (omega (arith, h.0, h.1, d.0, d.1))
 letter_number c (inr h) (inl d) = absurd (omega (arith, h, d.0, d.1))
@@ -49,12 +49,12 @@ letter_number c (inl (inl h)) (inr (inr d)) = absurd (omega (arith, h.0, h.1, d)
 letter_number c (inl (inr h)) (inr (inr d)) = absurd (omega (arith, h.0, h.1, d))
 letter_number c (inr h) (inr (inr d)) = absurd (omega (arith, h, d))
 
-letter_quote : (c : ℕ) → IsWordStart c → c ≡ 39 → ⊥
+pub letter_quote : (c : ℕ) → IsWordStart c → c ≡ 39 → ⊥
 letter_quote c (inl (inl h)) e = absurd (omega (arith, h.0, h.1, e))
 letter_quote c (inl (inr h)) e = absurd (omega (arith, h.0, h.1, e))
 letter_quote c (inr h) e = absurd (omega (arith, h, e))
 
-number_quote : (c : ℕ) → IsNumberStart c → c ≡ 39 → ⊥
+pub number_quote : (c : ℕ) → IsNumberStart c → c ≡ 39 → ⊥
 number_quote c (inl h) e = absurd (omega (arith, h.0, h.1, e))
 number_quote c (inr (inl h)) e = absurd (omega (arith, h, e))
 number_quote c (inr (inr h)) e = absurd (omega (arith, h, e))
@@ -87,6 +87,17 @@ by_letter : (b : Bool) (l : Lead) → b ≡ true → (if b then letter else l) �
 by_letter true l e = refl
 by_letter false l e = absurd (cc)
 
+pub letter_lead : (c : ℕ) → IsWordStart c → lead c ≡ letter
+letter_lead c h = by_letter (starts c) (if number_test c then number else if c == 39 then quote else other) (starts_true c h)
+
+by_number : (a b : Bool) (c : ℕ) (l : Lead) → starts c ≡ a → IsNumberStart c → b ≡ true → (if a then letter else if b then number else l) ≡ number
+by_number true b c l s h e = absurd (letter_number c (start_by c s) h)
+by_number false true c l s h e = refl
+by_number false false c l s h e = absurd (cc)
+
+pub number_lead : (c : ℕ) → IsNumberStart c → lead c ≡ number
+number_lead c h = by_number (starts c) (number_test c) c (if c == 39 then quote else other) refl h (number_true c h)
+
 letter_not_other : (b : Bool) (l : Lead) → b ≡ true → (if b then letter else l) ≡ other → ⊥
 letter_not_other true l e h = cc
 letter_not_other false l e h = absurd (cc)
@@ -115,30 +126,30 @@ nothing : (kind : TokenKind) → ◌≡◌ {A = Option TokenKind} None (Some kin
 nothing kind e = cc
 
 abbrev pub SingleRow : TokenKind → ℕ → Type 0
-SingleRow kind c = IsToken kind (c ∷ []) × (lead c ≡ other)
+SingleRow kind c = IsToken kind (c ∷ []) × (lead c ≡ other) × (nat_lt 32 c ≡ true)
 
 pub single_row : (c : ℕ) (kind : TokenKind) → single_kind c ≡ Some kind → SingleRow kind c
 single_row c kind e0 = 
-    (chain SingleRow (c == 91) c 91 SquareOpen kind _ refl e0 (refl, refl) (λ e1.
-    (chain SingleRow (c == 93) c 93 SquareClose kind _ refl e1 (refl, refl) (λ e2.
-    (chain SingleRow (c == 40) c 40 RoundOpen kind _ refl e2 (refl, refl) (λ e3.
-    (chain SingleRow (c == 41) c 41 RoundClose kind _ refl e3 (refl, refl) (λ e4.
-    (chain SingleRow (c == 46) c 46 Dot kind _ refl e4 (refl, refl) (λ e5.
-    (chain SingleRow (c == 58) c 58 Colon kind _ refl e5 (refl, refl) (λ e6.
-    (chain SingleRow (c == 44) c 44 Comma kind _ refl e6 (refl, refl) (λ e7.
-    (chain SingleRow (c == 42) c 42 Star kind _ refl e7 (refl, refl) (λ e8.
-    (chain SingleRow (c == 61) c 61 Equal kind _ refl e8 (refl, refl) (λ e9.
-    (chain SingleRow (c == 60) c 60 Less kind _ refl e9 (refl, refl) (λ e10.
-    (chain SingleRow (c == 62) c 62 Greater kind _ refl e10 (refl, refl) (λ e11. absurd (nothing kind e11)))))))))))))))))))))))
+    (chain SingleRow (c == 91) c 91 SquareOpen kind _ refl e0 (refl, refl, refl) (λ e1.
+    (chain SingleRow (c == 93) c 93 SquareClose kind _ refl e1 (refl, refl, refl) (λ e2.
+    (chain SingleRow (c == 40) c 40 RoundOpen kind _ refl e2 (refl, refl, refl) (λ e3.
+    (chain SingleRow (c == 41) c 41 RoundClose kind _ refl e3 (refl, refl, refl) (λ e4.
+    (chain SingleRow (c == 46) c 46 Dot kind _ refl e4 (refl, refl, refl) (λ e5.
+    (chain SingleRow (c == 58) c 58 Colon kind _ refl e5 (refl, refl, refl) (λ e6.
+    (chain SingleRow (c == 44) c 44 Comma kind _ refl e6 (refl, refl, refl) (λ e7.
+    (chain SingleRow (c == 42) c 42 Star kind _ refl e7 (refl, refl, refl) (λ e8.
+    (chain SingleRow (c == 61) c 61 Equal kind _ refl e8 (refl, refl, refl) (λ e9.
+    (chain SingleRow (c == 60) c 60 Less kind _ refl e9 (refl, refl, refl) (λ e10.
+    (chain SingleRow (c == 62) c 62 Greater kind _ refl e10 (refl, refl, refl) (λ e11. absurd (nothing kind e11)))))))))))))))))))))))
 
 abbrev pub DoubleRow : TokenKind → ℕ → Type 0
-DoubleRow kind c = IsToken kind (c ∷ 61 ∷ []) × (lead c ≡ other)
+DoubleRow kind c = IsToken kind (c ∷ 61 ∷ []) × (lead c ≡ other) × (nat_lt 32 c ≡ true)
 
 pub double_row : (c : ℕ) (kind : TokenKind) → double_kind c ≡ Some kind → DoubleRow kind c
 double_row c kind e0 = 
-    (chain DoubleRow (c == 33) c 33 Differ kind _ refl e0 (refl, refl) (λ e1.
-    (chain DoubleRow (c == 60) c 60 LessEqual kind _ refl e1 (refl, refl) (λ e2.
-    (chain DoubleRow (c == 62) c 62 GreaterEqual kind _ refl e2 (refl, refl) (λ e3. absurd (nothing kind e3)))))))
+    (chain DoubleRow (c == 33) c 33 Differ kind _ refl e0 (refl, refl, refl) (λ e1.
+    (chain DoubleRow (c == 60) c 60 LessEqual kind _ refl e1 (refl, refl, refl) (λ e2.
+    (chain DoubleRow (c == 62) c 62 GreaterEqual kind _ refl e2 (refl, refl, refl) (λ e3. absurd (nothing kind e3)))))))
 
 abbrev pub LetterRow : TokenKind → ℕ → Type 0
 LetterRow kind c = ((text inside : List ℕ) → IsLetteredText (c ∷ []) text inside → IsToken kind text) × (starts c ≡ true)

@@ -3,3 +3,8 @@ mod Sound
 mod Shapes
 mod Escaping
 mod Leads
+mod Longest
+mod Values
+mod Standing
+mod OneKind
+mod Readings

@@ -1,6 +1,6 @@
-ghost use Rattle.std.specs.Prelude.{◌≡◌, ◌↔◌, IsTrue, IfOk, IfSome, IfNone, Some};
+ghost use Rattle.std.specs.Prelude.{◌≡◌, ◌↔◌, ℕ, List, IsTrue, IfOk, IfSome, IfNone, Some};
 ghost use Rattle.pattern_tokens.specs.declared.refusal.LeftWord.{LeftWord};
-ghost use Rattle.pattern_tokens.specs.Values.{HasValue};
+ghost use Rattle.pattern_tokens.specs.Values.{HasValue, IsHexText, IsBaseText};
 ghost use Rattle.pattern_tokens.specs.Table.{IsToken};
 ghost use Rattle.pattern_tokens.specs.Spans.{IsCut, text_at};
 ghost use Rattle.pattern_lexer.specs.Reading.{RunsOn, IsLeftOut};
@@ -42,10 +42,26 @@ pub fn has_value(alloc: Global, text: &str, token: Token) -> Result<bool, NoMemo
     match token.kind {
         TokenKind::Number => Ok(whole_at(text, token).is_some()),
         TokenKind::Time => Ok(moment_at(text, token).is_some()),
-        TokenKind::Hex => Ok(hex_at(alloc, text, token)?.is_some()),
-        TokenKind::Base => Ok(base_at(alloc, text, token)?.is_some()),
+        TokenKind::Hex => is_hex(alloc, text, token),
+        TokenKind::Base => is_base(alloc, text, token),
         _ => Ok(true),
     }
+}
+
+fn is_hex(alloc: Global, text: &str, token: Token) -> Result<bool, NoMemory>
+    requires { IsCut text.now token }
+    ensures { IfOk result (λ is. IsTrue is ↔ ((bytes : List ℕ) × IsHexText (text_at text.now token) bytes)) }
+{
+    let bytes = hex_at(alloc, text, token)?;
+    Ok(bytes.is_some())
+}
+
+fn is_base(alloc: Global, text: &str, token: Token) -> Result<bool, NoMemory>
+    requires { IsCut text.now token }
+    ensures { IfOk result (λ is. IsTrue is ↔ ((bytes : List ℕ) × IsBaseText (text_at text.now token) bytes)) }
+{
+    let bytes = base_at(alloc, text, token)?;
+    Ok(bytes.is_some())
 }
 
 /// The refusal of a token that stands for nothing.
