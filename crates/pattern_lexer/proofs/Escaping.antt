@@ -1,5 +1,5 @@
 -- A text in quotes, read from the left: what it stands for has one end.
-use Rattle.std.proofs.Common.{◌≡◌, ◌≢◌, ℕ, Bool, true, false, ◌||◌, ◌==◌, List, [], ◌∷◌, ◌++◌, ◌⊎◌, inl, inr, flat_map, if◌then◌else◌, refl, sym, ap, ◌∙◌, subst, append_assoc, append-nil, arith}
+use Rattle.std.proofs.Common.{◌≡◌, ◌≢◌, ℕ, Bool, true, false, ◌||◌, ◌==◌, List, [], ◌∷◌, ◌++◌, inl, inr, flat_map, if◌then◌else◌, refl, sym, ap, ◌∙◌, append_assoc, append-nil, arith}
 use Rattle.std.proofs.lemmas.List.Concat.{flat_map-append}
 use Rattle.std.proofs.lemmas.Bool.Decides.{nat_tests}
 use Rattle.pattern_tokens.specs.Values.{escaped}
@@ -43,7 +43,7 @@ one_end [] (d ∷ ds) x y e = absurd (no_end (special d) d (flat_map escaped ds 
 one_end (c ∷ cs) [] x y e = absurd (no_end (special c) c (flat_map escaped cs ++ 39 ∷ x) y refl (sym e ∙ append_assoc (escaped c) (flat_map escaped cs) (39 ∷ x)))
 one_end (c ∷ cs) (d ∷ ds) x y e =
     let h = same_first (special c) (special d) c d (flat_map escaped cs ++ 39 ∷ x) (flat_map escaped ds ++ 39 ∷ y) refl refl
-      (sym (append_assoc (escaped c) (flat_map escaped cs) (39 ∷ x)) ∙ e ∙ append_assoc (escaped d) (flat_map escaped ds) (39 ∷ y)) in
+    (sym (append_assoc (escaped c) (flat_map escaped cs) (39 ∷ x)) ∙ e ∙ append_assoc (escaped d) (flat_map escaped ds) (39 ∷ y)) in
     let g = one_end cs ds x y h.1 in
     let p : c ≡ d = h.0 in
     let q : cs ≡ ds = g.0 in
@@ -55,7 +55,7 @@ ahead [] b rest y e = (b, e)
 ahead (c ∷ cs) [] rest y e = absurd (no_end (special c) c (flat_map escaped cs ++ rest) y refl (sym e ∙ append_assoc (escaped c) (flat_map escaped cs) rest))
 ahead (c ∷ cs) (d ∷ ds) rest y e =
     let h = same_first (special c) (special d) c d (flat_map escaped cs ++ rest) (flat_map escaped ds ++ 39 ∷ y) refl refl
-      (sym (append_assoc (escaped c) (flat_map escaped cs) rest) ∙ e ∙ append_assoc (escaped d) (flat_map escaped ds) (39 ∷ y)) in
+    (sym (append_assoc (escaped c) (flat_map escaped cs) rest) ∙ e ∙ append_assoc (escaped d) (flat_map escaped ds) (39 ∷ y)) in
     ahead cs ds rest y h.1
 
 -- the text of some characters, and more
@@ -70,10 +70,10 @@ push : (inside words rest more : List ℕ) (c : ℕ) → inside ≡ flat_map esc
 push inside words rest more c e f = record {
   words = words ++ c ∷ [];
   is =
-    e ∙ ap (λ (l : List ℕ). flat_map escaped words ++ l) f
-    ∙ sym (append_assoc (flat_map escaped words) (escaped c) more)
-    ∙ ap (λ (l : List ℕ). (flat_map escaped words ++ l) ++ more) (sym (append-nil (escaped c)))
-    ∙ ap (λ (l : List ℕ). l ++ more) (sym (flat_map-append escaped words (c ∷ [])));
+      e ∙ ap (λ (l : List ℕ). flat_map escaped words ++ l) f
+      ∙ sym (append_assoc (flat_map escaped words) (escaped c) more)
+      ∙ ap (λ (l : List ℕ). (flat_map escaped words ++ l) ++ more) (sym (append-nil (escaped c)))
+      ∙ ap (λ (l : List ℕ). l ++ more) (sym (flat_map-append escaped words (c ∷ [])));
 }
 
 alone : (b : Bool) (c : ℕ) (more : List ℕ) → b ≡ false → c ∷ more ≡ spelled b c more

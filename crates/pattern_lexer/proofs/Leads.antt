@@ -1,19 +1,13 @@
 -- The bytes that begin the tokens of each shape.
-use Rattle.std.proofs.Common.{◌≡◌, ◌≢◌, ℕ, ◌<◌, ◌≤◌, ◌⊎◌, inl, inr, Bool, true, false, cond, ◌&&◌, ◌||◌, ◌==◌, nat_le, nat_lt, if◌then◌else◌, List, [], ◌∷◌, ◌++◌, length, drop, flat_map, All, Option, Some, None, IsSome, refl, sym, ap, ◌∙◌, subst, arith, lit<, append_assoc, length-append}
-use Rattle.std.specs.Char.{IsAsciiDigit}
-use Rattle.std.specs.Str.Parse.{IsNumeral, AllDigits, without_leading_sign}
+use Rattle.std.proofs.Common.{◌≡◌, ◌≢◌, ℕ, inl, inr, Bool, true, false, ◌&&◌, ◌||◌, ◌==◌, nat_le, nat_lt, if◌then◌else◌, List, [], ◌∷◌, Option, Some, None, IsSome, refl, sym, ap, ◌∙◌, subst, arith}
 use Rattle.std.proofs.lemmas.Bool.Decides.{nat_tests}
-use Rattle.std.proofs.lemmas.List.Elements.{All-nil, All-cons, All-head, All-tail}
-use Rattle.std.proofs.lemmas.Str.Parse.{digit_from_value, tells_digits}
 use Rattle.pattern_tokens.specs.declared.token.TokenKind.{TokenKind}
-use Rattle.pattern_tokens.specs.declared.token.TokenKind.TheVariants.{SquareOpen, SquareClose, RoundOpen, RoundClose, Dot, Colon, Comma, Star, Equal, Differ, Less, LessEqual, Greater, GreaterEqual, Number, Words, Hex, Base, Time}
-use Rattle.pattern_tokens.specs.Word.{IsWordStart, IsHyphenWordPart, HasAt}
-use Rattle.pattern_tokens.specs.Values.{escaped, quoted, IsNumberText, IsWordsText, IsLetteredText}
+use Rattle.pattern_tokens.specs.declared.token.TokenKind.TheVariants.{SquareOpen, SquareClose, RoundOpen, RoundClose, Dot, Colon, Comma, Star, Equal, Differ, Less, LessEqual, Greater, GreaterEqual, Hex, Base, Time}
+use Rattle.pattern_tokens.specs.Word.{IsWordStart}
+use Rattle.pattern_tokens.specs.Values.{IsLetteredText}
 use Rattle.pattern_tokens.specs.Table.{IsToken}
-use Rattle.pattern_lexer.specs.Reading.{IsFirst, HasNoToken}
-use Rattle.pattern_lexer.specs.Steps.{IsName, IsRun, IsNumberStart, StartsAsMark, Begins, HasNoLettered, letter_kind, single_kind, double_kind}
-use Rattle.pattern_lexer.proofs.Shapes.{Shape, of_single, of_double, of_name, of_letter, of_number, of_words, shape, starts, start_by}
-use Rattle.pattern_lexer.proofs.Escaping.{one_end}
+use Rattle.pattern_lexer.specs.Steps.{IsNumberStart, letter_kind, single_kind, double_kind}
+use Rattle.pattern_lexer.proofs.Shapes.{starts, start_by}
 
 -- how a token begins
 pub data Lead : Type 0 where
@@ -129,7 +123,7 @@ abbrev pub SingleRow : TokenKind → ℕ → Type 0
 SingleRow kind c = IsToken kind (c ∷ []) × (lead c ≡ other) × (nat_lt 32 c ≡ true)
 
 pub single_row : (c : ℕ) (kind : TokenKind) → single_kind c ≡ Some kind → SingleRow kind c
-single_row c kind e0 = 
+single_row c kind e0 =
     (chain SingleRow (c == 91) c 91 SquareOpen kind _ refl e0 (refl, refl, refl) (λ e1.
     (chain SingleRow (c == 93) c 93 SquareClose kind _ refl e1 (refl, refl, refl) (λ e2.
     (chain SingleRow (c == 40) c 40 RoundOpen kind _ refl e2 (refl, refl, refl) (λ e3.
@@ -146,7 +140,7 @@ abbrev pub DoubleRow : TokenKind → ℕ → Type 0
 DoubleRow kind c = IsToken kind (c ∷ 61 ∷ []) × (lead c ≡ other) × (nat_lt 32 c ≡ true)
 
 pub double_row : (c : ℕ) (kind : TokenKind) → double_kind c ≡ Some kind → DoubleRow kind c
-double_row c kind e0 = 
+double_row c kind e0 =
     (chain DoubleRow (c == 33) c 33 Differ kind _ refl e0 (refl, refl, refl) (λ e1.
     (chain DoubleRow (c == 60) c 60 LessEqual kind _ refl e1 (refl, refl, refl) (λ e2.
     (chain DoubleRow (c == 62) c 62 GreaterEqual kind _ refl e2 (refl, refl, refl) (λ e3. absurd (nothing kind e3)))))))
@@ -155,7 +149,7 @@ abbrev pub LetterRow : TokenKind → ℕ → Type 0
 LetterRow kind c = ((text inside : List ℕ) → IsLetteredText (c ∷ []) text inside → IsToken kind text) × (starts c ≡ true)
 
 pub letter_row : (c : ℕ) (kind : TokenKind) → letter_kind c ≡ Some kind → LetterRow kind c
-letter_row c kind e0 = 
+letter_row c kind e0 =
     (chain LetterRow (c == 104) c 104 Hex kind _ refl e0 (λ text inside h. (inside, h), refl) (λ e1.
     (chain LetterRow (c == 98) c 98 Base kind _ refl e1 (λ text inside h. (inside, h), refl) (λ e2.
     (chain LetterRow (c == 116) c 116 Time kind _ refl e2 (λ text inside h. (inside, h), refl) (λ e3. absurd (nothing kind e3)))))))

@@ -9,9 +9,9 @@ use Rattle.std.proofs.lemmas.Str.Parse.{digit_from_value, tells_digits}
 use Rattle.pattern_tokens.specs.declared.token.TokenKind.{TokenKind}
 use Rattle.pattern_tokens.specs.declared.token.TokenKind.TheVariants.{Number, Words}
 use Rattle.pattern_tokens.specs.Word.{IsWordStart, IsHyphenWordPart, HasAt}
-use Rattle.pattern_tokens.specs.Values.{escaped, quoted, IsNumberText, IsLetteredText}
+use Rattle.pattern_tokens.specs.Values.{escaped, IsNumberText}
 use Rattle.pattern_tokens.specs.Table.{IsToken}
-use Rattle.pattern_lexer.specs.Reading.{IsFirst, HasNoToken}
+use Rattle.pattern_lexer.specs.Reading.{HasNoToken}
 use Rattle.pattern_lexer.specs.Steps.{IsName, IsRun, IsNumberStart, StartsAsMark, Begins, HasNoLettered, letter_kind, single_kind, double_kind}
 use Rattle.pattern_lexer.proofs.Shapes.{Shape, of_single, of_double, of_name, of_letter, of_number, of_words, shape, start_by}
 use Rattle.pattern_lexer.proofs.Escaping.{one_end}
@@ -119,11 +119,14 @@ name_longest whole front after longer more run starts none e (of_number h) = let
 name_longest whole front after longer more run starts none e (of_words words h) = let h : quote ≡ letter = lead_is letter whole longer more starts e (of_words words h) in absurd (cc)
 
 pub name_first : (whole front after : List ℕ) (kind : TokenKind) → IsRun IsHyphenWordPart whole front after → HasAt 0 IsWordStart whole → HasNoLettered whole → IsToken kind front → Begins whole kind after
-name_first whole front after kind run starts none token = (front, record {
-  spelled = run.spelled;
-  token = token;
-  longest = λ other longer more e t. name_longest whole front after longer more run starts none e (shape other longer t);
-})
+name_first whole front after kind run starts none token = (
+  front,
+  record {
+    spelled = run.spelled;
+    token = token;
+    longest = λ other longer more e t. name_longest whole front after longer more run starts none e (shape other longer t);
+  },
+)
 
 start_part : (whole after : List ℕ) → whole ≡ after → HasAt 0 IsWordStart whole → HasAt 0 IsHyphenWordPart after
 start_part [] after e h = absurd h
@@ -143,7 +146,6 @@ quote_no_part (inl (inl (inl (inr h)))) = absurd (omega (arith, h.0))
 quote_no_part (inl (inl (inr h))) = absurd (omega (arith, h))
 quote_no_part (inl (inr h)) = absurd (omega (arith, h.0))
 quote_no_part (inr h) = absurd (omega (arith, h))
-
 
 letter_longest : (whole inside after longer more : List ℕ) (l : ℕ) → whole ≡ l ∷ 39 ∷ (inside ++ 39 ∷ after) → IsWordStart l → All (λ c. c ≢ 39) inside → whole ≡ longer ++ more → Shape longer → length longer ≤ length (l ∷ 39 ∷ (inside ++ 39 ∷ []))
 letter_longest whole inside after longer more l w start all e (of_single c s x) = let h : other ≡ letter = lead_is letter whole longer more (has_first IsWordStart whole l _ w start) e (of_single c s x) in absurd (cc)
@@ -165,12 +167,14 @@ letter_longest whole inside after longer more l w start all e (of_words words h)
 pub letter_first : (whole more behind inside after : List ℕ) (l : ℕ) (kind : TokenKind) → whole ≡ l ∷ more → more ≡ 39 ∷ behind → letter_kind l ≡ Some kind → All (λ c. c ≢ 39) inside → behind ≡ inside ++ 39 ∷ after → Begins whole kind after
 letter_first whole more behind inside after l kind w m k all b =
     let row = letter_row l kind k in
-    let spelled : whole ≡ l ∷ 39 ∷ (inside ++ 39 ∷ after) = cc in
-    (l ∷ 39 ∷ (inside ++ 39 ∷ []), record {
-      spelled = spelled ∙ sym (letter_spelled l inside after);
-      token = row.0 (l ∷ 39 ∷ (inside ++ 39 ∷ [])) inside (record { spelled = refl; unquoted = all });
-      longest = λ other longer more e t. letter_longest whole inside after longer more l spelled (start_by l row.1) all e (shape other longer t);
-    })
+    let spelled : whole ≡ l ∷ 39 ∷ (inside ++ 39 ∷ after) = cc in (
+      l ∷ 39 ∷ (inside ++ 39 ∷ []),
+      record {
+        spelled = spelled ∙ sym (letter_spelled l inside after);
+        token = row.0 (l ∷ 39 ∷ (inside ++ 39 ∷ [])) inside (record { spelled = refl; unquoted = all });
+        longest = λ other longer more e t. letter_longest whole inside after longer more l spelled (start_by l row.1) all e (shape other longer t);
+      },
+    )
 
 single_longest : (whole more : List ℕ) (c : ℕ) (longer rest : List ℕ) → whole ≡ c ∷ more → Starts other c → ((after : List ℕ) → IsSome (double_kind c) → more ≢ 61 ∷ after) → whole ≡ longer ++ rest → Shape longer → length longer ≤ 1
 single_longest whole more c longer rest w start none e (of_single d s x) = let n : length longer ≡ 1 = ap length x in omega arith
@@ -187,12 +191,14 @@ single_longest whole more c longer rest w start none e (of_words words h) = let 
 -- marks
 pub single_first : (whole more : List ℕ) (c : ℕ) (kind : TokenKind) → whole ≡ c ∷ more → single_kind c ≡ Some kind → ((after : List ℕ) → IsSome (double_kind c) → more ≢ 61 ∷ after) → Begins whole kind more
 single_first whole more c kind w k none =
-    let row = single_row c kind k in
-    (c ∷ [], record {
-      spelled = w;
-      token = row.0;
-      longest = λ other longer rest e t. single_longest whole more c longer rest w (other_start c row.1) none e (shape other longer t);
-    })
+    let row = single_row c kind k in (
+      c ∷ [],
+      record {
+        spelled = w;
+        token = row.0;
+        longest = λ other longer rest e t. single_longest whole more c longer rest w (other_start c row.1) none e (shape other longer t);
+      },
+    )
 
 double_longest : (whole more : List ℕ) (c : ℕ) (longer rest : List ℕ) → whole ≡ c ∷ more → Starts other c → whole ≡ longer ++ rest → Shape longer → length longer ≤ 2
 double_longest whole more c longer rest w start e (of_single d s x) = let n : length longer ≡ 1 = ap length x in omega arith
@@ -204,12 +210,14 @@ double_longest whole more c longer rest w start e (of_words words h) = let h : q
 
 pub double_first : (whole more after : List ℕ) (c : ℕ) (kind : TokenKind) → whole ≡ c ∷ more → double_kind c ≡ Some kind → more ≡ 61 ∷ after → Begins whole kind after
 double_first whole more after c kind w k m =
-    let row = double_row c kind k in
-    (c ∷ 61 ∷ [], record {
-      spelled = let h : whole ≡ c ∷ 61 ∷ after = cc in h;
-      token = row.0;
-      longest = λ other longer rest e t. double_longest whole more c longer rest w (other_start c row.1) e (shape other longer t);
-    })
+    let row = double_row c kind k in (
+      c ∷ 61 ∷ [],
+      record {
+        spelled = let h : whole ≡ c ∷ 61 ∷ after = cc in h;
+        token = row.0;
+        longest = λ other longer rest e t. double_longest whole more c longer rest w (other_start c row.1) e (shape other longer t);
+      },
+    )
 
 pub mark_start : (whole : List ℕ) (c : ℕ) (more : List ℕ) → whole ≡ c ∷ more → StartsAsMark whole → Starts other c
 mark_start whole c more w start = (
@@ -260,18 +268,21 @@ words_longest whole inside after words longer more w i e (of_letter c inside2 s 
 words_longest whole inside after words longer more w i e (of_number h) = let h : number ≡ quote = lead_is quote whole longer more (has_first (Starts quote) whole 39 inside w refl) e (of_number h) in absurd (cc)
 words_longest whole inside after words longer more w i e (of_words words2 h) =
     let same : 39 ∷ (flat_map escaped words ++ 39 ∷ after) ≡ 39 ∷ (flat_map escaped words2 ++ 39 ∷ more) =
-      ap (λ (l : List ℕ). 39 ∷ l) (sym i) ∙ sym w ∙ e ∙ ap (λ (l : List ℕ). l ++ more) h ∙ words_spelled words2 more in
+    ap (λ (l : List ℕ). 39 ∷ l) (sym i) ∙ sym w ∙ e ∙ ap (λ (l : List ℕ). l ++ more) h ∙ words_spelled words2 more in
     let tails : flat_map escaped words ++ 39 ∷ after ≡ flat_map escaped words2 ++ 39 ∷ more = cc in
     let k : words ≡ words2 = (one_end words words2 after more tails).0 in
     let n : length longer ≡ length (39 ∷ (flat_map escaped words ++ 39 ∷ [])) = ap length h ∙ ap (λ (l : List ℕ). length (39 ∷ (flat_map escaped l ++ 39 ∷ []))) (sym k) in
     omega arith
 
 pub words_first : (whole inside after words : List ℕ) → whole ≡ 39 ∷ inside → inside ≡ flat_map escaped words ++ 39 ∷ after → Begins whole Words after
-words_first whole inside after words w i = (39 ∷ (flat_map escaped words ++ 39 ∷ []), record {
-  spelled = w ∙ ap (λ (l : List ℕ). 39 ∷ l) i ∙ sym (words_spelled words after);
-  token = (words, refl);
-  longest = λ other longer more e t. words_longest whole inside after words longer more w i e (shape other longer t);
-})
+words_first whole inside after words w i = (
+  39 ∷ (flat_map escaped words ++ 39 ∷ []),
+  record {
+    spelled = w ∙ ap (λ (l : List ℕ). 39 ∷ l) i ∙ sym (words_spelled words after);
+    token = (words, refl);
+    longest = λ other longer more e t. words_longest whole inside after words longer more w i e (shape other longer t);
+  },
+)
 
 no_words_by : (whole inside text after : List ℕ) → whole ≡ 39 ∷ inside → ((words more : List ℕ) → inside ≢ flat_map escaped words ++ 39 ∷ more) → whole ≡ text ++ after → Shape text → ⊥
 no_words_by whole inside text after w none e (of_single c s x) = let h : other ≡ quote = lead_is quote whole text after (has_first (Starts quote) whole 39 inside w refl) e (of_single c s x) in absurd (cc)
@@ -334,12 +345,14 @@ pub number_first : (whole front after : List ℕ) → HasAt 0 IsNumberStart whol
 number_first [] front after start run some = absurd start
 number_first (c ∷ w) front after start run some =
     let side = sign_or_not c in
-    let h = number_is c w front after side run some in
-    (number_text c side front, record {
-      spelled = h.1;
-      token = h.0;
-      longest = λ other longer more e t. number_longest c w front after longer more side start run e (shape other longer t);
-    })
+    let h = number_is c w front after side run some in (
+      number_text c side front,
+      record {
+        spelled = h.1;
+        token = h.0;
+        longest = λ other longer more e t. number_longest c w front after longer more side start run e (shape other longer t);
+      },
+    )
 
 digit_first : (digits : List ℕ) → IsNumeral 10 digits → HasAt 0 IsAsciiDigit digits
 digit_first [] h = absurd (omega (arith, h.0))

@@ -1,10 +1,10 @@
 -- Five shapes of tokens, and the bytes that begin each.
-use Rattle.std.proofs.Common.{◌≡◌, ℕ, ◌⊎◌, inl, inr, Bool, true, false, ◌&&◌, ◌||◌, ◌==◌, nat_le, if◌then◌else◌, List, [], ◌∷◌, ◌++◌, length, get_or, All, Contains, codes, IsSome, refl, sym, ap, ◌∙◌, subst, arith, lit<}
+use Rattle.std.proofs.Common.{◌≡◌, ℕ, inl, Bool, true, false, ◌&&◌, ◌||◌, ◌==◌, nat_le, List, [], ◌∷◌, All, IsSome, refl, ap, arith}
 use Rattle.std.proofs.lemmas.Bool.Decides.{nat_tests}
 use Rattle.std.proofs.lemmas.List.Elements.{All-nil, All-cons}
 use Rattle.pattern_tokens.specs.declared.token.TokenKind.{TokenKind}
 use Rattle.pattern_tokens.specs.declared.token.TokenKind.TheVariants.{SquareOpen, SquareClose, RoundOpen, RoundClose, Dot, Colon, Comma, Star, Equal, Differ, Less, LessEqual, Greater, GreaterEqual, And, Or, Not, FollowedBy, Within, Seconds, Repeats, Times, Start, Stop, Among, Like, Subset, Superset, Exists, TrueWord, FalseWord, Word, HyphenWord, Number, Words, Hex, Base, Time}
-use Rattle.pattern_tokens.specs.Word.{IsWordStart, IsWordPart, IsHyphenWordPart, HasAt}
+use Rattle.pattern_tokens.specs.Word.{IsWordStart, IsWordPart, IsHyphenWordPart}
 use Rattle.pattern_tokens.specs.Values.{IsNumberText, IsWordsText, IsLetteredText}
 use Rattle.pattern_tokens.specs.Table.{IsToken}
 use Rattle.pattern_lexer.specs.Steps.{IsName, letter_kind, single_kind, double_kind}

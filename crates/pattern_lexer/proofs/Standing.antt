@@ -1,5 +1,5 @@
 -- Tokens that stand one after another in a text, up to a place.
-use Rattle.std.proofs.Common.{◌≡◌, ◌≢◌, ◌↔◌, ℕ, Bool, true, false, IsTrue, ◌+◌, ◌-◌, ◌<◌, ◌≤◌, ◌⊎◌, inl, inr, List, [], ◌∷◌, ◌++◌, length, take, drop, All, IsUtf8, slice_range, Option, Some, None, refl, sym, ap, ◌∙◌, subst, arith, append_assoc, length-append, length-drop, length-take-le, take-append-drop, append-nil}
+use Rattle.std.proofs.Common.{◌≡◌, ◌↔◌, ℕ, Bool, false, IsTrue, ◌+◌, ◌-◌, ◌<◌, ◌≤◌, ◌⊎◌, inl, inr, List, [], ◌∷◌, ◌++◌, length, take, drop, All, IsUtf8, slice_range, refl, sym, ap, ◌∙◌, subst, arith, append_assoc, length-append, length-drop, length-take-le, take-append-drop, append-nil}
 use Rattle.std.proofs.lemmas.List.{drop-drop, drop_at, drop_all, take_at}
 use Rattle.std.proofs.lemmas.Bool.{false≢true}
 use Rattle.std.proofs.lemmas.Slice.{between_to_end}
@@ -11,9 +11,8 @@ use Rattle.pattern_tokens.specs.declared.refusal.PatternRefusal.{PatternRefusal}
 use Rattle.pattern_tokens.specs.declared.refusal.PatternRefusal.TheVariants.{NoMemory}
 use Rattle.pattern_tokens.specs.Word.{HasAt}
 use Rattle.pattern_tokens.specs.Spans.{IsCut, text_at}
-use Rattle.pattern_tokens.specs.Table.{IsToken}
 use Rattle.pattern_tokens.specs.Values.{HasValue}
-use Rattle.pattern_lexer.specs.Reading.{IsBlank, IsFirst, RunsOn, IsLeftOut, IsUsable, IsNext, AreTokens, TokensOf, IsFault, IsWorthless, HasFault, IsRefused}
+use Rattle.pattern_lexer.specs.Reading.{IsBlank, IsFirst, RunsOn, IsLeftOut, IsUsable, IsNext, AreTokens, TokensOf, IsFault, HasFault, IsRefused}
 use Rattle.pattern_lexer.specs.Steps.{IsRun, Begins, ArePassed, StandsAt, ReadUpTo, worthless_refusal}
 use Rattle.pattern_lexer.proofs.Edges.{cuts, token_edges}
 
@@ -37,7 +36,7 @@ placed_by text at kind part after token is utf8 l first =
     let end : to ≡ at + length part = omega arith in
     let h = cuts text front part after at to utf8 e (sym n) end edges in
     let rest : after ≡ drop to text =
-      sym (ap (λ (xs : List ℕ). drop to xs) (e ∙ sym (append_assoc front part after)) ∙ drop_at (front ++ part) after to (length-append front part ∙ (omega arith))) in
+    sym (ap (λ (xs : List ℕ). drop to xs) (e ∙ sym (append_assoc front part after)) ∙ drop_at (front ++ part) after to (length-append front part ∙ (omega arith))) in
     subst (λ (t : Token). Placed text t after) (sym is) (record {
       cut = record { ordered = omega arith; from = h.from; to = h.to };
       ordered = omega arith;

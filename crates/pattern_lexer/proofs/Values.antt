@@ -1,5 +1,5 @@
 -- Whether a token stands for something, by what its value's call answers.
-use Rattle.std.proofs.Common.{◌≡◌, ◌↔◌, ℕ, List, Bool, true, false, Option, Some, None, IfSome, IfNone, MatchOption, Result, Ok, Err, IfOk, IsTrue, subst, sym}
+use Rattle.std.proofs.Common.{◌≡◌, ◌↔◌, ℕ, List, Bool, Option, Some, None, IfSome, IfNone, MatchOption, Result, Ok, Err, IfOk, IsTrue, subst, sym}
 use Rattle.std.specs.Option.{is_some}
 use Rattle.pattern_tokens.specs.declared.token.Token.{Token}
 use Rattle.pattern_tokens.specs.declared.token.TokenKind.{TokenKind}

@@ -7,7 +7,9 @@ ghost use Rattle.pattern_lexer.specs.Reading.{RunsOn, IsLeftOut};
 ghost use Rattle.pattern_lexer.specs.Steps.{worthless_refusal};
 
 use flow_edges::NoMemory;
-use pattern_tokens::{LeftWord, PatternRefusal, Token, TokenKind, base_at, hex_at, moment_at, whole_at};
+use pattern_tokens::{
+    LeftWord, PatternRefusal, Token, TokenKind, base_at, hex_at, moment_at, whole_at,
+};
 use std::alloc::Global;
 
 /// Whether a number runs into a letter or `_`.

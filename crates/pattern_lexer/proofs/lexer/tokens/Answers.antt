@@ -1,4 +1,4 @@
-use Rattle.std.proofs.Common.{◌≡◌, ◌≤◌, ◌⊎◌, ◌++◌, ◌∷◌, [], inr, sym, subst, length}
+use Rattle.std.proofs.Common.{◌≡◌, ◌⊎◌, sym, subst}
 use Rattle.pattern_tokens.specs.declared.refusal.PatternRefusal.TheVariants.{NoMemory}
 use Rattle.pattern_lexer.specs.Reading.{IsRefused}
 use Rattle.pattern_lexer.specs.Steps.{ReadUpTo}
@@ -26,8 +26,8 @@ pub loop-at-preserved : goal.loop-at-preserved
 loop-at-preserved c = record {
   short = c.loop-at.invariant.short;
   read =
-    subst (λ tokens. ReadUpTo c.args.text.now tokens c.past_blanks-at-in-loop-at.result) (sym c.in_ok-push.ensures.ok)
-    (read_one c.args.text.now c.loop-at.tokens c.loop-at.at c.past_blanks-at-in-loop-at.result c.in_ok-token.token c.loop-at.invariant.read c.in_ok-token.ensures.ok c.past_blanks-at-in-loop-at.ensures);
+      subst (λ tokens. ReadUpTo c.args.text.now tokens c.past_blanks-at-in-loop-at.result) (sym c.in_ok-push.ensures.ok)
+      (read_one c.args.text.now c.loop-at.tokens c.loop-at.at c.past_blanks-at-in-loop-at.result c.in_ok-token.token c.loop-at.invariant.read c.in_ok-token.ensures.ok c.past_blanks-at-in-loop-at.ensures);
 }
 
 pub returns-clause-only : goal.returns-clause-only
