@@ -3,3 +3,16 @@ mod Characters
 mod Times
 mod LeafTexts
 mod Sizes
+mod Longest
+mod Alone
+mod Pieces
+mod Written
+mod Numerals
+mod Tokens
+mod Fit
+mod Values
+mod PathLines
+mod TestLines
+mod FormulaLines
+mod PatternLines
+mod Cutting

@@ -1,0 +1,208 @@
+-- No longer token begins a canonical text: what is written ends where the table's longest token ends.
+use Rattle.std.proofs.Common.{◌≡◌, ◌≢◌, ◌⊎◌, inl, inr, ℕ, zero, suc, ◌+◌, ◌-◌, ◌<◌, ◌≤◌, Bool, true, false, cond, not, ◌&&◌, ◌||◌, ◌==◌, if◌then◌else◌, List, [], ◌∷◌, ◌++◌, length, get_or, drop, refl, sym, ap, ◌∙◌, subst, arith, append_assoc, append-nil, length-append}
+use Rattle.std.specs.Prelude.{All, codes, nat_le, nat_lt, flat_map}
+use Rattle.std.specs.Str.Parse.{IsNumeral, AllDigits, without_leading_sign, starts_with_minus}
+use Rattle.std.proofs.lemmas.Bool.Decides.{nat_tests, leb_tells}
+use Rattle.std.proofs.lemmas.List.{get_or-append-add}
+use Rattle.std.proofs.lemmas.Str.Parse.{digit_at}
+use Rattle.pattern_tokens.specs.declared.token.TokenKind.{TokenKind}
+use Rattle.pattern_tokens.specs.declared.token.TokenKind.TheVariants.{SquareOpen, SquareClose, RoundOpen, RoundClose, Dot, Colon, Comma, Star, Equal, Differ, Less, LessEqual, Greater, GreaterEqual, And, Or, Not, FollowedBy, Within, Seconds, Repeats, Times, Start, Stop, Among, Like, Subset, Superset, Exists, TrueWord, FalseWord, Word, HyphenWord, Number, Words, Hex, Base, Time}
+use Rattle.pattern_tokens.specs.Word.{IsWordStart, IsWordPart, IsHyphenWordPart, HasAt}
+use Rattle.pattern_tokens.specs.Values.{IsNumberText, IsLetteredText, quoted, escaped, words_text}
+use Rattle.pattern_tokens.specs.Table.{IsToken}
+
+-- a byte that goes on no token but one in quotes
+pub record IsStop (c : ℕ) : Type 0 where
+  pub part : ¬ IsHyphenWordPart c
+  pub quote : c ≢ 39
+  pub equal : c ≢ 61
+  pub greater : c ≢ 62
+
+-- nothing follows, or such a byte
+abbrev pub Stops : List ℕ → Type 0
+Stops [] = Unit {0}
+Stops (c ∷ after) = IsStop c
+
+-- and no dot
+abbrev pub Ends : List ℕ → Type 0
+Ends [] = Unit {0}
+Ends (c ∷ after) = IsStop c × (c ≢ 46)
+
+pub ends_stops : (after : List ℕ) → Ends after → Stops after
+ends_stops [] h = tt
+ends_stops (c ∷ after) h = h.0
+
+-- letters, digits, `_`, `-` and `=`
+abbrev goes_on : ℕ → Bool
+goes_on b = (nat_le 65 b && nat_le b 90) || ((nat_le 97 b && nat_le b 122) || (b == 61))
+
+or_cases : (a b : Bool) → (a || b) ≡ true → (a ≡ true) ⊎ (b ≡ true)
+or_cases true b e = inl refl
+or_cases false b e = inr e
+
+and_left : (a b : Bool) → (a && b) ≡ true → a ≡ true
+and_left true b e = refl
+and_left false b e = absurd (cc)
+
+and_right : (a b : Bool) → (a && b) ≡ true → b ≡ true
+and_right true b e = e
+and_right false b e = absurd (cc)
+
+between : (low high b : ℕ) → (nat_le low b && nat_le b high) ≡ true → (low ≤ b) × (b ≤ high)
+between low high b e =
+    let f = and_left (nat_le low b) (nat_le b high) e in
+    let g = and_right (nat_le low b) (nat_le b high) e in
+    (grind (arith, nat_tests), grind (arith, nat_tests))
+
+same : (b c : ℕ) → (b == c) ≡ true → b ≡ c
+same b c e = grind (arith, nat_tests)
+
+goes_on_is : (b : ℕ) → goes_on b ≡ true → IsHyphenWordPart b ⊎ (b ≡ 61)
+goes_on_is b h = case (or_cases (nat_le 65 b && nat_le b 90) _ h)
+  where
+    low : ((nat_le 97 b && nat_le b 122) ≡ true) ⊎ ((b == 61) ≡ true) → IsHyphenWordPart b ⊎ (b ≡ 61)
+    low (inl e) = inl (inl (inl (inl (inr (between 97 122 b e)))))
+    low (inr e) = inr (same b 61 e)
+
+    case : ((nat_le 65 b && nat_le b 90) ≡ true) ⊎ (((nat_le 97 b && nat_le b 122) || (b == 61)) ≡ true) → IsHyphenWordPart b ⊎ (b ≡ 61)
+    case (inl e) = inl (inl (inl (inl (inl (between 65 90 b e)))))
+    case (inr e) = low (or_cases (nat_le 97 b && nat_le b 122) (b == 61) e)
+
+abbrev all_go_on : List ℕ → Bool
+all_go_on [] = true
+all_go_on (b ∷ bs) = goes_on b && all_go_on bs
+
+abbrev behind : List ℕ → List ℕ
+behind [] = []
+behind (b ∷ bs) = bs
+
+goes_on_at : (xs : List ℕ) (c : ℕ) (r : List ℕ) → all_go_on (xs ++ c ∷ r) ≡ true → goes_on c ≡ true
+goes_on_at [] c r e = and_left (goes_on c) (all_go_on r) e
+goes_on_at (x ∷ xs) c r e = goes_on_at xs c r (and_right (goes_on x) (all_go_on (xs ++ c ∷ r)) e)
+
+-- no text of the table's marks and keywords has a stop behind its first byte
+not_literal : (literal : List ℕ) → all_go_on (behind literal) ≡ true → (text : List ℕ) (c : ℕ) (r : List ℕ) → 0 < length text → IsStop c → text ++ c ∷ r ≡ literal → ⊥
+not_literal literal e [] c r some stop h = absurd (omega arith)
+not_literal literal e (x ∷ text) c r some stop h = case (goes_on_is c (goes_on_at text c r (ap (λ (y : List ℕ). all_go_on (behind y)) h ∙ e)))
+  where
+    case : IsHyphenWordPart c ⊎ (c ≡ 61) → ⊥
+    case (inl p) = stop.part p
+    case (inr q) = stop.equal q
+
+at_length : (text : List ℕ) (c d : ℕ) (r : List ℕ) → get_or (text ++ c ∷ r) (length text) d ≡ c
+at_length [] c d r = refl
+at_length (x ∷ text) c d r = at_length text c d r
+
+longer_by_one : (text : List ℕ) (c : ℕ) (r : List ℕ) → length text < length (text ++ c ∷ r)
+longer_by_one text c r = simp length-append (omega arith)
+
+not_digits : (text : List ℕ) (c : ℕ) (r : List ℕ) → IsStop c → AllDigits 10 (text ++ c ∷ r) → ⊥
+not_digits text c r stop h =
+    let d = digit_at (text ++ c ∷ r) (length text) h (longer_by_one text c r) in
+    let e = at_length text c 0 r in
+    stop.part (inl (inr (subst (λ (x : ℕ). (48 ≤ x) × (x ≤ 57)) e d)))
+
+first_bytes : (x y : ℕ) (xs ys : List ℕ) → x ∷ xs ≡ y ∷ ys → x ≡ y
+first_bytes x y xs ys e = cc
+
+rests : (x y : ℕ) (xs ys : List ℕ) → x ∷ xs ≡ y ∷ ys → xs ≡ ys
+rests x y xs ys e = cc
+
+-- a sign and digits, or digits
+abbrev pub IsSigned : List ℕ → Type 0
+IsSigned text = (c : ℕ) × (digits : List ℕ) × (text ≡ c ∷ digits) × ((c ≡ 43) ⊎ (c ≡ 45)) × IsNumeral 10 digits
+
+signed_by : (c : ℕ) (digits : List ℕ) (minus plus : Bool) → (minus ≡ true → c ≡ 45) → (plus ≡ true → c ≡ 43) → IsNumeral 10 (cond minus digits (drop (cond plus 1 0) (c ∷ digits))) → IsNumeral 10 (c ∷ digits) ⊎ IsSigned (c ∷ digits)
+signed_by c digits true plus f g h = inr (c, digits, refl, inr (f refl), h)
+signed_by c digits false true f g h = inr (c, digits, refl, inl (g refl), h)
+signed_by c digits false false f g h = inl h
+
+pub signed : (text : List ℕ) → IsNumberText text → IsNumeral 10 text ⊎ IsSigned text
+signed [] h = inl h
+signed (c ∷ digits) h = signed_by c digits (c == 45) (c == 43) (same c 45) (same c 43) h
+
+not_number : (text : List ℕ) (c : ℕ) (r : List ℕ) → 0 < length text → IsStop c → IsNumberText (text ++ c ∷ r) → ⊥
+not_number [] c r some stop h = absurd (omega arith)
+not_number (x ∷ text) c r some stop h = case (signed ((x ∷ text) ++ c ∷ r) h)
+  where
+    case : IsNumeral 10 ((x ∷ text) ++ c ∷ r) ⊎ IsSigned ((x ∷ text) ++ c ∷ r) → ⊥
+    case (inl d) = not_digits (x ∷ text) c r stop d.1
+    case (inr s) = let e : text ++ c ∷ r ≡ s.1 = rests x s.0 (text ++ c ∷ r) s.1 s.2 in not_digits text c r stop (subst (AllDigits 10) (sym e) s.4.1)
+
+not_lettered : (l : ℕ) (text : List ℕ) (c : ℕ) (r inside : List ℕ) → 0 < length text → All (λ b. b ≢ 39) text → IsStop c → IsLetteredText (l ∷ []) (text ++ c ∷ r) inside → ⊥
+not_lettered l [] c r inside some plain stop h = absurd (omega arith)
+not_lettered l (x ∷ []) c r inside some plain stop h = let e = h.spelled in stop.quote (cc)
+not_lettered l (x ∷ y ∷ text) c r inside some plain stop h = let e = h.spelled in plain 1 0 (omega arith) (cc)
+
+not_words : (text : List ℕ) (c : ℕ) (r words : List ℕ) → 0 < length text → All (λ b. b ≢ 39) text → text ++ c ∷ r ≡ words_text words → ⊥
+not_words [] c r words some plain h = absurd (omega arith)
+not_words (x ∷ text) c r words some plain h = plain 0 0 (omega arith) (cc)
+
+-- no token has a stop behind a text without quotes
+no_token : (kind : TokenKind) (text : List ℕ) (c : ℕ) (r : List ℕ) → 0 < length text → All (λ b. b ≢ 39) text → IsStop c → ¬ IsToken kind (text ++ c ∷ r)
+no_token SquareOpen text c r some plain stop h = not_literal (codes "[") refl text c r some stop h
+no_token SquareClose text c r some plain stop h = not_literal (codes "]") refl text c r some stop h
+no_token RoundOpen text c r some plain stop h = not_literal (codes "(") refl text c r some stop h
+no_token RoundClose text c r some plain stop h = not_literal (codes ")") refl text c r some stop h
+no_token Dot text c r some plain stop h = not_literal (codes ".") refl text c r some stop h
+no_token Colon text c r some plain stop h = not_literal (codes ":") refl text c r some stop h
+no_token Comma text c r some plain stop h = not_literal (codes ",") refl text c r some stop h
+no_token Star text c r some plain stop h = not_literal (codes "*") refl text c r some stop h
+no_token Equal text c r some plain stop h = not_literal (codes "=") refl text c r some stop h
+no_token Differ text c r some plain stop h = not_literal (codes "!=") refl text c r some stop h
+no_token Less text c r some plain stop h = not_literal (codes "<") refl text c r some stop h
+no_token LessEqual text c r some plain stop h = not_literal (codes "<=") refl text c r some stop h
+no_token Greater text c r some plain stop h = not_literal (codes ">") refl text c r some stop h
+no_token GreaterEqual text c r some plain stop h = not_literal (codes ">=") refl text c r some stop h
+no_token And text c r some plain stop h = not_literal (codes "AND") refl text c r some stop h
+no_token Or text c r some plain stop h = not_literal (codes "OR") refl text c r some stop h
+no_token Not text c r some plain stop h = not_literal (codes "NOT") refl text c r some stop h
+no_token FollowedBy text c r some plain stop h = not_literal (codes "FOLLOWEDBY") refl text c r some stop h
+no_token Within text c r some plain stop h = not_literal (codes "WITHIN") refl text c r some stop h
+no_token Seconds text c r some plain stop h = not_literal (codes "SECONDS") refl text c r some stop h
+no_token Repeats text c r some plain stop h = not_literal (codes "REPEATS") refl text c r some stop h
+no_token Times text c r some plain stop h = not_literal (codes "TIMES") refl text c r some stop h
+no_token Start text c r some plain stop h = not_literal (codes "START") refl text c r some stop h
+no_token Stop text c r some plain stop h = not_literal (codes "STOP") refl text c r some stop h
+no_token Among text c r some plain stop h = not_literal (codes "IN") refl text c r some stop h
+no_token Like text c r some plain stop h = not_literal (codes "LIKE") refl text c r some stop h
+no_token Subset text c r some plain stop h = not_literal (codes "ISSUBSET") refl text c r some stop h
+no_token Superset text c r some plain stop h = not_literal (codes "ISSUPERSET") refl text c r some stop h
+no_token Exists text c r some plain stop h = not_literal (codes "EXISTS") refl text c r some stop h
+no_token TrueWord text c r some plain stop h = not_literal (codes "true") refl text c r some stop h
+no_token FalseWord text c r some plain stop h = not_literal (codes "false") refl text c r some stop h
+no_token Word text c r some plain stop h = stop.part (inl (subst IsWordPart (at_length text c 0 r) (h.parts (length text) 0 (longer_by_one text c r))))
+no_token HyphenWord text c r some plain stop h = stop.part (subst IsHyphenWordPart (at_length text c 0 r) (h.parts (length text) 0 (longer_by_one text c r)))
+no_token Number text c r some plain stop h = not_number text c r some stop h
+no_token Words text c r some plain stop h = not_words text c r h.0 some plain h.1
+no_token Hex text c r some plain stop h = not_lettered 104 text c r h.0 some plain stop h.1
+no_token Base text c r some plain stop h = not_lettered 98 text c r h.0 some plain stop h.1
+no_token Time text c r some plain stop h = not_lettered 116 text c r h.0 some plain stop h.1
+
+-- a longer front of one list goes on with what follows the shorter
+pub data Longer (text after : List ℕ) : List ℕ → Type 0 where
+  longer : (c : ℕ) (r more : List ℕ) → after ≡ c ∷ r ++ more → Longer text after (text ++ c ∷ r)
+
+grow : (x y : ℕ) (text after whole : List ℕ) → x ≡ y → Longer text after whole → Longer (x ∷ text) after (y ∷ whole)
+grow x y text after whole e (longer c r more f) = subst (λ (z : ℕ). Longer (x ∷ text) after (z ∷ (text ++ c ∷ r))) e (longer c r more f)
+
+longer_front : (text after whole more : List ℕ) → text ++ after ≡ whole ++ more → length text < length whole → Longer text after whole
+longer_front [] after [] more e h = absurd (omega arith)
+longer_front [] after (c ∷ r) more e h = longer c r more e
+longer_front (x ∷ text) after [] more e h = absurd (omega arith)
+longer_front (x ∷ text) after (y ∷ whole) more e h = grow x y text after whole (first_bytes x y _ _ e) (longer_front text after whole more (rests x y _ _ e) (omega arith))
+
+no_longer : (kind : TokenKind) (text after whole : List ℕ) → 0 < length text → All (λ b. b ≢ 39) text → Stops after → IsToken kind whole → Longer text after whole → ⊥
+no_longer kind text after whole some plain stops h (longer c r more e) = no_token kind text c r some plain (subst Stops e stops) h
+
+at_most : (a b : ℕ) → (b < a → ⊥) → a ≤ b
+at_most a b h = case (leb_tells a b)
+  where
+    case : ((nat_le a b ≡ true) × (a ≤ b)) ⊎ ((nat_le a b ≡ false) × (b < a)) → a ≤ b
+    case (inl x) = x.1
+    case (inr x) = absurd (h x.1)
+
+-- a text without quotes ends before a stop
+pub longest_plain : (text after : List ℕ) → 0 < length text → All (λ b. b ≢ 39) text → Stops after → (other : TokenKind) (whole more : List ℕ) → text ++ after ≡ whole ++ more → IsToken other whole → length whole ≤ length text
+longest_plain text after some plain stops other whole more e h =
+    at_most (length whole) (length text) (λ b. no_longer other text after whole some plain stops h (longer_front text after whole more e b))
