@@ -1,14 +1,20 @@
-ghost use Rattle.std.specs.Prelude.{◌≡◌, ◌↔◌, [], IsTrue, length, IfOk, option_map, slice_get};
+ghost use Rattle.std.specs.Prelude.{◌≡◌, ◌↔◌, ◌≤◌, [], IsTrue, length, option_map, slice_get};
+ghost use Rattle.stix_ids.specs.PartsOf.{id_of};
+ghost use Rattle.bundle_reader.specs.Objects.{data_in};
+ghost use Rattle.bundle_reader.specs.Bundle.{AreAllBreaks};
+ghost use Rattle.bundle_reader.specs.Indexed.{IsHeld, IsKept};
 
-use flow_edges::{Items, NoMemory};
-use std::alloc::Global;
+use crate::index::Index;
+use flow_edges::Items;
 use std::marker::Model;
+use stix_ids::Parts;
 use stix_tree::Tree;
 
 /// A bundle. Contracts see the list of its objects.
 #[derive(Drop)]
 pub struct Bundle {
     objects: Items<Tree>,
+    index: Index,
 }
 
 impl Model for Bundle {
@@ -22,14 +28,20 @@ impl Model for Bundle {
     ghost coded = { coded_list (Prim.hlevel (codes, tree.the_row.coded)) };
 
     ghost view = { λ bundle. bundle.objects };
+
+    ghost use Rattle.bundle_reader.specs.Objects.{data_in};
+    ghost use Rattle.bundle_reader.specs.Indexed.{IsKept};
+
+    ghost invariant = { λ bundle. IsKept (data_in bundle.objects) bundle.index };
 }
 
 impl Bundle {
-    /// A bundle of these objects.
-    pub(crate) fn new(objects: Items<Tree>) -> Bundle
+    /// A bundle of these objects, which have that index.
+    pub(crate) fn new(objects: Items<Tree>, index: Index) -> Bundle
+        requires { IsKept (data_in objects) index }
         ensures { result ≡ objects }
     {
-        Bundle { objects }
+        Bundle { objects, index }
     }
 
     /// How many objects it has.
@@ -44,6 +56,22 @@ impl Bundle {
         ensures { IsTrue result ↔ (self.now ≡ []) }
     {
         self.objects.is_empty()
+    }
+
+    /// Its objects, which are not too many and break no rule.
+    pub fn objects(&self) -> &[Tree]
+        ensures value { result.now ≡ self.now }
+        ensures counted { length self.now ≤ 8_388_608 }
+        ensures unbroken { AreAllBreaks 0 (data_in self.now) [] }
+    {
+        self.objects.as_slice()
+    }
+
+    /// The position of the latest version of an identifier. Takes no memory.
+    pub(crate) fn latest(&self, id: Parts<'_>) -> Option<u32>
+        ensures { IsHeld (data_in self.now) (id_of id.entry) result }
+    {
+        self.index.get(id)
     }
 }
 

@@ -5,6 +5,7 @@ ghost use Rattle.bundle_reader.specs.declared.refusal.BundleRefusal.{BundleRefus
 ghost use Rattle.bundle_reader.specs.Objects.{data_in};
 ghost use Rattle.bundle_reader.specs.Bundle.{IsListOf, HasObjects, AreAllBreaks, told_of, IsBundle, IsRefused};
 
+use crate::latest::index_of;
 use crate::outline::first_failure;
 use crate::{Bundle, BundleRefusal, ObjectBreak};
 use flow_edges::{Items, NoMemory};
@@ -27,7 +28,8 @@ pub fn read_bundle(alloc: Global, tree: Tree) -> Result<Bundle, BundleRefusal>
     if !breaks.is_empty() {
         return Err(BundleRefusal::Breaks(breaks));
     }
-    Ok(Bundle::new(objects))
+    let index = index_of(alloc, objects.as_slice())?;
+    Ok(Bundle::new(objects, index))
 }
 
 /// The objects of a bundle, taken out of it.

@@ -46,5 +46,8 @@ pub(crate) fn first_form(pattern: &Pattern) -> Option<Comparison<'_>>
 pub fn is_built(pattern: &Pattern) -> bool
     ensures { IsTrue result ↔ IsBuilt pattern.now }
 {
-    first_form(pattern).is_some()
+    match first_form(pattern) {
+        Some(_) => true,
+        None => false,
+    }
 }

@@ -13,4 +13,4 @@ pub use read::read_pattern;
 pub use width::is_too_wide;
 
 #[cfg(test)]
-mod width_tests;
+mod tests;

@@ -1,2 +1,10 @@
 mod Edges
 mod Sound
+mod Shapes
+mod Escaping
+mod Leads
+mod Longest
+mod Values
+mod Standing
+mod OneKind
+mod Readings

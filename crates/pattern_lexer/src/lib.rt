@@ -2,7 +2,17 @@
 //! tokens from the left, or tells the first place where it can't and why.
 #![tactic(auto)]
 
+mod faults;
+mod first;
 pub mod laws;
 mod lexer;
+mod marks;
+mod names;
+mod numbers;
+mod quoted;
+mod runs;
 
 pub use lexer::tokens;
+
+#[cfg(test)]
+mod tests;

@@ -1,3 +1,4 @@
+pub mod Prefixes
 pub mod TwoWords
 pub mod Endings
 pub mod CheckEnds

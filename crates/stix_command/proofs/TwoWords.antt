@@ -1,5 +1,5 @@
 -- One word, and two.
-use Rattle.std.proofs.Common.{◌≡◌, List, [], ◌∷◌, length, get_or, arith, String, string_bytes}
+use Rattle.std.proofs.Common.{◌≡◌, List, [], ◌∷◌, length, get_or, arith, String, string_bytes, Bool, true, false, not}
 use Rattle.std.specs.declared.alloc.Global.{Global}
 use Rattle.stix_command.specs.CommandLine.{texts}
 
@@ -13,3 +13,12 @@ pub one_text : (words : List (String Global)) (a : String Global) → length wor
 one_text [] a one first = cc
 one_text (x ∷ []) a one first = cc
 one_text (x ∷ y ∷ zs) a one first = absurd (omega arith)
+
+-- a test isn't both true and false
+pub clash : (b : Bool) → b ≡ true → b ≡ false → ⊥
+clash true h g = absurd (cc)
+clash false h g = absurd (cc)
+
+pub clash_not : (b : Bool) → b ≡ true → not b ≡ true → ⊥
+clash_not true h g = absurd (cc)
+clash_not false h g = absurd (cc)

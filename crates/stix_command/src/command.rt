@@ -20,11 +20,11 @@ pub fn pattern_after<'a>(words: &'a [String], command: &str) -> Option<&'a str>
     ensures some { IfSome result (λ pattern. IsPatternLine command.now (texts words.now) pattern.now) }
     ensures none { IfNone result ((pattern : List ℕ) → ¬ IsPatternLine command.now (texts words.now) pattern) }
 {
-    if words.len() != 2 || words[0].as_str() != command {
+    if words.len() != 2 {
         return None;
     }
     let pattern = words[1].as_str();
-    if !is_position(pattern) {
+    if words[0].as_str() != command || !is_position(pattern) {
         return None;
     }
     Some(pattern)

@@ -7,6 +7,8 @@ mod ending;
 mod judging;
 mod laws;
 mod matching;
+#[cfg(test)]
+mod pattern_tests;
 mod run;
 mod showing;
 #[cfg(test)]

@@ -84,12 +84,12 @@ fn rows_of_match(rt: HostRuntime) -> Result<(), Fail> {
         &[("00", "a"), ("00.000000001", "a"), ("00.000000001", "a")],
     )?;
     let refused = "line 2 refused: NotYet\n";
-    let rows: [(&[&str], &str, &str, u8, &str); 12] = [
+    let rows: [(&[&str], &str, &str, u8, &str); 15] = [
         (&["match", A], two.as_str(), "1: 1\n", 0, ""),
         (&["match", A], "", "", 0, ""),
         (&["match", A], " \t\r\n\n", "", 0, ""),
         (
-            &["match", "A OR B"],
+            &["match", "[a:b = 1] OR [c:d = 2]"],
             two.as_str(),
             "",
             3,
@@ -102,7 +102,16 @@ fn rows_of_match(rt: HostRuntime) -> Result<(), Fail> {
         (&[], "", "", 2, USAGE),
         (&["match"], "", "", 2, USAGE),
         (&["match", "--whole", A], "", "", 2, USAGE),
-        (&["match", "-"], "", "", 3, "pattern refused: NotYet\n"),
+        (
+            &["match", "-"],
+            "",
+            "",
+            3,
+            "pattern refused: BadToken at 0\n",
+        ),
+        (&["show", "[a:b= 1]"], "", "[a:b = 1]\n", 0, ""),
+        (&["show", ""], "", "", 3, "pattern refused: Syntax at 0\n"),
+        (&["show"], "", "", 2, USAGE),
     ];
     for (words, input, output, status, faults) in rows {
         let seen = run_on(alloc, words, input, Trouble::none(alloc))?;

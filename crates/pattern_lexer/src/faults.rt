@@ -1,0 +1,78 @@
+ghost use Rattle.std.specs.Prelude.{◌≡◌, ◌↔◌, ℕ, List, IsTrue, IfOk, IfSome, IfNone, Some};
+ghost use Rattle.pattern_tokens.specs.declared.refusal.LeftWord.{LeftWord};
+ghost use Rattle.pattern_tokens.specs.Values.{HasValue, IsHexText, IsBaseText};
+ghost use Rattle.pattern_tokens.specs.Table.{IsToken};
+ghost use Rattle.pattern_tokens.specs.Spans.{IsCut, text_at};
+ghost use Rattle.pattern_lexer.specs.Reading.{RunsOn, IsLeftOut};
+ghost use Rattle.pattern_lexer.specs.Steps.{worthless_refusal};
+
+use flow_edges::NoMemory;
+use pattern_tokens::{
+    LeftWord, PatternRefusal, Token, TokenKind, base_at, hex_at, moment_at, whole_at,
+};
+use std::alloc::Global;
+
+/// Whether a number runs into a letter or `_`.
+pub fn runs_on(kind: TokenKind, after: &[u8]) -> bool
+    ensures { IsTrue result ↔ RunsOn kind after.now }
+{
+    kind == TokenKind::Number && matches!(after, [b'a'..=b'z' | b'A'..=b'Z' | b'_', ..])
+}
+
+/// What the token is that no pattern here may use.
+pub fn left_word(kind: TokenKind, text: &[u8], after: &[u8]) -> Option<LeftWord>
+    ensures some { IfSome result (λ word. IsLeftOut word kind text.now after.now) }
+    ensures none { IfNone result ((word : LeftWord) → ¬ IsLeftOut word kind text.now after.now) }
+{
+    if text == b"MATCHES".as_slice() {
+        return Some(LeftWord::Matches);
+    }
+    match (kind, after) {
+        (TokenKind::Number, [b'.', b'0'..=b'9', ..]) => Some(LeftWord::Fraction),
+        (TokenKind::Equal, [b'=', ..]) => Some(LeftWord::DoubleEqual),
+        (TokenKind::Less, [b'>', ..]) => Some(LeftWord::LessGreater),
+        _ => None,
+    }
+}
+
+/// Whether the token stands for something.
+pub fn has_value(alloc: Global, text: &str, token: Token) -> Result<bool, NoMemory>
+    requires cut { IsCut text.now token }
+    requires token { IsToken token.kind (text_at text.now token) }
+    ensures { IfOk result (λ has. IsTrue has ↔ HasValue token.kind (text_at text.now token)) }
+{
+    match token.kind {
+        TokenKind::Number => Ok(whole_at(text, token).is_some()),
+        TokenKind::Time => Ok(moment_at(text, token).is_some()),
+        TokenKind::Hex => is_hex(alloc, text, token),
+        TokenKind::Base => is_base(alloc, text, token),
+        _ => Ok(true),
+    }
+}
+
+fn is_hex(alloc: Global, text: &str, token: Token) -> Result<bool, NoMemory>
+    requires { IsCut text.now token }
+    ensures { IfOk result (λ is. IsTrue is ↔ ((bytes : List ℕ) × IsHexText (text_at text.now token) bytes)) }
+{
+    let bytes = hex_at(alloc, text, token)?;
+    Ok(bytes.is_some())
+}
+
+fn is_base(alloc: Global, text: &str, token: Token) -> Result<bool, NoMemory>
+    requires { IsCut text.now token }
+    ensures { IfOk result (λ is. IsTrue is ↔ ((bytes : List ℕ) × IsBaseText (text_at text.now token) bytes)) }
+{
+    let bytes = base_at(alloc, text, token)?;
+    Ok(bytes.is_some())
+}
+
+/// The refusal of a token that stands for nothing.
+pub fn worthless(kind: TokenKind, at: usize) -> PatternRefusal
+    ensures { result ≡ worthless_refusal kind at }
+{
+    match kind {
+        TokenKind::Number => PatternRefusal::BadNumber { at },
+        TokenKind::Time => PatternRefusal::BadTime { at },
+        _ => PatternRefusal::BadBytes { at },
+    }
+}

@@ -1,0 +1,29 @@
+ghost use Rattle.std.specs.Prelude.{IfSome, IfNone};
+ghost use Rattle.pattern_lexer.specs.Reading.{HasNoToken};
+ghost use Rattle.pattern_lexer.specs.Steps.{Begins};
+
+use crate::marks::first_mark;
+use crate::names::first_name;
+use crate::numbers::first_number;
+use crate::quoted::first_words;
+use pattern_tokens::TokenKind;
+
+/// The token that begins some bytes: its kind, and what follows it.
+#[derive(Clone, Copy)]
+pub struct First<'a> {
+    pub kind: TokenKind,
+    pub after: &'a [u8],
+}
+
+/// The longest token that begins the bytes.
+pub fn first_of(bytes: &[u8]) -> Option<First<'_>>
+    ensures some { IfSome result (λ found. Begins bytes.now found.kind found.after.now) }
+    ensures none { IfNone result (HasNoToken bytes.now) }
+{
+    match bytes.first()? {
+        b'a'..=b'z' | b'A'..=b'Z' | b'_' => Some(first_name(bytes)),
+        b'0'..=b'9' | b'+' | b'-' => first_number(bytes),
+        b'\'' => first_words(bytes),
+        _ => first_mark(bytes),
+    }
+}

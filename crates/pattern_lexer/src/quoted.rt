@@ -1,0 +1,81 @@
+ghost use Rattle.std.specs.Prelude.{◌≡◌, ◌≢◌, ◌∷◌, ◌++◌, ℕ, List, IfSome, IfNone, All, flat_map};
+ghost use Rattle.pattern_tokens.specs.Word.{HasAt};
+ghost use Rattle.pattern_tokens.specs.Values.{escaped};
+ghost use Rattle.pattern_lexer.specs.Reading.{HasNoToken};
+ghost use Rattle.pattern_lexer.specs.Steps.{Begins, HasNoLettered, IsSpecial, letter_kind};
+
+use crate::first::First;
+use crate::runs::{Class, behind, split_run};
+use pattern_tokens::TokenKind;
+
+/// The text in quotes that begins with a `'`.
+pub fn first_words(bytes: &[u8]) -> Option<First<'_>>
+    requires { HasAt 0 (λ c. c ≡ 39) bytes.now }
+    ensures some { IfSome result (λ found. Begins bytes.now found.kind found.after.now) }
+    ensures none { IfNone result (HasNoToken bytes.now) }
+{
+    let after = behind_words(behind(bytes, b'\'')?)?;
+    Some(First {
+        kind: TokenKind::Words,
+        after,
+    })
+}
+
+/// What follows the first `'` without a backslash before it.
+fn behind_words(inside: &[u8]) -> Option<&[u8]>
+    ensures some { IfSome result (λ after. (words : List ℕ) × (inside.now ≡ flat_map escaped words ++ 39 ∷ after.now)) }
+    ensures none { IfNone result ((words more : List ℕ) → inside.now ≢ flat_map escaped words ++ 39 ∷ more) }
+{
+    let mut rest = inside;
+    while let Some((first, more)) = rest.split_first() {
+        match *first {
+            b'\'' => return Some(more),
+            b'\\' => rest = behind_special(more)?,
+            _ => rest = more,
+        }
+    }
+    None
+}
+
+/// What follows the `'` or `\` that begins the bytes.
+fn behind_special(bytes: &[u8]) -> Option<&[u8]>
+    ensures some { IfSome result (λ after. (c : ℕ) × IsSpecial c × (bytes.now ≡ c ∷ after.now)) }
+    ensures none { IfNone result ((c : ℕ) (after : List ℕ) → IsSpecial c → bytes.now ≢ c ∷ after) }
+{
+    match bytes.split_first()? {
+        (b'\'' | b'\\', after) => Some(after),
+        _ => None,
+    }
+}
+
+/// The bytes or the timestamp, a text in quotes behind a letter, that begins the bytes.
+pub fn first_lettered(bytes: &[u8]) -> Option<First<'_>>
+    ensures some { IfSome result (λ found. Begins bytes.now found.kind found.after.now) }
+    ensures none { IfNone result (HasNoLettered bytes.now) }
+{
+    let (letter, more) = bytes.split_first()?;
+    let kind = kind_of_letter(*letter)?;
+    let after = behind_unquoted(behind(more, b'\'')?)?;
+    Some(First { kind, after })
+}
+
+/// What follows the first `'`.
+fn behind_unquoted(quoted: &[u8]) -> Option<&[u8]>
+    ensures some { IfSome result (λ after. (inside : List ℕ) × All (λ c. c ≢ 39) inside × (quoted.now ≡ inside ++ 39 ∷ after.now)) }
+    ensures none { IfNone result ((inside after : List ℕ) → All (λ c. c ≢ 39) inside → quoted.now ≢ inside ++ 39 ∷ after) }
+{
+    let (_inside, rest) = split_run(quoted, Class::Unquoted);
+    behind(rest, b'\'')
+}
+
+/// The kind of what a quote behind the letter opens.
+fn kind_of_letter(letter: u8) -> Option<TokenKind>
+    ensures { result ≡ letter_kind letter }
+{
+    match letter {
+        b'h' => Some(TokenKind::Hex),
+        b'b' => Some(TokenKind::Base),
+        b't' => Some(TokenKind::Time),
+        _ => None,
+    }
+}

@@ -1,0 +1,48 @@
+ghost use Rattle.std.specs.Prelude.{◌≡◌, ◌≢◌, ◌∷◌, ◌↔◌, IsTrue, List, ℕ, IfSome, IfNone};
+ghost use Rattle.pattern_lexer.specs.Steps.{InClass, IsRun};
+
+/// The bytes that stand together.
+#[derive(Clone, Copy)]
+pub enum Class {
+    /// Spaces and the ends of lines.
+    Blank,
+    /// The digits.
+    Digit,
+    /// What follows the first letter of a name.
+    NamePart,
+    /// All but `'`.
+    Unquoted,
+}
+
+impl Class {
+    fn has(self, byte: u8) -> bool
+        ensures { IsTrue result ↔ InClass self byte }
+    {
+        match self {
+            Class::Blank => matches!(byte, b' ' | b'\t' | b'\r' | b'\n'),
+            Class::Digit => byte.is_ascii_digit(),
+            Class::NamePart => byte.is_ascii_alphanumeric() || byte == b'_' || byte == b'-',
+            Class::Unquoted => byte != b'\'',
+        }
+    }
+}
+
+/// The longest front of the bytes that is of the class, and the rest.
+pub fn split_run(bytes: &[u8], class: Class) -> (&[u8], &[u8])
+    ensures { IsRun (InClass class) bytes.now result.0.now result.1.now }
+{
+    let end = bytes
+        .iter()
+        .position(|byte| !class.has(*byte))
+        .unwrap_or(bytes.len());
+    bytes.split_at(end)
+}
+
+/// What follows the byte that begins the bytes.
+pub fn behind(bytes: &[u8], first: u8) -> Option<&[u8]>
+    ensures some { IfSome result (λ after. bytes.now ≡ first ∷ after.now) }
+    ensures none { IfNone result ((after : List ℕ) → bytes.now ≢ first ∷ after) }
+{
+    let (byte, after) = bytes.split_first()?;
+    if *byte == first { Some(after) } else { None }
+}
