@@ -5,7 +5,7 @@ use Rattle.std.proofs.lemmas.List.{take_more}
 use Rattle.std.proofs.lemmas.List.{length-take}
 use Rattle.std.proofs.lemmas.Bool.Decides.{nat_tests}
 use Rattle.pattern_meaning.specs.Meaning.{Each}
-use Rattle.pattern_text.specs.Parts.{IsAfter, IsBetween, AreSides, joined, AreJoined, Adds}
+use Rattle.pattern_text.specs.Parts.{IsAfter, AreSides, joined, AreJoined, Adds}
 
 pub two_added : (old mid new a b : List ℕ) → mid ≡ old ++ a → new ≡ mid ++ b → new ≡ old ++ (a ++ b)
 two_added old mid new a b e f = f ∙ ap (λ (x : List ℕ). x ++ b) e ∙ append_assoc old a b
@@ -16,10 +16,6 @@ adds_after IsText lead old mid new e h = (lead ++ h.0, (h.0, h.1, refl), two_add
 pub adds_sides : (IsLeft IsRight : List ℕ → Type 0) (between old left mid new : List ℕ) → Adds IsLeft old left → mid ≡ left ++ between → Adds IsRight mid new → Adds (AreSides IsLeft between IsRight) old new
 adds_sides IsLeft IsRight between old left mid new h e k =
     (h.0 ++ between ++ k.0, (h.0, k.0, h.1, k.1, refl), two_added old mid new (h.0 ++ between) k.0 (two_added old left mid h.0 between h.2 e) k.2)
-
-pub adds_between : (IsText : List ℕ → Type 0) (before after old begun inside new : List ℕ) → begun ≡ old ++ before → Adds IsText begun inside → new ≡ inside ++ after → Adds (IsBetween before after IsText) old new
-adds_between IsText before after old begun inside new e h f =
-    (before ++ h.0 ++ after, (h.0, h.1, refl), two_added old inside new (before ++ h.0) after (two_added old begun inside before h.0 e h.2) f)
 
 pub each_length : {A B : Type 0} (R : A → B → Type 0) (xs : List A) (ys : List B) → Each R xs ys → length ys ≡ length xs
 each_length R [] [] h = refl
@@ -65,10 +61,6 @@ ok_after (Err x) IsText lead old mid new e h = h
 pub ok_sides : {T E : Type 0} (r : Result T E) (IsLeft IsRight : List ℕ → Type 0) (between old left mid new : List ℕ) → Adds IsLeft old left → mid ≡ left ++ between → OnOk r (Adds IsRight mid new) → OnOk r (Adds (AreSides IsLeft between IsRight) old new)
 ok_sides (Ok x) IsLeft IsRight between old left mid new h e k = adds_sides IsLeft IsRight between old left mid new h e k
 ok_sides (Err x) IsLeft IsRight between old left mid new h e k = k
-
-pub ok_between : {T E : Type 0} (r : Result T E) (IsText : List ℕ → Type 0) (before after old begun inside new : List ℕ) → begun ≡ old ++ before → Adds IsText begun inside → OnOk r (new ≡ inside ++ after) → OnOk r (Adds (IsBetween before after IsText) old new)
-ok_between (Ok x) IsText before after old begun inside new e h f = adds_between IsText before after old begun inside new e h f
-ok_between (Err x) IsText before after old begun inside new e h f = f
 
 -- nothing stands between
 pub adds_next_bare : {A : Type 0} (R : A → List ℕ → Type 0) (xs : List A) (i : ℕ) (d : A) (old mid new : List ℕ) → i < length xs → Adds (AreJoined [] R (take i xs)) old mid → Adds (R (get_or xs i d)) mid new → Adds (AreJoined [] R (take (i + 1) xs)) old new

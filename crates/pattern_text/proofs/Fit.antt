@@ -1,7 +1,6 @@
 -- Patterns of which the canonical text reads back, but for the limits of depth and of values: those with
 -- numbers in their ranges, and with the shapes that the grammar has (STIX 2.1, section 9).
-use Rattle.std.proofs.Common.{◌≢◌, ◌⊎◌, ◌≤◌, true, false, List, [], ◌∷◌}
-use Rattle.std.specs.Prelude.{All, codes}
+use Rattle.std.specs.Prelude.{◌≢◌, ◌⊎◌, ◌≤◌, true, false, List, [], ◌∷◌, All, codes}
 use Rattle.hex.specs.Hex.{IsBytes}
 use Rattle.base64.specs.Engines.{standard}
 use Rattle.base64.specs.GeneralPurpose.{encode_of}

@@ -99,9 +99,6 @@ within least m text k w h = as_text (sym h.2) (within_by (nat_le least (level m)
 abbrev MeansLimit : Limit → List ℕ → Qualifier → Type 0
 MeansLimit l whole q = IsLimitOf whole q l
 
-word : (k : TokenKind) (text : List ℕ) → Written (IsOne (Only k)) (MeansOne k text) Stops text → Written (IsOne (Only k)) (MeansOne k text) Stops text
-word k text w = w
-
 three_within : (ts : List Token) (x : Token × (Token × Token)) → IsPair (IsOne (Only kind.Within)) (IsPair (IsOne (Only kind.Number)) (IsOne (Only kind.Seconds))) ts x → IsQualifier ts (qualifier.Within x.1.0)
 three_within ts x (is_pair (is_one a h) (is_pair (is_one b k) (is_one c l))) = qualifier_within a b c h k l
 

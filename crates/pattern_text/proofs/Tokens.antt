@@ -1,5 +1,5 @@
 -- The tokens of a canonical text, each with the end that it has there.
-use Rattle.std.proofs.Common.{◌≡◌, ◌≢◌, ◌⊎◌, inl, inr, ℕ, ◌<◌, Bool, true, false, not, ◌&&◌, ◌==◌, List, [], ◌∷◌, length, get_or, refl, sym, ap, subst, arith, Some, ℤ}
+use Rattle.std.proofs.Common.{◌≡◌, ◌≢◌, ◌⊎◌, inl, inr, ℕ, ◌<◌, Bool, true, false, not, ◌&&◌, ◌==◌, List, [], ◌∷◌, length, get_or, refl, sym, ap, arith, Some, ℤ}
 use Rattle.std.specs.Prelude.{All, codes, slice_get, nat_lt}
 use Rattle.std.proofs.lemmas.Bool.Decides.{nat_tests}
 use Rattle.std.proofs.lemmas.List.Elements.{All-cons}
@@ -174,9 +174,6 @@ root text h free = case h
     case : IsWord text ⊎ IsHyphenWord text → Written (IsOne Root) (λ (whole : List ℕ) (t : Token). At IsItself whole t text) Stops text
     case (inl w) = itself kind.Word (token Root kind.Word Stops text refl (λ after e. fits_plain kind.Word text after w tt (plain_name text w.starts (λ k d b. inl (w.parts k d b)) free) e (λ x. absurd (cc))))
     case (inr w) = itself kind.HyphenWord (token Root kind.HyphenWord Stops text refl (λ after e. fits_plain kind.HyphenWord text after w tt (plain_name text w.starts w.parts free) e (λ x. absurd (cc))))
-
-quoted_first : (text : List ℕ) (l : ℕ) (rest : List ℕ) → text ≡ l ∷ rest → l < 128 → l ≢ 77 → (0 < length text) × (get_or text 0 0 < 128) × (text ≢ codes "MATCHES")
-quoted_first text l rest e h n = subst (λ (x : List ℕ). (0 < length x) × (get_or x 0 0 < 128) × (x ≢ codes "MATCHES")) (sym e) (omega arith, h, not_matches (l ∷ rest) n)
 
 -- words in quotes
 pub words : (class : Class) (w : List ℕ) → is_in class kind.Words ≡ true → Written (IsOne class) (λ (whole : List ℕ) (t : Token). Stands whole t kind.Words (words_text w)) Anything (words_text w)
