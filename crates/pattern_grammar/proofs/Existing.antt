@@ -1,5 +1,5 @@
 -- Sound tokens that spell a tree without faults stand for something everywhere.
-use Rattle.std.proofs.Common.{◌≡◌, ◌≢◌, ◌⊎◌, inl, inr, ℕ, zero, suc, ◌<◌, ◌≤◌, ℤ, pos, negsuc, List, [], ◌∷◌, ◌++◌, All, length, Bool, true, false, refl, sym, ap, subst, ◌∙◌, arith, nat_le}
+use Rattle.std.proofs.Common.{◌≡◌, ◌⊎◌, inl, inr, ℕ, zero, suc, ℤ, pos, negsuc, List, [], ◌∷◌, ◌++◌, All, Bool, true, false, refl, sym, subst, ◌∙◌, arith, nat_le}
 use Rattle.std.proofs.lemmas.Bool.Decides.{nat_tests}
 use Rattle.pattern_tokens.specs.declared.token.Token.{Token}
 use Rattle.pattern_tokens.specs.declared.token.TokenKind.{TokenKind}
@@ -10,17 +10,15 @@ use Rattle.pattern_tokens.specs.Values.{IsWholeText, IsWordsText, IsMomentText, 
 use Rattle.pattern_tokens.specs.Spans.{text_at, At}
 use Rattle.pattern_tokens.specs.Numbers.{IsPlace, IsCount}
 use Rattle.pattern_tokens.specs.Sound.{IsSound}
-use Rattle.pattern_syntax.specs.declared.class.Class.TheVariants.{Only, Root, Name, Index, Equality, Order, Textual, Ordered, Constant}
+use Rattle.pattern_syntax.specs.declared.class.Class.TheVariants.{Index}
 use Rattle.pattern_syntax.specs.declared.path.StepTree.{StepTree}
 use Rattle.pattern_syntax.specs.declared.path.StepTree.TheVariants as step_tree
 use Rattle.pattern_syntax.specs.declared.path.PathTree.{PathTree}
 use Rattle.pattern_syntax.specs.declared.comparison.CheckTree.{CheckTree}
 use Rattle.pattern_syntax.specs.declared.comparison.CheckTree.TheVariants as check_tree
 use Rattle.pattern_syntax.specs.declared.qualifier.Qualifier.{Qualifier}
-use Rattle.pattern_syntax.specs.declared.qualifier.Qualifier.TheVariants as qualifier
-use Rattle.pattern_syntax.specs.Class.{is_in, is_constant, is_ordered, is_equality, is_order, is_textual, is_name, is_index, same, IsA}
-use Rattle.pattern_syntax.specs.Tree.{Comparison, test, group, all, any, Tree, leaf, both, either, followed, qualified}
-use Rattle.pattern_syntax.specs.Grammar as grammar
+use Rattle.pattern_syntax.specs.Class.{is_constant, is_ordered, is_equality, is_order, is_textual, is_name, is_index, same, IsA}
+use Rattle.pattern_syntax.specs.Tree.{Comparison, Tree}
 use Rattle.pattern_syntax.specs.Grammar.{IsStep, step_name, step_index, IsPath, path_first, path_further, AreConstants, constants_one, constants_more, IsCheck, check_equality, check_order, check_among, check_textual, IsTest, test_group, test_exists, test_not_exists, test_compare, test_not_compare, IsCand, cand_one, cand_more, IsCor, cor_one, cor_more, IsQualifier, qualifier_within, qualifier_repeats, qualifier_between, IsStart, start_leaf, start_group, IsUnit, unit_one, unit_more, IsAnds, ands_one, ands_more, IsOrs, ors_one, ors_more, IsPattern, pattern_one, pattern_more}
 use Rattle.pattern_tree.specs.declared.path.Step.{Step}
 use Rattle.pattern_tree.specs.declared.path.Step.TheVariants as step
@@ -31,10 +29,10 @@ use Rattle.pattern_tree.specs.declared.check.Check.{Check}
 use Rattle.pattern_tree.specs.declared.check.Check.TheVariants as check
 use Rattle.pattern_meaning.specs.declared.limits.Limit.{Limit}
 use Rattle.pattern_meaning.specs.declared.limits.Limit.TheVariants as limit
-use Rattle.pattern_meaning.specs.Meaning.{Each, IsNameOf, IsStepOf, IsPathOf, IsConstantOf, IsCheckOf, IsTestOf}
-use Rattle.pattern_meaning.specs.Formula.{Formula, Formulas, one, every, some, none as no_more, more, put, IsNoAll, IsNoAny, Means, means_test, means_group, means_all, means_any, AllParts, all_first, all_more, AnyParts, any_first, any_more}
+use Rattle.pattern_meaning.specs.Meaning.{Each, IsNameOf, IsStepOf, IsPathOf, IsConstantOf, IsCheckOf}
+use Rattle.pattern_meaning.specs.Formula.{Formula, Formulas, every, some, none as no_more, more, put, IsNoAll, IsNoAny, Means, means_test, means_group, means_all, means_any, AllParts, all_first, all_more, AnyParts, any_first, any_more}
 use Rattle.pattern_meaning.specs.Meant.{Meant, a_leaf, a_both, an_either, a_then, a_limited, IsLimitOf, MeansPattern, means_leaf, means_both, means_either, means_then, means_limited}
-use Rattle.pattern_faults.specs.Faults.{IsBadCount, FaultOfSteps, FaultOfPath, FaultOfTest, FaultOfComparison, FaultOfQualifier, FaultOf}
+use Rattle.pattern_faults.specs.Faults.{IsBadCount, FaultOfSteps, FaultOfPath, FaultOfComparison, FaultOfQualifier, FaultOf}
 
 -- each token is sound
 abbrev pub Sound : List ℕ → List Token → Type 0

@@ -1,16 +1,16 @@
 -- How deep what spells a pattern nests: at least as deep as its canonical text.
-use Rattle.std.proofs.Common.{◌≡◌, ℕ, zero, suc, ◌+◌, ◌≤◌, Bool, true, false, not, ◌||◌, ◌==◌, List, [], ◌∷◌, ◌++◌, refl, sym, ap, subst, ◌∙◌, arith, nat_le, nat_eq, max, if◌then◌else◌}
+use Rattle.std.proofs.Common.{◌≡◌, ℕ, ◌+◌, ◌≤◌, Bool, true, not, ◌||◌, ◌==◌, List, [], ◌∷◌, ◌++◌, refl, sym, ap, ◌∙◌, arith, nat_le, nat_eq, max, if◌then◌else◌}
 use Rattle.std.proofs.lemmas.Bool.Decides.{nat_tests}
 use Rattle.pattern_tokens.specs.declared.token.Token.{Token}
 use Rattle.pattern_tokens.specs.declared.token.TokenKind.{TokenKind}
 use Rattle.pattern_tokens.specs.declared.token.TokenKind.TheVariants as kind
-use Rattle.pattern_syntax.specs.declared.class.Class.TheVariants.{Only, Root, Name, Index, Equality, Order, Textual, Ordered, Constant}
+use Rattle.pattern_syntax.specs.declared.class.Class.TheVariants.{Only}
 use Rattle.pattern_syntax.specs.declared.path.StepTree.{StepTree}
 use Rattle.pattern_syntax.specs.declared.path.PathTree.{PathTree}
 use Rattle.pattern_syntax.specs.declared.comparison.CheckTree.{CheckTree}
 use Rattle.pattern_syntax.specs.declared.qualifier.Qualifier.{Qualifier}
 use Rattle.pattern_syntax.specs.Class.{code, same, IsA, is_root, is_name, is_index, is_equality, is_order, is_textual, is_ordered, is_constant}
-use Rattle.pattern_syntax.specs.Tree.{Comparison, Tree, test, all, any}
+use Rattle.pattern_syntax.specs.Tree.{Comparison, Tree, test}
 use Rattle.pattern_syntax.specs.Grammar.{IsStep, step_name, step_index, IsPath, path_first, path_further, AreConstants, constants_one, constants_more, IsCheck, check_equality, check_order, check_among, check_textual, IsTest, test_group, test_exists, test_not_exists, test_compare, test_not_compare, IsCand, cand_one, cand_more, IsCor, cor_one, cor_more, IsQualifier, qualifier_within, qualifier_repeats, qualifier_between, IsStart, start_leaf, start_group, IsUnit, unit_one, unit_more, IsAnds, ands_one, ands_more, IsOrs, ors_one, ors_more, IsPattern, pattern_one, pattern_more}
 use Rattle.pattern_meaning.specs.Formula.{Formula, one, every, some, Formulas, none, more, put, IsNoAll, IsNoAny, Means, means_test, means_group, means_all, means_any, AllParts, all_first, all_more, AnyParts, any_first, any_more}
 use Rattle.pattern_meaning.specs.Meant.{Meant, a_leaf, a_both, an_either, a_then, a_limited, MeansPattern, means_leaf, means_both, means_either, means_then, means_limited}

@@ -1,7 +1,6 @@
 -- The canonical text of a pattern that some text is read as is read as it.
-use Rattle.std.proofs.Common.{◌≡◌, ℕ, ℤ, ◌+◌, ◌≤◌, List, [], length, refl, sym, subst, arith}
-use Rattle.pattern_lexer.specs.Reading.{AreTokens, TokensOf}
-use Rattle.pattern_tokens.specs.declared.token.Token.{Token}
+use Rattle.std.proofs.Common.{◌≡◌, ℕ, ℤ, ◌≤◌, List, [], length, refl, sym, subst, arith}
+use Rattle.pattern_lexer.specs.Reading.{AreTokens}
 use Rattle.pattern_tokens.specs.Values.{IsMomentText}
 use Rattle.pattern_syntax.specs.Grammar.{IsPattern}
 use Rattle.pattern_syntax.specs.Depth.{at_start}
