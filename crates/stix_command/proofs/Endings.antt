@@ -1,21 +1,18 @@
 -- What an ending of the log says of the match, and an ending of a command of the run.
-use Rattle.std.proofs.Common.{◌≡◌, ◌↔◌, ◌⊎◌, ℕ, List, Option, Result, Ok, Err, IfOk, inl, inr, refl, sym, ap, subst, ◌∙◌, arith, codes}
-use Rattle.pattern_tokens.specs.declared.refusal.PatternRefusal.{PatternRefusal}
+use Rattle.std.proofs.Common.{◌≡◌, ◌↔◌, ◌⊎◌, ℕ, List, Option, inl, inr, refl, sym, ap, subst, ◌∙◌, arith, codes}
 use Rattle.pattern_tree.specs.declared.pattern.Pattern.{Pattern, Leaf, Both', Either', Then', Within', Between', Repeats'}
-use Rattle.pattern_tree.specs.declared.pattern.Pattern.TheVariants as pattern_variant
 use Rattle.pattern_tree.specs.declared.leaf.Leaf.{Test, All', Any'}
-use Rattle.pattern_tree.specs.declared.leaf.Leaf.TheVariants as leaf_variant
-use Rattle.pattern_meaning.specs.Meant.{Meant, meant}
+use Rattle.pattern_meaning.specs.Meant.{meant}
 use Rattle.pattern_grammar.specs.Read.{IsReadAs}
 use Rattle.match_run.specs.FirstForm.{FirstForm, pattern_of, IsBuilt}
 use Rattle.stix_command.specs.declared.ending.Ending.{Ending}
 use Rattle.stix_command.specs.declared.ending.Ending.TheVariants.{Done, NoMemory, Usage, PatternRefused, NotBuilt, InputRefused, Broken, ReadFault, WriteFault}
 use Rattle.stix_command.specs.CommandLine.{IsPatternLine, IsMatchLine, IsShowLine, IsCheckLine}
-use Rattle.stix_command.specs.Matches.{Spells, HasForm, IsUnread, EndsLog, EndsMatch, EndsPattern}
+use Rattle.stix_command.specs.Matches.{HasForm, IsUnread, EndsMatch, EndsPattern}
 use Rattle.stix_command.specs.Shows.{EndsShow}
 use Rattle.stix_command.specs.Checks.{EndsCheck}
 use Rattle.stix_command.specs.Ends.{status_of}
-use Rattle.stix_command.specs.Runs.{IsNoCommand, EndsRun, RefusesMatch, RefusesShow, RefusesPattern}
+use Rattle.stix_command.specs.Runs.{IsNoCommand, EndsRun, RefusesPattern}
 
 -- a pattern that means what one of the first form means is of that form
 built_same : (p : Pattern) (form : FirstForm) → meant p ≡ meant (pattern_of form) → IsBuilt p

@@ -1,4 +1,4 @@
-use Rattle.std.proofs.Common.{rules, ◌≡◌, ◌∙◌, ℕ, List, [], ◌∷◌, ap, sym, subst, arith, length, codes, string_bytes, slice_index_or}
+use Rattle.std.proofs.Common.{rules, ◌≡◌, ◌∙◌, ℕ, List, [], ◌∷◌, ap, sym, subst, arith, length, string_bytes, slice_index_or}
 use Rattle.std.proofs.lemmas.Slice.Eq.{bytes_eq-Decides}
 use Rattle.stix_command.specs.CommandLine.{IsPosition}
 use Rattle.stix_command.proofs.TwoWords.{two_texts, clash, clash_not}

@@ -1,4 +1,4 @@
-use Rattle.std.proofs.Common.{◌≡◌, List, ℕ, ◌++◌, Ok, Err, OnErr, OnOk, codes}
+use Rattle.std.proofs.Common.{◌≡◌, ◌++◌, Ok, Err, OnErr, OnOk, codes}
 use Rattle.flow_edges.specs.Flow.{written_with, WritesPrefix}
 use Rattle.pattern_tokens.specs.Refusal.{refusal_text}
 use Rattle.stix_command.specs.Ends.{pattern_text}
