@@ -1,0 +1,4 @@
+pub mod Names
+pub mod Versions
+pub mod Selector
+pub mod Markings
