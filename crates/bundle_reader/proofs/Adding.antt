@@ -1,5 +1,5 @@
 -- An index of the objects before a place, with the object at the place added.
-use Rattle.std.proofs.Common.{arith, ◌≡◌, ◌≢◌, ◌⊎◌, inl, inr, ◌+◌, ◌<◌, ℕ, ℤ, List, Option, Some, None, Result, Ok, Err, OnOk, true, false, take, slice_get, slice_index_or, length, sym, subst, ◌∙◌}
+use Rattle.std.proofs.Common.{◌≡◌, inl, inr, ◌+◌, ◌<◌, ℕ, ℤ, List, Option, Some, Result, Ok, Err, OnOk, take, slice_get, slice_index_or, length, sym, subst}
 use Rattle.serde_json.specs.Data.{Data}
 use Rattle.flow_edges.specs.declared.no_memory.NoMemory.{NoMemory}
 use Rattle.stix_ids.specs.declared.id.Id.{Id}
@@ -8,7 +8,7 @@ use Rattle.stix_tree.specs.DataOf.{data_of}
 use Rattle.bundle_reader.specs.declared.index.Index.{Index}
 use Rattle.bundle_reader.specs.Objects.{data_in, HasId}
 use Rattle.bundle_reader.specs.Lookup.{IsModified}
-use Rattle.bundle_reader.specs.Indexed.{held, same_id, Puts, Overtakes, IsHeld, IsIndexOf}
+use Rattle.bundle_reader.specs.Indexed.{held, Puts, Overtakes, IsHeld, IsIndexOf}
 use Rattle.bundle_reader.proofs.Members.{data_read}
 use Rattle.bundle_reader.proofs.Versions.{OneModified, OneId, same_cases, held_beside, held_overtaken, index_put}
 

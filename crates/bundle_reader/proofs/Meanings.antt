@@ -1,16 +1,12 @@
 -- What a text means, and that it means one place.
-use Rattle.std.proofs.Common.{arith, ◌≡◌, ◌⊎◌, inl, inr, ◌≤◌, ℕ, ℤ, ◌<ℤ◌, List, Option, Some, None, Result, Ok, Err, IfOk, IsOkAnd, sym, ap, refl, subst, ◌∙◌}
+use Rattle.std.proofs.Common.{arith, ◌≡◌, inl, inr, ℕ, ℤ, List, Option, Some, None, sym, ap, refl, subst, ◌∙◌}
 use Rattle.std.proofs.lemmas.Int.{ints}
-use Rattle.std.specs.Result.{result_ok}
 use Rattle.serde_json.specs.Data.{Data}
 use Rattle.stix_times.specs.Reading.{IsTextOf as IsTimeOf, IsMillisTextOf}
 use Rattle.stix_ids.specs.declared.id.Id.{Id}
-use Rattle.stix_ids.specs.declared.parts.Parts.{Parts}
-use Rattle.stix_ids.specs.declared.refusal.IdRefusal.{IdRefusal}
 use Rattle.stix_ids.specs.Identifier.{IsTextOf}
-use Rattle.stix_ids.specs.PartsOf.{id_of}
 use Rattle.bundle_reader.specs.Objects.{HasId}
-use Rattle.bundle_reader.specs.Lookup.{IsModified, IsModifiedAt, IsEarlier, IsOf, IsVersion, IsLatest, Means}
+use Rattle.bundle_reader.specs.Lookup.{IsModified, IsEarlier, IsOf, IsVersion, IsLatest, Means}
 use Rattle.bundle_reader.specs.Indexed.{IsHeld}
 use Rattle.bundle_reader.proofs.Properties.{same_some}
 
@@ -53,13 +49,13 @@ pub one_latest : (objects : List Data) (id : Id) (a b : ℕ) → IsLatest object
 one_latest objects id a b first second =
     elim (first.latest b second.modified second.version) [
       | inl earlier ↦ elim (second.latest a first.modified first.version) [
-          | inl later ↦ absurd (not_both_earlier second.modified first.modified earlier later)
-          | inr same ↦ absurd (not_earlier_than_itself second.modified (subst (λ (t : Option ℤ). IsEarlier second.modified t) same.0 earlier))
-        ]
+        | inl later ↦ absurd (not_both_earlier second.modified first.modified earlier later)
+        | inr same ↦ absurd (not_earlier_than_itself second.modified (subst (λ (t : Option ℤ). IsEarlier second.modified t) same.0 earlier))
+      ]
       | inr same ↦ elim (second.latest a first.modified first.version) [
-          | inl later ↦ absurd (not_earlier_than_itself first.modified (subst (λ (t : Option ℤ). IsEarlier first.modified t) same.0 later))
-          | inr also ↦ omega arith
-        ]
+        | inl later ↦ absurd (not_earlier_than_itself first.modified (subst (λ (t : Option ℤ). IsEarlier first.modified t) same.0 later))
+        | inr also ↦ omega arith
+      ]
     ]
 
 pub one_meaning : OneIdentifier → (objects : List Data) (text : List ℕ) (first second : Option ℕ) → Means objects text first → Means objects text second → first ≡ second

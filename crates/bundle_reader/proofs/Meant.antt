@@ -1,5 +1,5 @@
 -- The places that the texts of a list mean, one text more.
-use Rattle.std.proofs.Common.{◌≡◌, ◌+◌, ◌<◌, ℕ, List, [], ◌∷◌, ◌++◌, map, take, filter_map, get_or, length, Option, Some, None, MatchOption, option_to_list, append-nil, append_assoc, sym, ap, refl, subst, ◌∙◌}
+use Rattle.std.proofs.Common.{◌≡◌, ◌+◌, ◌<◌, ℕ, List, [], ◌∷◌, ◌++◌, take, filter_map, get_or, length, Option, Some, None, MatchOption, option_to_list, append-nil, append_assoc, sym, ap, refl, subst, ◌∙◌}
 use Rattle.std.proofs.lemmas.List.{take_more, map-append}
 use Rattle.std.proofs.lemmas.List.Elements.{filter_map-append}
 use Rattle.std.specs.List.{cons_option}
@@ -41,8 +41,8 @@ pub meant_step : (objects : List Data) (items : List Tree) (k : ℕ) (item : Tre
 meant_step objects items k item places place inside read are is =
     let grown : take (k + 1) items ≡ take k items ++ item ∷ [] = take_more items k item inside ∙ ap (λ (x : Tree). take k items ++ x ∷ []) read in
     let mapped : data_in (take (k + 1) items) ≡ data_in (take k items) ++ data_of item ∷ [] =
-        ap (λ (ts : List Tree). data_in ts) grown ∙ map-append data_of (take k items) (item ∷ []) in
+    ap (λ (ts : List Tree). data_in ts) grown ∙ map-append data_of (take k items) (item ∷ []) in
     let texts : texts_of items (k + 1) ≡ texts_of items k ++ cons_option (as_str (data_of item)) [] =
-        ap (filter_map as_str) mapped ∙ filter_map-append as_str (data_in (take k items)) (data_of item ∷ []) in
+    ap (filter_map as_str) mapped ∙ filter_map-append as_str (data_in (take k items)) (data_of item ∷ []) in
     subst (λ (ts : List (List ℕ)). AreMeant objects ts (places ++ option_to_list place)) (sym texts)
     (meant_item objects (texts_of items k) (as_str (data_of item)) places place are is)

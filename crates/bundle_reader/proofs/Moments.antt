@@ -1,5 +1,5 @@
 -- The moments of the observed-data before a place, and of the one at the place.
-use Rattle.std.proofs.Common.{arith, ◌≡◌, ◌≢◌, ◌⊎◌, inl, inr, ◌==◌, ◌+◌, ◌<◌, ◌≤◌, ℕ, List, [], ◌∷◌, ◌++◌, length, map, take, All, Contains, get_or, slice_get, Option, Some, None, Bool, true, false, bytes_eq, codes, length-append, sym, ap, refl, subst, ◌∙◌}
+use Rattle.std.proofs.Common.{arith, ◌≡◌, ◌≢◌, inl, inr, ◌==◌, ◌+◌, ◌<◌, ℕ, List, [], ◌∷◌, ◌++◌, length, All, get_or, slice_get, Option, Some, None, Bool, true, false, bytes_eq, codes, length-append, sym, ap, refl, subst, ◌∙◌}
 use Rattle.std.specs.Option.{option_map_or}
 use Rattle.std.specs.List.{IsDistinct}
 use Rattle.std.proofs.lemmas.Bool.{cases_lt, cases_Bool, ne_eqb}
@@ -14,8 +14,8 @@ use Rattle.std.specs.List.Sorted.{IsPermutation}
 use Rattle.std.proofs.lemmas.Slice.Eq.{bytes_eq-Decides}
 use Rattle.serde_json.specs.Data.{Data, null}
 use Rattle.bundle_reader.specs.declared.moment.Moment.{Moment}
-use Rattle.bundle_reader.specs.Observed.{IsObservedData, is_observed_data, IsObservedAt, how_many}
-use Rattle.bundle_reader.specs.Moments.{IsMomentOf, AreMomentsBefore, AreMoments}
+use Rattle.bundle_reader.specs.Observed.{IsObservedData, is_observed_data, IsObservedAt}
+use Rattle.bundle_reader.specs.Moments.{IsMomentOf, AreMomentsBefore}
 use Rattle.object_rules.specs.Conditions.{text_at}
 use Rattle.bundle_reader.proofs.Properties.{same_some}
 
@@ -67,7 +67,7 @@ skip_place ds at d ms there not are = record {
   once = are.once;
   count = are.count
       ∙ sym (count_by_more_no is_observed_data ds at d (slice_get_within ds at d there)
-        (ap is_observed_data (get_or_from_slice_get ds at d d there) ∙ other_test d (λ is. not (record { object = d; there = there; observed = is }))));
+      (ap is_observed_data (get_or_from_slice_get ds at d d there) ∙ other_test d (λ is. not (record { object = d; there = there; observed = is }))));
 }
 
 -- a place with no observed-data adds no moment
@@ -81,7 +81,7 @@ apart_push ms m before once = IsDistinct-from_apart same_place (ms ++ m ∷ []) 
           let first = get_or_append_left ms (m ∷ []) d i (omega arith) in
           let second = get_or_append_left ms (m ∷ []) d j within in
           ap (λ (n : Moment). same_place n (get_or (ms ++ m ∷ []) j d)) first ∙ ap (λ (n : Moment). same_place (get_or ms i d) n) second
-              ∙ apart_from_distinct same_place ms i j d once less within
+          ∙ apart_from_distinct same_place ms i j d once less within
       | inr past ↦
           let count = length-append ms (m ∷ []) in
           let last : j ≡ length ms = omega arith in
@@ -90,7 +90,7 @@ apart_push ms m before once = IsDistinct-from_apart same_place (ms ++ m ∷ []) 
           let lower : (get_or ms i d).at < m.at = before i d (omega arith) in
           let different : (get_or ms i d).at ≢ m.at = λ same. absurd (omega arith) in
           ap (λ (n : Moment). same_place n (get_or (ms ++ m ∷ []) j d)) first ∙ ap (λ (n : Moment). same_place (get_or ms i d) n) second
-              ∙ ne_eqb (get_or ms i d).at m.at different
+          ∙ ne_eqb (get_or ms i d).at m.at different
     ])
 
 push_place : (ds : List Data) (at : ℕ) (d : Data) (ms : List Moment) (m : Moment) → slice_get ds at ≡ Some d → m.at ≡ at → IsMomentOf ds m → AreMomentsBefore ds at ms

@@ -1,5 +1,5 @@
 -- The moments in order, and the observations that are told at them.
-use Rattle.std.proofs.Common.{arith, ◌≡◌, ◌≢◌, ◌⊎◌, inl, inr, ◌==◌, ◌+◌, ◌-◌, ◌<◌, ◌≤◌, ◌<ℤ◌, ℕ, zero, suc, ℤ, List, [], ◌∷◌, ◌++◌, length, map, Contains, get_or, slice_get, Option, Some, None, option_map, Result, Ok, Err, IfOk, true, false, is_lt, int_cmp, nat_cmp, sym, ap, refl, subst, ◌∙◌}
+use Rattle.std.proofs.Common.{arith, ◌≡◌, ◌≢◌, ◌⊎◌, inl, inr, ◌+◌, ◌-◌, ◌<◌, ◌<ℤ◌, ℕ, zero, suc, ℤ, List, map, get_or, slice_get, Option, Some, None, option_map, Result, Ok, Err, IfOk, false, is_lt, int_cmp, nat_cmp, sym, ap, refl, subst, ◌∙◌}
 use Rattle.std.specs.declared.cmp.Ordering.{Ordering}
 use Rattle.std.specs.declared.cmp.Ordering.TheVariants.{Less, Equal, Greater}
 use Rattle.std.specs.Ordering.{ordering_then, MatchOrdering}
@@ -15,7 +15,7 @@ use Rattle.serde_json.specs.Data.{Data}
 use Rattle.flow_edges.specs.declared.no_memory.NoMemory.{NoMemory}
 use Rattle.bundle_reader.specs.declared.moment.Moment.{Moment}
 use Rattle.bundle_reader.specs.declared.observation.Observation.{Observation}
-use Rattle.bundle_reader.specs.Observed.{Seen, IsBefore, IsObservedAt, AreObservations}
+use Rattle.bundle_reader.specs.Observed.{Seen, AreObservations}
 use Rattle.bundle_reader.specs.Moments.{AreMoments, IsUpTo, AreInOrder, moment_of, AreSeenAt}
 use Rattle.bundle_reader.proofs.Properties.{same_some}
 use Rattle.bundle_reader.proofs.Moments.{same_place}
@@ -43,19 +43,19 @@ in_order_sorted ms sorted = λ k m n here next.
     let not = sorted k m (omega arith) inside in
     up_to_from m n
     (subst (λ (x : Moment). is_lt (ordering_then (int_cmp n.last x.last) (nat_cmp n.at x.at)) ≡ false) (get_or_from_slice_get ms k m m here)
-      (subst (λ (y : Moment). is_lt (ordering_then (int_cmp y.last (get_or ms k m).last) (nat_cmp y.at (get_or ms k m).at)) ≡ false)
-        (get_or_from_slice_get ms (k + 1) n m next) not))
+    (subst (λ (y : Moment). is_lt (ordering_then (int_cmp y.last (get_or ms k m).last) (nat_cmp y.at (get_or ms k m).at)) ≡ false)
+    (get_or_from_slice_get ms (k + 1) n m next) not))
 
 up_to_both : (l m n : Moment) → IsUpTo l m → IsUpTo m n → IsUpTo l n
 up_to_both l m n first second = elim first [
   | inl earlier ↦ elim second [
-      | inl then ↦ inl (omega (arith, ints, earlier, then))
-      | inr same ↦ inl (subst (λ (t : ℤ). l.last <ℤ t) same.0 earlier)
-    ]
+    | inl then ↦ inl (omega (arith, ints, earlier, then))
+    | inr same ↦ inl (subst (λ (t : ℤ). l.last <ℤ t) same.0 earlier)
+  ]
   | inr same ↦ elim second [
-      | inl then ↦ inl (subst (λ (t : ℤ). t <ℤ n.last) (sym same.0) then)
-      | inr also ↦ inr (same.0 ∙ also.0, omega arith)
-    ]
+    | inl then ↦ inl (subst (λ (t : ℤ). t <ℤ n.last) (sym same.0) then)
+    | inr also ↦ inr (same.0 ∙ also.0, omega arith)
+  ]
 ]
 
 up_to_far : (ms : List Moment) → AreInOrder ms → (more j : ℕ) (m n : Moment) → slice_get ms j ≡ Some m → slice_get ms (j + 1 + more) ≡ Some n → IsUpTo m n
@@ -78,7 +78,7 @@ before_far ms ordered once j k m n less here there =
     let first = get_or_from_slice_get ms j m m here in
     let second = get_or_from_slice_get ms k n m there in
     let apart : same_place m n ≡ false =
-        ap (λ (x : Moment). same_place x n) (sym first) ∙ ap (λ (y : Moment). same_place (get_or ms j m) y) (sym second) ∙ apart_from_distinct same_place ms j k m once less inside in
+    ap (λ (x : Moment). same_place x n) (sym first) ∙ ap (λ (y : Moment). same_place (get_or ms j m) y) (sym second) ∙ apart_from_distinct same_place ms j k m once less inside in
     let different : m.at ≢ n.at = eqb-false m.at n.at apart in
     elim (up_to_far ms ordered (k - (j + 1)) j m n here (ap (slice_get ms) gap ∙ there)) [
       | inl earlier ↦ inl earlier

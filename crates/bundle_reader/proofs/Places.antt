@@ -1,5 +1,5 @@
 -- The items of the first part of a list, by their places.
-use Rattle.std.proofs.Common.{arith, ◌≡◌, ℕ, zero, suc, ◌+◌, ◌<◌, List, [], ◌∷◌, ◌++◌, length, take, slice_get, Some}
+use Rattle.std.proofs.Common.{arith, ◌≡◌, ℕ, zero, suc, ◌<◌, List, [], ◌∷◌, take, slice_get, Some}
 
 pub taken : {X : Type 0} (k n : ℕ) (xs : List X) (x : X) → slice_get (take k xs) n ≡ Some x → slice_get xs n ≡ Some x
 taken zero n xs x is = absurd cc

@@ -1,5 +1,5 @@
 -- What reading the text of a property tells of it.
-use Rattle.std.proofs.Common.{◌≡◌, List, ℕ, ℤ, Option, Some, None, Result, Ok, Err, IfOk, IfNone, IsOkAnd, unwrap_or, codes, sym, ap, subst, ◌∙◌}
+use Rattle.std.proofs.Common.{◌≡◌, List, ℕ, ℤ, Option, Some, Result, Ok, Err, IfOk, IfNone, IsOkAnd, unwrap_or, codes, sym, ap, subst, ◌∙◌}
 use Rattle.std.specs.Result.{result_ok}
 use Rattle.serde_json.specs.Data.{Data}
 use Rattle.stix_times.specs.declared.refusal.TimeRefusal.{TimeRefusal}
@@ -11,7 +11,7 @@ use Rattle.stix_ids.specs.Identifier.{IsTextOf}
 use Rattle.stix_ids.specs.PartsOf.{id_of}
 use Rattle.object_rules.specs.Conditions.{text_at}
 use Rattle.bundle_reader.specs.Objects.{HasId}
-use Rattle.bundle_reader.specs.Lookup.{IsModifiedAt, IsModified}
+use Rattle.bundle_reader.specs.Lookup.{IsModified}
 use Rattle.bundle_reader.specs.Observed.{IsTimeAt}
 
 pub same_some : {A : Type 0} (x y : A) → Some x ≡ Some y → x ≡ y
@@ -32,9 +32,9 @@ was_modified d text there (Ok instant) ok only o is =
 was_modified d text there (Err refusal) ok only o is =
     subst (IsModified d) (sym is)
     (λ instant at.
-        let named : IsMillisTextOf text instant = subst (λ (t : List ℕ). IsMillisTextOf t instant) (same_some at.text text (sym at.there ∙ sym there)) at.names in
-        let same : Ok instant ≡ Err refusal = only (Ok instant) named in
-        cc)
+    let named : IsMillisTextOf text instant = subst (λ (t : List ℕ). IsMillisTextOf t instant) (same_some at.text text (sym at.there ∙ sym there)) at.names in
+    let same : Ok instant ≡ Err refusal = only (Ok instant) named in
+    cc)
 
 pub no_time : (name : List ℕ) (d : Data) (text : List ℕ) → Some text ≡ text_at name d → (read : Result ℤ TimeRefusal)
     → ((other : Result ℤ TimeRefusal) → Reads text other → other ≡ read) → (o : Option ℤ) → o ≡ result_ok read
@@ -43,6 +43,6 @@ no_time name d text there (Ok instant) only o is = subst (λ (x : Option ℤ). I
 no_time name d text there (Err refusal) only o is =
     subst (λ (x : Option ℤ). IfNone x ((i : ℤ) → ¬ IsTimeAt name d i)) (sym is)
     (λ instant at.
-        let named : IsTimeOf text instant = subst (λ (t : List ℕ). IsTimeOf t instant) (same_some at.text text (sym at.there ∙ sym there)) at.names in
-        let same : Ok instant ≡ Err refusal = only (Ok instant) named in
-        cc)
+    let named : IsTimeOf text instant = subst (λ (t : List ℕ). IsTimeOf t instant) (same_some at.text text (sym at.there ∙ sym there)) at.names in
+    let same : Ok instant ≡ Err refusal = only (Ok instant) named in
+    cc)

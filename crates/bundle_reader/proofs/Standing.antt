@@ -1,8 +1,7 @@
 -- The object of a moment, where it was read in the trees of a bundle.
-use Rattle.std.proofs.Common.{arith, ◌≡◌, ◌<◌, ℕ, List, length, Some, slice_get, slice_index_or, sym, subst, ◌∙◌}
+use Rattle.std.proofs.Common.{arith, ◌≡◌, List, Some, slice_get, slice_index_or, sym, subst, ◌∙◌}
 use Rattle.std.proofs.lemmas.Option.{slice_get_within}
 use Rattle.std.proofs.lemmas.List.{length-map}
-use Rattle.serde_json.specs.Data.{Data}
 use Rattle.stix_tree.specs.declared.tree.Tree.{Tree}
 use Rattle.stix_tree.specs.DataOf.{data_of}
 use Rattle.bundle_reader.specs.declared.moment.Moment.{Moment}

@@ -1,5 +1,5 @@
 -- The observations at the first moments, one moment more.
-use Rattle.std.proofs.Common.{arith, ◌≡◌, ◌⊎◌, inl, inr, ◌+◌, ◌<◌, ◌≤◌, ℕ, List, [], ◌∷◌, ◌++◌, length, map, take, get_or, slice_get, Some, length-append, sym, ap, refl, subst, ◌∙◌}
+use Rattle.std.proofs.Common.{arith, ◌≡◌, ◌⊎◌, inl, inr, ◌+◌, ◌<◌, ℕ, List, [], ◌∷◌, ◌++◌, length, take, get_or, slice_get, Some, length-append, sym, ap, refl, subst, ◌∙◌}
 use Rattle.std.proofs.lemmas.Bool.{cases_lt}
 use Rattle.std.proofs.lemmas.List.{take_more, map-append, length-map, get_or_append_left, get_or_push, length-take-le}
 use Rattle.std.proofs.lemmas.Option.{slice_get_within, slice_get-get_or, get_or_from_slice_get}
@@ -8,7 +8,6 @@ use Rattle.bundle_reader.specs.declared.moment.Moment.{Moment}
 use Rattle.bundle_reader.specs.declared.observation.Observation.{Observation}
 use Rattle.bundle_reader.specs.Observed.{Seen, IsSeenAt}
 use Rattle.bundle_reader.specs.Moments.{AreSeenAt, moment_of}
-use Rattle.bundle_reader.proofs.Properties.{same_some}
 
 pub none_told : (ds : List Data) (first : ℕ) → AreSeenAt ds first [] []
 none_told ds first = record { seen = []; are = refl; at = refl; each = λ k s there. absurd cc }

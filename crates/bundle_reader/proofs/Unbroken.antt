@@ -1,12 +1,12 @@
 -- What is known of the objects of a bundle, since none of them breaks a rule.
-use Rattle.std.proofs.Common.{◌≡◌, ℕ, zero, suc, ◌+◌, ℤ, List, [], ◌∷◌, ◌++◌, map, slice_get, Some, codes, sym, ap, subst, refl, ◌∙◌}
+use Rattle.std.proofs.Common.{◌≡◌, ℕ, zero, suc, ◌+◌, ℤ, List, [], ◌∷◌, ◌++◌, map, slice_get, Some, sym, subst, refl}
 use Rattle.serde_json.specs.Data.{Data}
 use Rattle.object_rules.specs.declared.broken.Break.{Break}
 use Rattle.object_rules.specs.Breaks.{AreBreaksOf}
 use Rattle.object_rules.specs.Sound.{IsTimed}
 use Rattle.bundle_reader.specs.declared.object_break.ObjectBreak.{ObjectBreak}
 use Rattle.bundle_reader.specs.Bundle.{AreAllBreaks, told_of}
-use Rattle.bundle_reader.specs.Observed.{IsObservedData, IsTimeAt}
+use Rattle.bundle_reader.specs.Observed.{IsTimeAt}
 use Rattle.bundle_reader.proofs.Properties.{same_some}
 
 none_own : (at : ℕ) (own : List Break) (rest : List ObjectBreak) → [] ≡ map (told_of at) own ++ rest → own ≡ []

@@ -12,7 +12,7 @@ use Rattle.bundle_reader.specs.Lookup.{IsModified, IsEarlier, IsOf, IsVersion, I
 use Rattle.bundle_reader.specs.Indexed.{held, same_id, Puts, Overtakes, IsHeld, IsIndexOf}
 use Rattle.bundle_reader.proofs.Properties.{same_some}
 use Rattle.bundle_reader.proofs.Places.{taken, taken_before, in_taken}
-use Rattle.bundle_reader.proofs.Meanings.{of_version, not_both_earlier}
+use Rattle.bundle_reader.proofs.Meanings.{of_version}
 
 -- an object was modified at one time or at none, and has one identifier
 abbrev pub OneModified : Type 0
@@ -69,7 +69,7 @@ latest_stays ds at d there id n is earlier = record {
 pub held_beside : (ds : List Data) (at : ℕ) (d : Data) → slice_get ds at ≡ Some d → (id : Id) → ¬ HasId d id
     → (place : Option ℕ) → IsHeld (take at ds) id place → IsHeld (take (at + 1) ds) id place
 held_beside ds at d there id other None is = λ n of.
-    elim (of_cases ds at d there id n of) [ | inl before ↦ is n before | inr here ↦ other here ]
+    elim (of_cases ds at d there id n of) [ inl before ↦ is n before | inr here ↦ other here ]
 held_beside ds at d there id other (Some n) is = latest_stays ds at d there id n is (λ when has modified. absurd (other has))
 
 -- nor does an object that a later one stands before
@@ -79,11 +79,11 @@ held_overtaken one ds at d there id time modified None over is = absurd over
 held_overtaken one ds at d there id time modified (Some n) over is =
     latest_stays ds at d there id n is
     (λ when has its.
-        let same_object : over.0 ≡ is.version.object = same_some over.0 is.version.object (sym over.2 ∙ taken at n ds is.version.object is.version.there) in
-        let its_time : IsModified is.version.object over.1 = subst (λ (x : Data). IsModified x over.1) same_object over.3 in
-        let same : over.1 ≡ is.modified = one is.version.object over.1 is.modified its_time is.version.when in
-        subst (λ (t : Option ℤ). IsEarlier t is.modified) (one d time when modified its)
-        (subst (λ (t : Option ℤ). IsEarlier time t) same over.4))
+    let same_object : over.0 ≡ is.version.object = same_some over.0 is.version.object (sym over.2 ∙ taken at n ds is.version.object is.version.there) in
+    let its_time : IsModified is.version.object over.1 = subst (λ (x : Data). IsModified x over.1) same_object over.3 in
+    let same : over.1 ≡ is.modified = one is.version.object over.1 is.modified its_time is.version.when in
+    subst (λ (t : Option ℤ). IsEarlier t is.modified) (one d time when modified its)
+    (subst (λ (t : Option ℤ). IsEarlier time t) same over.4))
 
 -- of two times one is earlier, or they are the same
 time_cases : (first second : Option ℤ) → IsEarlier first second ⊎ ((first ≡ second) ⊎ IsEarlier second first)
@@ -93,9 +93,9 @@ time_cases (Some first) None = inr (inr tt)
 time_cases (Some first) (Some second) =
     by_lt_z first second (λ earlier. inl earlier)
     (λ not_earlier. by_lt_z second first (λ later. inr (inr later))
-      (λ not_later.
-          let same : first ≡ second = omega (arith, ints, not_earlier, not_later) in
-          inr (inl (ap Some same))))
+    (λ not_later.
+    let same : first ≡ second = omega (arith, ints, not_earlier, not_later) in
+    inr (inl (ap Some same))))
 
 earlier_than_both : (first second third : Option ℤ) → IsEarlier first second → IsEarlier second third → IsEarlier first third
 earlier_than_both first second None is also = also
@@ -109,15 +109,15 @@ no_later : (when last time : Option ℤ) (other n at : ℕ) → ¬ IsEarlier tim
 no_later when last time other n at not before is = elim (time_cases time last) [
   | inl earlier ↦ absurd (not earlier)
   | inr no_earlier ↦ elim no_earlier [
-      | inl same ↦ elim is [
-          | inl earlier ↦ inl (subst (IsEarlier when) (sym same) earlier)
-          | inr as_late ↦ inr (as_late.0 ∙ sym same, omega arith)
-        ]
-      | inr later ↦ elim is [
-          | inl earlier ↦ inl (earlier_than_both when last time earlier later)
-          | inr as_late ↦ inl (subst (λ (t : Option ℤ). IsEarlier t time) (sym as_late.0) later)
-        ]
+    | inl same ↦ elim is [
+      | inl earlier ↦ inl (subst (IsEarlier when) (sym same) earlier)
+      | inr as_late ↦ inr (as_late.0 ∙ sym same, omega arith)
     ]
+    | inr later ↦ elim is [
+      | inl earlier ↦ inl (earlier_than_both when last time earlier later)
+      | inr as_late ↦ inl (subst (λ (t : Option ℤ). IsEarlier t time) (sym as_late.0) later)
+    ]
+  ]
 ]
 
 latest_before : (ds : List Data) (at : ℕ) (id : Id) (time : Option ℤ) (place : Option ℕ) → ¬ Overtakes ds place time → IsHeld (take at ds) id place
@@ -153,19 +153,19 @@ pub same_cases : (id other : Id) → ((same_id id other ≡ true) × (id ≡ oth
 same_cases id other =
     elim (cases_Bool (bytes_eq id.kind other.kind)) [
       | inl kinds ↦ elim (cases_eq id.number other.number) [
-          | inl numbers ↦ inl (
-              ap (λ b. b && (id.number == other.number)) kinds ∙ eq-eqb id.number other.number numbers,
-              same_parts id other ((bytes_eq-Decides id.kind other.kind).0 kinds) numbers,
-            )
-          | inr numbers ↦ inr (
-              ap (λ b. b && (id.number == other.number)) kinds ∙ not_eqb id.number other.number numbers,
-              λ same. numbers (ap (λ (i : Id). i.number) same),
-            )
-        ]
-      | inr kinds ↦ inr (
-          ap (λ b. b && (id.number == other.number)) kinds,
-          λ same. false≢true (sym kinds ∙ (bytes_eq-Decides id.kind other.kind).1 (ap (λ (i : Id). i.kind) same)),
+        | inl numbers ↦ inl (
+          ap (λ b. b && (id.number == other.number)) kinds ∙ eq-eqb id.number other.number numbers,
+          same_parts id other ((bytes_eq-Decides id.kind other.kind).0 kinds) numbers,
         )
+        | inr numbers ↦ inr (
+          ap (λ b. b && (id.number == other.number)) kinds ∙ not_eqb id.number other.number numbers,
+          λ same. numbers (ap (λ (i : Id). i.number) same),
+        )
+      ]
+      | inr kinds ↦ inr (
+        ap (λ b. b && (id.number == other.number)) kinds,
+        λ same. false≢true (sym kinds ∙ (bytes_eq-Decides id.kind other.kind).1 (ap (λ (i : Id). i.kind) same)),
+      )
     ]
 
 -- the index after the object of an identifier was put

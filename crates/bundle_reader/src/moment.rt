@@ -40,7 +40,10 @@ fn moments_of(alloc: Global, objects: &[Tree]) -> Result<Vec<Moment>, NoMemory>
     let mut moments = Vec::new(alloc);
     for at in 0..objects.len() {
         if let Some(last) = last_observed(objects, at) {
-            moments.push(Moment { last, at: at as u32 })?;
+            moments.push(Moment {
+                last,
+                at: at as u32,
+            })?;
         }
     }
     Ok(moments)

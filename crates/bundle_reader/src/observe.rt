@@ -41,11 +41,7 @@ pub fn observations(
 }
 
 /// The same, whether or not an observed-data holds its objects itself.
-fn all_observed(
-    alloc: Global,
-    bundle: &Bundle,
-    first: u64,
-) -> Result<Items<Observation>, NoMemory>
+fn all_observed(alloc: Global, bundle: &Bundle, first: u64) -> Result<Items<Observation>, NoMemory>
     requires { first + how_many (data_in bundle.now) ≤ 2 ^ 63 }
     ensures { IfOk result (AreObservations (data_in bundle.now) first) }
 {

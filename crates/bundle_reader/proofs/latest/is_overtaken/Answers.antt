@@ -1,4 +1,3 @@
-use Rattle.std.proofs.Common.{sym, ◌∙◌}
 use Rattle.bundle_reader.proofs.Overtaking.{not_past, overtakes_at, earlier_at}
 use Rattle.bundle_reader.proofs.latest.is_overtaken.Goals as goal
 

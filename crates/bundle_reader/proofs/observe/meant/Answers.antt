@@ -1,4 +1,4 @@
-use Rattle.std.proofs.Common.{◌≡◌, ◌+◌, ◌++◌, ◌≤◌, arith, ℕ, List, length, Option, Some, None, option_to_list, append-nil, sym, ap, subst, ◌∙◌}
+use Rattle.std.proofs.Common.{◌+◌, ◌≤◌, arith, ℕ, List, length, Some, None, append-nil, sym, subst, ◌∙◌}
 use Rattle.std.proofs.lemmas.List.{take_all}
 use Rattle.stix_tree.specs.declared.tree.Tree.{Tree}
 use Rattle.serde_json.specs.Find.{as_str}

@@ -2,7 +2,7 @@ use Rattle.std.proofs.Common.{List, ◌+◌, take, sym, subst}
 use Rattle.bundle_reader.specs.declared.observation.Observation.{Observation}
 use Rattle.bundle_reader.specs.Objects.{data_in}
 use Rattle.bundle_reader.specs.Moments.{AreSeenAt}
-use Rattle.bundle_reader.proofs.Telling.{none_told, told_more}
+use Rattle.bundle_reader.proofs.Telling.{told_more}
 use Rattle.bundle_reader.proofs.observe.observed.Goals as goal
 
 pub loop-at-preserved : goal.loop-at-preserved
@@ -12,4 +12,4 @@ loop-at-preserved c =
     let at = c.loop-at.at in
     subst (λ (os : List Observation). AreSeenAt ds c.args.first (take (at + 1) ms) os) (sym c.in_ok-push.ensures.ok)
     (told_more ds c.args.first ms at c.index-moments-at.result c.loop-at.observations c.in_ok-observation.field-0 c.loop-at-test.true (sym c.index-moments-at.is) c.loop-at.invariant
-      c.in_ok-observation.ensures.seen c.in_ok-observation.ensures.last)
+    c.in_ok-observation.ensures.seen c.in_ok-observation.ensures.last)
