@@ -1,4 +1,5 @@
 pub mod Names
 pub mod Versions
 pub mod Selector
+pub mod Paths
 pub mod Markings

@@ -5,6 +5,8 @@
 
 mod marking_break;
 mod markings;
+mod part;
+mod selector;
 mod version_break;
 mod versions;
 
