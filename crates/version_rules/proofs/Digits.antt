@@ -1,5 +1,5 @@
 -- Texts of decimal digits.
-use Rattle.std.proofs.Common.{arith, ◌≡◌, ℕ, ◌<◌, ◌≤◌, ◌^◌, List, length, All, get_or, Option, Some, None, Result, Ok, Err, MatchOption, inl, inr, sym, subst}
+use Rattle.std.proofs.Common.{◌≡◌, ℕ, ◌<◌, ◌≤◌, ◌^◌, List, length, All, get_or, Option, Result, Ok, Err, MatchOption, inl, inr, sym, subst}
 use Rattle.std.specs.Result.{result_ok}
 use Rattle.std.specs.Int.{IsInRange}
 use Rattle.std.specs.Char.{IsAsciiDigit}

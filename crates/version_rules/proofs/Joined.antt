@@ -7,7 +7,7 @@ use Rattle.std.specs.Char.{IsAsciiDigit}
 use Rattle.std.proofs.lemmas.Bool.{cases_lt}
 use denote.Ref.{Bor}
 use Rattle.stix_tree.specs.Walk.{path_text}
-use Rattle.version_rules.specs.Selector.{Part, named, placed, IsNameCharacter, IsPart, AreParts, part_text}
+use Rattle.version_rules.specs.Selector.{Part, named, placed, IsNameCharacter, IsPart, part_text}
 use Rattle.version_rules.specs.Paths.{IsPath, IsPartOf}
 use Rattle.version_rules.proofs.Digits.{digits_are}
 

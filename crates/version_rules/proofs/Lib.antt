@@ -4,4 +4,8 @@ pub mod Parts
 pub mod Joined
 pub mod Named
 pub mod Items
-pub mod Begins
+pub mod Listing
+pub mod Judged
+pub mod Places
+pub mod Telling
+pub mod Marked

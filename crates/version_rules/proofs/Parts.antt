@@ -1,5 +1,5 @@
 -- One part of a selector: in brackets it is a place, and without them a name.
-use Rattle.std.proofs.Common.{arith, ◌≡◌, ◌≢◌, ℕ, List, [], ◌∷◌, ◌++◌, length, get_or, drop, take, All, slice_index_or, refl, sym, ap, subst, ◌∙◌}
+use Rattle.std.proofs.Common.{arith, ◌≡◌, ◌≢◌, ℕ, List, [], ◌∷◌, ◌++◌, drop, sym, ap, subst, ◌∙◌}
 use Rattle.std.proofs.lemmas.List.{append_cancel_right}
 use Rattle.version_rules.specs.Selector.{Part, named, placed, IsName, IsNameCharacter, IsPlace, in_brackets}
 use Rattle.version_rules.specs.Paths.{IsPartOf}

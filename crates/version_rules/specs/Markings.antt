@@ -1,6 +1,6 @@
 -- Granular markings (STIX 2.1, section 7.2.3): each names a marking or a language, and the properties of its object that
 -- it marks.
-use Rattle.std.specs.Prelude.{◌≡◌, ◌≢◌, ◌≤◌, ◌⊎◌, ℕ, ◌+◌, List, [], ◌∷◌, ◌++◌, length, map, Option, Some, None, IsSome, codes, Contains, option_to_list, MatchOption}
+use Rattle.std.specs.Prelude.{◌≡◌, ◌≢◌, ◌⊎◌, ℕ, ◌+◌, List, [], ◌∷◌, ◌++◌, map, Option, Some, None, IsSome, codes, Contains, option_to_list, MatchOption}
 use Rattle.serde_json.specs.Data.{Data, Items, string}
 use Rattle.serde_json.specs.Find.{get, as_array}
 use Rattle.stix_ids.specs.declared.id.Id.{Id}

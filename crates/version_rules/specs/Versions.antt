@@ -1,6 +1,6 @@
 -- Versions (STIX 2.1, section 3.6): objects of one identifier are versions of one object. All have its `created`, none is
 -- later than one that revokes it, and two of one `modified` are the same.
-use Rattle.std.specs.Prelude.{◌≡◌, ◌≢◌, ◌⊎◌, ℕ, ◌+◌, ◌<◌, ℤ, ◌<ℤ◌, List, [], ◌∷◌, ◌++◌, map, MatchOption, Some, slice_get, true, codes}
+use Rattle.std.specs.Prelude.{◌≡◌, ◌≢◌, ◌⊎◌, ℕ, ◌+◌, ◌<◌, ℤ, ◌<ℤ◌, List, [], ◌∷◌, ◌++◌, map, Some, slice_get, true, codes}
 use Rattle.serde_json.specs.Data.{Data, boolean}
 use Rattle.serde_json.specs.Find.{get}
 use Rattle.stix_times.specs.Reading.{IsMillisTextOf}

@@ -3,6 +3,8 @@
 //! 7.2.3).
 #![tactic(auto)]
 
+mod list_at;
+mod marking;
 mod marking_break;
 mod markings;
 mod part;

@@ -1,4 +1,4 @@
-use Rattle.std.proofs.Common.{◌≡◌, ◌++◌, ◌∷◌, [], arith, List, ℕ, Option, Some, None, IfSome, IfNone, sym, ap, subst, ◌∙◌}
+use Rattle.std.proofs.Common.{◌≡◌, ◌++◌, ◌∷◌, [], arith, List, ℕ, Option, Some, None, IfNone, sym, subst}
 use denote.Ref.{Bor}
 use Rattle.std.proofs.lemmas.Str.Pattern.{strip_prefix_char, strip_suffix_char}
 use Rattle.version_rules.specs.Selector.{in_brackets}

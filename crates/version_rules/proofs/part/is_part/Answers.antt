@@ -1,4 +1,4 @@
-use Rattle.std.proofs.Common.{refl, sym}
+use Rattle.std.proofs.Common.{refl}
 use Rattle.version_rules.specs.Selector.{named, placed}
 use Rattle.version_rules.proofs.Parts.{place_only, name_only}
 use Rattle.version_rules.proofs.part.is_part.Goals as goal

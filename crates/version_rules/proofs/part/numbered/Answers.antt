@@ -1,4 +1,4 @@
-use Rattle.std.proofs.Common.{arith, ◌≡◌, ◌≤◌, ◌^◌, ℕ, List, Option, Some, None, MatchOption, length, option_map, slice_get, sym, ap, subst, ◌∙◌}
+use Rattle.std.proofs.Common.{arith, ◌≡◌, ◌≤◌, ◌^◌, Option, Some, None, length, option_map, slice_get, sym, ap, ◌∙◌}
 use denote.Ref.{Bor}
 use Rattle.std.specs.Str.Parse.{digits_value}
 use Rattle.stix_tree.specs.declared.tree.Tree.{Tree}

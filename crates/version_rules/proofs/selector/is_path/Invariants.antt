@@ -1,4 +1,4 @@
-use Rattle.std.proofs.Common.{List, ℕ, length, ◌↔◌}
+use Rattle.std.proofs.Common.{List, length, ◌↔◌}
 use denote.Text.{Utf8}
 use denote.Shadow.{shadow}
 use Rattle.version_rules.specs.Selector.{Part}

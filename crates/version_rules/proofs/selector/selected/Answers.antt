@@ -1,9 +1,8 @@
-use Rattle.std.proofs.Common.{rules, List, ◌≡◌, Option, Some, None, option_map, option_and_then, sym, ap, subst, ◌∙◌}
+use Rattle.std.proofs.Common.{rules, Option, Some, None, option_map, sym, ap, ◌∙◌}
 use denote.Ref.{Bor}
 use Rattle.serde_json.specs.Data.{Data}
 use Rattle.stix_tree.specs.declared.tree.Tree.{Tree}
 use Rattle.stix_tree.specs.DataOf.{data_of}
-use Rattle.version_rules.specs.Selector.{Part, value_at}
 use Rattle.version_rules.proofs.Named.{named_next, named_here}
 use Rattle.version_rules.proofs.selector.selected.Goals as goal
 

@@ -1,4 +1,4 @@
-use Rattle.std.proofs.Common.{List, ℕ, length, ◌≡◌}
+use Rattle.std.proofs.Common.{List, length, ◌≡◌}
 use denote.Text.{Utf8}
 use denote.Shadow.{shadow}
 use Rattle.stix_tree.specs.DataOf.{data_of}
