@@ -1,0 +1,6 @@
+pub mod Names
+pub mod Versions
+pub mod Selector
+pub mod Paths
+pub mod Markings
+pub mod Selected
