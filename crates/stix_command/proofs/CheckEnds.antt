@@ -1,5 +1,5 @@
 -- What is told of the bytes of an input ends a check.
-use Rattle.std.proofs.Common.{◌≡◌, ℕ, List, [], Option, Some, None, append-nil, inr, refl, sym, ap, subst, ◌∙◌}
+use Rattle.std.proofs.Common.{◌≡◌, ℕ, List, [], Option, Some, None, append-nil, inl, inr, refl, sym, ap, subst, ◌∙◌}
 use Rattle.flow_edges.specs.Flow.{written_with}
 use Rattle.match_run.specs.declared.end.InputRule.{InputRule}
 use Rattle.match_run.specs.Whole.{IsWhole}
@@ -31,6 +31,7 @@ refused : (bytes : List ℕ) (left left_after written written_after : Option (Li
     → written_after ≡ written_with (verdict_text found) written → (line ≡ 1) × (written_after ≡ written) × IsInputRefused left left_after rule
 refused bytes left left_after written written_after line rule (verdict.Sound count) whole judged is told = absurd (cc)
 refused bytes left left_after written written_after line rule (verdict.Broken breaks) whole judged is told = absurd (cc)
+refused bytes left left_after written written_after line rule (verdict.Unfit versions markings) whole judged is told = absurd (cc)
 refused bytes left left_after written written_after line rule (verdict.Refused why) whole judged is told =
     let same : rule ≡ why = ap (rule_in why) is in (
       ap line_in is,
@@ -45,22 +46,29 @@ bytes-check bytes left left_after written written_after WriteFault whole ends = 
 bytes-check bytes left left_after written written_after Done whole (verdict.Sound count, judged, (is, told)) =
     (count, record { finds = finds bytes left left_after (verdict.Sound count) whole judged; told = told })
 bytes-check bytes left left_after written written_after Done whole (verdict.Broken breaks, judged, (is, told)) = absurd (cc)
+bytes-check bytes left left_after written written_after Done whole (verdict.Unfit versions markings, judged, (is, told)) = absurd (cc)
 bytes-check bytes left left_after written written_after Done whole (verdict.Refused why, judged, (is, told)) = absurd (cc)
 bytes-check bytes left left_after written written_after Broken whole (verdict.Broken breaks, judged, (is, told)) =
-    (breaks, record { finds = finds bytes left left_after (verdict.Broken breaks) whole judged; told = told })
+    inl (breaks, record { finds = finds bytes left left_after (verdict.Broken breaks) whole judged; told = told })
+bytes-check bytes left left_after written written_after Broken whole (verdict.Unfit versions markings, judged, (is, told)) =
+    inr (versions, markings, record { finds = finds bytes left left_after (verdict.Unfit versions markings) whole judged; told = told })
 bytes-check bytes left left_after written written_after Broken whole (verdict.Sound count, judged, (is, told)) = absurd (cc)
 bytes-check bytes left left_after written written_after Broken whole (verdict.Refused why, judged, (is, told)) = absurd (cc)
 bytes-check bytes left left_after written written_after (InputRefused line rule) whole (found, judged, (is, told)) =
     refused bytes left left_after written written_after line rule found whole judged is told
 bytes-check bytes left left_after written written_after Usage whole (verdict.Sound count, judged, (is, told)) = absurd (cc)
 bytes-check bytes left left_after written written_after Usage whole (verdict.Broken breaks, judged, (is, told)) = absurd (cc)
+bytes-check bytes left left_after written written_after Usage whole (verdict.Unfit versions markings, judged, (is, told)) = absurd (cc)
 bytes-check bytes left left_after written written_after Usage whole (verdict.Refused why, judged, (is, told)) = absurd (cc)
 bytes-check bytes left left_after written written_after (PatternRefused refusal) whole (verdict.Sound count, judged, (is, told)) = absurd (cc)
 bytes-check bytes left left_after written written_after (PatternRefused refusal) whole (verdict.Broken breaks, judged, (is, told)) = absurd (cc)
+bytes-check bytes left left_after written written_after (PatternRefused refusal) whole (verdict.Unfit versions markings, judged, (is, told)) = absurd (cc)
 bytes-check bytes left left_after written written_after (PatternRefused refusal) whole (verdict.Refused why, judged, (is, told)) = absurd (cc)
 bytes-check bytes left left_after written written_after NotBuilt whole (verdict.Sound count, judged, (is, told)) = absurd (cc)
 bytes-check bytes left left_after written written_after NotBuilt whole (verdict.Broken breaks, judged, (is, told)) = absurd (cc)
+bytes-check bytes left left_after written written_after NotBuilt whole (verdict.Unfit versions markings, judged, (is, told)) = absurd (cc)
 bytes-check bytes left left_after written written_after NotBuilt whole (verdict.Refused why, judged, (is, told)) = absurd (cc)
 bytes-check bytes left left_after written written_after ReadFault whole (verdict.Sound count, judged, (is, told)) = absurd (cc)
 bytes-check bytes left left_after written written_after ReadFault whole (verdict.Broken breaks, judged, (is, told)) = absurd (cc)
+bytes-check bytes left left_after written written_after ReadFault whole (verdict.Unfit versions markings, judged, (is, told)) = absurd (cc)
 bytes-check bytes left left_after written written_after ReadFault whole (verdict.Refused why, judged, (is, told)) = absurd (cc)

@@ -15,12 +15,23 @@ use Rattle.object_rules.specs.declared.broken.Break.{Break}
 use Rattle.object_rules.specs.Breaks.{AreBreaksOf}
 use Rattle.bundle_reader.specs.declared.object_break.ObjectBreak.{ObjectBreak}
 use Rattle.bundle_reader.specs.declared.refusal.BundleRefusal.TheVariants.{NotBundle, Breaks, NoMemory}
-use Rattle.bundle_reader.specs.Bundle.{listed, IsObject, IsTyped, IsIdentified, IsListOf, HasObjects, IsOutlined, IsFirstNoObject, FailsAt, IsNoBundle, told_of, AreAllBreaks}
+use Rattle.bundle_reader.specs.Bundle.{listed, IsObject, IsTyped, IsIdentified, IsListOf, HasObjects, IsOutlined, IsFirstNoObject, FailsAt, IsNoBundle, told_of, AreAllBreaks, IsBundle}
+use Rattle.version_rules.specs.declared.version_break.VersionBreak.{VersionBreak}
+use Rattle.version_rules.specs.declared.marking_break.MarkingBreak.{MarkingBreak}
+use Rattle.version_rules.specs.Versions.{AreVersionBreaks}
+use Rattle.version_rules.specs.Markings.{AreMarkingBreaks}
 use Rattle.match_run.specs.declared.end.InputRule.{InputRule}
 use Rattle.match_run.specs.declared.end.InputRule.TheVariants.{NotYet, InputTooLong, Tree as NoTree, Bundle as NoBundle}
 use Rattle.stix_command.specs.declared.verdict.Verdict.{Verdict}
-use Rattle.stix_command.specs.declared.verdict.Verdict.TheVariants.{Sound, Broken, Refused}
-use Rattle.stix_command.specs.Judged.{IsNotBundleFor, IsBundleJudged, HasTree, IsJudged}
+use Rattle.stix_command.specs.declared.verdict.Verdict.TheVariants.{Sound, Broken, Unfit, Refused}
+use Rattle.stix_command.specs.Judged.{IsNotBundleFor, AreJudged, IsBundleJudged, HasTree, IsJudged}
+
+-- objects have one list of breaks of versions, and of markings
+abbrev OneVersions : Type 0
+OneVersions = (objects : List Data) (a b : List VersionBreak) → AreVersionBreaks objects a → AreVersionBreaks objects b → a ≡ b
+
+abbrev OneMarkings : Type 0
+OneMarkings = (objects : List Data) (a b : List MarkingBreak) → AreMarkingBreaks objects a → AreMarkingBreaks objects b → a ≡ b
 
 -- a value has one list of breaks
 abbrev OneList : Type 0
@@ -150,18 +161,53 @@ one_breaks one d xs ys a b first second all others =
     let same : xs ≡ ys = one_objects d xs ys first.listed_are second.listed_are in
     all_breaks_once one 0 ys a b (subst (λ (os : List Data). AreAllBreaks 0 os a) same all) others
 
-judged_once : OneList → (d : Data) (a b : Verdict) → IsBundleJudged d a → IsBundleJudged d b → a ≡ b
-judged_once one d (Sound n) (Sound m) a b =
-    let same : a.0 ≡ b.0 = one_objects d a.0 b.0 a.1.outline.listed_are b.1.outline.listed_are in
-    ap Sound (a.2 ∙ ap (λ (os : List Data). length os) same ∙ sym b.2)
-judged_once one d (Sound n) (Broken breaks) a b = absurd (b.0 (one_breaks one d b.1.0 a.0 breaks [] b.1.1 a.1.outline b.1.2 a.1.unbroken))
-judged_once one d (Sound n) (Refused rule) a b = let fails = fails_for d rule b in absurd (no_failure d a.0 fails.0 a.1.outline fails.1)
-judged_once one d (Broken breaks) (Sound m) a b = absurd (a.0 (one_breaks one d a.1.0 b.0 breaks [] a.1.1 b.1.outline a.1.2 b.1.unbroken))
-judged_once one d (Broken breaks) (Broken others) a b = ap Broken (one_breaks one d a.1.0 b.1.0 breaks others a.1.1 b.1.1 a.1.2 b.1.2)
-judged_once one d (Broken breaks) (Refused rule) a b = let fails = fails_for d rule b in absurd (no_failure d a.1.0 fails.0 a.1.1 fails.1)
-judged_once one d (Refused rule) (Sound m) a b = let fails = fails_for d rule a in absurd (no_failure d b.0 fails.0 b.1.outline fails.1)
-judged_once one d (Refused rule) (Broken breaks) a b = let fails = fails_for d rule a in absurd (no_failure d b.1.0 fails.0 b.1.1 fails.1)
-judged_once one d (Refused rule) (Refused other) a b = ap Refused (one_rule d rule other a b)
+-- objects that meet their rules have one verdict
+fit_once : OneVersions → OneMarkings → (objects : List Data) (a b : Verdict) → AreJudged objects a → AreJudged objects b → a ≡ b
+fit_once versions markings objects (Sound n) (Sound m) a b = ap Sound (a.0 ∙ sym b.0)
+fit_once versions markings objects (Sound n) (Unfit vs ms) a b = absurd (b.2 (versions objects vs [] b.0 a.1, markings objects ms [] b.1 a.2))
+fit_once versions markings objects (Unfit vs ms) (Sound m) a b = absurd (a.2 (versions objects vs [] a.0 b.1, markings objects ms [] a.1 b.2))
+fit_once versions markings objects (Unfit vs ms) (Unfit ws ns) a b =
+    ap (λ (x : List VersionBreak). Unfit x ms) (versions objects vs ws a.0 b.0) ∙ ap (λ (x : List MarkingBreak). Unfit ws x) (markings objects ms ns a.1 b.1)
+fit_once versions markings objects (Sound n) (Broken breaks) a b = absurd b
+fit_once versions markings objects (Sound n) (Refused rule) a b = absurd b
+fit_once versions markings objects (Unfit vs ms) (Broken breaks) a b = absurd b
+fit_once versions markings objects (Unfit vs ms) (Refused rule) a b = absurd b
+fit_once versions markings objects (Broken breaks) b x y = absurd x
+fit_once versions markings objects (Refused rule) b x y = absurd x
+
+-- a bundle, of which that is found
+abbrev IsFit : Data → Verdict → Type 0
+IsFit d a = (objects : List Data) × IsBundle d objects × AreJudged objects a
+
+two_fit : OneVersions → OneMarkings → (d : Data) (a b : Verdict) → IsFit d a → IsFit d b → a ≡ b
+two_fit versions markings d a b x y =
+    let same : x.0 ≡ y.0 = one_objects d x.0 y.0 x.1.outline.listed_are y.1.outline.listed_are in
+    fit_once versions markings y.0 a b (subst (λ (os : List Data). AreJudged os a) same x.2) y.2
+
+-- and one with breaks is none
+fit_or_broken : OneList → (d : Data) (a : Verdict) (breaks : List ObjectBreak) → IsFit d a → ¬ IsBundleJudged d (Broken breaks)
+fit_or_broken one d a breaks x b = b.0 (one_breaks one d b.1.0 x.0 breaks [] b.1.1 x.1.outline b.1.2 x.1.unbroken)
+
+fit_or_refused : (d : Data) (a : Verdict) (rule : InputRule) → IsFit d a → ¬ IsBundleJudged d (Refused rule)
+fit_or_refused d a rule x b = let fails = fails_for d rule b in no_failure d x.0 fails.0 x.1.outline fails.1
+
+judged_once : OneVersions → OneMarkings → OneList → (d : Data) (a b : Verdict) → IsBundleJudged d a → IsBundleJudged d b → a ≡ b
+judged_once versions markings one d (Sound n) (Sound m) a b = two_fit versions markings d (Sound n) (Sound m) a b
+judged_once versions markings one d (Sound n) (Unfit vs ms) a b = two_fit versions markings d (Sound n) (Unfit vs ms) a b
+judged_once versions markings one d (Unfit vs ms) (Sound m) a b = two_fit versions markings d (Unfit vs ms) (Sound m) a b
+judged_once versions markings one d (Unfit vs ms) (Unfit ws ns) a b = two_fit versions markings d (Unfit vs ms) (Unfit ws ns) a b
+judged_once versions markings one d (Sound n) (Broken breaks) a b = absurd (fit_or_broken one d (Sound n) breaks a b)
+judged_once versions markings one d (Unfit vs ms) (Broken breaks) a b = absurd (fit_or_broken one d (Unfit vs ms) breaks a b)
+judged_once versions markings one d (Broken breaks) (Sound m) a b = absurd (fit_or_broken one d (Sound m) breaks b a)
+judged_once versions markings one d (Broken breaks) (Unfit vs ms) a b = absurd (fit_or_broken one d (Unfit vs ms) breaks b a)
+judged_once versions markings one d (Sound n) (Refused rule) a b = absurd (fit_or_refused d (Sound n) rule a b)
+judged_once versions markings one d (Unfit vs ms) (Refused rule) a b = absurd (fit_or_refused d (Unfit vs ms) rule a b)
+judged_once versions markings one d (Refused rule) (Sound m) a b = absurd (fit_or_refused d (Sound m) rule b a)
+judged_once versions markings one d (Refused rule) (Unfit vs ms) a b = absurd (fit_or_refused d (Unfit vs ms) rule b a)
+judged_once versions markings one d (Broken breaks) (Broken others) a b = ap Broken (one_breaks one d a.1.0 b.1.0 breaks others a.1.1 b.1.1 a.1.2 b.1.2)
+judged_once versions markings one d (Broken breaks) (Refused rule) a b = let fails = fails_for d rule b in absurd (no_failure d a.1.0 fails.0 a.1.1 fails.1)
+judged_once versions markings one d (Refused rule) (Broken breaks) a b = let fails = fails_for d rule a in absurd (no_failure d b.1.0 fails.0 b.1.1 fails.1)
+judged_once versions markings one d (Refused rule) (Refused other) a b = ap Refused (one_rule d rule other a b)
 
 -- bytes that are refused as a tree: they have no value, or it is refused
 abbrev IsToldOf : List ℕ → TreeRefusal → Type 0
@@ -201,17 +247,18 @@ record NoTreeFor (bytes : List ℕ) (a : Verdict) : Type 0 where
 by_tree : (bytes : List ℕ) (a : Verdict) → IsJudged bytes a → HasTree bytes (λ d. IsBundleJudged d a) ⊎ NoTreeFor bytes a
 by_tree bytes (Sound n) judged = inl judged
 by_tree bytes (Broken breaks) judged = inl judged
+by_tree bytes (Unfit versions markings) judged = inl judged
 by_tree bytes (Refused NotYet) judged = elim judged [ ]
 by_tree bytes (Refused InputTooLong) judged = elim judged [ ]
 by_tree bytes (Refused (NoTree refusal)) judged = inr (record { refusal = refusal; is = refl; why = told bytes refusal judged.0 judged.1 })
 by_tree bytes (Refused (NoBundle refusal)) judged = inl judged
 
-pub one_verdict : OneList → (bytes : List ℕ) (a b : Verdict) → IsJudged bytes a → IsJudged bytes b → a ≡ b
-one_verdict one bytes a b first second = elim (by_tree bytes a first) [
+pub one_verdict : OneVersions → OneMarkings → OneList → (bytes : List ℕ) (a b : Verdict) → IsJudged bytes a → IsJudged bytes b → a ≡ b
+one_verdict versions markings one bytes a b first second = elim (by_tree bytes a first) [
   | inl x ↦ elim (by_tree bytes b second) [
     | inl y ↦
         let same : data_of x.0 ≡ data_of y.0 = one_value bytes (data_of x.0) (data_of y.0) x.1.value y.1.value in
-        judged_once one (data_of y.0) a b (subst (λ (d : Data). IsBundleJudged d a) same x.2) y.2
+        judged_once versions markings one (data_of y.0) a b (subst (λ (d : Data). IsBundleJudged d a) same x.2) y.2
     | inr y ↦ absurd (no_tree bytes x.0 y.refusal x.1 y.why)
   ]
   | inr x ↦ elim (by_tree bytes b second) [

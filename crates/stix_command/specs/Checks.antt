@@ -2,6 +2,9 @@
 use Rattle.std.specs.Prelude.{◌≡◌, ◌⊎◌, ℕ, List, [], ◌++◌, flat_map, Option, codes, decimal}
 use Rattle.flow_edges.specs.Flow.{written_with, WritesPrefix}
 use Rattle.bundle_reader.specs.declared.object_break.ObjectBreak.{ObjectBreak}
+use Rattle.version_rules.specs.declared.version_break.VersionBreak.{VersionBreak}
+use Rattle.version_rules.specs.declared.marking_break.MarkingBreak.{MarkingBreak}
+use Rattle.version_rules.specs.Names.{version_rule_name, marking_rule_name}
 use Rattle.match_run.specs.declared.end.InputRule.{InputRule}
 use Rattle.match_run.specs.declared.end.InputRule.TheVariants.{InputTooLong}
 use Rattle.match_run.specs.Texts.{break_text}
@@ -16,10 +19,20 @@ use Rattle.stix_command.specs.Judged.{IsJudged}
 abbrev pub break_line : ObjectBreak → List ℕ
 break_line broken = break_text broken ++ codes "\n"
 
--- what is written of a verdict: the breaks, a line each, or how many objects are sound
+-- object I: RULE
+abbrev pub version_line : VersionBreak → List ℕ
+version_line broken = codes "object " ++ (decimal broken.object ++ (codes ": " ++ (version_rule_name broken.rule ++ codes "\n")))
+
+-- object I: marking J: RULE
+abbrev pub marking_line : MarkingBreak → List ℕ
+marking_line broken = codes "object " ++ (decimal broken.object ++ (codes ": marking " ++ (decimal broken.marking ++ (codes ": " ++ (marking_rule_name broken.rule ++ codes "\n")))))
+
+-- what is written of a verdict: the breaks, a line each, those of versions before those of markings, or how many objects
+-- are sound
 abbrev pub verdict_text : Verdict → List ℕ
 verdict_text (verdict.Sound count) = codes "ok " ++ (decimal count ++ codes " objects\n")
 verdict_text (verdict.Broken breaks) = flat_map break_line breaks
+verdict_text (verdict.Unfit versions markings) = flat_map version_line versions ++ flat_map marking_line markings
 verdict_text (verdict.Refused rule) = []
 
 -- the whole input was read, and is found to be that
@@ -47,7 +60,8 @@ EndsCheck left left_after written written_after NotBuilt = ⊥
 EndsCheck left left_after written written_after (InputRefused line rule) =
     (line ≡ 1) × (written_after ≡ written) × IsInputRefused left left_after rule
 EndsCheck left left_after written written_after Broken =
-    (breaks : List ObjectBreak) × Tells left left_after written written_after (verdict.Broken breaks)
+    ((breaks : List ObjectBreak) × Tells left left_after written written_after (verdict.Broken breaks))
+    ⊎ ((versions : List VersionBreak) × (markings : List MarkingBreak) × Tells left left_after written written_after (verdict.Unfit versions markings))
 EndsCheck left left_after written written_after ReadFault = written_after ≡ written
 EndsCheck left left_after written written_after WriteFault =
     (found : Verdict) × Finds left left_after found × WritesPrefix (verdict_text found) written written_after
@@ -56,6 +70,7 @@ EndsCheck left left_after written written_after WriteFault =
 abbrev pub verdict_ending : Verdict → Ending
 verdict_ending (verdict.Sound count) = Done
 verdict_ending (verdict.Broken breaks) = Broken
+verdict_ending (verdict.Unfit versions markings) = Broken
 verdict_ending (verdict.Refused rule) = InputRefused 1 rule
 
 abbrev pub TellsVerdict : Verdict → Option (List ℕ) → Option (List ℕ) → Ending → Type 0

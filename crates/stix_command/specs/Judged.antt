@@ -1,5 +1,5 @@
 -- What an input is found to be, as a bundle.
-use Rattle.std.specs.Prelude.{◌≡◌, ◌≢◌, ℕ, List, length}
+use Rattle.std.specs.Prelude.{◌≡◌, ◌≢◌, ℕ, List, [], length}
 use Rattle.serde_json.specs.Data.{Data}
 use Rattle.stix_tree.specs.declared.tree.Tree.{Tree}
 use Rattle.stix_tree.specs.declared.refusal.TreeRefusal.TheVariants as tree_refusal
@@ -7,10 +7,12 @@ use Rattle.stix_tree.specs.DataOf.{data_of}
 use Rattle.stix_tree.specs.Reading.{IsTreeOf, IsRefusedAs}
 use Rattle.bundle_reader.specs.declared.refusal.BundleRefusal.TheVariants.{NotBundle, Breaks, NoMemory}
 use Rattle.bundle_reader.specs.Bundle.{IsBundle, IsRefused}
+use Rattle.version_rules.specs.Versions.{AreVersionBreaks}
+use Rattle.version_rules.specs.Markings.{AreMarkingBreaks}
 use Rattle.match_run.specs.declared.end.InputRule.{InputRule}
 use Rattle.match_run.specs.declared.end.InputRule.TheVariants.{NotYet, InputTooLong, Tree as NoTree, Bundle as NoBundle}
 use Rattle.stix_command.specs.declared.verdict.Verdict.{Verdict}
-use Rattle.stix_command.specs.declared.verdict.Verdict.TheVariants.{Sound, Broken, Refused}
+use Rattle.stix_command.specs.declared.verdict.Verdict.TheVariants.{Sound, Broken, Unfit, Refused}
 
 -- a value that is no bundle is refused for the first condition that fails
 abbrev pub IsNotBundleFor : Data → InputRule → Type 0
@@ -21,9 +23,17 @@ IsNotBundleFor d (NoBundle (NotBundle path)) = IsRefused d (NotBundle path)
 IsNotBundleFor d (NoBundle (Breaks breaks)) = ⊥
 IsNotBundleFor d (NoBundle NoMemory) = ⊥
 
--- a value is a bundle of so many objects, or one with these breaks, or none
+-- objects that meet the rules of their types are so many, or their versions and markings break these rules
+abbrev pub AreJudged : List Data → Verdict → Type 0
+AreJudged objects (Sound count) = (count ≡ length objects) × AreVersionBreaks objects [] × AreMarkingBreaks objects []
+AreJudged objects (Broken breaks) = ⊥
+AreJudged objects (Unfit versions markings) = AreVersionBreaks objects versions × AreMarkingBreaks objects markings × (¬ ((versions ≡ []) × (markings ≡ [])))
+AreJudged objects (Refused rule) = ⊥
+
+-- a value is a bundle, of which that is found, or one with these breaks, or none
 abbrev pub IsBundleJudged : Data → Verdict → Type 0
-IsBundleJudged d (Sound count) = (objects : List Data) × IsBundle d objects × (count ≡ length objects)
+IsBundleJudged d (Sound count) = (objects : List Data) × IsBundle d objects × AreJudged objects (Sound count)
+IsBundleJudged d (Unfit versions markings) = (objects : List Data) × IsBundle d objects × AreJudged objects (Unfit versions markings)
 IsBundleJudged d (Broken breaks) = IsRefused d (Breaks breaks)
 IsBundleJudged d (Refused rule) = IsNotBundleFor d rule
 
@@ -42,4 +52,5 @@ IsRefusedFor bytes (NoBundle refusal) = HasTree bytes (λ d. IsNotBundleFor d (N
 abbrev pub IsJudged : List ℕ → Verdict → Type 0
 IsJudged bytes (Sound count) = HasTree bytes (λ d. IsBundleJudged d (Sound count))
 IsJudged bytes (Broken breaks) = HasTree bytes (λ d. IsBundleJudged d (Broken breaks))
+IsJudged bytes (Unfit versions markings) = HasTree bytes (λ d. IsBundleJudged d (Unfit versions markings))
 IsJudged bytes (Refused rule) = IsRefusedFor bytes rule

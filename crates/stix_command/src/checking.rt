@@ -1,7 +1,7 @@
 ghost use Rattle.std.specs.Prelude.{◌≡◌, ◌++◌, IfOk, codes, decimal};
 ghost use Rattle.std.specs.List.{flat_map};
 ghost use Rattle.flow_edges.specs.Faults.{Rose};
-ghost use Rattle.stix_command.specs.Checks.{break_line, verdict_text as told_text, verdict_ending, EndsCheck, EndsTelling, TellsVerdict};
+ghost use Rattle.stix_command.specs.Checks.{break_line, version_line, marking_line, verdict_text as told_text, verdict_ending, EndsCheck, EndsTelling, TellsVerdict};
 ghost use Rattle.stix_command.specs.Judged.{IsJudged};
 
 use crate::ending::Ending;
@@ -11,8 +11,10 @@ use bundle_reader::ObjectBreak;
 use flow_edges::{NoMemory, Sink, Source, Text, write_whole};
 use match_run::{InputRule, WholeRefusal, read_whole};
 use std::alloc::Global;
+use version_rules::{MarkingBreak, VersionBreak};
 
-/// The command `check`: writes the breaks of a bundle's objects, or how many objects are sound.
+/// The command `check`: writes the breaks of a bundle's objects, else those of their versions and
+/// granular markings, else how many objects are sound.
 pub fn check<I: Source, O: Sink>(alloc: Global, input: &mut I, output: &mut O) -> Ending
     ensures end { EndsCheck (I.left input.old) (I.left input.new) (O.written output.old) (O.written output.new) result }
     ensures read_failed { result ≡ Ending.ReadFault → Rose (I.faults input.old) (I.faults input.new) }
@@ -60,7 +62,7 @@ fn ending_of(verdict: Verdict) -> Ending
 {
     match verdict {
         Verdict::Sound { .. } => Ending::Done,
-        Verdict::Broken(_) => Ending::Broken,
+        Verdict::Broken(_) | Verdict::Unfit { .. } => Ending::Broken,
         Verdict::Refused(rule) => Ending::InputRefused { line: 1, rule },
     }
 }
@@ -72,6 +74,9 @@ fn verdict_text(alloc: Global, verdict: &Verdict) -> Result<Text, NoMemory>
     match verdict {
         Verdict::Sound { objects } => sound_text(alloc, *objects),
         Verdict::Broken(breaks) => breaks_text(alloc, breaks.as_slice()),
+        Verdict::Unfit { versions, markings } => {
+            unfit_text(alloc, versions.as_slice(), markings.as_slice())
+        }
         Verdict::Refused(_) => Ok(Text::new(alloc)),
     }
 }
@@ -120,5 +125,61 @@ fn placed_line(alloc: Global, object: u32, rule: &str, path: &str) -> Result<Tex
     ensures { IfOk result (λ text. text ≡ codes "object " ++ (decimal object ++ (codes ": " ++ (rule.now ++ (codes " at " ++ (path.now ++ codes "\n")))))) }
 {
     let text = format!(in alloc; "object {object}: {rule} at {path}\n")?;
+    Ok(Text::from_string(text))
+}
+
+fn unfit_text(
+    alloc: Global,
+    versions: &[VersionBreak],
+    markings: &[MarkingBreak],
+) -> Result<Text, NoMemory>
+    ensures { IfOk result (λ text. text ≡ flat_map version_line versions.now ++ flat_map marking_line markings.now) }
+{
+    let mut text = versions_text(alloc, versions)?;
+    let rest = markings_text(alloc, markings)?;
+    text.push(rest.as_str())?;
+    Ok(text)
+}
+
+fn versions_text(alloc: Global, versions: &[VersionBreak]) -> Result<Text, NoMemory>
+    ensures { IfOk result (λ text. text ≡ flat_map version_line versions.now) }
+{
+    let mut text = Text::new(alloc);
+    for broken in versions {
+        let line = version_text(alloc, *broken)?;
+        text.push(line.as_str())?;
+    }
+    Ok(text)
+}
+
+fn markings_text(alloc: Global, markings: &[MarkingBreak]) -> Result<Text, NoMemory>
+    ensures { IfOk result (λ text. text ≡ flat_map marking_line markings.now) }
+{
+    let mut text = Text::new(alloc);
+    for broken in markings {
+        let line = marking_text(alloc, *broken)?;
+        text.push(line.as_str())?;
+    }
+    Ok(text)
+}
+
+/// The line of a break of a rule of versions.
+fn version_text(alloc: Global, broken: VersionBreak) -> Result<Text, NoMemory>
+    ensures { IfOk result (λ text. text ≡ version_line broken) }
+{
+    let object = broken.object;
+    let rule = broken.rule.name();
+    let text = format!(in alloc; "object {object}: {rule}\n")?;
+    Ok(Text::from_string(text))
+}
+
+/// The line of a break of a rule of markings.
+fn marking_text(alloc: Global, broken: MarkingBreak) -> Result<Text, NoMemory>
+    ensures { IfOk result (λ text. text ≡ marking_line broken) }
+{
+    let object = broken.object;
+    let marking = broken.marking;
+    let rule = broken.rule.name();
+    let text = format!(in alloc; "object {object}: marking {marking}: {rule}\n")?;
     Ok(Text::from_string(text))
 }

@@ -1,15 +1,17 @@
 ghost use Rattle.std.specs.Prelude.{◌≡◌, ◌≢◌, IfOk};
 ghost use Rattle.stix_tree.specs.declared.refusal.TreeRefusal.TheVariants as tree_refusal;
+ghost use Rattle.bundle_reader.specs.Objects.{data_in};
 ghost use Rattle.stix_tree.specs.DataOf.{data_of};
 ghost use Rattle.stix_tree.specs.Reading.{IsRefusedAs};
-ghost use Rattle.stix_command.specs.Judged.{IsJudged, IsBundleJudged};
+ghost use Rattle.stix_command.specs.Judged.{IsJudged, IsBundleJudged, AreJudged};
 
 use crate::verdict::Verdict;
-use bundle_reader::{BundleRefusal, read_bundle};
+use bundle_reader::{Bundle, BundleRefusal, read_bundle};
 use flow_edges::NoMemory;
 use match_run::InputRule;
 use std::alloc::Global;
 use stix_tree::{Tree, TreeRefusal, read_tree};
+use version_rules::{marking_breaks, version_breaks};
 
 /// What bytes are, as a bundle.
 pub fn judge(alloc: Global, bytes: &[u8]) -> Result<Verdict, NoMemory>
@@ -41,9 +43,7 @@ fn judge_tree(alloc: Global, tree: Tree) -> Result<Verdict, NoMemory>
     ensures { IfOk result (IsBundleJudged (data_of tree)) }
 {
     match read_bundle(alloc, tree) {
-        Ok(bundle) => Ok(Verdict::Sound {
-            objects: bundle.len(),
-        }),
+        Ok(bundle) => judge_bundle(alloc, &bundle),
         Err(BundleRefusal::Breaks(breaks)) => Ok(Verdict::Broken(breaks)),
         Err(BundleRefusal::NotBundle { path }) => {
             let refusal = BundleRefusal::NotBundle { path };
@@ -51,4 +51,18 @@ fn judge_tree(alloc: Global, tree: Tree) -> Result<Verdict, NoMemory>
         }
         Err(BundleRefusal::NoMemory) => Err(NoMemory),
     }
+}
+
+/// What objects are that meet the rules of their types.
+fn judge_bundle(alloc: Global, bundle: &Bundle) -> Result<Verdict, NoMemory>
+    ensures { IfOk result (AreJudged (data_in bundle.now)) }
+{
+    let versions = version_breaks(alloc, bundle)?;
+    let markings = marking_breaks(alloc, bundle)?;
+    if versions.is_empty() && markings.is_empty() {
+        return Ok(Verdict::Sound {
+            objects: bundle.len(),
+        });
+    }
+    Ok(Verdict::Unfit { versions, markings })
 }

@@ -10,5 +10,6 @@ use object_rules::laws::one_list;
 pub fn one_verdict()
     ensures { (bytes : List ℕ) (first second : Verdict) → IsJudged bytes first → IsJudged bytes second → first ≡ second }
 {
+    version_rules::laws::one_list();
     one_list();
 }

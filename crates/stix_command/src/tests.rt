@@ -180,6 +180,15 @@ const BARE_IDENTITY: &str =
 const FRACTION: &str =
     "{\"confidence\":1.5,\"created\":\"2021-06-10T00:00:00.000Z\",\"id\":\"identity--00000000-0000-4000-8000-000000000001\",\"modified\":\"2021-06-10T00:00:00.000Z\",\"name\":\"N\",\"spec_version\":\"2.1\",\"type\":\"identity\"}";
 
+const REVOKED: &str =
+    "{\"created\":\"2021-06-10T00:00:00.000Z\",\"id\":\"identity--00000000-0000-4000-8000-000000000001\",\"modified\":\"2021-06-10T00:00:00.000Z\",\"name\":\"N\",\"revoked\":true,\"spec_version\":\"2.1\",\"type\":\"identity\"},{\"created\":\"2021-06-10T00:00:00.000Z\",\"id\":\"identity--00000000-0000-4000-8000-000000000001\",\"modified\":\"2021-06-10T00:00:01.000Z\",\"name\":\"N\",\"spec_version\":\"2.1\",\"type\":\"identity\"}";
+
+const CHANGED: &str =
+    "{\"created\":\"2021-06-10T00:00:00.000Z\",\"id\":\"identity--00000000-0000-4000-8000-000000000001\",\"modified\":\"2021-06-10T00:00:00.000Z\",\"name\":\"N\",\"spec_version\":\"2.1\",\"type\":\"identity\"},{\"created\":\"2021-06-10T00:00:01.000Z\",\"id\":\"identity--00000000-0000-4000-8000-000000000001\",\"modified\":\"2021-06-10T00:00:01.000Z\",\"name\":\"N\",\"spec_version\":\"2.1\",\"type\":\"identity\"}";
+
+const MARKED: &str =
+    "{\"created\":\"2021-06-10T00:00:00.000Z\",\"granular_markings\":[{\"lang\":\"en\",\"selectors\":[\"labels.[0]\"]}],\"id\":\"identity--00000000-0000-4000-8000-000000000001\",\"modified\":\"2021-06-10T00:00:00.000Z\",\"name\":\"N\",\"spec_version\":\"2.1\",\"type\":\"identity\"}";
+
 const MULTIPART: &str =
     "{\"type\":\"email-message\",\"id\":\"email-message--00000000-0000-4000-8000-000000000001\",\"is_multipart\":true,\"body\":\"x\"}";
 
@@ -212,6 +221,9 @@ fn rows_of_check(rt: HostRuntime) -> Result<(), Fail> {
         (MULTIPART, 4, "object 0: Excludes at body\n", ""),
         (SINGLE_PART, 0, "ok 1 objects\n", ""),
         (LINKED, 4, "object 0: Missing at hashes\n", ""),
+        (REVOKED, 4, "object 1: AfterRevoked\n", ""),
+        (CHANGED, 4, "object 1: CreatedChanged\n", ""),
+        (MARKED, 4, "object 0: marking 0: SelectorMissing\n", ""),
         ("", 4, "", "line 1 refused: NotBundle at objects\n"),
         ("5", 4, "", "line 1 refused: NotBundle at objects.[0]\n"),
         ("x", 4, "", "line 1 refused: NotJson\n"),

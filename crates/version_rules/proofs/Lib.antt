@@ -9,3 +9,4 @@ pub mod Judged
 pub mod Places
 pub mod Telling
 pub mod Marked
+mod OneList

@@ -3,6 +3,7 @@
 //! 7.2.3).
 #![tactic(auto)]
 
+pub mod laws;
 mod list_at;
 mod marking;
 mod marking_break;
