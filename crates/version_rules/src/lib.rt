@@ -6,6 +6,8 @@
 mod list_at;
 mod marking;
 mod marking_break;
+#[cfg(test)]
+mod marking_tests;
 mod markings;
 mod part;
 mod selector;
