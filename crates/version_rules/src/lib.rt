@@ -7,6 +7,8 @@ pub mod laws;
 mod list_at;
 mod marking;
 mod marking_break;
+#[cfg(test)]
+mod marking_tests;
 mod markings;
 mod part;
 mod selector;
