@@ -7,18 +7,24 @@ use flow_edges::{Items, MemorySink, MemorySource, NoMemory, QuietSource, Text};
 use object_rules::{Break, Rule};
 use pattern_tree::{Check, Constant, Leaf, Path, Pattern, Step, Test};
 use std::alloc::Global;
+use std::process::Abort;
 use std::test::Fail;
 use stix_tree::TreeRefusal;
 
-/// The pattern `[file:name = 'a']`.
-fn named_a(alloc: Global) -> Result<Pattern, NoMemory> {
+/// The path `file:name`.
+fn file_name(alloc: Global) -> Result<Path, NoMemory> {
     let mut steps = Items::new(alloc);
     steps.push(Step::Name(Text::from_text(alloc, "name")?))?;
-    let path = Path {
+    Ok(Path {
         kind: Text::from_text(alloc, "file")?,
         steps,
-    };
+    })
+}
+
+/// The pattern `[file:name = 'a']`.
+fn named_a(alloc: Global) -> Result<Pattern, NoMemory> {
     let words = Text::from_text(alloc, "a")?;
+    let path = file_name(alloc)?;
     Ok(Pattern::Leaf(Leaf::Test(Test {
         path,
         negated: false,
@@ -48,6 +54,24 @@ const HELD: &str = "Done { observations: 1, bindings: 1, last: 1 }";
 
 /// One observation, of which it doesn't.
 const UNHELD: &str = "Done { observations: 1, bindings: 0, last: 0 }";
+
+/// A match over each line ends so, and lists the line where the bracket holds.
+fn each_ends<'a>(
+    rt: &impl Abort,
+    alloc: Global,
+    pattern: &Pattern,
+    rows: &[(&'a [u8], &'a str)],
+) -> Result<(), Fail> {
+    for (line, end) in rows {
+        let mut output = MemorySink::new(alloc, 64, Items::new(alloc))?;
+        let seen = ending(alloc, pattern, line, &mut output)?;
+        let text = format!(in alloc; "{seen:?}")?;
+        assert_eq!(rt; text.as_str(), *end);
+        let listed: &[u8] = if *end == HELD { b"1: 1\n" } else { b"" };
+        assert_eq!(rt; output.bytes(), listed);
+    }
+    Ok(())
+}
 
 #[test]
 fn lines_of_the_first_form(rt: HostRuntime) -> Result<(), Fail> {
@@ -110,14 +134,7 @@ fn lines_of_the_first_form(rt: HostRuntime) -> Result<(), Fail> {
         (b"\xff", REFUSED),
     ];
     let pattern = named_a(alloc)?;
-    for (line, end) in rows {
-        let mut output = MemorySink::new(alloc, 64, Items::new(alloc))?;
-        let seen = ending(alloc, &pattern, line, &mut output)?;
-        let text = format!(in alloc; "{seen:?}")?;
-        assert_eq!(rt; text.as_str(), end);
-        let listed: &[u8] = if end == HELD { b"1: 1\n" } else { b"" };
-        assert_eq!(rt; output.bytes(), listed);
-    }
+    each_ends(&rt, alloc, &pattern, &rows)?;
     laws::one_reading();
     Ok(())
 }
