@@ -5,3 +5,5 @@ pub mod Joined
 pub mod Named
 pub mod Items
 pub mod Begins
+pub mod Seeing
+pub mod Keeping

@@ -3,3 +3,4 @@ pub mod Versions
 pub mod Selector
 pub mod Paths
 pub mod Markings
+pub mod Seen

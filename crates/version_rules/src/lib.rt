@@ -7,6 +7,7 @@ mod marking_break;
 mod markings;
 mod part;
 mod selector;
+mod version;
 mod version_break;
 mod versions;
 
