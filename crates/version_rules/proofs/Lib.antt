@@ -7,3 +7,4 @@ pub mod Items
 pub mod Begins
 pub mod Seeing
 pub mod Keeping
+pub mod Sameness

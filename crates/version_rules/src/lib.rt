@@ -6,6 +6,7 @@
 mod marking_break;
 mod markings;
 mod part;
+mod same;
 mod selector;
 mod version;
 mod version_break;
