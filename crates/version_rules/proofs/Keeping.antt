@@ -23,8 +23,8 @@ kept_beside V Has n value differs is not_here =
       place = is.place;
       before = omega arith;
       has = is.has;
-      same = λ no other another less has. elim (cases_lt other n) [
-        | inl earlier ↦ is.same no other another earlier has
+      same = λ not_so other another less has. elim (cases_lt other n) [
+        | inl earlier ↦ is.same not_so other another earlier has
         | inr not_earlier ↦ let here : other ≡ n = omega arith in absurd (not_here another (subst (λ (p : ℕ). Has p another) here has))
       ];
       different = λ yes. other_more V Has n value (is.different yes);
@@ -37,7 +37,7 @@ kept_first V Has n value one none has = record {
   place = n;
   before = omega arith;
   has = has;
-  same = λ no other another less its. elim (cases_lt other n) [
+  same = λ not_so other another less its. elim (cases_lt other n) [
     | inl earlier ↦ absurd (none other another earlier its)
     | inr not_earlier ↦ let here : other ≡ n = omega arith in one another value (subst (λ (p : ℕ). Has p another) here its) has
   ];
@@ -71,9 +71,9 @@ other_told V Has n value first differs same told kept = (
     }
   ],
   λ is. elim (cases_Bool (differs || not same)) [
-    | inl yes ↦ yes
-    | inr no ↦
-        let both = or_false differs (not same) no in
+    | inl so ↦ so
+    | inr not_so ↦
+        let both = or_false differs (not same) not_so in
         elim (cases_Bool same) [
           | inl is_same ↦ absurd (is.differs (kept.same both.0 is.place is.other is.before is.has ∙ told.0 is_same))
           | inr is_not ↦ absurd (false≢true (sym both.1 ∙ ap not is_not))
@@ -89,8 +89,8 @@ kept_next V Has n value first differs same one told has kept =
       place = kept.place;
       before = omega arith;
       has = kept.has;
-      same = λ no other another less its.
-          let both = or_false differs (not same) no in
+      same = λ not_so other another less its.
+          let both = or_false differs (not same) not_so in
           elim (cases_lt other n) [
             | inl earlier ↦ kept.same both.0 other another earlier its
             | inr not_earlier ↦

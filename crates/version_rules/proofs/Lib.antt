@@ -8,3 +8,6 @@ pub mod Begins
 pub mod Seeing
 pub mod Keeping
 pub mod Sameness
+pub mod Agreeing
+pub mod Creation
+pub mod Revocation

@@ -4,3 +4,4 @@ pub mod Selector
 pub mod Paths
 pub mod Markings
 pub mod Seen
+pub mod Kept

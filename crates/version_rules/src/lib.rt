@@ -3,9 +3,11 @@
 //! 7.2.3).
 #![tactic(auto)]
 
+mod created;
 mod marking_break;
 mod markings;
 mod part;
+mod revoked;
 mod same;
 mod selector;
 mod version;
