@@ -1,8 +1,8 @@
 -- What is kept of the versions that are revoked, one version more.
-use Rattle.std.proofs.Common.{arith, ◌≡◌, ◌≢◌, ◌↔◌, inl, inr, ◌+◌, ◌<◌, ℕ, ℤ, ◌<ℤ◌, List, length, Option, Some, None, Bool, true, false, cond, IsTrue, slice_get, sym, ap, refl, subst, ◌∙◌}
+use Rattle.std.proofs.Common.{arith, ◌≡◌, ◌≢◌, ◌↔◌, inl, inr, ◌+◌, ◌<◌, ℕ, ℤ, ◌<ℤ◌, List, length, Option, Some, None, Bool, true, false, not, cond, IsTrue, slice_get, sym, ap, refl, subst, ◌∙◌}
 use Rattle.std.specs.Ordering.{nat_cmp, is_eq}
 use Rattle.std.specs.BTreeMap.{get}
-use Rattle.std.proofs.lemmas.Int.{ints}
+use Rattle.std.proofs.lemmas.Int.{ints, by_lt_z}
 use Rattle.std.proofs.lemmas.Bool.{cases_eq, cases_lt, false≢true}
 use Rattle.std.proofs.lemmas.Option.{slice_get_within}
 use Rattle.serde_json.specs.Data.{Data}
@@ -51,6 +51,14 @@ unrevoked_more laws kept seen not_revoked objects at is before = λ id group lat
     false≢true (not_revoked ∙ is.revoked.1 (subst IsRevoked same was.revoked)))
     (before id group latest)
 
+pub is_false : (b : Bool) → not b ≡ true → false ≡ b
+is_false true is = absurd (false≢true is)
+is_false false is = refl
+
+pub is_true : (b : Bool) → not b ≡ false → true ≡ b
+is_true true is = refl
+is_true false is = absurd (false≢true (sym is))
+
 not_before_itself : (a b : ℤ) → a ≡ b → ¬ (a <ℤ b)
 not_before_itself a b same less = omega (arith, ints, same, less)
 
@@ -58,7 +66,9 @@ not_both : (a b : ℤ) → a <ℤ b → ¬ (b <ℤ a)
 not_both a b less also = omega (arith, ints, less, also)
 
 less_than_least : (m modified first : ℤ) → ¬ (first <ℤ modified) → ¬ (m <ℤ first) → ¬ (m <ℤ modified)
-less_than_least m modified first not_first not_less less = omega (arith, ints, not_first, not_less, less)
+less_than_least m modified first not_first not_less less =
+    by_lt_z first modified (λ sooner. absurd (not_first sooner))
+    (λ not_sooner. by_lt_z m first (λ sooner. absurd (not_less sooner)) (λ not_less_too. omega (arith, ints, not_sooner, not_less_too, less)))
 
 here_same : Laws → (objects : List Data) (at : ℕ) (seen : Version) (is : IsSeenAs objects at seen) (m : ℤ) → WasRevoked objects is.id at m → m ≡ seen.modified
 here_same laws objects at seen is m was = one_modified laws objects at is.id is.id was.created m seen.created seen.modified was.object is.object was.version is.version
@@ -125,7 +135,9 @@ revoked_more laws before after seen next revoked is_next put objects at is kept 
     ]
 
 sooner : (m first modified : ℤ) → ¬ (m <ℤ first) → m <ℤ modified → first <ℤ modified
-sooner m first modified least less = omega (arith, ints, least, less)
+sooner m first modified least less =
+    by_lt_z first modified (λ is. is)
+    (λ not_sooner. by_lt_z m first (λ is. absurd (least is)) (λ not_less_too. absurd (omega (arith, ints, not_sooner, not_less_too, less))))
 
 -- what breaks the rule, of this version
 follows_revoked : Laws → (objects : List Data) (at : ℕ) (seen : Version) (is : IsSeenAs objects at seen) → Breaks objects at rule.AfterRevoked

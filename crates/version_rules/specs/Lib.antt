@@ -5,3 +5,4 @@ pub mod Paths
 pub mod Markings
 pub mod Seen
 pub mod Kept
+pub mod Twin

@@ -10,6 +10,7 @@ mod part;
 mod revoked;
 mod same;
 mod selector;
+mod twins;
 mod version;
 mod version_break;
 mod versions;
