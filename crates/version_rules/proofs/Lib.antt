@@ -11,3 +11,4 @@ pub mod Sameness
 pub mod Agreeing
 pub mod Creation
 pub mod Revocation
+pub mod Twinning

@@ -34,14 +34,8 @@ abbrev pub AreTwinsBefore : List Data → ℕ → Twins → Type 0
 AreTwinsBefore objects end twins = (id : Id) (group : ℕ) (modified : ℤ) → IsLatest objects id group
     → IsTwinBefore objects end id modified (twin_at twins group modified)
 
--- the same object stands at both places
-pub record IsSameAt (objects : List Data) (first second : ℕ) : Type 0 where
-  pub object : Data
-  pub there : slice_get objects first ≡ Some object
-  pub too : slice_get objects second ≡ Some object
-
--- what is kept once there is one more, at that place
-abbrev pub IsNextTwin : List Data → Option FirstTwin → ℕ → FirstTwin → Type 0
-IsNextTwin objects None at next = next ≡ record { at = at; differs = false }
-IsNextTwin objects (Some first) at next = (same : Bool) × (IsTrue same ↔ IsSameAt objects first.at at)
+-- what is kept once this object is one more, at that place
+abbrev pub IsNextTwin : List Data → Option FirstTwin → Data → ℕ → FirstTwin → Type 0
+IsNextTwin objects None d at next = next ≡ record { at = at; differs = false }
+IsNextTwin objects (Some first) d at next = (same : Bool) × (IsTrue same ↔ (slice_get objects first.at ≡ Some d))
     × (next ≡ record { at = first.at; differs = first.differs || not same })

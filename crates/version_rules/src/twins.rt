@@ -1,11 +1,11 @@
-ghost use Rattle.std.specs.Prelude.{◌≡◌, ◌↔◌, ◌+◌, ◌<◌, ◌≤◌, List, length, IsTrue, IfOk, OnOk};
+ghost use Rattle.std.specs.Prelude.{◌≡◌, ◌↔◌, ◌+◌, ◌<◌, ◌≤◌, List, length, IsTrue, IfOk, OnOk, Some, slice_get};
 ghost use Rattle.serde_json.specs.Data.{Data};
 ghost use Rattle.stix_tree.specs.DataOf.{data_of};
 ghost use Rattle.bundle_reader.specs.Objects.{data_in};
 ghost use Rattle.version_rules.specs.declared.version_break.VersionRule.TheVariants as rule;
 ghost use Rattle.version_rules.specs.Versions.{Breaks};
 ghost use Rattle.version_rules.specs.Seen.{IsSeenAs};
-ghost use Rattle.version_rules.specs.Twin.{IsSameAt, IsNextTwin, AreTwinsBefore};
+ghost use Rattle.version_rules.specs.Twin.{IsNextTwin, AreTwinsBefore};
 
 use crate::same::is_same;
 use crate::version::Version;
@@ -56,33 +56,35 @@ impl Twins {
         one_instant();
         let moment = (version.group, nanos(version.modified));
         let first = self.moments.get(&moment).copied();
-        let next = next_twin(objects, first, at as u32);
+        let next = next_twin(objects, first, &objects[at], at as u32);
         let differs = next.differs;
         self.moments.insert(moment, next)?;
         Ok(differs)
     }
 }
 
-/// What is kept of versions of one `modified`, with the one at that position.
-fn next_twin(objects: &[Tree], first: Option<FirstTwin>, at: u32) -> FirstTwin
-    requires { at < length objects.now }
-    ensures { IsNextTwin (data_in objects.now) first at result }
+/// What is kept of versions of one `modified`, with this object at that position.
+fn next_twin(objects: &[Tree], first: Option<FirstTwin>, object: &Tree, at: u32) -> FirstTwin
+    ensures { IsNextTwin (data_in objects.now) first (data_of object.now) at result }
 {
     match first {
-        Some(first) => FirstTwin {
-            at: first.at,
-            differs: first.differs || !are_same_at(objects, first.at, at),
-        },
+        Some(first) => {
+            let same = stands_at(objects, first.at, object);
+            FirstTwin {
+                at: first.at,
+                differs: first.differs || !same,
+            }
+        }
         None => FirstTwin { at, differs: false },
     }
 }
 
-/// Whether the same object stands at two positions.
-fn are_same_at(objects: &[Tree], first: u32, second: u32) -> bool
-    ensures { IsTrue result ↔ IsSameAt (data_in objects.now) first second }
+/// Whether the same object stands at a position.
+fn stands_at(objects: &[Tree], at: u32, object: &Tree) -> bool
+    ensures { IsTrue result ↔ (slice_get (data_in objects.now) at ≡ Some (data_of object.now)) }
 {
-    match (objects.get(first as usize), objects.get(second as usize)) {
-        (Some(first), Some(second)) => is_same(first, second),
-        (None, _) | (_, None) => false,
+    match objects.get(at as usize) {
+        Some(other) => is_same(other, object),
+        None => false,
     }
 }
