@@ -6,3 +6,4 @@ pub mod Markings
 pub mod Seen
 pub mod Kept
 pub mod Twin
+pub mod Told
