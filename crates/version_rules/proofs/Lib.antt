@@ -12,3 +12,4 @@ pub mod Agreeing
 pub mod Creation
 pub mod Revocation
 pub mod Twinning
+pub mod Telling

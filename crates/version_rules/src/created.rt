@@ -37,10 +37,10 @@ impl Created {
     }
 
     /// Adds the version at the next position, and tells whether one before it has another `created`.
-    pub(crate) fn add(&mut self, version: Version) -> Result<bool, NoMemory>
-        ensures told { IfOk result (λ changed. (objects : List Data) (at : ℕ) → IsSeenAs objects at version
+    pub(crate) fn add(&mut self, version: &Version) -> Result<bool, NoMemory>
+        ensures told { IfOk result (λ changed. (objects : List Data) (at : ℕ) → IsSeenAs objects at version.now
             → AreCreatedBefore objects at self.old → IsTrue changed ↔ Breaks objects at rule.CreatedChanged) }
-        ensures kept { OnOk result ((objects : List Data) (at : ℕ) → IsSeenAs objects at version
+        ensures kept { OnOk result ((objects : List Data) (at : ℕ) → IsSeenAs objects at version.now
             → AreCreatedBefore objects at self.old → AreCreatedBefore objects (at + 1) self.new) }
     {
         one_id();

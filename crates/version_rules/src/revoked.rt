@@ -32,15 +32,15 @@ impl Revoked {
         };
         for at in 0..bundle.len() {
             if let Some(version) = version_at(bundle, at) {
-                revoked.add(version)?;
+                revoked.add(&version)?;
             }
         }
         Ok(revoked)
     }
 
     /// Adds the version at the next position.
-    fn add(&mut self, version: Version) -> Result<(), NoMemory>
-        ensures { OnOk result ((objects : List Data) (at : ℕ) → IsSeenAs objects at version
+    fn add(&mut self, version: &Version) -> Result<(), NoMemory>
+        ensures { OnOk result ((objects : List Data) (at : ℕ) → IsSeenAs objects at version.now
             → AreRevokedBefore objects at self.old → AreRevokedBefore objects (at + 1) self.new) }
     {
         one_id();
@@ -58,8 +58,8 @@ impl Revoked {
     }
 
     /// Whether a version of the same object that was modified before is revoked.
-    pub(crate) fn precedes(&self, version: Version) -> bool
-        ensures { (objects : List Data) (at : ℕ) → IsSeenAs objects at version
+    pub(crate) fn precedes(&self, version: &Version) -> bool
+        ensures { (objects : List Data) (at : ℕ) → IsSeenAs objects at version.now
             → AreRevokedBefore objects (length objects) self.now → IsTrue result ↔ Breaks objects at rule.AfterRevoked }
     {
         one_id();

@@ -43,10 +43,10 @@ impl Twins {
 
     /// Adds the version at a position, and tells whether one before it of the same `modified` is
     /// another object.
-    pub(crate) fn add(&mut self, objects: &[Tree], at: usize, version: Version) -> Result<bool, NoMemory>
+    pub(crate) fn add(&mut self, objects: &[Tree], at: usize, version: &Version) -> Result<bool, NoMemory>
         requires counted { length objects.now ≤ 8_388_608 }
         requires there { at < length objects.now }
-        requires version { IsSeenAs (data_in objects.now) at version }
+        requires version { IsSeenAs (data_in objects.now) at version.now }
         requires before { AreTwinsBefore (data_in objects.now) at self.old }
         ensures told { IfOk result (λ differs. IsTrue differs ↔ Breaks (data_in objects.now) at rule.SameVersionTwice) }
         ensures kept { OnOk result (AreTwinsBefore (data_in objects.now) (at + 1) self.new) }

@@ -58,13 +58,15 @@ fn add_breaks(
     let Some(version) = version_at(bundle, at) else {
         return Ok(());
     };
+    let objects = bundle.objects();
     let object = at as u32;
-    let changed = seen.created.add(version)?;
-    let after = revoked.precedes(version);
-    let twice = seen.twins.add(bundle.objects(), at, version)?;
+    let changed = seen.created.add(&version)?;
+    let after = revoked.precedes(&version);
+    let twice = seen.twins.add(objects, at, &version)?;
     add(changed, object, VersionRule::CreatedChanged, found)?;
     add(after, object, VersionRule::AfterRevoked, found)?;
-    add(twice, object, VersionRule::SameVersionTwice, found)
+    add(twice, object, VersionRule::SameVersionTwice, found)?;
+    Ok(())
 }
 
 /// Adds the break of a rule where it is broken.

@@ -17,7 +17,7 @@ pub returns-clause-told : goal.returns-clause-told
 returns-clause-told c =
     let laws : Laws = record { one_id = c.one_id.ensures; one_instant = c.one_instant.ensures; one_meaning = c.one_meaning.ensures.one } in
     let objects = data_in c.args.objects.now in
-    let seen = c.args.version in
+    let seen = c.args.version.now in
     let next = c.next_twin-next.result in
     let is = c.requires.version in
     let time : to_z w128 (of_z w128 c.nanos.result) ≡ seen.modified = to_z-of_z w128 c.nanos.result (search rules) ∙ c.nanos.ensures.value in
@@ -34,7 +34,7 @@ pub returns-clause-kept : goal.returns-clause-kept
 returns-clause-kept c =
     let laws : Laws = record { one_id = c.one_id.ensures; one_instant = c.one_instant.ensures; one_meaning = c.one_meaning.ensures.one } in
     let objects = data_in c.args.objects.now in
-    let seen = c.args.version in
+    let seen = c.args.version.now in
     let next = c.next_twin-next.result in
     let is = c.requires.version in
     let time : to_z w128 (of_z w128 c.nanos.result) ≡ seen.modified = to_z-of_z w128 c.nanos.result (search rules) ∙ c.nanos.ensures.value in
