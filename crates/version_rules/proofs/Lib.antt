@@ -10,3 +10,11 @@ pub mod Places
 pub mod Telling
 pub mod Marked
 mod OneList
+pub mod Seeing
+pub mod Keeping
+pub mod Sameness
+pub mod Agreeing
+pub mod Creation
+pub mod Revocation
+pub mod Twinning
+pub mod ToldLists

@@ -4,3 +4,7 @@ pub mod Selector
 pub mod Paths
 pub mod Markings
 pub mod Selected
+pub mod Seen
+pub mod Kept
+pub mod Twin
+pub mod Told

@@ -3,6 +3,7 @@
 //! 7.2.3).
 #![tactic(auto)]
 
+mod created;
 pub mod laws;
 mod list_at;
 mod marking;
@@ -11,7 +12,11 @@ mod marking_break;
 mod marking_tests;
 mod markings;
 mod part;
+mod revoked;
+mod same;
 mod selector;
+mod twins;
+mod version;
 mod version_break;
 mod versions;
 
