@@ -7,7 +7,9 @@ use version_rules::{MarkingBreak, VersionBreak};
 #[derive(Debug, Drop)]
 pub enum Verdict {
     /// It is a bundle of so many objects, in which each rule is met.
-    Sound { objects: usize },
+    Sound {
+        objects: usize,
+    },
     /// It is a bundle, objects of which break rules.
     Broken(Items<ObjectBreak>),
     /// Its objects meet the rules of their types, and versions of them or granular markings break theirs.
