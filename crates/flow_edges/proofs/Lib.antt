@@ -1,5 +1,1 @@
 pub mod Writing
-pub mod Cutting
-pub mod Ahead
-pub mod Held
-pub mod Accounts

@@ -2,7 +2,8 @@ ghost use Rattle.std.specs.Prelude.{◌≡◌, OnOk, OnErr};
 ghost use Rattle.flow_edges.specs.Faults.{Causes};
 ghost use Rattle.flow_edges.specs.Flow.{written_with, WritesPrefix, joined};
 
-use crate::{Fault, Sink, write_whole};
+use crate::{Sink, write_whole};
+use flow_values::Fault;
 
 /// Writes all of the pieces, one after the other. After a `Fault` a prefix of them together was
 /// written. Takes no memory.

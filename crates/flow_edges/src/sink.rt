@@ -2,7 +2,7 @@ ghost use Rattle.std.specs.Prelude.{◌≡◌, ℕ, ◌≤◌, ◌<◌, List, Op
 ghost use Rattle.flow_edges.specs.Faults.{Rose, Causes};
 ghost use Rattle.flow_edges.specs.Flow.{written_with, WritesPrefix};
 
-use crate::Fault;
+use flow_values::Fault;
 
 /// Where bytes go: a file, a terminal, or memory.
 pub trait Sink {

@@ -2,7 +2,7 @@ ghost use Rattle.std.specs.Prelude.{◌≡◌, ℕ, ◌≤◌, ◌<◌, List, Op
 ghost use Rattle.flow_edges.specs.Faults.{Causes};
 ghost use Rattle.flow_edges.specs.Flow.{left_after, IsNextOf, IsAtEnd};
 
-use crate::Fault;
+use flow_values::Fault;
 
 /// Where bytes come from: a file, a terminal, or bytes in memory.
 pub trait Source {

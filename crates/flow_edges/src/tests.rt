@@ -1,10 +1,8 @@
-mod lines;
-mod lists;
 mod sinks;
 mod sources;
 mod system;
 
-use crate::{Items, NoMemory};
+use flow_values::{Items, NoMemory};
 use std::alloc::Global;
 
 /// These items as a list.

@@ -1,12 +1,12 @@
 -- What tokens stand for, and the steps of a path one by one.
 use Rattle.std.proofs.Common.{◌≡◌, ◌↔◌, ℕ, ℤ, ◌⊎◌, inl, inr, List, [], ◌∷◌, ◌++◌, Option, Some, None, is_some, true, false, refl, sym, subst, take, ◌+◌, Bool, ◌<ℤ◌}
-use Rattle.cidr_compare.specs.declared.block.Block.{Block}
-use Rattle.cidr_compare.specs.BlockText.{IsBlockText}
+use Rattle.match_cidr.specs.declared.block.Block.{Block}
+use Rattle.match_cidr.specs.BlockText.{IsBlockText}
 use Rattle.pattern_tokens.specs.declared.token.Token.{Token}
 use Rattle.pattern_tokens.specs.declared.refusal.PatternRefusal.{PatternRefusal}
 use Rattle.pattern_tokens.specs.Values.{IsWordsText, IsMomentText}
-use Rattle.pattern_syntax.specs.declared.path.StepTree.{StepTree}
-use Rattle.pattern_syntax.specs.declared.path.StepTree.TheVariants.{Name, Index}
+use Rattle.pattern_grammar.specs.declared.path.StepTree.{StepTree}
+use Rattle.pattern_grammar.specs.declared.path.StepTree.TheVariants.{Name, Index}
 use Rattle.pattern_tokens.specs.Spans.{text_at, At, IsItself}
 use Rattle.pattern_faults.specs.Order.{IsEarliestOf, earlier}
 use Rattle.pattern_faults.proofs.Earliest.{earliest_both, earliest_same}

@@ -3,8 +3,8 @@ use Rattle.std.proofs.Common.{◌≡◌, ◌↔◌, ◌⊎◌, inl, inr, ℕ, Li
 use Rattle.pattern_tokens.specs.declared.token.Token.{Token}
 use Rattle.pattern_tokens.specs.declared.refusal.PatternRefusal.{PatternRefusal}
 use Rattle.pattern_tokens.specs.declared.refusal.PatternRefusal.TheVariants.{NoCommonRoot}
-use Rattle.pattern_syntax.specs.Tree.{Comparison, test, group, all, any, Tree, qualified}
-use Rattle.pattern_syntax.specs.declared.qualifier.Qualifier.{Qualifier}
+use Rattle.pattern_grammar.specs.Tree.{Comparison, test, group, all, any, Tree, qualified}
+use Rattle.pattern_grammar.specs.declared.qualifier.Qualifier.{Qualifier}
 use Rattle.pattern_faults.specs.Order.{IsEarliest, IsEarliestOf, earlier}
 use Rattle.pattern_faults.specs.Faults.{HasRoot, SharesRoot, IsRootless, FaultOfComparison, FaultOf, FaultOfQualifier, first_of}
 use Rattle.pattern_faults.proofs.Earliest.{earliest_both}

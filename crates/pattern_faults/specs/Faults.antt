@@ -1,22 +1,22 @@
 -- What is refused in a syntax tree by the values of its tokens.
 use Rattle.std.specs.Prelude.{◌≡◌, ℕ, ◌<◌, ◌⊎◌, ℤ, ◌<ℤ◌, List, [], ◌∷◌, length}
-use Rattle.cidr_compare.specs.declared.block.Block.{Block}
-use Rattle.cidr_compare.specs.BlockText.{IsBlockText}
+use Rattle.match_cidr.specs.declared.block.Block.{Block}
+use Rattle.match_cidr.specs.BlockText.{IsBlockText}
 use Rattle.pattern_tokens.specs.declared.token.Token.{Token}
 use Rattle.pattern_tokens.specs.declared.token.TokenKind.TheVariants as kind
 use Rattle.pattern_tokens.specs.declared.refusal.PatternRefusal.{PatternRefusal}
 use Rattle.pattern_tokens.specs.declared.refusal.PatternRefusal.TheVariants.{BadCount, LongPath, BadAddress, EmptySpan, NoCommonRoot}
 use Rattle.pattern_tokens.specs.Values.{IsWordsText, IsMomentText}
 use Rattle.pattern_tokens.specs.Numbers.{IsPlace, IsCount}
-use Rattle.pattern_syntax.specs.declared.path.StepTree.{StepTree}
-use Rattle.pattern_syntax.specs.declared.path.StepTree.TheVariants.{Name, Index}
-use Rattle.pattern_syntax.specs.declared.path.PathTree.{PathTree}
-use Rattle.pattern_syntax.specs.declared.comparison.CheckTree.{CheckTree}
-use Rattle.pattern_syntax.specs.declared.comparison.CheckTree.TheVariants.{Compare, Among, Textual, Exists}
-use Rattle.pattern_syntax.specs.declared.comparison.TestTree.{TestTree}
-use Rattle.pattern_syntax.specs.declared.qualifier.Qualifier.{Qualifier}
-use Rattle.pattern_syntax.specs.declared.qualifier.Qualifier.TheVariants.{Within, Repeats, Between}
-use Rattle.pattern_syntax.specs.Tree.{Comparison, test, group, all, any, Tree, leaf, both, either, followed, qualified}
+use Rattle.pattern_grammar.specs.declared.path.StepTree.{StepTree}
+use Rattle.pattern_grammar.specs.declared.path.StepTree.TheVariants.{Name, Index}
+use Rattle.pattern_grammar.specs.declared.path.PathTree.{PathTree}
+use Rattle.pattern_grammar.specs.declared.comparison.CheckTree.{CheckTree}
+use Rattle.pattern_grammar.specs.declared.comparison.CheckTree.TheVariants.{Compare, Among, Textual, Exists}
+use Rattle.pattern_grammar.specs.declared.comparison.TestTree.{TestTree}
+use Rattle.pattern_grammar.specs.declared.qualifier.Qualifier.{Qualifier}
+use Rattle.pattern_grammar.specs.declared.qualifier.Qualifier.TheVariants.{Within, Repeats, Between}
+use Rattle.pattern_grammar.specs.Tree.{Comparison, test, group, all, any, Tree, leaf, both, either, followed, qualified}
 use Rattle.pattern_tokens.specs.Spans.{At, IsItself}
 
 -- BadCount: the number after WITHIN or REPEATS, or in a path, is out of its range, at the number

@@ -1,14 +1,14 @@
 ghost use Rattle.std.specs.Prelude.{◌≡◌, ◌↔◌, IsTrue, IfOk};
 ghost use Rattle.pattern_faults.specs.Order.{IsEarliestOf};
 ghost use Rattle.pattern_faults.specs.Faults.{IsAddress, FaultOfCheck, FaultOfTest, IsRootless, FaultOfComparison, FaultOf};
-ghost use Rattle.pattern_syntax.specs.Tree.{compared, shape};
+ghost use Rattle.pattern_grammar.specs.Tree.{compared, shape};
 
 use crate::faults::{path_fault, qualifier_fault};
 use crate::order::earlier_of;
 use crate::roots::{first_token, shares_root};
-use cidr_compare::read_block;
-use flow_edges::NoMemory;
-use pattern_syntax::{CheckTree, ComparisonTree, PatternTree, TestTree};
+use match_cidr::read_block;
+use flow_values::NoMemory;
+use pattern_grammar::{CheckTree, ComparisonTree, PatternTree, TestTree};
 use pattern_tokens::{PatternRefusal, Token, TokenKind, one_meaning, words_at};
 use std::alloc::Global;
 

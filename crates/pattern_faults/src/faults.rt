@@ -4,7 +4,7 @@ ghost use Rattle.pattern_tokens.specs.Numbers.{IsCount};
 ghost use Rattle.pattern_faults.specs.Faults.{IsBadCount, IsSpan, IsEmptySpan, FaultOfSteps, IsLongPath, FaultOfPath, FaultOfQualifier};
 
 use crate::order::earlier_of;
-use pattern_syntax::{PathTree, Qualifier, StepTree};
+use pattern_grammar::{PathTree, Qualifier, StepTree};
 use pattern_tokens::{
     PatternRefusal, Token, TokenKind, count_at, moment_at, one_meaning, place_at,
 };

@@ -1,8 +1,8 @@
 ghost use Rattle.std.specs.Prelude.{◌≡◌, ◌↔◌, ℕ, List, IsTrue};
 ghost use Rattle.pattern_faults.specs.Faults.{HasRoot, first_of, SharesRoot};
-ghost use Rattle.pattern_syntax.specs.Tree.{compared};
+ghost use Rattle.pattern_grammar.specs.Tree.{compared};
 
-use pattern_syntax::ComparisonTree;
+use pattern_grammar::ComparisonTree;
 use pattern_tokens::{Token, text_of};
 
 /// Whether the type of object is a root kind of the comparison.

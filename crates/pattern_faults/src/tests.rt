@@ -1,6 +1,6 @@
 use crate::pattern_fault;
-use flow_edges::{Items, NoMemory};
-use pattern_syntax::read_tree;
+use flow_values::{Items, NoMemory};
+use pattern_grammar::read_tree;
 use pattern_tokens::TokenKind::{
     Colon, Equal, Number, Seconds, SquareClose, SquareOpen, Within, Word,
 };

@@ -1,3 +1,9 @@
-pub mod Checked
-pub mod Width
-pub mod Read
+pub mod Class
+pub mod Tree
+pub mod Grammar
+pub mod Machine
+pub mod Reading
+pub mod Fronts
+pub mod Answer
+pub mod Depth
+pub mod Place

@@ -1,16 +1,33 @@
-//! Patterns of STIX 2.1 (section 9) from their text: `read_pattern` reads one, or tells the first reason
-//! why the text is none, with its place. `checked_tree` gives the syntax tree alone.
+//! The grammar of patterns (STIX 2.1, section 9) over tokens: `parse` gives the syntax tree that a
+//! list of tokens spells, or the first token that doesn't fit. `Grammar` of specs/ has one rule for
+//! each line of the grammar; `fronts` and `one_tree` are laws about it.
 #![tactic(auto)]
 
-mod checked;
+mod class;
+mod comparison;
+mod depth;
+mod laws;
+mod make;
+mod parse_check;
+mod parse_comparison;
+mod parse_path;
+mod parse_pattern;
+mod path;
+mod pattern;
+mod qualifier;
 mod read;
-mod width;
+mod stop;
+mod take;
 
-pub use checked::checked_tree;
-pub use pattern_tokens::PatternRefusal;
-pub use pattern_tree::{Check, Constant, Leaf, Path, Pattern, Step, Test, leaf_count};
-pub use read::read_pattern;
-pub use width::is_too_wide;
+pub use class::Class;
+pub use comparison::{CheckTree, ComparisonTree, TestTree};
+pub use laws::{fronts, one_pattern};
+pub use parse_pattern::parse;
+pub use path::{PathTree, StepTree};
+pub use pattern::PatternTree;
+pub use qualifier::Qualifier;
+pub use read::read_tree;
+pub use stop::Stop;
 
 #[cfg(test)]
 mod tests;

@@ -1,72 +1,61 @@
-ghost use Rattle.std.specs.Prelude.{◌≡◌, IfOk, IfErr};
-ghost use Rattle.pattern_grammar.specs.Read.{IsReadAs, IsRefusedAs, Gives};
-ghost use Rattle.pattern_grammar.specs.Width.{IsTooWide};
-ghost use Rattle.pattern_tree.specs.declared.pattern.Pattern.{Pattern};
-ghost use Rattle.pattern_tokens.specs.declared.refusal.PatternRefusal.TheVariants as PatternRefusal;
-ghost use Rattle.pattern_grammar.specs.Checked.{IsSound};
-ghost use Rattle.pattern_meaning.specs.Meant.{meant, MeansPattern};
-ghost use Rattle.pattern_syntax.specs.Tree.{shape};
+ghost use Rattle.std.specs.Prelude.{◌≡◌, ◌<◌, length, IfOk, IfErr, Some};
+ghost use Rattle.pattern_grammar.specs.Depth.{deep_at, at_start};
+ghost use Rattle.pattern_grammar.specs.Place.{place, IsMisread, IsTreeOf, GivesTree};
+ghost use Rattle.pattern_grammar.specs.Tree.{Tree, shape};
 
-use crate::checked::checked_tree;
-use crate::width::is_too_wide;
-use flow_edges::NoMemory;
-use pattern_lexer::laws::sound_tokens;
-use pattern_meaning::laws::one_meaning;
-use pattern_meaning::pattern_of;
-use pattern_syntax::PatternTree;
-use pattern_tokens::PatternRefusal;
-use pattern_tree::Pattern;
+use crate::depth::first_deep;
+use crate::{PatternTree, Stop, parse};
+use pattern_tokens::{PatternRefusal, Token};
 use std::alloc::Global;
 
-/// Reads a pattern of STIX 2.1 (section 9), of at most 65,536 bytes; or tells the first reason why the
-/// text is none: TooLong; a fault of its tokens, from the left; Syntax or TooDeep, whichever stands
-/// first; a value that is refused, by place; TooWide.
-pub fn read_pattern(alloc: Global, text: &str) -> Result<Pattern, PatternRefusal>
-    ensures ok { IfOk result (IsReadAs text.now) }
-    ensures err { IfErr result (IsRefusedAs text.now) }
-    ensures only { (pattern : Pattern) → IsReadAs text.now pattern → Gives pattern result }
+/// The syntax tree that the tokens of a text spell, where `end` is the text's length; or Syntax or
+/// TooDeep, whichever stands first.
+pub fn read_tree(alloc: Global, tokens: &[Token], end: usize) -> Result<PatternTree, PatternRefusal>
+    ensures ok { IfOk result (λ tree. IsTreeOf tokens.now (shape tree)) }
+    ensures err { IfErr result (λ refusal. IsMisread tokens.now end refusal) }
+    ensures only { (tree : Tree) → IsTreeOf tokens.now tree → GivesTree tree result }
 {
-    let tree = match checked_tree(alloc, text) {
-        Ok(tree) => tree,
-        Err(refusal) => return Err(refusal),
-    };
-    pattern_in(alloc, text, &tree)
-}
-
-/// The pattern that a tree without faults means, unless it is too wide.
-fn pattern_in(alloc: Global, text: &str, tree: &PatternTree) -> Result<Pattern, PatternRefusal>
-    requires { IsSound text.now (shape tree.now) }
-    ensures ok { IfOk result (IsReadAs text.now) }
-    ensures err { IfErr result (IsRefusedAs text.now) }
-    ensures only { (pattern : Pattern) → MeansPattern text.now (shape tree.now) (meant pattern)
-        → (¬ IsTooWide pattern) → Gives pattern result }
-{
-    one_meaning();
-    match meaning_of(alloc, text, tree) {
-        Ok(pattern) => narrow(pattern),
-        Err(NoMemory) => Err(PatternRefusal::NoMemory),
+    if let Some(before) = first_deep(tokens) {
+        return Err(refusal_through(alloc, tokens, before, end));
+    }
+    match parse(alloc, tokens) {
+        Ok(tree) => Ok(tree),
+        Err(Stop::Memory) => Err(PatternRefusal::NoMemory),
+        Err(Stop::Syntax(rest)) => Err(PatternRefusal::Syntax {
+            at: start_of(rest, end),
+        }),
     }
 }
 
-/// The pattern, unless it is too wide.
-fn narrow(pattern: Pattern) -> Result<Pattern, PatternRefusal>
-    ensures ok { IfOk result (λ same. (same ≡ pattern) × (¬ IsTooWide pattern)) }
-    ensures err { IfErr result (λ refusal. (refusal ≡ PatternRefusal.TooWide) × IsTooWide pattern) }
+/// Why the tokens are refused, where one of them is one too many.
+fn refusal_through(alloc: Global, tokens: &[Token], before: usize, end: usize) -> PatternRefusal
+    requires within { before < length tokens.now }
+    requires deep { deep_at at_start tokens.now ≡ Some before }
+    ensures { IsMisread tokens.now end result }
 {
-    if is_too_wide(&pattern) {
-        return Err(PatternRefusal::TooWide);
+    match parse(alloc, &tokens[..before + 1]) {
+        Err(Stop::Memory) => return PatternRefusal::NoMemory,
+        Err(Stop::Syntax([first, ..])) => return PatternRefusal::Syntax { at: first.from },
+        Err(Stop::Syntax([])) => {
+            return PatternRefusal::TooDeep {
+                at: start_of(&tokens[before..], end),
+            };
+        }
+        // A pattern begins a pattern.
+        Ok(_) => {
+            return PatternRefusal::TooDeep {
+                at: start_of(&tokens[before..], end),
+            };
+        }
     }
-    Ok(pattern)
 }
 
-/// The pattern that a tree without faults means.
-fn meaning_of(alloc: Global, text: &str, tree: &PatternTree) -> Result<Pattern, NoMemory>
-    requires { IsSound text.now (shape tree.now) }
-    ensures { IfOk result (λ pattern. MeansPattern text.now (shape tree.now) (meant pattern)) }
+/// Where the tokens begin in a text of this length.
+fn start_of(tokens: &[Token], end: usize) -> usize
+    ensures { result ≡ place tokens.now end }
 {
-    sound_tokens();
-    match pattern_of(alloc, text, tree)? {
-        Some(pattern) => Ok(pattern),
-        None => unreachable!(),
+    match tokens {
+        [first, ..] => first.from,
+        [] => end,
     }
 }

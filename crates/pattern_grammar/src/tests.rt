@@ -1,35 +1,79 @@
-use crate::{is_too_wide, read_pattern};
-use flow_edges::{Items, Text};
-use pattern_tree::{Check, Leaf, Path, Pattern, Test};
+use crate::{PatternTree, read_tree};
+use flow_values::{Items, NoMemory};
+use pattern_tokens::TokenKind::{
+    Among, Colon, Comma, Equal, Less, Not, Number, Or, RoundClose, RoundOpen, SquareClose,
+    SquareOpen, TrueWord, Word,
+};
+use pattern_tokens::{PatternRefusal, Token, TokenKind};
 use std::alloc::Global;
+use std::process::Abort;
 use std::test::Fail;
 
-#[test]
-fn counts_width(rt: HostRuntime) -> Result<(), Fail> {
-    let alloc = rt.alloc();
-    let leaf = Pattern::Leaf(Leaf::Test(Test {
-        path: Path {
-            kind: Text::new(alloc),
-            steps: Items::new(alloc),
+/// Tokens of these kinds, each one byte long.
+fn tokens_of(alloc: Global, kinds: &[TokenKind]) -> Result<Items<Token>, NoMemory> {
+    let mut tokens = Items::new(alloc);
+    let mut at = 0usize;
+    for kind in kinds {
+        tokens.push(Token {
+            kind: *kind,
+            from: at,
+            to: at,
+        })?;
+        at = at.saturating_add(1);
+    }
+    Ok(tokens)
+}
+
+/// Whether the kinds spell a tree, and where they stop to.
+fn reads_as(rt: &impl Abort, alloc: Global, kinds: &[TokenKind], wanted: Option<usize>) {
+    match tokens_of(alloc, kinds) {
+        Ok(tokens) => match read_tree(alloc, tokens.as_slice(), kinds.len()) {
+            Ok(_) => assert!(rt; wanted.is_none(), "spells a tree"),
+            Err(refusal) => {
+                let at = wanted.unwrap_or(0);
+                assert_eq!(rt; refusal, PatternRefusal::Syntax { at });
+            }
         },
-        negated: false,
-        check: Check::Exists,
-    }));
-    let pattern = Pattern::Repeats(Box::new(alloc, leaf)?, 64);
-    assert!(rt; !is_too_wide(&pattern), "64 wide");
-    let pattern = Pattern::Repeats(Box::new(alloc, pattern)?, 2);
-    assert!(rt; is_too_wide(&pattern), "128 wide");
-    Ok(())
-}
-
-/// Whether the text is read as a pattern.
-fn is_read(alloc: Global, text: &str) -> bool {
-    read_pattern(alloc, text).is_ok()
+        Err(NoMemory) => assert!(rt; false, "no memory"),
+    }
 }
 
 #[test]
-fn reads_a_pattern(rt: HostRuntime) {
+fn reads_and_stops(rt: HostRuntime) {
     let alloc = rt.alloc();
-    assert!(rt; is_read(alloc, "[a:b = 1] REPEATS 64 TIMES"), "64 wide");
-    assert!(rt; !is_read(alloc, "[a:b = 1] REPEATS 65 TIMES"), "65 wide");
+    let leaf = [SquareOpen, Word, Colon, Word, Equal, Number, SquareClose];
+    reads_as(&rt, alloc, &leaf, None);
+    reads_as(&rt, alloc, &leaf[..6], Some(6));
+    reads_as(&rt, alloc, &leaf[..0], Some(0));
+    reads_as(
+        &rt,
+        alloc,
+        &[SquareOpen, Word, Colon, Word, Equal, SquareClose],
+        Some(5),
+    );
+    reads_as(
+        &rt,
+        alloc,
+        &[SquareOpen, Word, Colon, Word, Less, TrueWord],
+        Some(5),
+    );
+    reads_as(
+        &rt,
+        alloc,
+        &[
+            SquareOpen, Word, Colon, Word, Not, Among, RoundOpen, Number, Comma, TrueWord,
+            RoundClose, Or,
+        ],
+        Some(12),
+    );
+}
+
+#[test]
+fn joins_from_the_left(rt: HostRuntime) -> Result<(), Fail> {
+    let alloc = rt.alloc();
+    let leaf = [SquareOpen, Word, Colon, Word, Equal, Number, SquareClose];
+    let tokens = tokens_of(alloc, &leaf)?;
+    let tree = read_tree(alloc, tokens.as_slice(), 7);
+    assert!(rt; matches!(&tree, Ok(PatternTree::Leaf(_))), "no leaf");
+    Ok(())
 }

@@ -6,7 +6,7 @@ ghost use Rattle.pattern_tokens.specs.Spans.{IsCut, text_at};
 ghost use Rattle.pattern_lexer.specs.Reading.{RunsOn, IsLeftOut};
 ghost use Rattle.pattern_lexer.specs.Steps.{worthless_refusal};
 
-use flow_edges::NoMemory;
+use flow_values::NoMemory;
 use pattern_tokens::{
     LeftWord, PatternRefusal, Token, TokenKind, base_at, hex_at, moment_at, whole_at,
 };

@@ -7,7 +7,7 @@ ghost use Rattle.pattern_lexer.specs.Steps.{ArePassed, StandsAt};
 use crate::faults::{has_value, left_word, runs_on, worthless};
 use crate::first::first_of;
 use crate::runs::{Class, split_run};
-use flow_edges::Items;
+use flow_values::Items;
 use pattern_tokens::{PatternRefusal, Token};
 use std::alloc::Global;
 

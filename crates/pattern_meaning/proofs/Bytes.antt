@@ -3,8 +3,8 @@ use Rattle.std.proofs.Common.{◌≡◌, inl, inr, ℕ, ℤ, List, sym, ◌∙�
 use Rattle.pattern_tokens.specs.declared.token.Token.{Token}
 use Rattle.pattern_tokens.specs.declared.token.TokenKind.TheVariants as kind
 use Rattle.pattern_tokens.specs.Values.{IsHexText, IsMomentText}
-use Rattle.pattern_tree.specs.declared.constant.Constant.{Constant}
-use Rattle.pattern_tree.specs.declared.constant.Constant.TheVariants as constant
+use Rattle.pattern_types.specs.declared.constant.Constant.{Constant}
+use Rattle.pattern_types.specs.declared.constant.Constant.TheVariants as constant
 use Rattle.pattern_tokens.specs.Spans.{At}
 use Rattle.pattern_meaning.specs.Meaning.{IsConstantOf}
 

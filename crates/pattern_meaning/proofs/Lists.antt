@@ -1,9 +1,9 @@
 -- Lists whose elements are related place by place.
 use Rattle.std.proofs.Common.{◌≡◌, ℕ, zero, suc, ◌+◌, ◌<◌, List, [], ◌∷◌, ◌++◌, length, get_or, take, arith}
 use Rattle.pattern_tokens.specs.declared.token.Token.{Token}
-use Rattle.pattern_syntax.specs.declared.path.StepTree.TheVariants.{Name}
-use Rattle.pattern_tree.specs.declared.path.Step.{Step}
-use Rattle.pattern_tree.specs.declared.path.Step.TheVariants as step
+use Rattle.pattern_grammar.specs.declared.path.StepTree.TheVariants.{Name}
+use Rattle.pattern_types.specs.declared.path.Step.{Step}
+use Rattle.pattern_types.specs.declared.path.Step.TheVariants as step
 use Rattle.pattern_meaning.specs.Meaning.{Each, IsNameOf, IsStepOf}
 
 pub each_more : {A B : Type 0} (R : A → B → Type 0) (xs : List A) (ys : List B) (x : A) (y : B) → Each R xs ys → R x y → Each R (xs ++ x ∷ []) (ys ++ y ∷ [])

@@ -1,10 +1,10 @@
 -- Lists of leaves, and what a comparison means from its parts.
 use Rattle.std.proofs.Common.{◌≡◌, List, [], ◌∷◌, ◌++◌, refl, ap, subst, rules, ℕ, Option, Some, None, Result, Ok, Err, IfOk, MatchOption, Box, Global}
-use Rattle.pattern_syntax.specs.declared.comparison.ComparisonTree.{ComparisonTree}
-use Rattle.pattern_syntax.specs.declared.comparison.ComparisonTree as comparison_tree
-use Rattle.pattern_syntax.specs.Tree.{Comparison, group, all, any, compared}
-use Rattle.pattern_tree.specs.declared.leaf.Leaf.{Leaf, Row_of-Leaf, end_of-Leaf, more_of-Leaf, items-the_row-Leaf, the_lemmas}
-use Rattle.pattern_tree.specs.declared.leaf.Leaf.TheVariants as leaf
+use Rattle.pattern_grammar.specs.declared.comparison.ComparisonTree.{ComparisonTree}
+use Rattle.pattern_grammar.specs.declared.comparison.ComparisonTree as comparison_tree
+use Rattle.pattern_grammar.specs.Tree.{Comparison, group, all, any, compared}
+use Rattle.pattern_types.specs.declared.leaf.Leaf.{Leaf, Row_of-Leaf, end_of-Leaf, more_of-Leaf, items-the_row-Leaf, the_lemmas}
+use Rattle.pattern_types.specs.declared.leaf.Leaf.TheVariants as leaf
 use Rattle.pattern_tokens.specs.declared.token.Token.{Token}
 use Rattle.pattern_meaning.specs.Formula.{Formula, every, some, more, put, formula, formulas, listed, Means, means_group, means_all, means_any, AllParts, AnyParts, IsNoAll, IsNoAny}
 

@@ -2,7 +2,7 @@
 use Rattle.std.proofs.Common.{◌⊎◌, inl, inr, ℕ, ℤ, List}
 use Rattle.pattern_tokens.specs.declared.token.Token.{Token}
 use Rattle.pattern_tokens.specs.Values.{IsMomentText}
-use Rattle.pattern_syntax.specs.declared.qualifier.Qualifier.TheVariants as qualifier
+use Rattle.pattern_grammar.specs.declared.qualifier.Qualifier.TheVariants as qualifier
 use Rattle.pattern_meaning.specs.declared.limits.Limit.{Limit}
 use Rattle.pattern_meaning.specs.declared.limits.Limit.TheVariants as limit
 use Rattle.pattern_tokens.specs.Spans.{At}

@@ -5,23 +5,23 @@ use Rattle.pattern_tokens.specs.declared.token.TokenKind.{TokenKind}
 use Rattle.pattern_tokens.specs.declared.token.TokenKind.TheVariants as kind
 use Rattle.pattern_tokens.specs.Values.{IsWholeText, IsWordsText, IsHexText, IsBaseText, IsMomentText}
 use Rattle.pattern_tokens.specs.Spans.{text_at, At}
-use Rattle.pattern_syntax.specs.declared.path.StepTree.{StepTree}
-use Rattle.pattern_syntax.specs.declared.path.StepTree.TheVariants.{Name, Index}
-use Rattle.pattern_syntax.specs.declared.path.PathTree.{PathTree}
-use Rattle.pattern_syntax.specs.declared.comparison.CheckTree.{CheckTree}
-use Rattle.pattern_syntax.specs.declared.comparison.CheckTree.TheVariants as check_tree
-use Rattle.pattern_syntax.specs.declared.comparison.TestTree.{TestTree}
-use Rattle.pattern_syntax.specs.declared.qualifier.Qualifier.{Qualifier}
-use Rattle.pattern_syntax.specs.declared.qualifier.Qualifier.TheVariants as qualifier
-use Rattle.pattern_syntax.specs.Tree.{Comparison, Tree}
-use Rattle.pattern_tree.specs.declared.path.Step.{Step}
-use Rattle.pattern_tree.specs.declared.path.Step.TheVariants as step
-use Rattle.pattern_tree.specs.declared.path.Path.{Path}
-use Rattle.pattern_tree.specs.declared.constant.Constant.{Constant}
-use Rattle.pattern_tree.specs.declared.constant.Constant.TheVariants as constant
-use Rattle.pattern_tree.specs.declared.check.Check.{Check}
-use Rattle.pattern_tree.specs.declared.check.Check.TheVariants as check
-use Rattle.pattern_tree.specs.declared.leaf.Test.{Test}
+use Rattle.pattern_grammar.specs.declared.path.StepTree.{StepTree}
+use Rattle.pattern_grammar.specs.declared.path.StepTree.TheVariants.{Name, Index}
+use Rattle.pattern_grammar.specs.declared.path.PathTree.{PathTree}
+use Rattle.pattern_grammar.specs.declared.comparison.CheckTree.{CheckTree}
+use Rattle.pattern_grammar.specs.declared.comparison.CheckTree.TheVariants as check_tree
+use Rattle.pattern_grammar.specs.declared.comparison.TestTree.{TestTree}
+use Rattle.pattern_grammar.specs.declared.qualifier.Qualifier.{Qualifier}
+use Rattle.pattern_grammar.specs.declared.qualifier.Qualifier.TheVariants as qualifier
+use Rattle.pattern_grammar.specs.Tree.{Comparison, Tree}
+use Rattle.pattern_types.specs.declared.path.Step.{Step}
+use Rattle.pattern_types.specs.declared.path.Step.TheVariants as step
+use Rattle.pattern_types.specs.declared.path.Path.{Path}
+use Rattle.pattern_types.specs.declared.constant.Constant.{Constant}
+use Rattle.pattern_types.specs.declared.constant.Constant.TheVariants as constant
+use Rattle.pattern_types.specs.declared.check.Check.{Check}
+use Rattle.pattern_types.specs.declared.check.Check.TheVariants as check
+use Rattle.pattern_types.specs.declared.leaf.Test.{Test}
 use Rattle.pattern_meaning.specs.declared.limits.Limit.{Limit}
 use Rattle.pattern_meaning.specs.declared.limits.Limit.TheVariants as limit
 use Rattle.pattern_meaning.specs.Meaning.{Each, IsNameOf, IsStepOf, IsPathOf, IsConstantOf, IsCheckOf, IsTestOf}

@@ -1,10 +1,10 @@
 -- What the comparison in the brackets of a pattern means: leaves without where they lie in memory.
 use Rattle.std.specs.Prelude.{ℕ, ◌+◌, List, [], ◌∷◌}
 use Rattle.pattern_tokens.specs.declared.token.Token.{Token}
-use Rattle.pattern_syntax.specs.declared.comparison.TestTree.{TestTree}
-use Rattle.pattern_syntax.specs.Tree.{Comparison, test, group, all, any}
-use Rattle.pattern_tree.specs.declared.leaf.Test.{Test as OneTest}
-use Rattle.pattern_tree.specs.declared.leaf.Leaf.{Leaf, Test, All', Any', Row_of-Leaf, end_of-Leaf, more_of-Leaf}
+use Rattle.pattern_grammar.specs.declared.comparison.TestTree.{TestTree}
+use Rattle.pattern_grammar.specs.Tree.{Comparison, test, group, all, any}
+use Rattle.pattern_types.specs.declared.leaf.Test.{Test as OneTest}
+use Rattle.pattern_types.specs.declared.leaf.Leaf.{Leaf, Test, All', Any', Row_of-Leaf, end_of-Leaf, more_of-Leaf}
 use Rattle.pattern_meaning.specs.Meaning.{IsTestOf}
 
 mutual

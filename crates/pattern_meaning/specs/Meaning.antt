@@ -3,20 +3,20 @@ use Rattle.std.specs.Prelude.{◌≡◌, ◌≢◌, ◌⊎◌, ℕ, true, false,
 use Rattle.pattern_tokens.specs.declared.token.Token.{Token}
 use Rattle.pattern_tokens.specs.declared.token.TokenKind.TheVariants as kind
 use Rattle.pattern_tokens.specs.Values.{IsWholeText, IsWordsText, IsHexText, IsBaseText, IsMomentText}
-use Rattle.pattern_syntax.specs.declared.path.StepTree.{StepTree}
-use Rattle.pattern_syntax.specs.declared.path.StepTree.TheVariants.{Name, Index}
-use Rattle.pattern_syntax.specs.declared.path.PathTree.{PathTree}
-use Rattle.pattern_syntax.specs.declared.comparison.CheckTree.{CheckTree}
-use Rattle.pattern_syntax.specs.declared.comparison.CheckTree.TheVariants as check_tree
-use Rattle.pattern_syntax.specs.declared.comparison.TestTree.{TestTree}
-use Rattle.pattern_tree.specs.declared.path.Step.{Step}
-use Rattle.pattern_tree.specs.declared.path.Step.TheVariants as step
-use Rattle.pattern_tree.specs.declared.path.Path.{Path}
-use Rattle.pattern_tree.specs.declared.constant.Constant.{Constant}
-use Rattle.pattern_tree.specs.declared.constant.Constant.TheVariants as constant
-use Rattle.pattern_tree.specs.declared.check.Check.{Check}
-use Rattle.pattern_tree.specs.declared.check.Check.TheVariants as check
-use Rattle.pattern_tree.specs.declared.leaf.Test.{Test}
+use Rattle.pattern_grammar.specs.declared.path.StepTree.{StepTree}
+use Rattle.pattern_grammar.specs.declared.path.StepTree.TheVariants.{Name, Index}
+use Rattle.pattern_grammar.specs.declared.path.PathTree.{PathTree}
+use Rattle.pattern_grammar.specs.declared.comparison.CheckTree.{CheckTree}
+use Rattle.pattern_grammar.specs.declared.comparison.CheckTree.TheVariants as check_tree
+use Rattle.pattern_grammar.specs.declared.comparison.TestTree.{TestTree}
+use Rattle.pattern_types.specs.declared.path.Step.{Step}
+use Rattle.pattern_types.specs.declared.path.Step.TheVariants as step
+use Rattle.pattern_types.specs.declared.path.Path.{Path}
+use Rattle.pattern_types.specs.declared.constant.Constant.{Constant}
+use Rattle.pattern_types.specs.declared.constant.Constant.TheVariants as constant
+use Rattle.pattern_types.specs.declared.check.Check.{Check}
+use Rattle.pattern_types.specs.declared.check.Check.TheVariants as check
+use Rattle.pattern_types.specs.declared.leaf.Test.{Test}
 use Rattle.pattern_tokens.specs.Spans.{At, IsItself}
 use Rattle.pattern_tokens.specs.Numbers.{IsPlace}
 

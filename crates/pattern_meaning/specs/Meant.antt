@@ -1,11 +1,11 @@
 -- What a syntax tree means: patterns without where they lie in memory.
 use Rattle.std.specs.Prelude.{ℕ, ◌+◌, List}
 use Rattle.pattern_tokens.specs.Values.{IsMomentText}
-use Rattle.pattern_syntax.specs.declared.qualifier.Qualifier.{Qualifier}
-use Rattle.pattern_syntax.specs.declared.qualifier.Qualifier.TheVariants as qualifier
-use Rattle.pattern_syntax.specs.Tree.{Comparison, Tree, leaf, both, either, followed, qualified}
-use Rattle.pattern_tree.specs.declared.pattern.Pattern.{Pattern}
-use Rattle.pattern_tree.specs.declared.pattern.Pattern.TheVariants.{Leaf, Both', Either', Then', Within', Between', Repeats'}
+use Rattle.pattern_grammar.specs.declared.qualifier.Qualifier.{Qualifier}
+use Rattle.pattern_grammar.specs.declared.qualifier.Qualifier.TheVariants as qualifier
+use Rattle.pattern_grammar.specs.Tree.{Comparison, Tree, leaf, both, either, followed, qualified}
+use Rattle.pattern_types.specs.declared.pattern.Pattern.{Pattern}
+use Rattle.pattern_types.specs.declared.pattern.Pattern.TheVariants.{Leaf, Both', Either', Then', Within', Between', Repeats'}
 use Rattle.pattern_meaning.specs.declared.limits.Limit.{Limit}
 use Rattle.pattern_meaning.specs.declared.limits.Limit.TheVariants as limit
 use Rattle.pattern_tokens.specs.Spans.{At}

@@ -1,14 +1,14 @@
 ghost use Rattle.std.specs.Prelude.{IfOk, MatchOption};
 ghost use Rattle.pattern_meaning.specs.Meaning.{IsCheckOf, IsTestOf};
-ghost use Rattle.pattern_tree.specs.declared.check.Check.{Check};
-ghost use Rattle.pattern_tree.specs.declared.leaf.Test.{Test};
+ghost use Rattle.pattern_types.specs.declared.check.Check.{Check};
+ghost use Rattle.pattern_types.specs.declared.leaf.Test.{Test};
 
 use crate::constants::{constant_of, constants_of};
 use crate::paths::path_of;
-use flow_edges::NoMemory;
-use pattern_syntax::{CheckTree, TestTree};
+use flow_values::NoMemory;
+use pattern_grammar::{CheckTree, TestTree};
 use pattern_tokens::{Token, TokenKind, words_at};
-use pattern_tree::{Check, Test};
+use pattern_types::{Check, Test};
 use std::alloc::Global;
 
 /// A comparison with a constant.

@@ -1,10 +1,10 @@
 ghost use Rattle.std.specs.Prelude.{List, IfOk, MatchOption};
 ghost use Rattle.pattern_meaning.specs.Meaning.{IsConstantOf, Each};
-ghost use Rattle.pattern_tree.specs.declared.constant.Constant.{Constant};
+ghost use Rattle.pattern_types.specs.declared.constant.Constant.{Constant};
 
-use flow_edges::{Items, NoMemory};
+use flow_values::{Items, NoMemory};
 use pattern_tokens::{Token, TokenKind, base_at, hex_at, moment_at, whole_at, words_at};
-use pattern_tree::Constant;
+use pattern_types::Constant;
 use std::alloc::Global;
 
 /// The constant that the token stands for.

@@ -1,7 +1,7 @@
 //! What follows from the definitions: the contract is the law, and the function does nothing.
 
 ghost use Rattle.std.specs.Prelude.{◌≡◌, ℕ, List};
-ghost use Rattle.pattern_syntax.specs.Tree.{Tree};
+ghost use Rattle.pattern_grammar.specs.Tree.{Tree};
 ghost use Rattle.pattern_meaning.specs.Meant.{Meant, MeansPattern};
 
 /// A syntax tree over a text means one pattern at most.

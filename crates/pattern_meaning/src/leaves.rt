@@ -1,11 +1,11 @@
 ghost use Rattle.std.specs.Prelude.{◌≡◌, IfOk, MatchOption};
 ghost use Rattle.pattern_meaning.specs.Formula.{Formula, Formulas, more, none, formula, listed, Means, AllParts, AnyParts};
-ghost use Rattle.pattern_syntax.specs.Tree.{compared, all, any};
+ghost use Rattle.pattern_grammar.specs.Tree.{compared, all, any};
 
 use crate::checks::test_of;
-use flow_edges::{Items, NoMemory};
-use pattern_syntax::ComparisonTree;
-use pattern_tree::Leaf;
+use flow_values::{Items, NoMemory};
+use pattern_grammar::ComparisonTree;
+use pattern_types::Leaf;
 use std::alloc::Global;
 
 /// A list of one leaf.

@@ -2,7 +2,7 @@ ghost use Rattle.std.specs.Prelude.{MatchOption};
 ghost use Rattle.pattern_meaning.specs.Meant.{IsLimitOf};
 ghost use Rattle.pattern_meaning.specs.declared.limits.Limit.{Limit};
 
-use pattern_syntax::Qualifier;
+use pattern_grammar::Qualifier;
 use pattern_tokens::{Token, count_at, moment_at};
 use stix_times::Instant;
 

@@ -1,12 +1,12 @@
 ghost use Rattle.std.specs.Prelude.{◌≡◌, List, ℕ, IfOk, MatchOption};
 ghost use Rattle.pattern_meaning.specs.Meaning.{IsNameOf, IsStepOf, Each, IsPathOf};
-ghost use Rattle.pattern_tree.specs.declared.path.Step.{Step};
-ghost use Rattle.pattern_tree.specs.declared.path.Path.{Path};
+ghost use Rattle.pattern_types.specs.declared.path.Step.{Step};
+ghost use Rattle.pattern_types.specs.declared.path.Path.{Path};
 
-use flow_edges::{Items, NoMemory, Text};
-use pattern_syntax::{PathTree, StepTree};
+use flow_values::{Items, NoMemory, Text};
+use pattern_grammar::{PathTree, StepTree};
 use pattern_tokens::{Token, TokenKind, place_at, text_of, words_at};
-use pattern_tree::{Path, Step};
+use pattern_types::{Path, Step};
 use std::alloc::Global;
 
 /// The name that the token stands for.

@@ -1,12 +1,12 @@
 ghost use Rattle.std.specs.Prelude.{◌≡◌, IfOk, MatchOption};
 ghost use Rattle.pattern_meaning.specs.Meant.{Meant, meant, a_both, an_either, a_then, a_limited, MeansPattern};
-ghost use Rattle.pattern_syntax.specs.Tree.{shape};
+ghost use Rattle.pattern_grammar.specs.Tree.{shape};
 
 use crate::leaves::leaf_of;
 use crate::limits::{Limit, limit_of};
-use flow_edges::NoMemory;
-use pattern_syntax::PatternTree;
-use pattern_tree::Pattern;
+use flow_values::NoMemory;
+use pattern_grammar::PatternTree;
+use pattern_types::Pattern;
 use std::alloc::Global;
 
 /// Both patterns.

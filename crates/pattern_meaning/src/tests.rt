@@ -1,11 +1,11 @@
 use crate::leaf_of;
-use flow_edges::{Items, NoMemory};
-use pattern_syntax::{PatternTree, read_tree};
+use flow_values::{Items, NoMemory};
+use pattern_grammar::{PatternTree, read_tree};
 use pattern_tokens::TokenKind::{
     And, Colon, Dot, Equal, Hex, Less, Number, SquareClose, SquareOpen, Word,
 };
 use pattern_tokens::{Token, TokenKind};
-use pattern_tree::{Check, Constant, Leaf};
+use pattern_types::{Check, Constant, Leaf};
 use std::alloc::Global;
 use std::test::Fail;
 

@@ -1,6 +1,6 @@
 ghost use Rattle.std.specs.Prelude.{◌≡◌, Some};
 
-use flow_edges::NoMemory;
+use flow_values::NoMemory;
 use std::error::Error;
 use std::fmt;
 

@@ -5,7 +5,8 @@ ghost use Rattle.pattern_tokens.specs.Refusal.{refusal_text};
 ghost use Rattle.pattern_tokens.specs.Shown.{placed_text, shown_text};
 
 use crate::PatternRefusal;
-use flow_edges::{Fault, Sink, write_pieces, write_whole};
+use flow_edges::{Sink, write_pieces, write_whole};
+use flow_values::Fault;
 use itoa::Buffer;
 
 /// Writes the refusal, as `BadToken at 5`. After a `Fault` a prefix of the text was written. Takes no

@@ -3,7 +3,7 @@ ghost use Rattle.pattern_tokens.specs.Spans.{IsCut, text_at, At, IsItself};
 ghost use Rattle.pattern_tokens.specs.Values.{IsWholeText, IsWordsText, IsHexText, IsBaseText, IsMomentText};
 
 use crate::{Token, base_of, hex_of, moment_of, whole_of, words_of};
-use flow_edges::{Items, NoMemory, Text};
+use flow_values::{Items, NoMemory, Text};
 use std::alloc::Global;
 use stix_times::Instant;
 

@@ -1,7 +1,7 @@
 ghost use Rattle.std.specs.Prelude.{◌≡◌, ℕ, List, IfOk, IfSome, IfNone, MatchOption, IsTrue, ◌↔◌, Contains};
 ghost use Rattle.pattern_tokens.specs.Escapes.{IsEscapedText, BeginsEscaped, BeginsNone};
 
-use flow_edges::{NoMemory, Text};
+use flow_values::{NoMemory, Text};
 use std::alloc::Global;
 
 /// What the text stands for that has a backslash before each `'` and `\`.

@@ -5,7 +5,7 @@ ghost use Rattle.pattern_tokens.specs.Values.{HasNoLeadingZero, IsWholeText, IsW
 use crate::unescape::unescaped;
 use base64::DecodeAllocError;
 use base64::engine::general_purpose::STANDARD;
-use flow_edges::{Items, NoMemory, Text};
+use flow_values::{Items, NoMemory, Text};
 use hex::FromHexError;
 use std::alloc::Global;
 use stix_times::Instant;

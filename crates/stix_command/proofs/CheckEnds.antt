@@ -1,8 +1,8 @@
 -- What is told of the bytes of an input ends a check.
 use Rattle.std.proofs.Common.{◌≡◌, ℕ, List, [], Option, Some, None, append-nil, inl, inr, refl, sym, ap, subst, ◌∙◌}
 use Rattle.flow_edges.specs.Flow.{written_with}
-use Rattle.match_run.specs.declared.end.InputRule.{InputRule}
-use Rattle.match_run.specs.Whole.{IsWhole}
+use Rattle.match_log.specs.declared.end.InputRule.{InputRule}
+use Rattle.match_log.specs.Whole.{IsWhole}
 use Rattle.stix_command.specs.declared.verdict.Verdict.{Verdict}
 use Rattle.stix_command.specs.declared.verdict.Verdict.TheVariants as verdict
 use Rattle.stix_command.specs.declared.ending.Ending.{Ending}

@@ -1,10 +1,10 @@
 -- What an ending of the log says of the match, and an ending of a command of the run.
 use Rattle.std.proofs.Common.{◌≡◌, ◌↔◌, ◌⊎◌, ℕ, List, Option, inl, inr, refl, sym, ap, subst, ◌∙◌, arith, codes}
-use Rattle.pattern_tree.specs.declared.pattern.Pattern.{Pattern, Leaf, Both', Either', Then', Within', Between', Repeats'}
-use Rattle.pattern_tree.specs.declared.leaf.Leaf.{Test, All', Any'}
+use Rattle.pattern_types.specs.declared.pattern.Pattern.{Pattern, Leaf, Both', Either', Then', Within', Between', Repeats'}
+use Rattle.pattern_types.specs.declared.leaf.Leaf.{Test, All', Any'}
 use Rattle.pattern_meaning.specs.Meant.{meant}
-use Rattle.pattern_grammar.specs.Read.{IsReadAs}
-use Rattle.match_run.specs.FirstForm.{FirstForm, pattern_of, IsBuilt}
+use Rattle.pattern_reader.specs.Read.{IsReadAs}
+use Rattle.match_log.specs.FirstForm.{FirstForm, pattern_of, IsBuilt}
 use Rattle.stix_command.specs.declared.ending.Ending.{Ending}
 use Rattle.stix_command.specs.declared.ending.Ending.TheVariants.{Done, NoMemory, Usage, PatternRefused, NotBuilt, InputRefused, Broken, ReadFault, WriteFault}
 use Rattle.stix_command.specs.CommandLine.{IsPatternLine, IsMatchLine, IsShowLine, IsCheckLine}

@@ -4,24 +4,24 @@ use Rattle.std.proofs.lemmas.Bool.{cases_lt}
 use Rattle.std.proofs.lemmas.Option.{slice_get_within, get_or_from_slice_get}
 use Rattle.serde_json.specs.Data.{Data, Items}
 use Rattle.serde_json.specs.Find.{get}
-use Rattle.stix_tree.specs.declared.tree.Tree.{Tree}
-use Rattle.stix_tree.specs.declared.refusal.TreeRefusal.{TreeRefusal}
-use Rattle.stix_tree.specs.declared.refusal.TreeRefusal.TheVariants as refused
-use Rattle.stix_tree.specs.DataOf.{data_of}
-use Rattle.stix_tree.specs.Refusal.{refusal_of}
-use Rattle.stix_tree.specs.Reading.{IsValueOf, IsTreeOf, IsRefusedAs}
-use Rattle.stix_tree.specs.Walk.{path_text, place_part}
-use Rattle.object_rules.specs.declared.broken.Break.{Break}
-use Rattle.object_rules.specs.Breaks.{AreBreaksOf}
-use Rattle.bundle_reader.specs.declared.object_break.ObjectBreak.{ObjectBreak}
-use Rattle.bundle_reader.specs.declared.refusal.BundleRefusal.TheVariants.{NotBundle, Breaks, NoMemory}
-use Rattle.bundle_reader.specs.Bundle.{listed, IsObject, IsTyped, IsIdentified, IsListOf, HasObjects, IsOutlined, IsFirstNoObject, FailsAt, IsNoBundle, told_of, AreAllBreaks, IsBundle}
-use Rattle.version_rules.specs.declared.version_break.VersionBreak.{VersionBreak}
-use Rattle.version_rules.specs.declared.marking_break.MarkingBreak.{MarkingBreak}
-use Rattle.version_rules.specs.Versions.{AreVersionBreaks}
-use Rattle.version_rules.specs.Markings.{AreMarkingBreaks}
-use Rattle.match_run.specs.declared.end.InputRule.{InputRule}
-use Rattle.match_run.specs.declared.end.InputRule.TheVariants.{NotYet, InputTooLong, Tree as NoTree, Bundle as NoBundle}
+use Rattle.stix_json.specs.declared.tree.Tree.{Tree}
+use Rattle.stix_json.specs.declared.refusal.TreeRefusal.{TreeRefusal}
+use Rattle.stix_json.specs.declared.refusal.TreeRefusal.TheVariants as refused
+use Rattle.stix_json.specs.DataOf.{data_of}
+use Rattle.stix_json.specs.Refusal.{refusal_of}
+use Rattle.stix_json.specs.Reading.{IsValueOf, IsTreeOf, IsRefusedAs}
+use Rattle.stix_json.specs.Walk.{path_text, place_part}
+use Rattle.stix_objects.specs.declared.broken.Break.{Break}
+use Rattle.stix_objects.specs.Breaks.{AreBreaksOf}
+use Rattle.stix_bundles.specs.declared.object_break.ObjectBreak.{ObjectBreak}
+use Rattle.stix_bundles.specs.declared.refusal.BundleRefusal.TheVariants.{NotBundle, Breaks, NoMemory}
+use Rattle.stix_bundles.specs.Bundle.{listed, IsObject, IsTyped, IsIdentified, IsListOf, HasObjects, IsOutlined, IsFirstNoObject, FailsAt, IsNoBundle, told_of, AreAllBreaks, IsBundle}
+use Rattle.stix_versions.specs.declared.version_break.VersionBreak.{VersionBreak}
+use Rattle.stix_versions.specs.declared.marking_break.MarkingBreak.{MarkingBreak}
+use Rattle.stix_versions.specs.Versions.{AreVersionBreaks}
+use Rattle.stix_versions.specs.Markings.{AreMarkingBreaks}
+use Rattle.match_log.specs.declared.end.InputRule.{InputRule}
+use Rattle.match_log.specs.declared.end.InputRule.TheVariants.{NotYet, InputTooLong, Tree as NoTree, Bundle as NoBundle}
 use Rattle.stix_command.specs.declared.verdict.Verdict.{Verdict}
 use Rattle.stix_command.specs.declared.verdict.Verdict.TheVariants.{Sound, Broken, Unfit, Refused}
 use Rattle.stix_command.specs.Judged.{IsNotBundleFor, AreJudged, IsBundleJudged, HasTree, IsJudged}

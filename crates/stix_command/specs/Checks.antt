@@ -1,14 +1,14 @@
 -- What `check` writes, and what an ending of it says of its input and of what was written.
 use Rattle.std.specs.Prelude.{◌≡◌, ◌⊎◌, ℕ, List, [], ◌++◌, flat_map, Option, codes, decimal}
 use Rattle.flow_edges.specs.Flow.{written_with, WritesPrefix}
-use Rattle.bundle_reader.specs.declared.object_break.ObjectBreak.{ObjectBreak}
-use Rattle.version_rules.specs.declared.version_break.VersionBreak.{VersionBreak}
-use Rattle.version_rules.specs.declared.marking_break.MarkingBreak.{MarkingBreak}
-use Rattle.version_rules.specs.Names.{version_rule_name, marking_rule_name}
-use Rattle.match_run.specs.declared.end.InputRule.{InputRule}
-use Rattle.match_run.specs.declared.end.InputRule.TheVariants.{InputTooLong}
-use Rattle.match_run.specs.Texts.{break_text}
-use Rattle.match_run.specs.Whole.{IsWhole, IsTooLong}
+use Rattle.stix_bundles.specs.declared.object_break.ObjectBreak.{ObjectBreak}
+use Rattle.stix_versions.specs.declared.version_break.VersionBreak.{VersionBreak}
+use Rattle.stix_versions.specs.declared.marking_break.MarkingBreak.{MarkingBreak}
+use Rattle.stix_versions.specs.Names.{version_rule_name, marking_rule_name}
+use Rattle.match_log.specs.declared.end.InputRule.{InputRule}
+use Rattle.match_log.specs.declared.end.InputRule.TheVariants.{InputTooLong}
+use Rattle.match_log.specs.Texts.{break_text}
+use Rattle.match_log.specs.Whole.{IsWhole, IsTooLong}
 use Rattle.stix_command.specs.declared.verdict.Verdict.{Verdict}
 use Rattle.stix_command.specs.declared.verdict.Verdict.TheVariants as verdict
 use Rattle.stix_command.specs.declared.ending.Ending.{Ending}

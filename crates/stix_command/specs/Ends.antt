@@ -1,6 +1,6 @@
 -- How the program ends: its status, and the text that it writes on the sink for faults.
 use Rattle.std.specs.Prelude.{ℕ, List, [], ◌++◌, codes}
-use Rattle.match_run.specs.Texts.{input_refusal_text}
+use Rattle.match_log.specs.Texts.{input_refusal_text}
 use Rattle.pattern_tokens.specs.declared.refusal.PatternRefusal.{PatternRefusal}
 use Rattle.pattern_tokens.specs.Refusal.{refusal_text}
 use Rattle.stix_command.specs.declared.ending.Ending.{Ending}

@@ -1,16 +1,16 @@
 -- What an input is found to be, as a bundle.
 use Rattle.std.specs.Prelude.{◌≡◌, ◌≢◌, ℕ, List, [], length}
 use Rattle.serde_json.specs.Data.{Data}
-use Rattle.stix_tree.specs.declared.tree.Tree.{Tree}
-use Rattle.stix_tree.specs.declared.refusal.TreeRefusal.TheVariants as tree_refusal
-use Rattle.stix_tree.specs.DataOf.{data_of}
-use Rattle.stix_tree.specs.Reading.{IsTreeOf, IsRefusedAs}
-use Rattle.bundle_reader.specs.declared.refusal.BundleRefusal.TheVariants.{NotBundle, Breaks, NoMemory}
-use Rattle.bundle_reader.specs.Bundle.{IsBundle, IsRefused}
-use Rattle.version_rules.specs.Versions.{AreVersionBreaks}
-use Rattle.version_rules.specs.Markings.{AreMarkingBreaks}
-use Rattle.match_run.specs.declared.end.InputRule.{InputRule}
-use Rattle.match_run.specs.declared.end.InputRule.TheVariants.{NotYet, InputTooLong, Tree as NoTree, Bundle as NoBundle}
+use Rattle.stix_json.specs.declared.tree.Tree.{Tree}
+use Rattle.stix_json.specs.declared.refusal.TreeRefusal.TheVariants as tree_refusal
+use Rattle.stix_json.specs.DataOf.{data_of}
+use Rattle.stix_json.specs.Reading.{IsTreeOf, IsRefusedAs}
+use Rattle.stix_bundles.specs.declared.refusal.BundleRefusal.TheVariants.{NotBundle, Breaks, NoMemory}
+use Rattle.stix_bundles.specs.Bundle.{IsBundle, IsRefused}
+use Rattle.stix_versions.specs.Versions.{AreVersionBreaks}
+use Rattle.stix_versions.specs.Markings.{AreMarkingBreaks}
+use Rattle.match_log.specs.declared.end.InputRule.{InputRule}
+use Rattle.match_log.specs.declared.end.InputRule.TheVariants.{NotYet, InputTooLong, Tree as NoTree, Bundle as NoBundle}
 use Rattle.stix_command.specs.declared.verdict.Verdict.{Verdict}
 use Rattle.stix_command.specs.declared.verdict.Verdict.TheVariants.{Sound, Broken, Unfit, Refused}
 

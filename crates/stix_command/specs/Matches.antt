@@ -2,10 +2,10 @@
 use Rattle.std.specs.Prelude.{◌≡◌, ◌≢◌, ⊤, ℕ, List, Option}
 use Rattle.pattern_tokens.specs.declared.refusal.PatternRefusal.{PatternRefusal}
 use Rattle.pattern_tokens.specs.declared.refusal.PatternRefusal.TheVariants as refused
-use Rattle.pattern_tree.specs.declared.pattern.Pattern.{Pattern}
-use Rattle.pattern_grammar.specs.Read.{IsReadAs, IsRefusedAs}
-use Rattle.match_run.specs.FirstForm.{FirstForm, pattern_of, IsBuilt}
-use Rattle.match_run.specs.Matching.{ListsWhole, ListsBefore}
+use Rattle.pattern_types.specs.declared.pattern.Pattern.{Pattern}
+use Rattle.pattern_reader.specs.Read.{IsReadAs, IsRefusedAs}
+use Rattle.match_log.specs.FirstForm.{FirstForm, pattern_of, IsBuilt}
+use Rattle.match_log.specs.Matching.{ListsWhole, ListsBefore}
 use Rattle.stix_command.specs.declared.ending.Ending.{Ending}
 use Rattle.stix_command.specs.declared.ending.Ending.TheVariants.{Done, NoMemory, Usage, PatternRefused, NotBuilt, InputRefused, Broken, ReadFault, WriteFault}
 

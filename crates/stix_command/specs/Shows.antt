@@ -1,10 +1,10 @@
 -- What an ending of `show` says of its pattern and of what was written.
 use Rattle.std.specs.Prelude.{◌≡◌, ℕ, List, ◌++◌, Option, codes}
 use Rattle.flow_edges.specs.Flow.{written_with, WritesPrefix}
-use Rattle.pattern_tree.specs.declared.pattern.Pattern.{Pattern}
+use Rattle.pattern_types.specs.declared.pattern.Pattern.{Pattern}
 use Rattle.pattern_meaning.specs.Meant.{meant}
-use Rattle.pattern_grammar.specs.Read.{IsReadAs}
-use Rattle.pattern_text.specs.Canonical.{IsCanonical}
+use Rattle.pattern_reader.specs.Read.{IsReadAs}
+use Rattle.pattern_writer.specs.Canonical.{IsCanonical}
 use Rattle.stix_command.specs.declared.ending.Ending.{Ending}
 use Rattle.stix_command.specs.declared.ending.Ending.TheVariants.{Done, NoMemory, Usage, PatternRefused, NotBuilt, InputRefused, Broken, ReadFault, WriteFault}
 use Rattle.stix_command.specs.Matches.{IsRefusedPattern}

@@ -7,11 +7,12 @@ ghost use Rattle.stix_command.specs.Judged.{IsJudged};
 use crate::ending::Ending;
 use crate::judging::judge;
 use crate::verdict::Verdict;
-use bundle_reader::ObjectBreak;
-use flow_edges::{NoMemory, Sink, Source, Text, write_whole};
-use match_run::{InputRule, WholeRefusal, read_whole};
+use stix_bundles::ObjectBreak;
+use flow_edges::{Sink, Source, write_whole};
+use flow_values::{NoMemory, Text};
+use match_log::{InputRule, WholeRefusal, read_whole};
 use std::alloc::Global;
-use version_rules::{MarkingBreak, VersionBreak};
+use stix_versions::{MarkingBreak, VersionBreak};
 
 /// The command `check`: writes the breaks of a bundle's objects, else those of their versions and
 /// granular markings, else how many objects are sound.

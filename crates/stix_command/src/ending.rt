@@ -3,8 +3,9 @@ ghost use Rattle.flow_edges.specs.Faults.{Causes};
 ghost use Rattle.flow_edges.specs.Flow.{written_with, WritesPrefix};
 ghost use Rattle.stix_command.specs.Ends.{pattern_text};
 
-use flow_edges::{Fault, Sink, write_whole};
-use match_run::{InputRule, write_input_refusal};
+use flow_edges::{Sink, write_whole};
+use flow_values::Fault;
+use match_log::{InputRule, write_input_refusal};
 use pattern_tokens::{PatternRefusal, write_refusal};
 
 /// How the program ends.

@@ -1,17 +1,17 @@
 ghost use Rattle.std.specs.Prelude.{◌≡◌, ◌≢◌, IfOk};
-ghost use Rattle.stix_tree.specs.declared.refusal.TreeRefusal.TheVariants as tree_refusal;
-ghost use Rattle.bundle_reader.specs.Objects.{data_in};
-ghost use Rattle.stix_tree.specs.DataOf.{data_of};
-ghost use Rattle.stix_tree.specs.Reading.{IsRefusedAs};
+ghost use Rattle.stix_json.specs.declared.refusal.TreeRefusal.TheVariants as tree_refusal;
+ghost use Rattle.stix_bundles.specs.Objects.{data_in};
+ghost use Rattle.stix_json.specs.DataOf.{data_of};
+ghost use Rattle.stix_json.specs.Reading.{IsRefusedAs};
 ghost use Rattle.stix_command.specs.Judged.{IsJudged, IsBundleJudged, AreJudged};
 
 use crate::verdict::Verdict;
-use bundle_reader::{Bundle, BundleRefusal, read_bundle};
-use flow_edges::NoMemory;
-use match_run::InputRule;
+use stix_bundles::{Bundle, BundleRefusal, read_bundle};
+use flow_values::NoMemory;
+use match_log::InputRule;
 use std::alloc::Global;
-use stix_tree::{Tree, TreeRefusal, read_tree};
-use version_rules::{marking_breaks, version_breaks};
+use stix_json::{Tree, TreeRefusal, read_tree};
+use stix_versions::{marking_breaks, version_breaks};
 
 /// What bytes are, as a bundle.
 pub fn judge(alloc: Global, bytes: &[u8]) -> Result<Verdict, NoMemory>

@@ -4,12 +4,12 @@ ghost use Rattle.std.specs.Prelude.{◌≡◌, ℕ, List};
 ghost use Rattle.stix_command.specs.declared.verdict.Verdict.{Verdict};
 ghost use Rattle.stix_command.specs.Judged.{IsJudged};
 
-use object_rules::laws::one_list;
+use stix_objects::laws::one_list;
 
 /// Some bytes have one verdict. So what a check writes, and its status, are functions of the bytes.
 pub fn one_verdict()
     ensures { (bytes : List ℕ) (first second : Verdict) → IsJudged bytes first → IsJudged bytes second → first ≡ second }
 {
-    version_rules::laws::one_list();
+    stix_versions::laws::one_list();
     one_list();
 }

@@ -1,12 +1,12 @@
 ghost use Rattle.std.specs.Prelude.{◌≡◌};
 ghost use Rattle.flow_edges.specs.Faults.{Rose};
-ghost use Rattle.match_run.specs.FirstForm.{FirstForm, pattern_of, IsBuilt};
+ghost use Rattle.match_log.specs.FirstForm.{FirstForm, pattern_of, IsBuilt};
 ghost use Rattle.stix_command.specs.Matches.{EndsLog, EndsMatch, EndsPattern};
 
 use crate::ending::Ending;
 use flow_edges::{Sink, Source};
-use match_run::{MatchEnd, Mode, is_built, match_stream};
-use pattern_grammar::{Pattern, PatternRefusal, read_pattern};
+use match_log::{MatchEnd, Mode, is_built, match_stream};
+use pattern_reader::{Pattern, PatternRefusal, read_pattern};
 use std::alloc::Global;
 
 /// The greatest number of things that a match may hold, where the words name none.

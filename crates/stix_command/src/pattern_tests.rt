@@ -1,5 +1,6 @@
 use crate::run::run;
-use flow_edges::{Items, MemorySink, MemorySource};
+use flow_edges::{MemorySink, MemorySource};
+use flow_values::Items;
 use std::alloc::Global;
 use std::test::Fail;
 

@@ -5,9 +5,10 @@ ghost use Rattle.stix_command.specs.Matches.{IsRefusedPattern};
 ghost use Rattle.stix_command.specs.Shows.{IsLineOf, EndsShow, EndsLine};
 
 use crate::ending::Ending;
-use flow_edges::{Sink, Text, write_whole};
-use pattern_grammar::{PatternRefusal, read_pattern};
-use pattern_text::write_pattern;
+use flow_edges::{Sink, write_whole};
+use flow_values::Text;
+use pattern_reader::{PatternRefusal, read_pattern};
+use pattern_writer::write_pattern;
 use std::alloc::Global;
 
 /// The command `show`: writes the canonical text of a pattern and a line feed.

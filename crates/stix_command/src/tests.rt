@@ -1,6 +1,7 @@
 use crate::laws::one_verdict;
 use crate::run::run;
-use flow_edges::{Items, MemorySink, MemorySource};
+use flow_edges::{MemorySink, MemorySource};
+use flow_values::Items;
 use std::alloc::{AllocError, Global};
 use std::test::Fail;
 

@@ -1,7 +1,7 @@
-use bundle_reader::ObjectBreak;
-use flow_edges::Items;
-use match_run::InputRule;
-use version_rules::{MarkingBreak, VersionBreak};
+use stix_bundles::ObjectBreak;
+use flow_values::Items;
+use match_log::InputRule;
+use stix_versions::{MarkingBreak, VersionBreak};
 
 /// What a check finds of an input.
 #[derive(Debug, Drop)]

@@ -1,4 +1,4 @@
-use flow_edges::Text;
+use flow_values::Text;
 
 /// An identifier: the kind of the object that it names, and the number of its UUID.
 #[derive(Debug, Drop)]

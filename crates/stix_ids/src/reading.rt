@@ -7,7 +7,7 @@ ghost use Rattle.stix_ids.specs.Reading.{IsRefused};
 
 use crate::parts::Parts;
 use crate::{Id, IdRefusal};
-use flow_edges::Text;
+use flow_values::Text;
 use std::alloc::Global;
 
 /// The identifier that the text is: a kind, `--` and a UUID in hyphenated form, with hex digits of

@@ -1,4 +1,4 @@
-use flow_edges::NoMemory;
+use flow_values::NoMemory;
 use std::error::Error;
 use std::fmt;
 

@@ -1,5 +1,5 @@
 use crate::*;
-use flow_edges::Text;
+use flow_values::Text;
 use std::alloc::Global;
 use std::process::Abort;
 use std::test::Fail;

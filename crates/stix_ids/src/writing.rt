@@ -5,7 +5,7 @@ ghost use Rattle.stix_ids.specs.Identifier.{IsCanonicalTextOf};
 use crate::Id;
 use crate::hyphenated::write_number;
 use crate::parts::MARKED_LENGTH;
-use flow_edges::{NoMemory, Text};
+use flow_values::{NoMemory, Text};
 use std::alloc::Global;
 
 /// The canonical text of the identifier, in lower-case digits. Memory is taken once.

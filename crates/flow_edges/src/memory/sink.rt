@@ -4,7 +4,8 @@ ghost use Rattle.flow_edges.specs.Flow.{written_with};
 ghost use Rattle.flow_edges.specs.Memory.{is_failing};
 
 use crate::fault::counted_fault;
-use crate::{Fault, Items, NoMemory, Sink};
+use crate::Sink;
+use flow_values::{Fault, Items, NoMemory};
 use std::alloc::Global;
 use std::marker::Model;
 

@@ -4,7 +4,8 @@ ghost use Rattle.flow_edges.specs.Flow.{left_after, IsNextOf, IsAtEnd};
 ghost use Rattle.flow_edges.specs.Memory.{is_failing};
 
 use crate::fault::counted_fault;
-use crate::{Fault, Items, Source};
+use crate::Source;
+use flow_values::{Fault, Items};
 use std::marker::Model;
 
 /// Bytes in memory that are read piece by piece, with calls that fail.

@@ -1,6 +1,7 @@
 ghost use Rattle.std.specs.Prelude.{None};
 
-use crate::{Fault, Sink};
+use crate::Sink;
+use flow_values::Fault;
 
 /// A sink that takes all bytes, and keeps none.
 #[derive(Drop)]

@@ -1,6 +1,7 @@
 ghost use Rattle.std.specs.Prelude.{◌≡◌, ◌≤◌, Some};
 
-use crate::{Fault, Items, Source};
+use crate::Source;
+use flow_values::{Fault, Items};
 use std::marker::Model;
 
 /// Bytes in memory that are read piece by piece, without fail. Contracts see the bytes that are left.

@@ -1,7 +1,8 @@
 ghost use Rattle.std.specs.Prelude.{◌≡◌, None};
 
 use crate::fault::counted_fault;
-use crate::{Fault, Source};
+use crate::Source;
+use flow_values::Fault;
 use std::io::Read;
 use std::marker::Model;
 

@@ -1,7 +1,8 @@
 ghost use Rattle.std.specs.Prelude.{◌≡◌, None};
 
 use crate::fault::counted_fault;
-use crate::{Fault, Sink};
+use crate::Sink;
+use flow_values::Fault;
 use std::io::Write;
 use std::marker::Model;
 

@@ -2,7 +2,8 @@ ghost use Rattle.std.specs.Prelude.{None};
 
 use super::listed;
 use crate::fault::counted_fault;
-use crate::{Fault, Items, MemorySink, QuietSink, Sink, write_pieces, write_whole};
+use crate::{MemorySink, QuietSink, Sink, write_pieces, write_whole};
+use flow_values::{Fault, Items};
 use std::test::Fail;
 
 /// Takes three bytes a write. One call fails, by a `Fault` or by an answer of 0.

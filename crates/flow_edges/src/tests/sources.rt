@@ -1,5 +1,6 @@
 use super::listed;
-use crate::{Fault, MemorySource, QuietSource, Source};
+use crate::{MemorySource, QuietSource, Source};
+use flow_values::Fault;
 use std::test::Fail;
 
 #[test]

@@ -1,4 +1,4 @@
-use Rattle.pattern_syntax.specs.Tree.{compared}
+use Rattle.pattern_grammar.specs.Tree.{compared}
 use Rattle.pattern_faults.proofs.Parts.{all_fault, any_fault}
 use Rattle.pattern_faults.proofs.comparison_faults.+comparison_fault.Goals as goal
 

@@ -1,5 +1,5 @@
 use Rattle.std.proofs.Common.{inl, inr}
-use Rattle.pattern_syntax.specs.Tree.{shape}
+use Rattle.pattern_grammar.specs.Tree.{shape}
 use Rattle.pattern_faults.proofs.Parts.{two_faults, qualified_fault}
 use Rattle.pattern_faults.proofs.comparison_faults.+pattern_fault.Goals as goal
 

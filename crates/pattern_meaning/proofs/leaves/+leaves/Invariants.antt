@@ -1,5 +1,5 @@
 use Rattle.std.proofs.Common.{◌+◌, ◌*◌}
-use Rattle.pattern_syntax.specs.Tree.{compared}
+use Rattle.pattern_grammar.specs.Tree.{compared}
 use Rattle.pattern_meaning.specs.Formula.{size}
 use Rattle.pattern_meaning.proofs.leaves.+leaves.Given as goal
 

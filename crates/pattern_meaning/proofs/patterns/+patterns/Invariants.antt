@@ -1,5 +1,5 @@
 use Rattle.std.proofs.Common.{◌+◌, ◌*◌}
-use Rattle.pattern_syntax.specs.Tree.{shape}
+use Rattle.pattern_grammar.specs.Tree.{shape}
 use Rattle.pattern_meaning.specs.Meant.{patterns_in}
 use Rattle.pattern_meaning.proofs.patterns.+patterns.Given as goal
 

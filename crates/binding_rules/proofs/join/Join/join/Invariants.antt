@@ -1,7 +1,0 @@
-use Rattle.std.proofs.Common.{◌≡◌}
-use Rattle.std.specs.Prelude.{take}
-use Rattle.binding_rules.specs.Found.{things, joins}
-use Rattle.binding_rules.proofs.join.Join.join.Given as goal
-
-abbrev pub invariant-loop-first : goal.invariant-loop-first
-invariant-loop-first l = things l.out.items ≡ joins l.self l.window (things (take l.first-index l.firsts)) (things l.seconds)

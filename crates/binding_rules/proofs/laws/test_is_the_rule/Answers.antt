@@ -1,5 +1,0 @@
-use Rattle.binding_rules.proofs.Rules.{binding_to, binding_from}
-use Rattle.binding_rules.proofs.laws.test_is_the_rule.Goals as goal
-
-pub returns : goal.returns
-returns c o p x = (binding_to o p x, binding_from o p x)

@@ -1,9 +1,0 @@
-use Rattle.std.proofs.Common.{◌≡◌}
-use Rattle.std.specs.Prelude.{drop, map}
-use Rattle.binding_rules.specs.Tree.{tree_of, disjoint, many_of}
-use Rattle.binding_rules.proofs.Parts.{all_apart}
-use Rattle.binding_rules.proofs.numbers.+disjoint.Given as goal
-
-abbrev pub invariant-all_disjoint-loop-bind : goal.invariant-all_disjoint-loop-bind
-invariant-all_disjoint-loop-bind l =
-    disjoint (many_of (map tree_of l.binds)) (tree_of l.other) ≡ all_apart (map tree_of (drop l.bind-index l.binds)) (tree_of l.other)

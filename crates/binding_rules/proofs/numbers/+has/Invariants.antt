@@ -1,9 +1,0 @@
-use Rattle.std.proofs.Common.{◌≡◌}
-use Rattle.std.specs.Prelude.{drop, map}
-use Rattle.binding_rules.specs.Tree.{tree_of, has, many_of}
-use Rattle.binding_rules.proofs.Parts.{any_has}
-use Rattle.binding_rules.proofs.numbers.+has.Given as goal
-
-abbrev pub invariant-any_has_number-loop-bind : goal.invariant-any_has_number-loop-bind
-invariant-any_has_number-loop-bind l =
-    has l.number (many_of (map tree_of l.binds)) ≡ any_has l.number (map tree_of (drop l.bind-index l.binds))

@@ -1,8 +1,0 @@
-use Rattle.std.proofs.Common.{◌≡◌}
-use Rattle.std.specs.Prelude.{map}
-use Rattle.binding_rules.specs.Tree.{tree_of}
-use Rattle.binding_rules.specs.Ranks.{ranked_trees}
-use Rattle.binding_rules.proofs.order.ranked.Given as goal
-
-abbrev pub invariant-loop-bind : goal.invariant-loop-bind
-invariant-loop-bind l = ranked_trees l.all.items ≡ map tree_of l.yielded

@@ -1,7 +1,0 @@
--- For private clauses: binds beside their ranks.
-use Rattle.std.specs.Prelude.{List, map}
-use Rattle.binding_rules.specs.declared.ranked.Ranked.{Ranked}
-use Rattle.binding_rules.specs.Tree.{Tree, tree_of}
-
-abbrev pub ranked_trees : List Ranked → List Tree
-ranked_trees rs = map (λ r. tree_of r.bind) rs

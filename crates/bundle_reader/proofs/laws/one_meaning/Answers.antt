@@ -1,8 +1,0 @@
-use Rattle.bundle_reader.proofs.Meanings.{one_meaning, same_meaning}
-use Rattle.bundle_reader.proofs.laws.one_meaning.Goals as goal
-
-pub returns-clause-one : goal.returns-clause-one
-returns-clause-one c = one_meaning c.one_identifier.ensures
-
-pub returns-clause-same : goal.returns-clause-same
-returns-clause-same c = same_meaning c.one_identifier.ensures

@@ -1,7 +1,0 @@
-use Rattle.stix_tree.specs.DataOf.{data_of}
-use Rattle.bundle_reader.proofs.Properties.{no_id}
-use Rattle.bundle_reader.proofs.property.identifier.Goals as goal
-
-pub returns-clause-none : goal.returns-clause-none
-returns-clause-none c =
-    no_id (data_of c.args.object.now) c.in_ok-text_at.field-0.now c.in_ok-text_at.ensures c.read.result c.read.ensures.named c.ok.result c.ok.ensures.value

@@ -1,0 +1,76 @@
+-- The bytes that go by as lines, and those that are held and left: together they stay the same.
+use Rattle.std.proofs.Common.{◌≡◌, ℕ, ◌+◌, Bool, true, false, List, [], ◌∷◌, ◌++◌, Option, option_map, Result, Ok, Err, IsErrAnd, subst, refl, sym, ap, ◌∙◌, arith, append_assoc, length-append, MatchBool}
+use Rattle.flow_lines.specs.Lines.{LinesState, width, AccountsFor, LosesNone}
+use Rattle.flow_lines.specs.declared.refusal.LineRefusal.{LineRefusal}
+use Rattle.flow_lines.specs.declared.line.Line.{Line}
+use Rattle.flow_lines.specs.declared.refusal.LineRefusal.TheVariants.{Fault, LineTooLong, InputTooLong, NoMemory}
+use Rattle.flow_lines.specs.LinesSteps.{told_bytes, ReadsToLineFeed, ReadsLast, ReadsPart}
+use Rattle.flow_lines.proofs.Ahead.{option_map-map, option_map-same}
+
+-- nothing went by yet
+pub accounts-start : (held : List ℕ) (given : ℕ) (left : Option (List ℕ)) → AccountsFor held held given given left left
+accounts-start held given left = record { gone = []; bytes = refl; counted = omega arith }
+
+-- some lines went by, and then some more
+pub accounts-then : (held held_new held_last : List ℕ) (given given_new given_last : ℕ) (left left_new left_last : Option (List ℕ))
+    → AccountsFor held held_new given given_new left left_new → AccountsFor held_new held_last given_new given_last left_new left_last
+    → AccountsFor held held_last given given_last left left_last
+accounts-then held held_new held_last given given_new given_last left left_new left_last first then = record {
+  gone = first.gone ++ then.gone;
+  bytes = first.bytes ∙ sym (option_map-map (λ bytes. first.gone ++ bytes) (λ bytes. held_new ++ bytes) left_new)
+      ∙ ap (option_map (λ bytes. first.gone ++ bytes)) then.bytes
+      ∙ option_map-map (λ bytes. first.gone ++ bytes) (λ bytes. then.gone ++ (held_last ++ bytes)) left_last
+      ∙ option_map-same _ _ left_last (λ bytes. sym (append_assoc first.gone then.gone (held_last ++ bytes)));
+  counted = omega (arith, first.counted, then.counted, length-append first.gone then.gone);
+}
+
+-- a line went by
+pub accounts-read : (number place wide given : ℕ) (chunk line chunk_new : List ℕ) (left left_new : Option (List ℕ)) (closed : Bool)
+    → MatchBool closed (ReadsToLineFeed number place (told_bytes [] chunk left) left_new line chunk_new) (ReadsLast number place (told_bytes [] chunk left) left_new line chunk_new)
+    → wide ≡ width (record { bytes = line; closed = closed })
+    → AccountsFor chunk chunk_new given (given + wide) left left_new
+accounts-read number place wide given chunk line chunk_new left left_new true reads is = record {
+  gone = line ++ 10 ∷ [];
+  bytes = reads.bytes ∙ option_map-same _ _ left_new (λ bytes. sym (append_assoc line (10 ∷ []) (chunk_new ++ bytes)));
+  counted = omega (arith, is, length-append line (10 ∷ []));
+}
+accounts-read number place wide given chunk line chunk_new left left_new false reads is = record {
+  gone = line;
+  bytes = reads.bytes ∙ ap (λ chunk. option_map (λ bytes. line ++ (chunk ++ bytes)) left_new) (sym reads.drained);
+  counted = omega (arith, is);
+}
+
+-- the source failed in a line
+pub accounts-part : (given : ℕ) (chunk line chunk_new : List ℕ) (left left_new : Option (List ℕ))
+    → ReadsPart (told_bytes [] chunk left) left_new line chunk_new → AccountsFor chunk (line ++ chunk_new) given given left left_new
+accounts-part given chunk line chunk_new left left_new reads = record {
+  gone = [];
+  bytes = reads.bytes ∙ option_map-same _ _ left_new (λ bytes. sym (append_assoc line [] bytes)) ∙ ap (λ chunk. option_map (λ bytes. (line ++ chunk) ++ bytes) left_new) (sym reads.drained);
+  counted = omega arith;
+}
+
+-- the same after a line is put away
+pub accounts-emptied : (held line chunk : List ℕ) (given given_new : ℕ) (left left_new : Option (List ℕ)) → line ≡ []
+    → AccountsFor held chunk given given_new left left_new → AccountsFor held (line ++ chunk) given given_new left left_new
+accounts-emptied held line chunk given given_new left left_new empty accounts = rw empty accounts
+
+-- after a fault no byte is lost, since none was before
+loses-refused : (before later after : LinesState) (left left_later left_after : Option (List ℕ)) (refusal : LineRefusal)
+    → AccountsFor before.held later.held before.given later.given left left_later
+    → (refusal ≡ Fault → AccountsFor later.held after.held later.given after.given left_later left_after)
+    → LosesNone before after left left_after (Err refusal)
+loses-refused before later after left left_later left_after Fault first kept =
+    accounts-then before.held later.held after.held before.given later.given after.given left left_later left_after first (kept refl)
+loses-refused before later after left left_later left_after (LineTooLong n) first kept = tt
+loses-refused before later after left left_later left_after (InputTooLong n) first kept = tt
+loses-refused before later after left left_later left_after NoMemory first kept = tt
+
+-- the same of an answer that passes the refusal on
+pub loses-passed_on : (before later after : LinesState) (left left_later left_after : Option (List ℕ)) (refusal : LineRefusal) (answer : Result (Option Line) LineRefusal)
+    → IsErrAnd answer (λ e. e ≡ refusal)
+    → AccountsFor before.held later.held before.given later.given left left_later
+    → (refusal ≡ Fault → AccountsFor later.held after.held later.given after.given left_later left_after)
+    → LosesNone before after left left_after answer
+loses-passed_on before later after left left_later left_after refusal (Ok line) passed first kept = absurd passed
+loses-passed_on before later after left left_later left_after refusal (Err e) passed first kept =
+    subst (λ e. LosesNone before after left left_after (Err e)) (sym passed) (loses-refused before later after left left_later left_after refusal first kept)

@@ -1,0 +1,120 @@
+-- How the bytes of an input are cut into lines, from what a reader has of them.
+use Rattle.std.proofs.Common.{◌≡◌, ℕ, ◌<◌, ◌≤◌, Bool, true, false, List, [], ◌∷◌, ◌++◌, length, drop, Option, Some, None, option_map, IfSome, MatchBool, refl, sym, ap, ◌∙◌, arith, append_assoc, length-append, cond, eqb, ◌⊎◌, inl, inr}
+use Rattle.std.proofs.lemmas.List.{take-append-drop}
+use Rattle.std.proofs.lemmas.List.Elements.{All-append, All-cons, All-nil}
+use Rattle.std.proofs.lemmas.List.Splits.{slice_split_at, slice_split_none}
+use Rattle.std.proofs.lemmas.Bool.{eqb-true}
+use Rattle.std.proofs.lemmas.Bool.Decides.{nat_tests}
+use Rattle.std.specs.List.{slice_split}
+use Rattle.flow_lines.specs.declared.refusal.TheConstants.{MAX_INPUT}
+use Rattle.flow_lines.specs.declared.refusal.LineRefusal.{LineRefusal}
+use Rattle.flow_edges.specs.Flow.{left_after, IsNextOf}
+use Rattle.flow_lines.specs.Lines.{is_line_feed, IsNoLineFeed, NoLineFeed, raw_lines, raw_lines_of, length_refusal}
+use Rattle.flow_lines.specs.LinesSteps.{told_bytes, TakesToLineFeed, TakesAll, IsFirstRefused}
+
+-- ---- the bytes that a source tells
+
+pub told-taken : (line chunk : List ℕ) (left : Option (List ℕ)) → told_bytes line chunk left ≡ told_bytes (line ++ chunk) [] left
+told-taken line chunk None = refl
+told-taken line chunk (Some bytes) = ap Some (sym (append_assoc line chunk bytes))
+
+pub told-filled : (line more : List ℕ) (left after : Option (List ℕ)) → IsNextOf more left → after ≡ left_after (length more) left → told_bytes line [] left ≡ told_bytes line more after
+told-filled line more None after next rest = ap (λ left. told_bytes line more left) (sym rest)
+told-filled line more (Some bytes) after next rest =
+    ap (λ all. Some (line ++ all)) (sym (take-append-drop (length more) bytes) ∙ ap (λ front. front ++ drop (length more) bytes) next) ∙ ap (λ left. told_bytes line more left) (sym rest)
+
+pub told-fed : (taken line chunk : List ℕ) (left : Option (List ℕ)) → told_bytes line (taken ++ 10 ∷ chunk) left ≡ option_map (λ bytes. (line ++ taken) ++ 10 ∷ (chunk ++ bytes)) left
+told-fed taken line chunk None = refl
+told-fed taken line chunk (Some bytes) = ap Some (ap (λ tail. line ++ tail) (append_assoc taken (10 ∷ chunk) bytes) ∙ sym (append_assoc line taken (10 ∷ (chunk ++ bytes))))
+
+-- ---- lines of whole bytes
+
+split-first : (bytes : List ℕ) → (first : List ℕ) × (later : List (List ℕ)) × (slice_split is_line_feed bytes ≡ first ∷ later)
+split-first [] = ([], [], refl)
+split-first (byte ∷ bytes) = go (is_line_feed byte) refl (split-first bytes)
+  where
+    go : (b : Bool) → is_line_feed byte ≡ b → ((first : List ℕ) × (later : List (List ℕ)) × (slice_split is_line_feed bytes ≡ first ∷ later)) → (first : List ℕ) × (later : List (List ℕ)) × (slice_split is_line_feed (byte ∷ bytes) ≡ first ∷ later)
+    go true e tail = ([], slice_split is_line_feed bytes, rw e refl)
+    go false e (first, later, is) = (byte ∷ first, later, rw (e, is) refl)
+
+pub raw_lines-fed : (line bytes : List ℕ) → NoLineFeed line → raw_lines (line ++ 10 ∷ bytes) ≡ record { bytes = line; closed = true } ∷ raw_lines bytes
+raw_lines-fed line bytes plain =
+    let (first, later, is) = split-first bytes in
+    ap raw_lines_of (slice_split_at is_line_feed line 10 bytes plain refl ∙ ap (λ parts. line ∷ parts) is) ∙ ap (λ parts. record { bytes = line; closed = true } ∷ raw_lines_of parts) (sym is)
+
+pub raw_lines-last : (line : List ℕ) → NoLineFeed line → 0 < length line → raw_lines line ≡ record { bytes = line; closed = false } ∷ []
+raw_lines-last line plain some =
+    let full : eqb (length line) 0 ≡ false = grind (arith, nat_tests) in
+    ap raw_lines_of (slice_split_none is_line_feed line plain) ∙ ap (λ none. cond none [] (record { bytes = line; closed = false } ∷ [])) full
+
+-- ---- refusals for length
+
+-- a line that is too long stays so, however it goes on
+pub length_refusal-more : (number place size more : ℕ) (closed : Bool) (refusal : LineRefusal) → size ≤ more → length_refusal number place size false ≡ Some refusal → length_refusal number place more closed ≡ Some refusal
+length_refusal-more number place size more closed refusal fewer is = grind (arith, nat_tests)
+
+pub length_refusal-some : (number place size : ℕ) (refusal : LineRefusal) → place ≤ MAX_INPUT → length_refusal number place size false ≡ Some refusal → 0 < size
+length_refusal-some number place size refusal within is = grind (arith, nat_tests)
+
+-- the bytes up to a line feed and after it, or none is there
+cut : (bytes : List ℕ) → ((front : List ℕ) × (back : List ℕ) × (bytes ≡ front ++ 10 ∷ back) × NoLineFeed front) ⊎ NoLineFeed bytes
+cut [] = inr (All-nil IsNoLineFeed)
+cut (byte ∷ bytes) = go (is_line_feed byte) refl (cut bytes)
+  where
+    go : (b : Bool) → is_line_feed byte ≡ b → (((front : List ℕ) × (back : List ℕ) × (bytes ≡ front ++ 10 ∷ back) × NoLineFeed front) ⊎ NoLineFeed bytes) → ((front : List ℕ) × (back : List ℕ) × (byte ∷ bytes ≡ front ++ 10 ∷ back) × NoLineFeed front) ⊎ NoLineFeed (byte ∷ bytes)
+    go true e later = inl ([], bytes, ap (λ b. b ∷ bytes) (eqb-true byte 10 e), All-nil IsNoLineFeed)
+    go false e (inl (front, back, is, plain)) = inl (byte ∷ front, back, ap (λ tail. byte ∷ tail) is, All-cons IsNoLineFeed byte front e plain)
+    go false e (inr plain) = inr (All-cons IsNoLineFeed byte bytes e plain)
+
+-- a line that is refused before its end is known is the first line that is refused
+pub first_refused : (number place : ℕ) (line tail : List ℕ) (refusal : LineRefusal) → place ≤ MAX_INPUT → NoLineFeed line → length_refusal number place (length line) false ≡ Some refusal → IsFirstRefused number place refusal (line ++ tail)
+first_refused number place line tail refusal within plain is = go (cut tail)
+  where
+    go : (((front : List ℕ) × (back : List ℕ) × (tail ≡ front ++ 10 ∷ back) × NoLineFeed front) ⊎ NoLineFeed tail) → IsFirstRefused number place refusal (line ++ tail)
+    go (inl (front, back, at, clear)) = record {
+      first = record { bytes = line ++ front; closed = true };
+      later = raw_lines back;
+      lines = ap raw_lines (ap (λ t. line ++ t) at ∙ sym (append_assoc line front (10 ∷ back))) ∙ raw_lines-fed (line ++ front) back (All-append IsNoLineFeed line front plain clear);
+      refused = length_refusal-more number place (length line) (length (line ++ front)) true refusal (omega (arith, length-append line front)) is;
+    }
+    go (inr clear) = record {
+      first = record { bytes = line ++ tail; closed = false };
+      later = [];
+      lines = raw_lines-last (line ++ tail) (All-append IsNoLineFeed line tail plain clear) (omega (arith, length-append line tail, length_refusal-some number place (length line) refusal within is));
+      refused = length_refusal-more number place (length line) (length (line ++ tail)) false refusal (omega (arith, length-append line tail)) is;
+    }
+
+-- the same of a line that is whole
+pub first_refused-fed : (number place : ℕ) (line tail : List ℕ) (refusal : LineRefusal) → NoLineFeed line → length_refusal number place (length line) true ≡ Some refusal → IsFirstRefused number place refusal (line ++ 10 ∷ tail)
+first_refused-fed number place line tail refusal plain is = record {
+  first = record { bytes = line; closed = true };
+  later = raw_lines tail;
+  lines = raw_lines-fed line tail plain;
+  refused = is;
+}
+
+IfSome-map : {A B : Type 0} (P : B → Type 0) (f : A → B) (left : Option A) → ((a : A) → P (f a)) → IfSome (option_map f left) P
+IfSome-map P f None each = tt
+IfSome-map P f (Some a) each = each a
+
+-- the bytes that a taken line stands among
+pub told-to_feed : (all left : Option (List ℕ)) (line chunk line_new chunk_new : List ℕ) → all ≡ told_bytes line chunk left → TakesToLineFeed chunk chunk_new line line_new → all ≡ option_map (λ bytes. line_new ++ 10 ∷ (chunk_new ++ bytes)) left
+told-to_feed all left line chunk line_new chunk_new is takes =
+    is ∙ ap (λ chunk. told_bytes line chunk left) takes.chunk ∙ told-fed takes.taken line chunk_new left ∙ ap (λ front. option_map (λ bytes. front ++ 10 ∷ (chunk_new ++ bytes)) left) (sym takes.line)
+
+pub told-all : (all left : Option (List ℕ)) (line chunk line_new chunk_new : List ℕ) → all ≡ told_bytes line chunk left → TakesAll chunk chunk_new line line_new → all ≡ told_bytes line_new [] left
+told-all all left line chunk line_new chunk_new is takes = is ∙ told-taken line chunk left ∙ ap (λ line. told_bytes line [] left) (sym takes.line)
+
+pub plain-to_feed : (line chunk line_new chunk_new : List ℕ) → NoLineFeed line → TakesToLineFeed chunk chunk_new line line_new → NoLineFeed line_new
+plain-to_feed line chunk line_new chunk_new plain takes = rw takes.line (All-append IsNoLineFeed line takes.taken plain takes.plain)
+
+pub plain-all : (line chunk line_new chunk_new : List ℕ) → NoLineFeed line → TakesAll chunk chunk_new line line_new → NoLineFeed line_new
+plain-all line chunk line_new chunk_new plain takes = rw takes.line (All-append IsNoLineFeed line chunk plain takes.plain)
+
+pub refused-step : (number place : ℕ) (all left : Option (List ℕ)) (line chunk line_new chunk_new : List ℕ) (closed : Bool) (refusal : LineRefusal) → place ≤ MAX_INPUT → NoLineFeed line → all ≡ told_bytes line chunk left
+    → MatchBool closed (TakesToLineFeed chunk chunk_new line line_new) (TakesAll chunk chunk_new line line_new)
+    → length_refusal number place (length line_new) closed ≡ Some refusal → IfSome all (IsFirstRefused number place refusal)
+refused-step number place all left line chunk line_new chunk_new true refusal within plain is takes refused =
+    rw (told-to_feed all left line chunk line_new chunk_new is takes) (IfSome-map _ _ left (λ bytes. first_refused-fed number place line_new (chunk_new ++ bytes) refusal (plain-to_feed line chunk line_new chunk_new plain takes) refused))
+refused-step number place all left line chunk line_new chunk_new false refusal within plain is takes refused =
+    rw (told-all all left line chunk line_new chunk_new is takes) (IfSome-map _ _ left (λ bytes. first_refused number place line_new bytes refusal within (plain-all line chunk line_new chunk_new plain takes) refused))

@@ -1,0 +1,34 @@
+-- Whole lines among the bytes held: where there is one, no read is needed.
+use Rattle.std.proofs.Common.{◌≡◌, ℕ, Option, MatchBool, Bool, true, false, List, [], ◌∷◌, length, if◌then◌else◌, refl, sym, ap, ◌∙◌, ◌==◌, ◌||◌, not}
+use Rattle.std.proofs.lemmas.List.Splits.{slice_split_none}
+use Rattle.std.specs.List.{list_any}
+use Rattle.flow_lines.specs.Lines.{is_line_feed, NoLineFeed, raw_lines, raw_lines_of, content, is_blank, is_whole, HoldsLine}
+use Rattle.flow_lines.specs.LinesSteps.{ReadsToLineFeed, ReadsLast, IsHeld}
+use Rattle.flow_lines.proofs.Cutting.{raw_lines-fed}
+
+-- the last line, which has no line feed, isn't whole
+last-unwhole : (part : List ℕ) (none : Bool) → list_any is_whole (if none then [] else record { bytes = part; closed = false } ∷ []) ≡ false
+last-unwhole part true = refl
+last-unwhole part false = refl
+
+-- without a line feed there is no whole line
+pub holds_line-feed : (bytes : List ℕ) → HoldsLine bytes → ¬ (NoLineFeed bytes)
+holds_line-feed bytes holds plain =
+    let none : list_any is_whole (raw_lines bytes) ≡ false =
+    ap (λ parts. list_any is_whole (raw_lines_of parts)) (slice_split_none is_line_feed bytes plain) ∙ last-unwhole bytes (length bytes == 0) in
+    cc
+
+-- where a blank line goes by, the whole line stands behind it
+pub holds_line-later : (line chunk chunk_new bytes : List ℕ) (closed : Bool) → NoLineFeed line → IsHeld chunk chunk_new line closed
+    → bytes ≡ content (record { bytes = line; closed = closed }) → is_blank bytes ≡ true → HoldsLine chunk → HoldsLine chunk_new
+holds_line-later line chunk chunk_new bytes closed plain held same blank holds =
+    let empty : is_blank (content (record { bytes = line; closed = true })) ≡ true =
+    ap (λ closed. is_blank (content (record { bytes = line; closed = closed }))) (sym held.whole) ∙ ap is_blank (sym same) ∙ blank in
+    ap (λ blank. not blank || list_any is_whole (raw_lines chunk_new)) (sym empty)
+    ∙ ap (list_any is_whole) (sym (raw_lines-fed line chunk_new plain)) ∙ ap (λ all. list_any is_whole (raw_lines all)) (sym held.cut) ∙ holds
+
+-- a line that was read has no line feed
+pub reads-plain : (number place : ℕ) (all left : Option (List ℕ)) (line chunk : List ℕ) (closed : Bool)
+    → MatchBool closed (ReadsToLineFeed number place all left line chunk) (ReadsLast number place all left line chunk) → NoLineFeed line
+reads-plain number place all left line chunk true reads = reads.plain
+reads-plain number place all left line chunk false reads = reads.plain

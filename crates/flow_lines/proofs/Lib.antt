@@ -1,0 +1,4 @@
+pub mod Cutting
+pub mod Ahead
+pub mod Held
+pub mod Accounts

@@ -1,0 +1,37 @@
+use Rattle.std.proofs.Common.{rules, ap, Ok, Err, sym, ◌∙◌, arith}
+use Rattle.flow_lines.specs.Lines.{is_blank}
+use Rattle.flow_lines.specs.LinesSteps.{lines_state}
+use Rattle.flow_lines.proofs.Accounts.{accounts-then, accounts-emptied, loses-passed_on}
+use Rattle.flow_lines.proofs.cursor.Cursor.next_line.Goals as goal
+
+pub returns-in_err-read_next-clause-accounted : goal.returns-in_err-read_next-clause-accounted
+returns-in_err-read_next-clause-accounted g c =
+    loses-passed_on
+    (lines_state c.args.self.now.line.items c.args.self.now.chunk c.args.self.now.count c.args.self.now.given)
+    (lines_state c.lines.self.line.items c.lines.self.chunk c.lines.self.count c.lines.self.given)
+    (lines_state c.read_next.new.self.line.items c.read_next.new.self.chunk c.read_next.new.self.count c.read_next.new.self.given)
+    _ _ _ c.in_err-read_next.field-0.0 c.from_residual.result c.from_residual.ensures.1 c.lines.invariant.accounted (λ fault. c.in_err-read_next.ensures.kept (ap Err fault))
+
+pub returns-then-not-branch-clause-accounted : goal.returns-then-not-branch-clause-accounted
+returns-then-not-branch-clause-accounted g c =
+    let between = c.in_ok-read_next.ensures.ended (ap Ok c.if-not-branch.true) in
+    accounts-then _ _ _ _ _ _ _ _ _ c.lines.invariant.accounted (accounts-emptied _ _ _ _ _ _ _ between.empty c.in_ok-read_next.ensures.accounted)
+
+pub returns-then-not-is_blank_line-clause-accounted : goal.returns-then-not-is_blank_line-clause-accounted
+returns-then-not-is_blank_line-clause-accounted g c =
+    accounts-then _ _ _ _ _ _ _ _ _ c.lines.invariant.accounted (accounts-emptied _ _ _ _ _ _ _ (ap (λ v. v.items) c.replace-bytes.ensures.after ∙ c.new.ensures.items) c.in_ok-read_next.ensures.accounted)
+
+pub lines-preserved : goal.lines-preserved
+lines-preserved g c =
+    let next = rw c.if-not-branch.false at c.in_ok-read_next.ensures.next in
+    record {
+      between = search rules;
+      ahead = search rules;
+      accounted = accounts-then _ _ _ _ _ _ _ _ _ c.lines.invariant.accounted (accounts-emptied _ _ _ _ _ _ _ c.clear.ensures.items c.in_ok-read_next.ensures.accounted);
+      held = λ holds. (
+        c.read_next.ensures.unread (c.lines.invariant.held holds).1 ∙ (c.lines.invariant.held holds).0,
+        c.in_ok-read_next.ensures.held c.if-not-branch.false (c.lines.invariant.held holds).1 (ap is_blank (sym c.deref.ensures.value) ∙ sym c.if-not-is_blank_line.ensures),
+      );
+      moved = omega (arith, next.moved);
+      later = omega arith;
+    }

@@ -1,0 +1,30 @@
+use Rattle.std.proofs.Common.{◌≡◌, ◌+◌, arith}
+use Rattle.flow_lines.specs.Lines.{width}
+use Rattle.flow_lines.proofs.Ahead.{reads-next}
+use Rattle.flow_lines.proofs.Accounts.{accounts-read}
+use Rattle.flow_lines.proofs.Held.{holds_line-feed, holds_line-later, reads-plain}
+use Rattle.flow_lines.proofs.cursor.Cursor.read_next.Goals as goal
+
+pub returns-clause-next : goal.returns-clause-next
+returns-clause-next g c =
+    let wide : c.len.result + c.from.result ≡ width (record { bytes = c.read_line.new.line.items; closed = c.in_ok-closed.closed }) = grind arith in
+    reads-next c.args.self.now.chunk c.read_line.new.line.items c.read_line.new.chunk c.strip_return.new.line.items c.args.self.now.count c.args.self.now.given (c.len.result + c.from.result)
+    (g.S.Source.left c.args.source.now) (g.S.Source.left c.read_line.new.source) c.in_ok-closed.closed c.in_ok-closed.ensures.line wide c.if-width-eq0.false c.strip_return.ensures c.in_ok-closed.ensures.small c.requires.numbered
+
+pub returns-clause-accounted : goal.returns-clause-accounted
+returns-clause-accounted g c =
+    let wide : c.len.result + c.from.result ≡ width (record { bytes = c.read_line.new.line.items; closed = c.in_ok-closed.closed }) = grind arith in
+    rw c.requires.empty (accounts-read _ _ _ _ _ _ _ _ _ _ c.in_ok-closed.ensures.line wide)
+
+pub returns-clause-unread : goal.returns-clause-unread
+returns-clause-unread g c holds = c.read_line.ensures.unread (holds_line-feed _ holds)
+
+pub returns-in_err-closed-clause-unread : goal.returns-in_err-closed-clause-unread
+returns-in_err-closed-clause-unread g c holds = c.read_line.ensures.unread (holds_line-feed _ holds)
+
+pub returns-then-width-eq0-clause-unread : goal.returns-then-width-eq0-clause-unread
+returns-then-width-eq0-clause-unread g c holds = c.read_line.ensures.unread (holds_line-feed _ holds)
+
+pub returns-clause-held : goal.returns-clause-held
+returns-clause-held g c found holds blank =
+    holds_line-later _ _ _ _ _ (reads-plain _ _ _ _ _ _ _ c.in_ok-closed.ensures.line) (c.in_ok-closed.ensures.held (holds_line-feed _ holds)) c.strip_return.ensures blank holds

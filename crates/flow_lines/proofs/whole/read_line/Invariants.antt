@@ -1,0 +1,18 @@
+use Rattle.std.proofs.Common.{◌≡◌, ◌≤◌, ◌+◌, ◌-◌, [], length}
+use Rattle.flow_lines.specs.declared.refusal.TheConstants.{MAX_INPUT}
+use Rattle.flow_lines.specs.LinesSteps.{told_bytes}
+use Rattle.flow_lines.specs.Lines.{NoLineFeed}
+use Rattle.flow_lines.proofs.whole.read_line.Given as goal
+
+abbrev pub invariant-reads : goal.invariant-reads
+invariant-reads g l = record {
+  bytes : told_bytes [] l.fn.chunk (g.S.Source.left l.fn.source) ≡ told_bytes l.line.items l.chunk (g.S.Source.left l.source);
+  plain : NoLineFeed l.line.items;
+  within : l.start.place + length l.line.items ≤ MAX_INPUT;
+  room : length l.chunk ≤ 65536;
+  held : ¬ (NoLineFeed l.fn.chunk) → (l.source ≡ l.fn.source) × (l.chunk ≡ l.fn.chunk) × (l.line.items ≡ []);
+  later : g.S.Source.faults l.fn.source ≤ g.S.Source.faults l.source;
+}
+
+abbrev pub decreases-reads : goal.decreases-reads
+decreases-reads g l = 1099511693313 - (l.start.place + length l.line.items + length l.chunk)

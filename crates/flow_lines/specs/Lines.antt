@@ -1,0 +1,159 @@
+-- The lines of an input. A line ends with a line feed, which isn't part of it, and one carriage return before
+-- the line feed isn't part of it either. Bytes after the last line feed are a last line, where there are any.
+use Rattle.std.specs.Prelude.{◌≡◌, ⊤, ◌<◌, ◌≤◌, All, IfSome, Result, Ok, Err, ℕ, ◌+◌, ◌==◌, ◌||◌, ◌&&◌, List, [], ◌∷◌, ◌++◌, length, not, Bool, true, false, nat_lt, nat_le, if◌then◌else◌, Option, Some, None, option_map}
+use Rattle.std.specs.List.{slice_split, list_all, list_any}
+use Rattle.std.specs.Str.Lines.{strip_carriage_return}
+use Rattle.flow_lines.specs.declared.refusal.TheConstants.{MAX_LINE, MAX_INPUT}
+use Rattle.flow_lines.specs.declared.refusal.LineRefusal.{LineRefusal}
+use Rattle.flow_lines.specs.declared.refusal.LineRefusal.TheVariants.{Fault, LineTooLong, InputTooLong, NoMemory}
+use Rattle.flow_lines.specs.declared.line.Line.{Line}
+use Rattle.flow_edges.specs.Flow.{IsAtEnd}
+
+-- the byte 0x0A
+abbrev pub is_line_feed : ℕ → Bool
+is_line_feed byte = byte == 10
+
+-- any byte but that
+abbrev pub IsNoLineFeed : ℕ → Type 0
+IsNoLineFeed byte = is_line_feed byte ≡ false
+
+-- no byte is a line feed
+abbrev pub NoLineFeed : List ℕ → Type 0
+NoLineFeed bytes = All IsNoLineFeed bytes
+
+-- a line as it stands in the input: its bytes before the line feed, and whether it has one
+pub record RawLine : Type 0 where
+  pub bytes : List ℕ
+  pub closed : Bool
+
+-- the lines in the parts between line feeds: an empty last part is none
+abbrev pub raw_lines_of : List (List ℕ) → List RawLine
+raw_lines_of [] = []
+raw_lines_of (part ∷ []) = if length part == 0 then [] else record { bytes = part; closed = false } ∷ []
+raw_lines_of (part ∷ next ∷ parts) = record { bytes = part; closed = true } ∷ raw_lines_of (next ∷ parts)
+
+-- the lines of bytes, as they stand there
+abbrev pub raw_lines : List ℕ → List RawLine
+raw_lines bytes = raw_lines_of (slice_split is_line_feed bytes)
+
+-- how many bytes a line takes in the input
+abbrev pub width : RawLine → ℕ
+width line = length line.bytes + (if line.closed then 1 else 0)
+
+-- what is given of a line
+abbrev pub content : RawLine → List ℕ
+content line = if line.closed then strip_carriage_return line.bytes else line.bytes
+
+-- a space, a tab or a carriage return
+abbrev pub is_blank_byte : ℕ → Bool
+is_blank_byte byte = byte == 32 || byte == 9 || byte == 13
+
+-- only spaces, tabs and carriage returns
+abbrev pub is_blank : List ℕ → Bool
+is_blank bytes = list_all is_blank_byte bytes
+
+-- Why a line is refused, which has so many bytes before its line feed and begins after `place` bytes of the input:
+-- it is too long, or the input is too long with it. Of the first bytes that are too many the earlier one decides.
+abbrev pub length_refusal : ℕ → ℕ → ℕ → Bool → Option LineRefusal
+length_refusal number place size closed =
+    if nat_lt MAX_LINE size && nat_le (place + MAX_LINE) MAX_INPUT then Some (LineTooLong number)
+    else if nat_lt MAX_INPUT (place + size + (if closed then 1 else 0)) then Some (InputTooLong number)
+    else None
+
+-- why a line is refused, where it is
+abbrev pub refusal_of : ℕ → ℕ → RawLine → Option LineRefusal
+refusal_of number place line = length_refusal number place (length line.bytes) line.closed
+
+-- the lines of an input in turn, each with its number, up to the end or the first refusal
+pub data Lined : Type 0 where
+  ended : Lined
+  refused : LineRefusal → Lined
+  line_then : ℕ → List ℕ → Lined → Lined
+
+-- the refusal, where there is one
+abbrev pub unless_refused : Option LineRefusal → Lined → Lined
+unless_refused None lines = lines
+unless_refused (Some refusal) lines = refused refusal
+
+-- a blank line is passed over, and keeps its number
+abbrev pub unless_blank : ℕ → List ℕ → Lined → Lined
+unless_blank number bytes later = if is_blank bytes then later else line_then number bytes later
+
+-- these lines in turn: the number of the first, and how many bytes stand before it
+abbrev pub lines_from : ℕ → ℕ → List RawLine → Lined
+lines_from number place [] = ended
+lines_from number place (l ∷ ls) =
+    unless_refused (refusal_of number place l) (unless_blank number (content l) (lines_from (number + 1) (place + width l) ls))
+
+-- the lines of an input
+abbrev pub lines_of : List ℕ → Lined
+lines_of bytes = lines_from 1 0 (raw_lines bytes)
+
+-- where a reader of lines stands: the bytes taken and not yet given, how many lines were given, blank ones too,
+-- how many bytes these took, and its refusal, where it has one
+pub record LinesState : Type 0 where
+  pub held : List ℕ
+  pub count : ℕ
+  pub given : ℕ
+  pub refusal : Option LineRefusal
+
+-- the lines that come yet, where these bytes are left in the source
+abbrev pub lines_ahead : LinesState → List ℕ → Lined
+lines_ahead state left = lines_from (state.count + 1) state.given (raw_lines (state.held ++ left))
+
+-- the same, where the source tells
+abbrev pub told_ahead : LinesState → Option (List ℕ) → Option Lined
+told_ahead state left = option_map (λ bytes. lines_ahead state bytes) left
+
+-- a line that is whole, and isn't blank
+abbrev pub is_whole : RawLine → Bool
+is_whole line = line.closed && not (is_blank (content line))
+
+-- such a line stands among these bytes
+abbrev pub HoldsLine : List ℕ → Type 0
+HoldsLine bytes = list_any is_whole (raw_lines bytes) ≡ true
+
+-- of the bytes held and left, some went by as lines, and the others are held or left still
+pub record AccountsFor (held held_after : List ℕ) (given given_after : ℕ) (left left_after : Option (List ℕ)) : Type 0 where
+  pub gone : List ℕ
+  pub bytes : option_map (λ bytes. held ++ bytes) left ≡ option_map (λ bytes. gone ++ (held_after ++ bytes)) left_after
+  pub counted : given_after ≡ given + length gone
+
+-- the first of the lines that came yet was given, and the others come yet
+pub record GivesLine (before after : LinesState) (left left_after : Option (List ℕ)) (number : ℕ) (bytes : List ℕ) : Type 0 where
+  pub line : told_ahead before left ≡ option_map (λ later. line_then number bytes later) (told_ahead after left_after)
+  pub moved : before.given < after.given
+  pub within : after.given ≤ MAX_INPUT
+  pub room : length after.held ≤ 65536
+
+-- no line came yet, and all bytes are given
+pub record GivesEnd (before after : LinesState) (left left_after : Option (List ℕ)) : Type 0 where
+  pub lines : IfSome (told_ahead before left) (λ ahead. ahead ≡ ended)
+  pub drained : IsAtEnd left_after
+  pub held : after.held ≡ []
+
+-- the lines that come yet are the same, and none of them is whole among the bytes held
+pub record KeepsLines (before after : LinesState) (left left_after : Option (List ℕ)) : Type 0 where
+  pub lines : told_ahead after left_after ≡ told_ahead before left
+  pub part : NoLineFeed after.held
+
+-- what a refusal says of the lines that came yet
+abbrev pub RefusesLine : LinesState → LinesState → Option (List ℕ) → Option (List ℕ) → LineRefusal → Type 0
+RefusesLine before after left left_after Fault = KeepsLines before after left left_after
+RefusesLine before after left left_after (LineTooLong n) = IfSome (told_ahead before left) (λ ahead. ahead ≡ refused (LineTooLong n))
+RefusesLine before after left left_after (InputTooLong n) = IfSome (told_ahead before left) (λ ahead. ahead ≡ refused (InputTooLong n))
+RefusesLine before after left left_after NoMemory = ⊤
+
+-- what an answer says of the lines that came yet
+abbrev pub AnswersLine : LinesState → LinesState → Option (List ℕ) → Option (List ℕ) → Result (Option Line) LineRefusal → Type 0
+AnswersLine before after left left_after (Ok (Some l)) = GivesLine before after left left_after l.number l.bytes
+AnswersLine before after left left_after (Ok None) = GivesEnd before after left left_after
+AnswersLine before after left left_after (Err refusal) = RefusesLine before after left left_after refusal
+
+-- no byte is lost, unless a line or the input was too long, or memory ran out
+abbrev pub LosesNone : LinesState → LinesState → Option (List ℕ) → Option (List ℕ) → Result (Option Line) LineRefusal → Type 0
+LosesNone before after left left_after (Ok line) = AccountsFor before.held after.held before.given after.given left left_after
+LosesNone before after left left_after (Err Fault) = AccountsFor before.held after.held before.given after.given left left_after
+LosesNone before after left left_after (Err (LineTooLong n)) = ⊤
+LosesNone before after left left_after (Err (InputTooLong n)) = ⊤
+LosesNone before after left left_after (Err NoMemory) = ⊤

@@ -1,0 +1,87 @@
+ghost use Rattle.std.specs.Prelude.{◌≡◌, ℕ, ◌≤◌, [], Ok, length, IfOk, OnErr, MatchBool};
+ghost use Rattle.flow_edges.specs.Faults.{Causes};
+ghost use Rattle.flow_edges.specs.Flow.{left_after, IsNextOf, IsAtEnd};
+ghost use Rattle.flow_lines.specs.LinesSteps.{TakesToLineFeed, TakesAll};
+
+use flow_edges::Source;
+use flow_values::{Fault, NoMemory};
+use memchr::memchr;
+use std::alloc::Global;
+use std::marker::Model;
+
+/// How many bytes a read asks for.
+const CHUNK: usize = 65_536;
+
+/// The bytes of the last read that aren't used yet.
+#[derive(Drop)]
+pub struct Chunk {
+    bytes: Vec<u8>,
+    from: usize,
+    to: usize,
+}
+
+impl Model for Chunk {
+    ghost use Rattle.std.specs.Prelude.{◌≡◌, ℕ, List, take, drop, length, ◌-◌, ◌≤◌};
+
+    ghost Value = { List ℕ };
+
+    ghost view = { λ chunk. take (chunk.to - chunk.from) (drop chunk.from chunk.bytes.items) };
+
+    ghost invariant = { λ chunk. (chunk.from ≤ chunk.to) × (chunk.to ≤ length chunk.bytes.items) × (length chunk.bytes.items ≡ 65536) };
+}
+
+impl Chunk {
+    /// No bytes yet, and room for a read.
+    pub fn new(alloc: Global) -> Result<Chunk, NoMemory>
+        ensures { IfOk result (λ chunk. chunk ≡ []) }
+    {
+        let bytes = vec![in alloc; 0u8; CHUNK]?;
+        Ok(Chunk {
+            bytes,
+            from: 0,
+            to: 0,
+        })
+    }
+
+    /// Reads the next bytes in the place of those before, and answers how many.
+    pub fn fill<S: Source>(&mut self, source: &mut S) -> Result<usize, Fault>
+        ensures count { IfOk result (λ n. n ≡ length self.new) }
+        ensures given { IfOk result (λ n. IsNextOf self.new (S.left source.old)) }
+        ensures rest { IfOk result (λ n. S.left source.new ≡ left_after n (S.left source.old)) }
+        ensures end { result ≡ Ok 0 → IsAtEnd (S.left source.old) }
+        ensures empty { OnErr result (self.new ≡ []) }
+        ensures err { OnErr result (S.left source.new ≡ S.left source.old) }
+        ensures room { length self.new ≤ 65536 }
+        ensures causes { Causes (S.faults source.old) (S.faults source.new) result }
+    {
+        self.from = 0;
+        self.to = 0;
+        let count = source.read(&mut self.bytes)?;
+        self.to = count;
+        Ok(count)
+    }
+
+    /// Moves the bytes before the next line feed to the line, and drops the line feed. Where there is
+    /// none, all bytes go, and the answer is false.
+    pub fn take_line(&mut self, line: &mut Vec<u8>) -> Result<bool, NoMemory>
+        ensures taken { IfOk result (λ found. MatchBool found
+            (TakesToLineFeed self.old self.new line.old.items line.new.items)
+            (TakesAll self.old self.new line.old.items line.new.items)) }
+        ensures err { OnErr result ((self.new ≡ self.old) × (line.new.items ≡ line.old.items)) }
+        ensures room { length self.new ≤ 65536 }
+    {
+        let rest = &self.bytes[self.from..self.to];
+        match memchr(b'\n', rest) {
+            Some(at) => {
+                line.extend_from_slice(&rest[..at])?;
+                self.from += at + 1;
+                Ok(true)
+            }
+            None => {
+                line.extend_from_slice(rest)?;
+                self.from = self.to;
+                Ok(false)
+            }
+        }
+    }
+}

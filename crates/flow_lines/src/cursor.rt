@@ -1,0 +1,104 @@
+ghost use Rattle.std.specs.Prelude.{◌≡◌, ℕ, ◌≤◌, ◌++◌, [], true, false, Ok, Err, IfOk, IfErr, OnOk, MatchBool};
+ghost use Rattle.flow_edges.specs.Faults.{Rose};
+ghost use Rattle.flow_lines.specs.Lines.{AnswersLine, GivesEnd, RefusesLine, HoldsLine, AccountsFor, LosesNone, is_blank};
+ghost use Rattle.flow_lines.specs.LinesSteps.{IsBetweenLines, ReadsNext, lines_state};
+
+use crate::chunk::Chunk;
+use crate::line::{Line, is_blank_line, strip_return};
+use crate::refusal::LineRefusal;
+use crate::whole::{LineStart, read_line};
+use flow_edges::Source;
+use flow_values::{Items, NoMemory};
+use std::alloc::Global;
+use std::mem;
+
+/// Where a reader stands in its input.
+#[derive(Drop)]
+pub struct Cursor {
+    pub alloc: Global,
+    pub chunk: Chunk,
+    /// The bytes of the line that is being read.
+    pub line: Vec<u8>,
+    /// How many lines were read, blank ones too.
+    pub count: u64,
+    /// How many bytes these lines took.
+    pub given: u64,
+}
+
+impl Cursor {
+    /// Reads the next line, blank or not, without its line feed and the carriage return before it.
+    /// The answer is false at the end of the input.
+    fn read_next<S: Source>(&mut self, source: &mut S) -> Result<bool, LineRefusal>
+        requires { IsBetweenLines self.old.line.items self.old.chunk self.old.count self.old.given }
+
+        ensures next { IfOk result (λ found. MatchBool found
+            (ReadsNext self.old.chunk self.new.chunk self.old.count self.new.count self.old.given self.new.given
+            self.new.line.items (S.left source.old) (S.left source.new))
+            (GivesEnd
+            (lines_state self.old.line.items self.old.chunk self.old.count self.old.given)
+            (lines_state self.new.line.items self.new.chunk self.new.count self.new.given)
+            (S.left source.old) (S.left source.new))) }
+        ensures refused { IfErr result (RefusesLine
+            (lines_state self.old.line.items self.old.chunk self.old.count self.old.given)
+            (lines_state self.new.line.items self.new.chunk self.new.count self.new.given)
+            (S.left source.old) (S.left source.new)) }
+        ensures ended { result ≡ Ok false
+            → IsBetweenLines self.new.line.items self.new.chunk self.new.count self.new.given }
+        ensures accounted { IfOk result (λ _. AccountsFor (self.old.line.items ++ self.old.chunk) self.new.chunk
+            self.old.given self.new.given (S.left source.old) (S.left source.new)) }
+        ensures kept { result ≡ Err LineRefusal.Fault
+            → AccountsFor (self.old.line.items ++ self.old.chunk) (self.new.line.items ++ self.new.chunk)
+            self.old.given self.new.given (S.left source.old) (S.left source.new) }
+        ensures unread { HoldsLine self.old.chunk → source.new ≡ source.old }
+        ensures held { IfOk result (λ found. found ≡ true
+            → HoldsLine self.old.chunk → is_blank self.new.line.items ≡ true → HoldsLine self.new.chunk) }
+        ensures failed { result ≡ Err LineRefusal.Fault → Rose (S.faults source.old) (S.faults source.new) }
+        ensures later { S.faults source.old ≤ S.faults source.new }
+    {
+        let start = LineStart {
+            number: self.count + 1,
+            place: self.given,
+        };
+        let closed = read_line(&mut self.chunk, &mut self.line, start, source)?;
+        let width = self.line.len() as u64 + u64::from(closed);
+        if width == 0 {
+            return Ok(false);
+        }
+        self.count += 1;
+        self.given += width;
+        strip_return(&mut self.line, closed);
+        Ok(true)
+    }
+
+    /// Reads on to the end of the next line that isn't blank.
+    pub fn next_line<S: Source>(&mut self, source: &mut S) -> Result<Option<Line>, LineRefusal>
+        requires { IsBetweenLines self.old.line.items self.old.chunk self.old.count self.old.given }
+
+        ensures lines { AnswersLine
+            (lines_state self.old.line.items self.old.chunk self.old.count self.old.given)
+            (lines_state self.new.line.items self.new.chunk self.new.count self.new.given)
+            (S.left source.old) (S.left source.new) result }
+        ensures between { OnOk result (IsBetweenLines self.new.line.items self.new.chunk self.new.count self.new.given) }
+        ensures accounted { LosesNone
+            (lines_state self.old.line.items self.old.chunk self.old.count self.old.given)
+            (lines_state self.new.line.items self.new.chunk self.new.count self.new.given)
+            (S.left source.old) (S.left source.new) result }
+        ensures unread { HoldsLine (self.old.line.items ++ self.old.chunk) → source.new ≡ source.old }
+        ensures failed { result ≡ Err LineRefusal.Fault → Rose (S.faults source.old) (S.faults source.new) }
+        ensures later { S.faults source.old ≤ S.faults source.new }
+    {
+        'lines: loop {
+            if !self.read_next(source)? {
+                return Ok(None);
+            }
+            if !is_blank_line(&self.line) {
+                let bytes = mem::replace(&mut self.line, Vec::new(self.alloc));
+                return Ok(Some(Line {
+                    number: self.count,
+                    bytes: Items::from_vec(bytes),
+                }));
+            }
+            self.line.clear();
+        }
+    }
+}

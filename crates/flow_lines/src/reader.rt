@@ -1,0 +1,86 @@
+ghost use Rattle.std.specs.Prelude.{◌≡◌, ℕ, ◌≤◌, [], None, Some, Err, IfOk, IfSome};
+ghost use Rattle.std.specs.Result.{result_err};
+ghost use Rattle.flow_edges.specs.Faults.{Rose};
+
+use crate::chunk::Chunk;
+use crate::cursor::Cursor;
+use crate::line::Line;
+use crate::refusal::LineRefusal;
+use flow_edges::Source;
+use flow_values::NoMemory;
+use std::alloc::Global;
+use std::marker::Model;
+
+/// A reader of the lines of an input. Contracts see the bytes taken and not yet given, how many lines
+/// were given and how many bytes these took, and the refusal, where there was one.
+#[derive(Drop)]
+pub struct Lines {
+    cursor: Cursor,
+    refusal: Option<LineRefusal>,
+}
+
+impl Model for Lines {
+    ghost use Rattle.std.specs.Prelude.{◌≡◌, ◌++◌, ◌≤◌, None};
+    ghost use Rattle.flow_lines.specs.Lines.{LinesState, GivesLine};
+    ghost use Rattle.flow_lines.specs.LinesSteps.{IsBetweenLines};
+
+    ghost Value = { LinesState };
+
+    ghost view = { λ lines. record {
+      held = lines.cursor.line.items ++ lines.cursor.chunk;
+      count = lines.cursor.count;
+      given = lines.cursor.given;
+      refusal = lines.refusal;
+    } };
+
+    ghost invariant = { λ lines. lines.refusal ≡ None
+        → IsBetweenLines lines.cursor.line.items lines.cursor.chunk lines.cursor.count lines.cursor.given };
+}
+
+impl Lines {
+    ghost use Rattle.flow_lines.specs.Lines.{AnswersLine, LosesNone, HoldsLine};
+
+    /// A reader at the start of an input.
+    pub fn new(alloc: Global) -> Result<Lines, NoMemory>
+        ensures { IfOk result (λ lines. lines ≡ record { held = []; count = 0; given = 0; refusal = None }) }
+    {
+        let chunk = Chunk::new(alloc)?;
+        Ok(Lines {
+            cursor: Cursor {
+                alloc,
+                chunk,
+                line: Vec::new(alloc),
+                count: 0,
+                given: 0,
+            },
+            refusal: None,
+        })
+    }
+
+    /// The next line that isn't blank, or none at the end of the input. Reads only where the bytes
+    /// taken hold no whole line. A refusal is answered again by each later call, without reading.
+    pub fn next_line<S: Source>(&mut self, source: &mut S) -> Result<Option<Line>, LineRefusal>
+        ensures lines { self.old.refusal ≡ None
+            → AnswersLine self.old self.new (S.left source.old) (S.left source.new) result }
+        ensures accounted { self.old.refusal ≡ None
+            → LosesNone self.old self.new (S.left source.old) (S.left source.new) result }
+        ensures unread { HoldsLine self.old.held → source.new ≡ source.old }
+        ensures refusal { self.new.refusal ≡ result_err result }
+        ensures repeated { IfSome self.old.refusal (λ refusal.
+            (result ≡ Err refusal) × (self.new ≡ self.old) × (source.new ≡ source.old)) }
+        ensures failed { result ≡ Err LineRefusal.Fault → self.old.refusal ≡ None
+            → Rose (S.faults source.old) (S.faults source.new) }
+        ensures later { S.faults source.old ≤ S.faults source.new }
+    {
+        if let Some(refusal) = self.refusal {
+            return Err(refusal);
+        }
+        match self.cursor.next_line(source) {
+            Ok(line) => Ok(line),
+            Err(refusal) => {
+                self.refusal = Some(refusal);
+                Err(refusal)
+            }
+        }
+    }
+}

@@ -1,0 +1,31 @@
+ghost use Rattle.std.specs.Prelude.{◌≡◌};
+ghost use Rattle.flow_lines.specs.declared.refusal.LineRefusal.TheVariants.{NoMemory as OutOfMemory};
+
+use flow_values::NoMemory;
+
+/// The most bytes that a line may have before its line feed.
+pub const MAX_LINE: u64 = 8_388_608;
+
+/// The most bytes that an input may have.
+pub const MAX_INPUT: u64 = 1_099_511_627_776;
+
+/// Why no further line is given.
+#[derive(Clone, Copy, Debug, PartialEq, Eq)]
+pub enum LineRefusal {
+    /// The source failed, and counted it.
+    Fault,
+    /// The line of that number has more than `MAX_LINE` bytes before its line feed.
+    LineTooLong { number: u64 },
+    /// The line of that number, with its line feed, passes `MAX_INPUT` bytes of the input.
+    InputTooLong { number: u64 },
+    /// Memory ran out.
+    NoMemory,
+}
+
+impl From<NoMemory> for LineRefusal {
+    ghost from_gives = { λ _ refusal. refusal ≡ OutOfMemory };
+
+    fn from(_error: NoMemory) -> LineRefusal {
+        LineRefusal::NoMemory
+    }
+}

@@ -1,0 +1,11 @@
+-- A Many is of another kind.
+use Rattle.std.proofs.Common.{◌∙◌, ap, map}
+use Rattle.match_bindings.specs.Tree.{tree_of}
+use Rattle.match_bindings.specs.Kinds.{is_pair}
+use Rattle.match_bindings.proofs.Many.{pair_many}
+use Rattle.match_bindings.proofs.Binds.{tree_many}
+use Rattle.match_bindings.proofs.bind.Bind.sides.Goals as goal
+
+pub returns-in-Many-clause-none : goal.returns-in-Many-clause-none
+returns-in-Many-clause-none c =
+    ap (λ b. is_pair (tree_of b)) c.in-Many.is ∙ ap is_pair (tree_many c.in-Many.field-0) ∙ pair_many (map tree_of c.in-Many.field-0)

@@ -1,0 +1,94 @@
+-- The test, kind by kind, and the loop over the parts of a Many.
+use Rattle.std.proofs.Common.{rules, ◌≡◌, ◌∙◌, refl, sym, ap, length, map, ◌≤◌, ◌<◌, get_or, take, Some, None}
+use Rattle.std.specs.Prelude.{slice_get, true, ◌&&◌, nat_lt}
+use Rattle.std.proofs.lemmas.List.{length-map}
+use Rattle.match_bindings.specs.Formula.{formula_from, Between}
+use Rattle.match_bindings.specs.Tree.{tree_of, many_of, disjoint, greatest}
+use Rattle.match_bindings.specs.Log.{observed_in}
+use Rattle.match_bindings.specs.Test.{is_binding, are_repeats}
+use Rattle.match_bindings.specs.declared.span.Span.{Span}
+use Rattle.match_bindings.specs.Found.{judged, span_if, span_of, joined_span, lies_between}
+use Rattle.match_bindings.proofs.Binds.{tree_many}
+use Rattle.match_bindings.proofs.Judging.{either_many, judged_between, wrong_count, starts_well, starts_badly, first_span, next_chain, goes_well, passed, failed}
+use Rattle.match_bindings.proofs.check.+judge.Goals as goal
+
+pub judge-returns-in-Many : goal.judge-returns-in-Many
+judge-returns-in-Many t c =
+    let e = c.in-Either.is in let f = c.in-Many.is in
+    let g = tree_many c.in-Many.field-0 in
+    rw (e, f, g, either_many) refl
+
+pub judge-returns-in_ok-span-in-Between : goal.judge-returns-in_ok-span-in-Between
+judge-returns-in_ok-span-in-Between t c =
+    let o = observed_in c.args.log.now in
+    let p = formula_from c.args.leaf c.deref-in-Between.result.now in
+    let x = tree_of c.args.bind.now in
+    let span = c.in_ok-span-in-Between.span in
+    let got : judged o p x ≡ Some span = search rules in
+    let test : c.is_between-is_between.result ≡ lies_between c.in-Between.start c.in-Between.stop span = search rules in
+    let whole : judged o (Between p c.in-Between.start c.in-Between.stop) x ≡ judged o (formula_from c.args.leaf c.args.pattern.now) x = search rules in
+    c.span_if-in-Between.ensures ∙ ap (λ b. span_if b span) test ∙ judged_between o p x c.in-Between.start c.in-Between.stop span got ∙ whole
+
+pub judge_repeats-returns-then-parts-count : goal.judge_repeats-returns-then-parts-count
+judge_repeats-returns-then-parts-count t c =
+    let xs = map tree_of c.args.parts.now in
+    let long : length xs ≡ length c.args.parts.now = length-map c.args.parts.now tree_of in
+    let f = is_binding (observed_in c.args.log.now) (formula_from c.args.leaf c.args.pattern.now) in
+    sym (ap (λ b. span_if b (span_of (observed_in c.args.log.now) (many_of xs))) (wrong_count f c.args.count xs (λ e. c.if-parts-count.true (sym long ∙ e))))
+
+pub judge_repeats-returns-in_err-span : goal.judge_repeats-returns-in_err-span
+judge_repeats-returns-in_err-span t c =
+    let o = observed_in c.args.log.now in
+    let f = is_binding o (formula_from c.args.leaf c.args.pattern.now) in
+    let x = c.in_ok-first.field-0.now in
+    let got : slice_get c.args.parts.now 0 ≡ Some x = search rules in
+    let long : length c.args.parts.now ≡ c.args.count = search rules in
+    let none : span_if (f (tree_of x)) (span_of o (tree_of x)) ≡ None = search rules in
+    let answer : c.from_residual-in_err-span.result ≡ None = search rules in
+    let bad = starts_badly f c.args.parts.now c.args.count x got long (failed (f (tree_of x)) (span_of o (tree_of x)) none) in
+    answer ∙ sym (ap (λ b. span_if b (span_of o (many_of (map tree_of c.args.parts.now)))) bad)
+
+pub judge_repeats-loop-at-init : goal.judge_repeats-loop-at-init
+judge_repeats-loop-at-init t c =
+    let o = observed_in c.args.log.now in
+    let f = is_binding o (formula_from c.args.leaf c.args.pattern.now) in
+    let x = c.in_ok-first.field-0.now in
+    let got : slice_get c.args.parts.now 0 ≡ Some x = search rules in
+    let long : length c.args.parts.now ≡ c.args.count = search rules in
+    let some : span_if (f (tree_of x)) (span_of o (tree_of x)) ≡ Some c.in_ok-span.span = search rules in
+    let parts = passed (f (tree_of x)) (span_of o (tree_of x)) c.in_ok-span.span some in
+    record {
+      rest = starts_well f c.args.parts.now c.args.count x got long parts.0;
+      span = sym parts.1 ∙ first_span o c.args.parts.now x got;
+    }
+
+pub judge_repeats-loop-at-preserved : goal.judge_repeats-loop-at-preserved
+judge_repeats-loop-at-preserved t c =
+    let o = observed_in c.args.log.now in
+    let f = is_binding o (formula_from c.args.leaf c.args.pattern.now) in
+    let parts = c.args.parts.now in
+    let at = c.loop-at.at in
+    let x = c.index-parts-at.result in
+    let m = many_of (map tree_of (take at parts)) in
+    let span = c.loop-at.span in
+    let next = c.in_ok-next.next in
+    let low : 1 ≤ at = search rules in
+    let high : at < length parts = search rules in
+    let here : get_or parts at x ≡ x = search rules in
+    let some : span_if (f (tree_of x)) (span_of o (tree_of x)) ≡ Some next = search rules in
+    let apart : c.all_disjoint-apart.result ≡ disjoint m (tree_of x) = search rules in
+    let both : span_if (nat_lt span.greatest next.greatest && c.all_disjoint-apart.result) (joined_span span next) ≡ Some c.in_ok-span-2.span = search rules in
+    let one = passed (f (tree_of x)) (span_of o (tree_of x)) next some in
+    let two = passed (nat_lt span.greatest next.greatest && c.all_disjoint-apart.result) (joined_span span next) c.in_ok-span-2.span both in
+    let test : (nat_lt (greatest m) (greatest (tree_of x)) && disjoint m (tree_of x)) ≡ true
+    = ap (λ b. nat_lt (greatest m) (greatest (tree_of x)) && b) (sym apart)
+    ∙ ap (λ (s : Span). nat_lt s.greatest (greatest (tree_of x)) && c.all_disjoint-apart.result) (sym c.loop-at.invariant.span)
+    ∙ ap (λ (s : Span). nat_lt span.greatest s.greatest && c.all_disjoint-apart.result) one.1
+    ∙ two.0 in
+    record {
+      rest = goes_well f parts at x (are_repeats f c.args.count (many_of (map tree_of parts))) low high here c.loop-at.invariant.rest one.0 test;
+      span = sym two.1
+          ∙ ap (λ (s : Span). joined_span s next) c.loop-at.invariant.span
+          ∙ ap (λ (s : Span). joined_span (span_of o m) s) (sym one.1)
+          ∙ ap (span_of o) (sym (next_chain parts at x low high here));
+    }

@@ -1,0 +1,5 @@
+use Rattle.match_bindings.proofs.Ranking.{flats_tell}
+use Rattle.match_bindings.proofs.laws.flat_lists_tell.Goals as goal
+
+pub returns : goal.returns
+returns c = flats_tell

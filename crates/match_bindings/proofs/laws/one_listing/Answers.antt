@@ -1,0 +1,5 @@
+use Rattle.match_bindings.proofs.Ranking.{one_listing}
+use Rattle.match_bindings.proofs.laws.one_listing.Goals as goal
+
+pub returns : goal.returns
+returns c = one_listing

@@ -1,0 +1,46 @@
+-- A log: its observations in order, each with its span of time, and whether each leaf of a pattern holds for it.
+use Rattle.std.specs.Prelude.{ℕ, zero, suc, ⊤, ℤ, pos, ◌≤ℤ◌, Bool, false, List, [], ◌∷◌, Option, Some, None, slice_get, unwrap_or}
+use Rattle.match_bindings.specs.declared.row.Row.{Row}
+
+-- what is last in the list isn't later than the time
+abbrev pub LastIsBy : List Row → ℤ → Type 0
+LastIsBy [] time = ⊤
+LastIsBy (row ∷ []) time = row.last ≤ℤ time
+LastIsBy (row ∷ next ∷ rows) time = LastIsBy (next ∷ rows) time
+
+-- no first time is later than its last time, and last times never fall
+abbrev pub IsInOrder : List Row → Type 0
+IsInOrder [] = ⊤
+IsInOrder (row ∷ []) = row.first ≤ℤ row.last
+IsInOrder (row ∷ next ∷ rows) = (row.first ≤ℤ row.last) × (row.last ≤ℤ next.last) × IsInOrder (next ∷ rows)
+
+-- the row of a number; rows are numbered from 1
+abbrev pub numbered : List Row → ℕ → Option Row
+numbered log zero = None
+numbered log (suc i) = slice_get log i
+
+abbrev pub first_time : Option Row → ℤ
+first_time None = pos 0
+first_time (Some row) = row.first
+
+abbrev pub last_time : Option Row → ℤ
+last_time None = pos 0
+last_time (Some row) = row.last
+
+-- the row has a truth for the leaf, and it is true
+abbrev pub truth : Option Row → ℕ → Bool
+truth None k = false
+truth (Some row) k = unwrap_or (slice_get row.truths k) false
+
+-- what bindings ask of a log: by an observation's number its first time, its last time, and whether leaf k holds for it
+pub record Observed : Type 0 where
+  pub first : ℕ → ℤ
+  pub last : ℕ → ℤ
+  pub holds : ℕ → ℕ → Bool
+
+abbrev pub observed_in : List Row → Observed
+observed_in log = record {
+  first = λ i. first_time (numbered log i);
+  last = λ i. last_time (numbered log i);
+  holds = λ k i. truth (numbered log i) k;
+}

@@ -1,0 +1,109 @@
+ghost use Rattle.std.specs.Prelude.{◌≡◌, ◌↔◌, ◌+◌, ◌<◌, ◌^◌, ◌&&◌, IsTrue, map};
+ghost use Rattle.pattern_types.specs.Leaves.{leaves};
+ghost use Rattle.match_bindings.specs.Formula.{formula_of, formula_from};
+ghost use Rattle.match_bindings.specs.Tree.{tree_of, many_of};
+ghost use Rattle.match_bindings.specs.Log.{observed_in};
+ghost use Rattle.match_bindings.specs.Binding.{IsBinding};
+ghost use Rattle.match_bindings.specs.Test.{is_binding, are_repeats};
+ghost use Rattle.match_bindings.specs.Found.{judged, span_if, span_of, joined_span, admits};
+
+use crate::join::Join;
+use crate::numbers::{all_disjoint, are_disjoint};
+use crate::span::Span;
+use crate::{Bind, Log};
+use pattern_types::{Pattern, leaf_count};
+
+/// Whether a bind is a binding of a pattern over a log. Takes no memory. A row that has no truth for a
+/// leaf is none for which the leaf holds.
+pub fn check_binding(pattern: &Pattern, log: &Log, bind: &Bind) -> bool
+    requires { leaves pattern.now < 2 ^ 32 }
+    ensures { IsTrue result ↔ IsBinding (observed_in log.now) (formula_of pattern.now) (tree_of bind.now) }
+{
+    judge(pattern, 0, log, bind).is_some()
+}
+
+/// The span of a bind, where it is a binding of a pattern whose leftmost leaf has the number `leaf`.
+#[cycle(judge)]
+fn judge(pattern: &Pattern, leaf: u32, log: &Log, bind: &Bind) -> Option<Span>
+    requires { leaf + leaves pattern.now < 2 ^ 32 }
+    ensures { result ≡ judged (observed_in log.now) (formula_from leaf pattern.now) (tree_of bind.now) }
+{
+    match pattern {
+        Pattern::Leaf(_) => log.span_of(leaf, bind.number()?),
+        Pattern::Both(left, right) => {
+            let (first, second) = bind.sides()?;
+            let first_span = judge(left, leaf, log, first)?;
+            let second_span = judge(right, leaf + leaf_count(left), log, second)?;
+            let apart = are_disjoint(first, second);
+            joined(Join::Both, &first_span, &second_span, apart)
+        }
+        Pattern::Then(left, right) => {
+            let (first, second) = bind.sides()?;
+            let first_span = judge(left, leaf, log, first)?;
+            let second_span = judge(right, leaf + leaf_count(left), log, second)?;
+            let apart = are_disjoint(first, second);
+            joined(Join::Then, &first_span, &second_span, apart)
+        }
+        Pattern::Either(left, right) => match bind {
+            Bind::First(part) => judge(left, leaf, log, part),
+            Bind::Second(part) => judge(right, leaf + leaf_count(left), log, part),
+            Bind::One(_) | Bind::Both(_, _) => None,
+            Bind::Many(_) => None,
+        },
+        Pattern::Within(part, seconds) => {
+            let span = judge(part, leaf, log, bind)?;
+            let is_within = span.is_within(*seconds);
+            span_if(is_within, span)
+        }
+        Pattern::Between(part, start, stop) => {
+            let span = judge(part, leaf, log, bind)?;
+            let is_between = span.is_between(*start, *stop);
+            span_if(is_between, span)
+        }
+        Pattern::Repeats(part, count) => judge_repeats(part, leaf, log, bind.parts()?, *count),
+    }
+}
+
+/// The span of the parts of a `Many`, where there are so many, each is a binding, no number is in two
+/// of them, and their greatest numbers rise.
+#[cycle(judge)]
+fn judge_repeats(
+    pattern: &Pattern,
+    leaf: u32,
+    log: &Log,
+    parts: &[Bind],
+    count: u32,
+) -> Option<Span>
+    requires { leaf + leaves pattern.now < 2 ^ 32 }
+    ensures { result ≡ span_if (are_repeats (is_binding (observed_in log.now) (formula_from leaf pattern.now)) count
+        (many_of (map tree_of parts.now))) (span_of (observed_in log.now) (many_of (map tree_of parts.now))) }
+{
+    if parts.len() != count as usize {
+        return None;
+    }
+    let mut span = judge(pattern, leaf, log, parts.first()?)?;
+    for at in 1..parts.len() {
+        let part = &parts[at];
+        let next = judge(pattern, leaf, log, part)?;
+        let apart = all_disjoint(&parts[..at], part);
+        span = joined(Join::Repeats, &span, &next, apart)?;
+    }
+    Some(span)
+}
+
+/// The span of two binds together, where they share no number and the join admits them.
+fn joined(join: Join, first: &Span, second: &Span, are_disjoint: bool) -> Option<Span>
+    ensures { result ≡ span_if (admits join first.now second.now && are_disjoint) (joined_span first.now second.now) }
+{
+    span_if(
+        join.admits(first, second) && are_disjoint,
+        first.joined(second),
+    )
+}
+
+/// The span, where a test passes.
+fn span_if(test: bool, span: Span) -> Option<Span>
+    ensures { result ≡ span_if test span }
+{
+    if test { Some(span) } else { None }
+}

@@ -1,0 +1,52 @@
+ghost use Rattle.std.specs.Prelude.{◌≡◌, ◌++◌, IfOk, OnOk, map};
+ghost use Rattle.match_bindings.specs.Tree.{tree_of, many_of};
+ghost use Rattle.match_bindings.specs.Flat.{flat};
+
+use crate::Bind;
+use flow_values::{Items, NoMemory};
+use std::alloc::Global;
+
+/// The numbers of a bind from left to right, with 0 before those of a `First`, and
+/// 18446744073709551615 before those of a `Second`.
+pub fn flat(alloc: Global, bind: &Bind) -> Result<Items<u64>, NoMemory>
+    ensures { IfOk result (λ entries. entries ≡ flat (tree_of bind.now)) }
+{
+    let mut entries = Vec::new(alloc);
+    push_flat(bind, &mut entries)?;
+    Ok(Items::from_vec(entries))
+}
+
+/// Adds the flat list of a bind.
+#[cycle(flat)]
+pub(crate) fn push_flat(bind: &Bind, out: &mut Vec<u64>) -> Result<(), NoMemory>
+    ensures { OnOk result (out.new.items ≡ out.old.items ++ flat (tree_of bind.now)) }
+{
+    match bind {
+        Bind::One(number) => out.push(*number)?,
+        Bind::Both(left, right) => {
+            push_flat(left, out)?;
+            push_flat(right, out)?;
+        }
+        Bind::First(part) => {
+            out.push(0)?;
+            push_flat(part, out)?;
+        }
+        Bind::Second(part) => {
+            out.push(u64::MAX)?;
+            push_flat(part, out)?;
+        }
+        Bind::Many(parts) => push_flats(parts.as_slice(), out)?,
+    }
+    Ok(())
+}
+
+/// Adds the flat lists of binds.
+#[cycle(flat)]
+fn push_flats(binds: &[Bind], out: &mut Vec<u64>) -> Result<(), NoMemory>
+    ensures { OnOk result (out.new.items ≡ out.old.items ++ flat (many_of (map tree_of binds.now))) }
+{
+    for bind in binds {
+        push_flat(bind, out)?;
+    }
+    Ok(())
+}

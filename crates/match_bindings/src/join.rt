@@ -1,0 +1,122 @@
+ghost use Rattle.std.specs.Prelude.{◌≡◌, ◌++◌, IfOk, OnOk, map};
+ghost use Rattle.match_bindings.specs.Tree.{tree_of, many_of};
+ghost use Rattle.match_bindings.specs.Found.{thing_of, things, joined_tree, admits, may_join, join_row, joins, add_part};
+ghost use Rattle.match_bindings.specs.Kinds.{chain_of};
+
+use crate::Bind;
+use crate::copy::{copy_bind, copy_binds};
+use crate::held::Held;
+use crate::numbers::are_disjoint;
+use crate::span::Span;
+use crate::window::Window;
+use flow_values::{Items, NoMemory};
+use std::alloc::Global;
+
+/// How two binds are joined.
+#[derive(Clone, Copy)]
+pub(crate) enum Join {
+    /// As the sides of an `AND`.
+    Both,
+    /// As the sides of a `FOLLOWEDBY`.
+    Then,
+    /// As the parts of a `REPEATS` so far, and the next one.
+    Repeats,
+}
+
+impl Join {
+    /// Whether two spans stand in the order that the join asks.
+    pub fn admits(self, first: &Span, second: &Span) -> bool
+        ensures { result ≡ admits self first.now second.now }
+    {
+        match self {
+            Join::Both => true,
+            Join::Then => first.latest <= second.earliest,
+            Join::Repeats => first.greatest < second.greatest,
+        }
+    }
+
+    /// The bind of copies of two binds.
+    fn bind(self, alloc: Global, first: &Bind, second: &Bind) -> Result<Bind, NoMemory>
+        ensures { IfOk result (λ bind. tree_of bind ≡ joined_tree self (tree_of first.now) (tree_of second.now)) }
+    {
+        match self {
+            Join::Both | Join::Then => {
+                let left = copy_bind(alloc, first)?;
+                let right = copy_bind(alloc, second)?;
+                Ok(Bind::Both(Box::new(alloc, left)?, Box::new(alloc, right)?))
+            }
+            Join::Repeats => with_part(alloc, first, second),
+        }
+    }
+
+    /// Whether two binds are joined.
+    fn may_join(self, window: &Window, first: &Held, second: &Held) -> bool
+        ensures { result ≡ may_join self window.now (thing_of first.now) (thing_of second.now) }
+    {
+        self.admits(&first.span, &second.span)
+            && window.fits(&first.span.joined(&second.span))
+            && are_disjoint(&first.bind, &second.bind)
+    }
+
+    /// Joins a bind with each of the others that it is joined with.
+    fn join_row(
+        self,
+        alloc: Global,
+        window: &Window,
+        first: &Held,
+        seconds: &[Held],
+        out: &mut Vec<Held>,
+    ) -> Result<(), NoMemory>
+        ensures { OnOk result (things out.new.items ≡ things out.old.items ++ join_row self window.now (thing_of first.now) (things seconds.now)) }
+    {
+        for second in seconds {
+            if self.may_join(window, first, second) {
+                let bind = self.bind(alloc, &first.bind, &second.bind)?;
+                let span = first.span.joined(&second.span);
+                out.push(Held { bind, span })?;
+            }
+        }
+        Ok(())
+    }
+
+    /// Each of the first binds with each of the second ones that it is joined with.
+    pub fn join(
+        self,
+        alloc: Global,
+        window: &Window,
+        firsts: &[Held],
+        seconds: &[Held],
+    ) -> Result<Vec<Held>, NoMemory>
+        ensures { IfOk result (λ out. things out.items ≡ joins self window.now (things firsts.now) (things seconds.now)) }
+    {
+        let mut out = Vec::new(alloc);
+        for first in firsts {
+            self.join_row(alloc, window, first, seconds, &mut out)?;
+        }
+        Ok(out)
+    }
+}
+
+/// The parts of a `Many`, with one more at the end.
+fn with_part(alloc: Global, parts: &Bind, part: &Bind) -> Result<Bind, NoMemory>
+    ensures { IfOk result (λ bind. tree_of bind ≡ add_part (tree_of parts.now) (tree_of part.now)) }
+{
+    let mut parts = copy_parts(alloc, parts)?;
+    let last = copy_bind(alloc, part)?;
+    parts.push(last)?;
+    Ok(Bind::Many(parts))
+}
+
+/// Copies of the parts of a `Many`; none of another bind.
+#[tactic(auto, using(crate::proofs::Many::many_chain, crate::proofs::Many::no_chain))]
+fn copy_parts(alloc: Global, bind: &Bind) -> Result<Items<Bind>, NoMemory>
+    ensures { IfOk result (λ parts. many_of (map tree_of parts) ≡ chain_of (tree_of bind.now)) }
+{
+    match bind.parts() {
+        Some(parts) => {
+            let copies = copy_binds(alloc, parts)?;
+            Ok(copies)
+        }
+        None => Ok(Items::new(alloc)),
+    }
+}

@@ -1,0 +1,67 @@
+ghost use Rattle.std.specs.Prelude.{◌≡◌, ◌++◌, IfOk, OnOk, map, string_bytes, decimal};
+ghost use Rattle.match_bindings.specs.Tree.{tree_of, many_of};
+ghost use Rattle.match_bindings.specs.Line.{entries_text, line_text};
+
+use crate::Bind;
+use crate::numbers::greatest_number;
+use flow_values::{NoMemory, Text};
+use std::alloc::Global;
+
+/// The line of a bind: its greatest number, `:`, and its numbers from left to right, with `L` before
+/// those of a `First` and `R` before those of a `Second`.
+pub fn line_of(alloc: Global, bind: &Bind) -> Result<Text, NoMemory>
+    ensures { IfOk result (λ line. line ≡ line_text (tree_of bind.now)) }
+{
+    let mut line = String::new(alloc);
+    push_number(greatest_number(bind), &mut line)?;
+    line.push_str(":")?;
+    push_entries(bind, &mut line)?;
+    line.push_str("\n")?;
+    Ok(Text::from_string(line))
+}
+
+/// Adds the entries of a bind, a space before each.
+#[cycle(entries)]
+fn push_entries(bind: &Bind, line: &mut String) -> Result<(), NoMemory>
+    ensures { OnOk result (string_bytes line.new ≡ string_bytes line.old ++ entries_text (tree_of bind.now)) }
+{
+    match bind {
+        Bind::One(number) => {
+            line.push_str(" ")?;
+            push_number(*number, line)?;
+        }
+        Bind::Both(left, right) => {
+            push_entries(left, line)?;
+            push_entries(right, line)?;
+        }
+        Bind::First(part) => {
+            line.push_str(" L")?;
+            push_entries(part, line)?;
+        }
+        Bind::Second(part) => {
+            line.push_str(" R")?;
+            push_entries(part, line)?;
+        }
+        Bind::Many(parts) => push_all_entries(parts.as_slice(), line)?,
+    }
+    Ok(())
+}
+
+/// Adds the entries of binds.
+#[cycle(entries)]
+fn push_all_entries(binds: &[Bind], line: &mut String) -> Result<(), NoMemory>
+    ensures { OnOk result (string_bytes line.new ≡ string_bytes line.old ++ entries_text (many_of (map tree_of binds.now))) }
+{
+    for bind in binds {
+        push_entries(bind, line)?;
+    }
+    Ok(())
+}
+
+/// Adds a number in decimal.
+fn push_number(number: u64, line: &mut String) -> Result<(), NoMemory>
+    ensures { OnOk result (string_bytes line.new ≡ string_bytes line.old ++ decimal number) }
+{
+    line.push_str(itoa::Buffer::new().format(number))?;
+    Ok(())
+}

@@ -1,0 +1,86 @@
+ghost use Rattle.std.specs.Prelude.{◌≡◌, [], ◌∷◌, ◌++◌, ◌≤ℤ◌, OnOk, OnErr, length};
+ghost use Rattle.match_bindings.specs.Log.{LastIsBy, observed_in};
+ghost use Rattle.match_bindings.specs.Tree.{One};
+ghost use Rattle.match_bindings.specs.Found.{span_if, span_of};
+
+use crate::row::Row;
+use crate::span::Span;
+use flow_values::{Items, NoMemory};
+use std::alloc::Global;
+use std::marker::Model;
+use stix_times::Instant;
+
+/// Observations in the order of their last times. Contracts see the list of its rows.
+#[derive(Drop)]
+pub struct Log {
+    rows: Vec<Row>,
+}
+
+impl Model for Log {
+    ghost use Rattle.std.specs.Prelude.{List};
+    ghost use Rattle.match_bindings.specs.declared.row.Row.{Row};
+    ghost use Rattle.match_bindings.specs.Log.{IsInOrder};
+
+    ghost Value = { List Row };
+
+    ghost view = { λ log. log.rows.items };
+
+    ghost invariant = { λ log. IsInOrder log.rows.items };
+}
+
+impl Log {
+    /// A log without observations. Takes no memory.
+    pub fn new(alloc: Global) -> Log
+        ensures { result ≡ [] }
+    {
+        Log {
+            rows: Vec::new(alloc),
+        }
+    }
+
+    /// Adds an observation at the end. Without memory the log stays as it was.
+    pub fn push(
+        &mut self,
+        first: Instant,
+        last: Instant,
+        truths: Items<bool>,
+    ) -> Result<(), NoMemory>
+        requires span { first ≤ℤ last }
+        requires order { LastIsBy self.old last }
+        ensures ok { OnOk result (self.new ≡ self.old ++ record { first = first; last = last; truths = truths } ∷ []) }
+        ensures err { OnErr result (self.new ≡ self.old) }
+    {
+        self.rows.push(Row {
+            first,
+            last,
+            truths,
+        })?;
+        Ok(())
+    }
+
+    /// How many observations there are.
+    pub(crate) fn len(&self) -> u64
+        ensures { result ≡ length self.now }
+    {
+        self.rows.len() as u64
+    }
+
+    /// The span of an observation for which a leaf holds.
+    pub(crate) fn span_of(&self, leaf: u32, number: u64) -> Option<Span>
+        ensures { result ≡ span_if ((observed_in self.now).holds leaf number) (span_of (observed_in self.now) (One number)) }
+    {
+        if number == 0 {
+            return None;
+        }
+        let row = self.rows.get((number - 1) as usize)?;
+        if row.holds(leaf) {
+            Some(Span {
+                earliest: row.first,
+                latest: row.last,
+                greatest: number,
+            })
+        } else {
+            None
+        }
+    }
+}

@@ -1,0 +1,84 @@
+ghost use Rattle.std.specs.Prelude.{◌≡◌, map};
+ghost use Rattle.match_bindings.specs.Tree.{tree_of, many_of, has, disjoint, greatest};
+
+use crate::Bind;
+
+/// Whether a number is one of the bind's.
+#[cycle(has)]
+pub(crate) fn has_number(number: u64, bind: &Bind) -> bool
+    ensures { result ≡ has number (tree_of bind.now) }
+{
+    match bind {
+        Bind::One(other) => number == *other,
+        Bind::Both(left, right) => has_number(number, left) || has_number(number, right),
+        Bind::First(part) | Bind::Second(part) => has_number(number, part),
+        Bind::Many(parts) => any_has_number(number, parts.as_slice()),
+    }
+}
+
+/// Whether a number is one of the binds'.
+#[cycle(has)]
+#[tactic(auto, using(crate::proofs::Many::many_has))]
+fn any_has_number(number: u64, binds: &[Bind]) -> bool
+    ensures { result ≡ has number (many_of (map tree_of binds.now)) }
+{
+    for bind in binds {
+        if has_number(number, bind) {
+            return true;
+        }
+    }
+    false
+}
+
+/// Whether two binds share no number.
+#[cycle(disjoint)]
+pub(crate) fn are_disjoint(bind: &Bind, other: &Bind) -> bool
+    ensures { result ≡ disjoint (tree_of bind.now) (tree_of other.now) }
+{
+    match bind {
+        Bind::One(number) => !has_number(*number, other),
+        Bind::Both(left, right) => are_disjoint(left, other) && are_disjoint(right, other),
+        Bind::First(part) | Bind::Second(part) => are_disjoint(part, other),
+        Bind::Many(parts) => all_disjoint(parts.as_slice(), other),
+    }
+}
+
+/// Whether none of the binds shares a number with the other one.
+#[cycle(disjoint)]
+#[tactic(auto, using(crate::proofs::Many::many_disjoint))]
+pub(crate) fn all_disjoint(binds: &[Bind], other: &Bind) -> bool
+    ensures { result ≡ disjoint (many_of (map tree_of binds.now)) (tree_of other.now) }
+{
+    for bind in binds {
+        if !are_disjoint(bind, other) {
+            return false;
+        }
+    }
+    true
+}
+
+/// The greatest number of a bind, or 0.
+#[cycle(greatest)]
+pub(crate) fn greatest_number(bind: &Bind) -> u64
+    ensures { result ≡ greatest (tree_of bind.now) }
+{
+    match bind {
+        Bind::One(number) => *number,
+        Bind::Both(left, right) => greatest_number(left).max(greatest_number(right)),
+        Bind::First(part) | Bind::Second(part) => greatest_number(part),
+        Bind::Many(parts) => greatest_of_all(parts.as_slice()),
+    }
+}
+
+/// The greatest number of some binds, or 0.
+#[cycle(greatest)]
+#[tactic(auto, using(crate::proofs::Many::many_greatest))]
+fn greatest_of_all(binds: &[Bind]) -> u64
+    ensures { result ≡ greatest (many_of (map tree_of binds.now)) }
+{
+    let mut most = 0;
+    for bind in binds {
+        most = most.max(greatest_number(bind));
+    }
+    most
+}

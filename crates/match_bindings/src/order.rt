@@ -1,0 +1,49 @@
+ghost use Rattle.std.specs.Prelude.{◌≡◌, IfOk, map};
+ghost use Rattle.std.specs.List.Sorted.{IsSortedBy};
+ghost use Rattle.match_bindings.specs.Tree.{Tree, tree_of};
+ghost use Rattle.match_bindings.specs.Once.{count};
+ghost use Rattle.match_bindings.specs.Flat.{comes_before};
+ghost use Rattle.match_bindings.specs.Ranks.{ranked_trees};
+
+use crate::Bind;
+use crate::flat_list::push_flat;
+use crate::numbers::greatest_number;
+use crate::ranked::Ranked;
+use flow_values::NoMemory;
+use std::alloc::Global;
+
+/// Binds by greatest number and then by flat list.
+pub(crate) fn in_order(alloc: Global, binds: Vec<Bind>) -> Result<Vec<Bind>, NoMemory>
+    ensures counts { IfOk result (λ sorted. (x : Tree) → count x (map tree_of sorted.items) ≡ count x (map tree_of binds.items)) }
+    ensures rises { IfOk result (λ sorted. IsSortedBy comes_before (map tree_of sorted.items)) }
+{
+    let mut all = ranked(alloc, binds)?;
+    all.sort_by(|a, b| a.key.as_slice().cmp(b.key.as_slice()))?;
+    let sorted = unranked(alloc, all)?;
+    Ok(sorted)
+}
+
+/// Binds beside their ranks.
+fn ranked(alloc: Global, binds: Vec<Bind>) -> Result<Vec<Ranked>, NoMemory>
+    ensures { IfOk result (λ all. ranked_trees all.items ≡ map tree_of binds.items) }
+{
+    let mut all = Vec::new(alloc);
+    for bind in binds {
+        let mut key = Vec::new(alloc);
+        key.push(greatest_number(&bind))?;
+        push_flat(&bind, &mut key)?;
+        all.push(Ranked { key, bind })?;
+    }
+    Ok(all)
+}
+
+/// The binds without their ranks.
+fn unranked(alloc: Global, all: Vec<Ranked>) -> Result<Vec<Bind>, NoMemory>
+    ensures { IfOk result (λ binds. map tree_of binds.items ≡ ranked_trees all.items) }
+{
+    let mut binds = Vec::new(alloc);
+    for one in all {
+        binds.push(one.bind)?;
+    }
+    Ok(binds)
+}

@@ -1,0 +1,13 @@
+ghost use Rattle.std.specs.Prelude.{◌≡◌};
+ghost use Rattle.match_bindings.specs.Tree.{tree_of};
+ghost use Rattle.match_bindings.specs.Flat.{rank};
+
+use crate::Bind;
+
+/// A bind beside what it is ordered by: its greatest number and then its flat list.
+#[derive(Drop)]
+pub(crate) struct Ranked {
+    pub key: Vec<u64>,
+    pub bind: Bind,
+    ghost right: { key.items ≡ rank (tree_of bind) },
+}

@@ -1,8 +1,0 @@
-use Rattle.std.proofs.Common.{rules}
-use Rattle.match_run.proofs.Lines.{broken_line}
-use Rattle.match_run.proofs.refusal_text.write_broken.Goals as goal
-
-pub returns-clause-part : goal.returns-clause-part
-returns-clause-part g c =
-    let same = broken_line c.args.line.now c.args.name.now c.args.object.now c.args.rule.now c.args.path.now in
-    search (rules, same)

@@ -1,9 +1,0 @@
-use Rattle.std.proofs.Common.{◌↔◌, drop, map}
-use Rattle.stix_tree.specs.DataOf.{data_of}
-use Rattle.object_rules.specs.Conditions.{HoldAll}
-use Rattle.object_rules.specs.Views.{condition_view}
-use Rattle.object_rules.proofs.condition.hold_all.Given as goal
-
-abbrev pub invariant-loop-condition : goal.invariant-loop-condition
-invariant-loop-condition l =
-    HoldAll (map condition_view l.conditions) (data_of l.object) ↔ HoldAll (map condition_view (drop l.condition-index l.conditions)) (data_of l.object)

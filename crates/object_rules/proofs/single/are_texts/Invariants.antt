@@ -1,8 +1,0 @@
-use Rattle.std.proofs.Common.{◌↔◌, drop, map}
-use Rattle.stix_tree.specs.DataOf.{field_data, members_of}
-use Rattle.object_rules.specs.Singles.{AreTexts}
-use Rattle.object_rules.proofs.single.are_texts.Given as goal
-
-abbrev pub invariant-loop-field : goal.invariant-loop-field
-invariant-loop-field l =
-    AreTexts (members_of (map field_data l.fields)) ↔ AreTexts (members_of (map field_data (drop l.field-index l.fields)))

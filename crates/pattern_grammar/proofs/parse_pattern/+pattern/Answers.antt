@@ -1,0 +1,67 @@
+use Rattle.pattern_tokens.specs.declared.token.TokenKind.TheVariants.{RoundClose}
+use Rattle.pattern_grammar.specs.declared.class.Class.TheVariants.{Only}
+use Rattle.pattern_grammar.proofs.Exits.{passed, refused_at, refused_in}
+use Rattle.pattern_grammar.proofs.Chain.{stuck_first, stuck_later, stuck_further, found_first, found_later, found_further}
+use Rattle.pattern_grammar.proofs.Comparisons.{bracket_stuck, bracket_unclosed, bracket_found}
+use Rattle.pattern_grammar.proofs.Patterns.{start_brackets, unit_first, unit_stuck, unit_qualifiers, qualifier_shorter, ands_chain, ors_chain, pattern_chain}
+use Rattle.pattern_grammar.proofs.parse_pattern.+pattern.Goals as goal
+
+pub start-returns-in_err-tree-clause-err : goal.start-returns-in_err-tree-clause-err
+start-returns-in_err-tree-clause-err t c = passed _ _ _ c.from_residual.ensures.1 (refused_in _ c.in_err-tree.ensures.err (λ r. bracket_stuck start_brackets _ c.in-Some.ensures.some))
+
+pub start-returns-in_err-rest-clause-err : goal.start-returns-in_err-rest-clause-err
+start-returns-in_err-rest-clause-err t c = passed _ _ _ c.from_residual-in_err-rest.ensures.1 (refused_at (Only RoundClose) _ _ c.in_err-rest.ensures.err (bracket_unclosed start_brackets _ c.in-Some.ensures.some c.in_ok-tree.ensures.ok))
+
+pub start-returns-in-Some-clause-ok : goal.start-returns-in-Some-clause-ok
+start-returns-in-Some-clause-ok t c = bracket_found start_brackets _ _ c.in-Some.ensures.some c.in_ok-tree.ensures.ok c.in_ok-rest.ensures.ok
+
+pub unit-returns-in_err-tree-clause-err : goal.unit-returns-in_err-tree-clause-err
+unit-returns-in_err-tree-clause-err t c = passed _ _ _ c.from_residual.ensures.1 (refused_in _ c.in_err-tree.ensures.err (λ r. unit_stuck))
+
+pub unit-loop-tree-init : goal.unit-loop-tree-init
+unit-loop-tree-init t c = unit_first c.in_ok-tree.ensures.ok
+
+pub unit-returns-in_err-limit-clause-err : goal.unit-returns-in_err-limit-clause-err
+unit-returns-in_err-limit-clause-err t c = passed _ _ _ c.from_residual-in_err-limit.ensures.1 (refused_in _ c.in_err-limit.ensures.err (λ r. stuck_further unit_qualifiers _ c.loop-tree.invariant c.in-Some.ensures.some))
+
+pub unit-loop-tree-smaller : goal.unit-loop-tree-smaller
+unit-loop-tree-smaller t c = qualifier_shorter c.in_ok-limit.ensures.ok
+
+pub unit-loop-tree-preserved : goal.unit-loop-tree-preserved
+unit-loop-tree-preserved t c = rw c.in_ok-tree-2.ensures (found_further unit_qualifiers _ c.loop-tree.invariant c.in-Some.ensures.some c.in_ok-limit.ensures.ok)
+
+pub ands-returns-in_err-left-clause-err : goal.ands-returns-in_err-left-clause-err
+ands-returns-in_err-left-clause-err t c = passed _ _ _ c.from_residual.ensures.1 (refused_in _ c.in_err-left.ensures.err (λ r. stuck_first ands_chain))
+
+pub ands-loop-after-init : goal.ands-loop-after-init
+ands-loop-after-init t c = found_first ands_chain c.in_ok-left.ensures.ok
+
+pub ands-returns-in_err-right-clause-err : goal.ands-returns-in_err-right-clause-err
+ands-returns-in_err-right-clause-err t c = passed _ _ _ c.from_residual-in_err-right.ensures.1 (refused_in _ c.in_err-right.ensures.err (λ r. stuck_later ands_chain _ c.loop-after.invariant c.in-Some.ensures.some))
+
+pub ands-loop-after-preserved : goal.ands-loop-after-preserved
+ands-loop-after-preserved t c = rw c.in_ok-left-2.ensures (found_later ands_chain _ c.loop-after.invariant c.in-Some.ensures.some c.in_ok-right.ensures.ok)
+
+pub ors-returns-in_err-left-clause-err : goal.ors-returns-in_err-left-clause-err
+ors-returns-in_err-left-clause-err t c = passed _ _ _ c.from_residual.ensures.1 (refused_in _ c.in_err-left.ensures.err (λ r. stuck_first ors_chain))
+
+pub ors-loop-after-init : goal.ors-loop-after-init
+ors-loop-after-init t c = found_first ors_chain c.in_ok-left.ensures.ok
+
+pub ors-returns-in_err-right-clause-err : goal.ors-returns-in_err-right-clause-err
+ors-returns-in_err-right-clause-err t c = passed _ _ _ c.from_residual-in_err-right.ensures.1 (refused_in _ c.in_err-right.ensures.err (λ r. stuck_later ors_chain _ c.loop-after.invariant c.in-Some.ensures.some))
+
+pub ors-loop-after-preserved : goal.ors-loop-after-preserved
+ors-loop-after-preserved t c = rw c.in_ok-left-2.ensures (found_later ors_chain _ c.loop-after.invariant c.in-Some.ensures.some c.in_ok-right.ensures.ok)
+
+pub whole-returns-in_err-left-clause-err : goal.whole-returns-in_err-left-clause-err
+whole-returns-in_err-left-clause-err t c = passed _ _ _ c.from_residual.ensures.1 (refused_in _ c.in_err-left.ensures.err (λ r. stuck_first pattern_chain))
+
+pub whole-loop-after-init : goal.whole-loop-after-init
+whole-loop-after-init t c = found_first pattern_chain c.in_ok-left.ensures.ok
+
+pub whole-returns-in_err-right-clause-err : goal.whole-returns-in_err-right-clause-err
+whole-returns-in_err-right-clause-err t c = passed _ _ _ c.from_residual-in_err-right.ensures.1 (refused_in _ c.in_err-right.ensures.err (λ r. stuck_later pattern_chain _ c.loop-after.invariant c.in-Some.ensures.some))
+
+pub whole-loop-after-preserved : goal.whole-loop-after-preserved
+whole-loop-after-preserved t c = rw c.in_ok-left-2.ensures (found_later pattern_chain _ c.loop-after.invariant c.in-Some.ensures.some c.in_ok-right.ensures.ok)

@@ -1,0 +1,42 @@
+use crate::PathTree;
+use flow_values::Items;
+use pattern_tokens::Token;
+
+/// What is asked of a value (STIX 2.1, section 9.6.1).
+#[derive(Debug, Drop)]
+pub enum CheckTree {
+    /// `=`, `!=`, `<`, `<=`, `>` or `>=` and a constant.
+    Compare { operator: Token, constant: Token },
+    /// `IN ( .. )`: the constants.
+    Among(Items<Token>),
+    /// `LIKE`, `ISSUBSET` or `ISSUPERSET` and a text.
+    Textual { operator: Token, words: Token },
+    /// `EXISTS`.
+    Exists,
+}
+
+/// One comparison: a path, and what is asked of the values there.
+#[derive(Debug, Drop)]
+pub struct TestTree {
+    /// The token that it begins with: the path's, or EXISTS or NOT.
+    pub first: Token,
+    /// Where the values stand.
+    pub path: PathTree,
+    /// Whether `NOT` is written.
+    pub negated: bool,
+    /// What is asked.
+    pub check: CheckTree,
+}
+
+/// What stands in the brackets of a pattern (STIX 2.1, section 9.6): tests, joined from the left.
+#[derive(Debug, Drop)]
+pub enum ComparisonTree {
+    /// One test.
+    Test(TestTree),
+    /// Parentheses, with the first of them.
+    Group(Token, Box<ComparisonTree>),
+    /// `AND` between comparisons.
+    All(Box<ComparisonTree>, Box<ComparisonTree>),
+    /// `OR` between comparisons.
+    Any(Box<ComparisonTree>, Box<ComparisonTree>),
+}

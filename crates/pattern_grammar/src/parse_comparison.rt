@@ -1,0 +1,130 @@
+ghost use Rattle.std.specs.Prelude.{IfOk, IfErr};
+ghost use Rattle.pattern_grammar.specs.Grammar.{IsTest, IsCand, IsCor};
+ghost use Rattle.pattern_grammar.specs.Tree.{compared, test};
+ghost use Rattle.pattern_grammar.specs.Machine.{wants_test, wants_cand, wants_cor};
+ghost use Rattle.pattern_grammar.specs.Reading.{Found, Refused, Lacks, LacksTestWord, done};
+
+use crate::make::{make_all, make_any, make_group};
+use crate::parse_check::check;
+use crate::parse_path::path;
+use crate::take::{eat, take};
+use crate::{CheckTree, Class, ComparisonTree, Stop, TestTree};
+use pattern_tokens::{Token, TokenKind};
+use std::alloc::Global;
+
+/// `path [NOT] compare`
+fn compared_test<'a>(
+    alloc: Global,
+    tokens: &'a [Token],
+) -> Result<(TestTree, &'a [Token]), Stop<'a>>
+    requires { LacksTestWord tokens.now }
+    ensures ok { IfOk result (λ x. Found IsTest wants_test done tokens.now (test x.0) x.1.now) }
+    ensures err { IfErr result (λ e. Refused IsTest wants_test tokens.now e) }
+{
+    let (path, rest) = path(alloc, tokens)?;
+    if let Some((_, rest)) = eat(rest, Class::Only(TokenKind::Not)) {
+        let (check, rest) = check(alloc, rest)?;
+        return Ok((
+            TestTree {
+                first: path.root,
+                path,
+                negated: true,
+                check,
+            },
+            rest,
+        ));
+    }
+    let (check, rest) = check(alloc, rest)?;
+    Ok((
+        TestTree {
+            first: path.root,
+            path,
+            negated: false,
+            check,
+        },
+        rest,
+    ))
+}
+
+/// `[NOT] EXISTS path | path [NOT] compare`
+fn plain_test<'a>(alloc: Global, tokens: &'a [Token]) -> Result<(TestTree, &'a [Token]), Stop<'a>>
+    requires { Lacks (Class.Only TokenKind.RoundOpen) tokens.now }
+    ensures ok { IfOk result (λ x. Found IsTest wants_test done tokens.now (test x.0) x.1.now) }
+    ensures err { IfErr result (λ e. Refused IsTest wants_test tokens.now e) }
+{
+    if let Some((first, rest)) = eat(tokens, Class::Only(TokenKind::Exists)) {
+        let (path, rest) = path(alloc, rest)?;
+        return Ok((
+            TestTree {
+                first,
+                path,
+                negated: false,
+                check: CheckTree::Exists,
+            },
+            rest,
+        ));
+    }
+    if let Some((first, rest)) = eat(tokens, Class::Only(TokenKind::Not)) {
+        let (_, rest) = take(rest, Class::Only(TokenKind::Exists))?;
+        let (path, rest) = path(alloc, rest)?;
+        return Ok((
+            TestTree {
+                first,
+                path,
+                negated: true,
+                check: CheckTree::Exists,
+            },
+            rest,
+        ));
+    }
+    compared_test(alloc, tokens)
+}
+
+/// `test = "(" cor ")" | [NOT] EXISTS path | path [NOT] compare`
+#[cycle(comparison)]
+fn test<'a>(alloc: Global, tokens: &'a [Token]) -> Result<(ComparisonTree, &'a [Token]), Stop<'a>>
+    ensures ok { IfOk result (λ x. Found IsTest wants_test done tokens.now (compared x.0) x.1.now) }
+    ensures err { IfErr result (λ e. Refused IsTest wants_test tokens.now e) }
+{
+    if let Some((open, inside)) = eat(tokens, Class::Only(TokenKind::RoundOpen)) {
+        let (tree, close) = cor(alloc, inside)?;
+        let (_, rest) = take(close, Class::Only(TokenKind::RoundClose))?;
+        let tree = make_group(alloc, open, tree)?;
+        return Ok((tree, rest));
+    }
+    let (test, rest) = plain_test(alloc, tokens)?;
+    Ok((ComparisonTree::Test(test), rest))
+}
+
+/// `cand = test { AND test }`
+#[cycle(comparison)]
+fn cand<'a>(alloc: Global, tokens: &'a [Token]) -> Result<(ComparisonTree, &'a [Token]), Stop<'a>>
+    ensures ok { IfOk result (λ x. Found IsCand wants_cand done tokens.now (compared x.0) x.1.now) }
+    ensures err { IfErr result (λ e. Refused IsCand wants_cand tokens.now e) }
+{
+    let (mut left, mut rest) = test(alloc, tokens)?;
+    while let Some((_, after)) = eat(rest, Class::Only(TokenKind::And)) {
+        let (right, next) = test(alloc, after)?;
+        left = make_all(alloc, left, right)?;
+        rest = next;
+    }
+    Ok((left, rest))
+}
+
+/// `cor = cand { OR cand }`
+#[cycle(comparison)]
+pub(crate) fn cor<'a>(
+    alloc: Global,
+    tokens: &'a [Token],
+) -> Result<(ComparisonTree, &'a [Token]), Stop<'a>>
+    ensures ok { IfOk result (λ x. Found IsCor wants_cor done tokens.now (compared x.0) x.1.now) }
+    ensures err { IfErr result (λ e. Refused IsCor wants_cor tokens.now e) }
+{
+    let (mut left, mut rest) = cand(alloc, tokens)?;
+    while let Some((_, after)) = eat(rest, Class::Only(TokenKind::Or)) {
+        let (right, next) = cand(alloc, after)?;
+        left = make_any(alloc, left, right)?;
+        rest = next;
+    }
+    Ok((left, rest))
+}

@@ -1,0 +1,134 @@
+ghost use Rattle.std.specs.Prelude.{List, IfOk, IfErr};
+ghost use Rattle.pattern_grammar.specs.Grammar.{IsPattern, IsOrs, IsAnds, IsUnit, IsStart, IsQualifier};
+ghost use Rattle.pattern_grammar.specs.Tree.{Tree, shape};
+ghost use Rattle.pattern_grammar.specs.Answer.{Misfit, Gives};
+ghost use Rattle.pattern_grammar.specs.Machine.{wants_pattern, wants_ors, wants_ands, wants_unit, wants_start, wants_qualifier};
+ghost use Rattle.pattern_grammar.specs.Reading.{Found, Refused, Lacks, done};
+
+use crate::make::{make_both, make_either, make_qualified, make_then};
+use crate::parse_comparison::cor;
+use crate::take::{eat, take};
+use crate::{Class, PatternTree, Qualifier, Stop};
+use pattern_tokens::{Token, TokenKind};
+use std::alloc::Global;
+
+/// `qualifier = WITHIN Number SECONDS | REPEATS Number TIMES | START Time STOP Time`
+fn qualifier<'a>(tokens: &'a [Token]) -> Result<(Qualifier, &'a [Token]), Stop<'a>>
+    ensures ok { IfOk result (λ x. Found IsQualifier wants_qualifier done tokens.now x.0 x.1.now) }
+    ensures err { IfErr result (λ e. Refused IsQualifier wants_qualifier tokens.now e) }
+{
+    if let Some((_, rest)) = eat(tokens, Class::Only(TokenKind::Within)) {
+        let (number, rest) = take(rest, Class::Only(TokenKind::Number))?;
+        let (_, rest) = take(rest, Class::Only(TokenKind::Seconds))?;
+        return Ok((Qualifier::Within(number), rest));
+    }
+    if let Some((_, rest)) = eat(tokens, Class::Only(TokenKind::Repeats)) {
+        let (number, rest) = take(rest, Class::Only(TokenKind::Number))?;
+        let (_, rest) = take(rest, Class::Only(TokenKind::Times))?;
+        return Ok((Qualifier::Repeats(number), rest));
+    }
+    let (start, rest) = take(tokens, Class::Only(TokenKind::Start))?;
+    let (from, rest) = take(rest, Class::Only(TokenKind::Time))?;
+    let (_, rest) = take(rest, Class::Only(TokenKind::Stop))?;
+    let (to, rest) = take(rest, Class::Only(TokenKind::Time))?;
+    Ok((Qualifier::Between { start, from, to }, rest))
+}
+
+/// `"[" cor "]"`
+fn leaf<'a>(alloc: Global, tokens: &'a [Token]) -> Result<(PatternTree, &'a [Token]), Stop<'a>>
+    requires { Lacks (Class.Only TokenKind.RoundOpen) tokens.now }
+    ensures ok { IfOk result (λ x. Found IsStart wants_start done tokens.now (shape x.0) x.1.now) }
+    ensures err { IfErr result (λ e. Refused IsStart wants_start tokens.now e) }
+{
+    let (_, inside) = take(tokens, Class::Only(TokenKind::SquareOpen))?;
+    let (tree, close) = cor(alloc, inside)?;
+    let (_, rest) = take(close, Class::Only(TokenKind::SquareClose))?;
+    Ok((PatternTree::Leaf(tree), rest))
+}
+
+/// `"[" cor "]" | "(" pattern ")"`
+#[cycle(pattern)]
+fn start<'a>(alloc: Global, tokens: &'a [Token]) -> Result<(PatternTree, &'a [Token]), Stop<'a>>
+    ensures ok { IfOk result (λ x. Found IsStart wants_start done tokens.now (shape x.0) x.1.now) }
+    ensures err { IfErr result (λ e. Refused IsStart wants_start tokens.now e) }
+{
+    if let Some((_, inside)) = eat(tokens, Class::Only(TokenKind::RoundOpen)) {
+        let (tree, close) = whole(alloc, inside)?;
+        let (_, rest) = take(close, Class::Only(TokenKind::RoundClose))?;
+        return Ok((tree, rest));
+    }
+    leaf(alloc, tokens)
+}
+
+/// `unit = ( "[" cor "]" | "(" pattern ")" ) { qualifier }`
+#[cycle(pattern)]
+fn unit<'a>(alloc: Global, tokens: &'a [Token]) -> Result<(PatternTree, &'a [Token]), Stop<'a>>
+    ensures ok { IfOk result (λ x. Found IsUnit wants_unit done tokens.now (shape x.0) x.1.now) }
+    ensures err { IfErr result (λ e. Refused IsUnit wants_unit tokens.now e) }
+{
+    let (mut tree, mut rest) = start(alloc, tokens)?;
+    while let Some(_) = eat(rest, Class::Qualifying) {
+        let (limit, next) = qualifier(rest)?;
+        tree = make_qualified(alloc, tree, limit)?;
+        rest = next;
+    }
+    Ok((tree, rest))
+}
+
+/// `ands = unit { AND unit }`
+#[cycle(pattern)]
+fn ands<'a>(alloc: Global, tokens: &'a [Token]) -> Result<(PatternTree, &'a [Token]), Stop<'a>>
+    ensures ok { IfOk result (λ x. Found IsAnds wants_ands done tokens.now (shape x.0) x.1.now) }
+    ensures err { IfErr result (λ e. Refused IsAnds wants_ands tokens.now e) }
+{
+    let (mut left, mut rest) = unit(alloc, tokens)?;
+    while let Some((_, after)) = eat(rest, Class::Only(TokenKind::And)) {
+        let (right, next) = unit(alloc, after)?;
+        left = make_both(alloc, left, right)?;
+        rest = next;
+    }
+    Ok((left, rest))
+}
+
+/// `ors = ands { OR ands }`
+#[cycle(pattern)]
+fn ors<'a>(alloc: Global, tokens: &'a [Token]) -> Result<(PatternTree, &'a [Token]), Stop<'a>>
+    ensures ok { IfOk result (λ x. Found IsOrs wants_ors done tokens.now (shape x.0) x.1.now) }
+    ensures err { IfErr result (λ e. Refused IsOrs wants_ors tokens.now e) }
+{
+    let (mut left, mut rest) = ands(alloc, tokens)?;
+    while let Some((_, after)) = eat(rest, Class::Only(TokenKind::Or)) {
+        let (right, next) = ands(alloc, after)?;
+        left = make_either(alloc, left, right)?;
+        rest = next;
+    }
+    Ok((left, rest))
+}
+
+/// `pattern = ors { FOLLOWEDBY ors }`
+#[cycle(pattern)]
+fn whole<'a>(alloc: Global, tokens: &'a [Token]) -> Result<(PatternTree, &'a [Token]), Stop<'a>>
+    ensures ok { IfOk result (λ x. Found IsPattern wants_pattern done tokens.now (shape x.0) x.1.now) }
+    ensures err { IfErr result (λ e. Refused IsPattern wants_pattern tokens.now e) }
+{
+    let (mut left, mut rest) = ors(alloc, tokens)?;
+    while let Some((_, after)) = eat(rest, Class::Only(TokenKind::FollowedBy)) {
+        let (right, next) = ors(alloc, after)?;
+        left = make_then(alloc, left, right)?;
+        rest = next;
+    }
+    Ok((left, rest))
+}
+
+/// The syntax tree that all of the tokens spell, or the first that doesn't fit.
+pub fn parse<'a>(alloc: Global, tokens: &'a [Token]) -> Result<PatternTree, Stop<'a>>
+    ensures ok { IfOk result (λ p. IsPattern tokens.now (shape p)) }
+    ensures err { IfErr result (λ e. Misfit tokens.now e) }
+    ensures only { (p : Tree) → IsPattern tokens.now p → Gives p result }
+{
+    let (tree, rest) = whole(alloc, tokens)?;
+    if !rest.is_empty() {
+        return Err(Stop::Syntax(rest));
+    }
+    Ok(tree)
+}

@@ -1,0 +1,3 @@
+mod Only
+mod Existing
+mod Widths

@@ -1,0 +1,31 @@
+ghost use Rattle.std.specs.Prelude.{◌≡◌, IfOk, IfErr};
+ghost use Rattle.pattern_reader.specs.Checked.{IsSound, IsUnsound};
+ghost use Rattle.pattern_grammar.specs.Place.{GivesTree};
+ghost use Rattle.pattern_grammar.specs.Tree.{Tree, shape};
+
+use pattern_faults::pattern_fault;
+use pattern_lexer::tokens;
+use pattern_grammar::{PatternTree, read_tree};
+use pattern_tokens::PatternRefusal;
+use std::alloc::Global;
+
+/// The syntax tree of a pattern's text, where nothing in it is refused but its width; or the first
+/// refusal: of its tokens, then of their order, then of their values.
+pub fn checked_tree(alloc: Global, text: &str) -> Result<PatternTree, PatternRefusal>
+    ensures ok { IfOk result (λ tree. IsSound text.now (shape tree)) }
+    ensures err { IfErr result (λ refusal. IsUnsound text.now refusal) }
+    ensures only { (tree : Tree) → IsSound text.now tree → GivesTree tree result }
+{
+    let found = match tokens(alloc, text) {
+        Ok(found) => found,
+        Err(refusal) => return Err(refusal),
+    };
+    let tree = match read_tree(alloc, found.as_slice(), text.len()) {
+        Ok(tree) => tree,
+        Err(refusal) => return Err(refusal),
+    };
+    match pattern_fault(alloc, text, &tree)? {
+        None => Ok(tree),
+        Some(refusal) => Err(refusal),
+    }
+}

@@ -1,0 +1,72 @@
+ghost use Rattle.std.specs.Prelude.{◌≡◌, IfOk, IfErr};
+ghost use Rattle.pattern_reader.specs.Read.{IsReadAs, IsRefusedAs, Gives};
+ghost use Rattle.pattern_reader.specs.Width.{IsTooWide};
+ghost use Rattle.pattern_types.specs.declared.pattern.Pattern.{Pattern};
+ghost use Rattle.pattern_tokens.specs.declared.refusal.PatternRefusal.TheVariants as PatternRefusal;
+ghost use Rattle.pattern_reader.specs.Checked.{IsSound};
+ghost use Rattle.pattern_meaning.specs.Meant.{meant, MeansPattern};
+ghost use Rattle.pattern_grammar.specs.Tree.{shape};
+
+use crate::checked::checked_tree;
+use crate::width::is_too_wide;
+use flow_values::NoMemory;
+use pattern_lexer::laws::sound_tokens;
+use pattern_meaning::laws::one_meaning;
+use pattern_meaning::pattern_of;
+use pattern_grammar::PatternTree;
+use pattern_tokens::PatternRefusal;
+use pattern_types::Pattern;
+use std::alloc::Global;
+
+/// Reads a pattern of STIX 2.1 (section 9), of at most 65,536 bytes; or tells the first reason why the
+/// text is none: TooLong; a fault of its tokens, from the left; Syntax or TooDeep, whichever stands
+/// first; a value that is refused, by place; TooWide.
+pub fn read_pattern(alloc: Global, text: &str) -> Result<Pattern, PatternRefusal>
+    ensures ok { IfOk result (IsReadAs text.now) }
+    ensures err { IfErr result (IsRefusedAs text.now) }
+    ensures only { (pattern : Pattern) → IsReadAs text.now pattern → Gives pattern result }
+{
+    let tree = match checked_tree(alloc, text) {
+        Ok(tree) => tree,
+        Err(refusal) => return Err(refusal),
+    };
+    pattern_in(alloc, text, &tree)
+}
+
+/// The pattern that a tree without faults means, unless it is too wide.
+fn pattern_in(alloc: Global, text: &str, tree: &PatternTree) -> Result<Pattern, PatternRefusal>
+    requires { IsSound text.now (shape tree.now) }
+    ensures ok { IfOk result (IsReadAs text.now) }
+    ensures err { IfErr result (IsRefusedAs text.now) }
+    ensures only { (pattern : Pattern) → MeansPattern text.now (shape tree.now) (meant pattern)
+        → (¬ IsTooWide pattern) → Gives pattern result }
+{
+    one_meaning();
+    match meaning_of(alloc, text, tree) {
+        Ok(pattern) => narrow(pattern),
+        Err(NoMemory) => Err(PatternRefusal::NoMemory),
+    }
+}
+
+/// The pattern, unless it is too wide.
+fn narrow(pattern: Pattern) -> Result<Pattern, PatternRefusal>
+    ensures ok { IfOk result (λ same. (same ≡ pattern) × (¬ IsTooWide pattern)) }
+    ensures err { IfErr result (λ refusal. (refusal ≡ PatternRefusal.TooWide) × IsTooWide pattern) }
+{
+    if is_too_wide(&pattern) {
+        return Err(PatternRefusal::TooWide);
+    }
+    Ok(pattern)
+}
+
+/// The pattern that a tree without faults means.
+fn meaning_of(alloc: Global, text: &str, tree: &PatternTree) -> Result<Pattern, NoMemory>
+    requires { IsSound text.now (shape tree.now) }
+    ensures { IfOk result (λ pattern. MeansPattern text.now (shape tree.now) (meant pattern)) }
+{
+    sound_tokens();
+    match pattern_of(alloc, text, tree)? {
+        Some(pattern) => Ok(pattern),
+        None => unreachable!(),
+    }
+}

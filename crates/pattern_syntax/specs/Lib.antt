@@ -1,9 +1,0 @@
-pub mod Class
-pub mod Tree
-pub mod Grammar
-pub mod Machine
-pub mod Reading
-pub mod Fronts
-pub mod Answer
-pub mod Depth
-pub mod Place

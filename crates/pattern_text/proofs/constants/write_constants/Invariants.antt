@@ -1,8 +1,0 @@
-use Rattle.std.proofs.Common.{take}
-use Rattle.std.specs.Prelude.{codes}
-use Rattle.pattern_text.specs.Parts.{AreJoined, Adds}
-use Rattle.pattern_text.specs.Constant.{IsConstantText}
-use Rattle.pattern_text.proofs.constants.write_constants.Given as goal
-
-abbrev pub invariant-loop-index : goal.invariant-loop-index
-invariant-loop-index l = Adds (AreJoined (codes ", ") IsConstantText (take l.index l.constants)) l.fn.out l.out

@@ -1,5 +1,0 @@
-use Rattle.pattern_text.proofs.OneText.{canonical_once}
-use Rattle.pattern_text.proofs.laws.one_text.Goals as goal
-
-pub returns : goal.returns
-returns c = λ m a b h k. canonical_once (λ x y i p q. c.one_canonical_text.ensures i x y p q) m a b h k

@@ -1,7 +1,0 @@
-use Rattle.std.proofs.Common.{take}
-use Rattle.pattern_text.specs.Parts.{AreJoined, Adds}
-use Rattle.pattern_text.proofs.LeafTexts.{IsPart}
-use Rattle.pattern_text.proofs.leaves.+leaves.Given as goal
-
-abbrev pub invariant-write_parts-loop-index : goal.invariant-write_parts-loop-index
-invariant-write_parts-loop-index l = Adds (AreJoined l.between (IsPart l.least) (take l.index l.parts)) l.fn.out l.out

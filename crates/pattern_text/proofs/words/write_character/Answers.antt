@@ -1,7 +1,0 @@
-use Rattle.pattern_text.proofs.Characters.{other_character}
-use Rattle.pattern_text.proofs.words.write_character.Goals as goal
-
-pub returns : goal.returns
-returns c =
-    let e = other_character c.args.character c.if-character-eq39.false c.if-character-eq92.false in
-    rw (e, ← c.encode_utf8.ensures.value) c.push-2.ensures.ok

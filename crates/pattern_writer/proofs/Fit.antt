@@ -1,0 +1,119 @@
+-- Patterns of which the canonical text reads back, but for the limits of depth and of values: those with
+-- numbers in their ranges, and with the shapes that the grammar has (STIX 2.1, section 9).
+use Rattle.std.specs.Prelude.{◌≢◌, ◌⊎◌, ◌≤◌, true, false, List, [], ◌∷◌, All, codes}
+use Rattle.hex.specs.Hex.{IsBytes}
+use Rattle.base64.specs.Engines.{standard}
+use Rattle.base64.specs.GeneralPurpose.{encode_of}
+use Rattle.pattern_tokens.specs.declared.token.TokenKind.{TokenKind}
+use Rattle.pattern_tokens.specs.declared.token.TokenKind.TheVariants as kind
+use Rattle.pattern_tokens.specs.Word.{IsWord, IsHyphenWord}
+use Rattle.pattern_tokens.specs.Values.{FitsIn64Bits}
+use Rattle.pattern_types.specs.declared.path.Step.{Step}
+use Rattle.pattern_types.specs.declared.path.Step.TheVariants as step
+use Rattle.pattern_types.specs.declared.path.Path.{Path}
+use Rattle.pattern_types.specs.declared.constant.Constant.{Constant}
+use Rattle.pattern_types.specs.declared.constant.Constant.TheVariants.{Whole, Words, Truth, Hexed, Based, Moment}
+use Rattle.pattern_types.specs.declared.check.Check.{Check}
+use Rattle.pattern_types.specs.declared.check.Check.TheVariants as check
+use Rattle.pattern_types.specs.declared.leaf.Test.{Test}
+use Rattle.pattern_meaning.specs.Formula.{Formula, one, every, some, Formulas, none, more}
+use Rattle.pattern_meaning.specs.Meant.{Meant, a_leaf, a_both, an_either, a_then, a_limited}
+use Rattle.pattern_meaning.specs.declared.limits.Limit.{Limit}
+use Rattle.pattern_meaning.specs.declared.limits.Limit.TheVariants.{Within, Repeats, Between}
+
+abbrev pub FitStep : Step → Type 0
+FitStep (step.Name name) = Unit {0}
+FitStep (step.Place place) = place ≤ 4_294_967_295
+FitStep step.Each = Unit {0}
+
+abbrev pub FitFurther : List Step → Type 0
+FitFurther [] = Unit {0}
+FitFurther (s ∷ ss) = FitStep s × FitFurther ss
+
+-- the first step is a name
+abbrev pub FitSteps : List Step → Type 0
+FitSteps [] = ⊥
+FitSteps (step.Name name ∷ ss) = FitFurther ss
+FitSteps (step.Place place ∷ ss) = ⊥
+FitSteps (step.Each ∷ ss) = ⊥
+
+pub record FitPath (path : Path) : Type 0 where
+  pub root : IsWord path.kind ⊎ IsHyphenWord path.kind
+  pub free : path.kind ≢ codes "MATCHES"
+  pub steps : FitSteps path.steps
+
+abbrev pub FitConstant : Constant → Type 0
+FitConstant (Whole whole) = FitsIn64Bits whole
+FitConstant (Words words) = Unit {0}
+FitConstant (Truth truth) = Unit {0}
+FitConstant (Hexed bytes) = IsBytes bytes
+FitConstant (Based bytes) = IsBytes bytes × All (λ c. c ≢ 39) (encode_of standard bytes)
+FitConstant (Moment instant) = Unit {0}
+
+-- the kind of a constant's token
+abbrev pub kind_of : Constant → TokenKind
+kind_of (Whole whole) = kind.Number
+kind_of (Words words) = kind.Words
+kind_of (Truth true) = kind.TrueWord
+kind_of (Truth false) = kind.FalseWord
+kind_of (Hexed bytes) = kind.Hex
+kind_of (Based bytes) = kind.Base
+kind_of (Moment instant) = kind.Time
+
+-- truths have no order
+abbrev pub FitOrdered : Constant → Type 0
+FitOrdered (Truth truth) = ⊥
+FitOrdered c = FitConstant c
+
+abbrev pub FitConstants : List Constant → Type 0
+FitConstants [] = Unit {0}
+FitConstants (c ∷ cs) = FitConstant c × FitConstants cs
+
+abbrev pub FitList : List Constant → Type 0
+FitList [] = ⊥
+FitList (c ∷ cs) = FitConstant c × FitConstants cs
+
+abbrev pub FitCheck : Check → Type 0
+FitCheck (check.Equal value) = FitConstant value
+FitCheck (check.Differ value) = FitConstant value
+FitCheck (check.Less value) = FitOrdered value
+FitCheck (check.LessEqual value) = FitOrdered value
+FitCheck (check.Greater value) = FitOrdered value
+FitCheck (check.GreaterEqual value) = FitOrdered value
+FitCheck (check.Among values) = FitList values
+FitCheck (check.Like words) = Unit {0}
+FitCheck (check.Subset words) = Unit {0}
+FitCheck (check.Superset words) = Unit {0}
+FitCheck check.Exists = Unit {0}
+
+pub record FitTest (test : Test) : Type 0 where
+  pub path : FitPath test.path
+  pub asks : FitCheck test.check
+
+-- two or more
+abbrev pub AreSome : Formulas → Type 0
+AreSome none = ⊥
+AreSome (more f none) = ⊥
+AreSome (more f (more g gs)) = Unit {0}
+
+abbrev mutual
+  pub FitFormula : Formula → Type 0
+  FitFormula (one test) = FitTest test
+  FitFormula (every parts) = AreSome parts × FitFormulas parts
+  FitFormula (some parts) = AreSome parts × FitFormulas parts
+
+  pub FitFormulas : Formulas → Type 0
+  FitFormulas none = Unit {0}
+  FitFormulas (more part parts) = FitFormula part × FitFormulas parts
+
+abbrev pub FitLimit : Limit → Type 0
+FitLimit (Within seconds) = (1 ≤ seconds) × (seconds ≤ 4_294_967_295)
+FitLimit (Repeats times) = (1 ≤ times) × (times ≤ 4_294_967_295)
+FitLimit (Between begins ends) = Unit {0}
+
+abbrev pub FitMeant : Meant → Type 0
+FitMeant (a_leaf formula) = FitFormula formula
+FitMeant (a_both left right) = FitMeant left × FitMeant right
+FitMeant (an_either left right) = FitMeant left × FitMeant right
+FitMeant (a_then left right) = FitMeant left × FitMeant right
+FitMeant (a_limited part limit) = FitMeant part × FitLimit limit

@@ -1,0 +1,48 @@
+-- How one comparison is written (STIX 2.1, section 9.6): a path, NOT where it is negated, an operator and
+-- what it compares with.
+use Rattle.std.specs.Prelude.{ℕ, Bool, if◌then◌else◌, List, [], ◌++◌, codes}
+use Rattle.pattern_tokens.specs.Values.{IsWordsText}
+use Rattle.pattern_types.specs.declared.path.Path.{Path}
+use Rattle.pattern_types.specs.declared.constant.Constant.{Constant}
+use Rattle.pattern_types.specs.declared.check.Check.{Check}
+use Rattle.pattern_types.specs.declared.check.Check.TheVariants.{Equal, Differ, Less, LessEqual, Greater, GreaterEqual, Among, Like, Subset, Superset, Exists}
+use Rattle.pattern_types.specs.declared.leaf.Test.{Test}
+use Rattle.pattern_writer.specs.Parts.{IsAfter, IsBetween, AreSides, AreJoined}
+use Rattle.pattern_writer.specs.Path.{IsPathText}
+use Rattle.pattern_writer.specs.Constant.{IsConstantText}
+
+-- NOT and a space, where the test is negated
+abbrev pub not_text : Bool → List ℕ
+not_text negated = if negated then codes "NOT " else []
+
+-- NOT and an operator, between spaces
+abbrev pub operator_text : Bool → List ℕ → List ℕ
+operator_text negated operator = codes " " ++ not_text negated ++ operator ++ codes " "
+
+-- a path, an operator, and what follows it
+abbrev pub IsAsked : Path → Bool → List ℕ → (List ℕ → Type 0) → List ℕ → Type 0
+IsAsked path negated operator IsText = AreSides (IsPathText path) (operator_text negated operator) IsText
+
+-- the constants of a list
+abbrev pub AreAmong : List Constant → List ℕ → Type 0
+AreAmong values = IsBetween (codes "(") (codes ")") (AreJoined (codes ", ") IsConstantText values)
+
+-- words in quotes
+abbrev pub AreWords : List ℕ → List ℕ → Type 0
+AreWords words text = IsWordsText text words
+
+abbrev pub IsCheckedText : Path → Bool → Check → List ℕ → Type 0
+IsCheckedText path negated (Equal value) = IsAsked path negated (codes "=") (IsConstantText value)
+IsCheckedText path negated (Differ value) = IsAsked path negated (codes "!=") (IsConstantText value)
+IsCheckedText path negated (Less value) = IsAsked path negated (codes "<") (IsConstantText value)
+IsCheckedText path negated (LessEqual value) = IsAsked path negated (codes "<=") (IsConstantText value)
+IsCheckedText path negated (Greater value) = IsAsked path negated (codes ">") (IsConstantText value)
+IsCheckedText path negated (GreaterEqual value) = IsAsked path negated (codes ">=") (IsConstantText value)
+IsCheckedText path negated (Among values) = IsAsked path negated (codes "IN") (AreAmong values)
+IsCheckedText path negated (Like words) = IsAsked path negated (codes "LIKE") (AreWords words)
+IsCheckedText path negated (Subset words) = IsAsked path negated (codes "ISSUBSET") (AreWords words)
+IsCheckedText path negated (Superset words) = IsAsked path negated (codes "ISSUPERSET") (AreWords words)
+IsCheckedText path negated Exists = IsAfter (not_text negated ++ codes "EXISTS ") (IsPathText path)
+
+abbrev pub IsTestText : Test → List ℕ → Type 0
+IsTestText test = IsCheckedText test.path test.negated test.check

@@ -1,0 +1,11 @@
+-- How qualifiers are written (STIX 2.1, section 9.4).
+use Rattle.std.specs.Prelude.{◌≡◌, ℕ, List, ◌++◌, codes, decimal}
+use Rattle.pattern_meaning.specs.declared.limits.Limit.{Limit}
+use Rattle.pattern_meaning.specs.declared.limits.Limit.TheVariants.{Within, Repeats, Between}
+use Rattle.pattern_writer.specs.Parts.{IsAfter, AreSides}
+use Rattle.pattern_writer.specs.Constant.{IsTimeText}
+
+abbrev pub IsLimitText : Limit → List ℕ → Type 0
+IsLimitText (Within seconds) text = text ≡ codes "WITHIN " ++ decimal seconds ++ codes " SECONDS"
+IsLimitText (Repeats times) text = text ≡ codes "REPEATS " ++ decimal times ++ codes " TIMES"
+IsLimitText (Between begins ends) text = AreSides (IsAfter (codes "START ") (IsTimeText begins)) (codes " STOP ") (IsTimeText ends) text

@@ -1,0 +1,27 @@
+//! What follows from the definitions: the contract is the law, and the function does nothing.
+
+ghost use Rattle.std.specs.Prelude.{◌≡◌, ◌≤◌, ℕ, List, length};
+ghost use Rattle.pattern_meaning.specs.Meant.{Meant, meant};
+ghost use Rattle.pattern_types.specs.declared.pattern.Pattern.{Pattern};
+ghost use Rattle.pattern_reader.specs.Read.{IsReadAs};
+ghost use Rattle.pattern_writer.specs.Canonical.{IsCanonical};
+
+use pattern_tokens::one_meaning;
+use stix_times::laws::one_canonical_text;
+
+/// A pattern has one canonical text.
+pub fn one_text()
+    ensures { (pattern : Meant) (first second : List ℕ) → IsCanonical pattern first
+        → IsCanonical pattern second → first ≡ second }
+{
+    one_canonical_text();
+}
+
+/// The canonical text of a pattern that some text is read as is read as that pattern, unless it has more
+/// than 65,536 bytes.
+pub fn reads_back()
+    ensures { (pattern : Pattern) (text canonical : List ℕ) → IsReadAs text pattern
+        → IsCanonical (meant pattern) canonical → length canonical ≤ 65_536 → IsReadAs canonical pattern }
+{
+    one_meaning();
+}

@@ -1,0 +1,64 @@
+ghost use Rattle.std.specs.Prelude.{◌≡◌, OnOk};
+ghost use Rattle.pattern_meaning.specs.Formula.{formula, listed};
+ghost use Rattle.pattern_writer.specs.Parts.{IsWithin, Adds};
+ghost use Rattle.pattern_writer.specs.Leaf.{binds, IsFormulaText, AreParts};
+
+use crate::checks::write_test;
+use crate::parts::write_between;
+use flow_values::{NoMemory, Text};
+use pattern_types::Leaf;
+use std::alloc::Global;
+
+/// How tightly what is written for a leaf binds. Takes no memory.
+fn tightness(leaf: &Leaf) -> u8
+    ensures { result ≡ binds (formula leaf.now) }
+{
+    match leaf {
+        Leaf::Test(_) => 2,
+        Leaf::All(_) => 1,
+        Leaf::Any(_) => 0,
+    }
+}
+
+/// Writes a leaf, in parentheses where it binds less tightly.
+#[cycle(leaves)]
+fn write_part(alloc: Global, least: u8, leaf: &Leaf, out: &mut Text) -> Result<(), NoMemory>
+    ensures { OnOk result (Adds (IsWithin least (binds (formula leaf.now)) (IsFormulaText (formula leaf.now))) out.old out.new) }
+{
+    if least <= tightness(leaf) {
+        return write_leaf(alloc, leaf, out);
+    }
+    out.push("(")?;
+    write_leaf(alloc, leaf, out)?;
+    out.push(")")
+}
+
+/// Writes parts with a word between them.
+#[cycle(leaves)]
+fn write_parts(
+    alloc: Global,
+    least: u8,
+    between: &str,
+    parts: &[Leaf],
+    out: &mut Text,
+) -> Result<(), NoMemory>
+    ensures { OnOk result (Adds (AreParts least between.now (listed parts.now)) out.old out.new) }
+{
+    for (index, part) in parts.iter().enumerate() {
+        write_between(index, between, out)?;
+        write_part(alloc, least, part, out)?;
+    }
+    Ok(())
+}
+
+/// Writes what stands in the brackets of a pattern.
+#[cycle(leaves)]
+pub(crate) fn write_leaf(alloc: Global, leaf: &Leaf, out: &mut Text) -> Result<(), NoMemory>
+    ensures { OnOk result (Adds (IsFormulaText (formula leaf.now)) out.old out.new) }
+{
+    match leaf {
+        Leaf::Test(test) => write_test(alloc, test, out),
+        Leaf::All(parts) => write_parts(alloc, 2, " AND ", parts.as_slice(), out),
+        Leaf::Any(parts) => write_parts(alloc, 1, " OR ", parts.as_slice(), out),
+    }
+}

@@ -1,0 +1,83 @@
+ghost use Rattle.std.specs.Prelude.{◌↔◌, IsTrue, OnOk, []};
+ghost use Rattle.pattern_writer.specs.Parts.{Adds, AreJoined};
+ghost use Rattle.pattern_writer.specs.Path.{IsBare, IsNameText, IsStepText, IsFirstText, IsPathText};
+
+use crate::words::write_words;
+use flow_values::{NoMemory, Text};
+use pattern_tokens::is_word;
+use pattern_types::{Path, Step};
+
+/// Whether the name needs no quotes. Takes no memory.
+fn is_bare(name: &str) -> bool
+    ensures { IsTrue result ↔ IsBare name.now }
+{
+    is_word(name) && name != "MATCHES"
+}
+
+/// Writes a name, in quotes where it needs them.
+fn write_name(name: &str, out: &mut Text) -> Result<(), NoMemory>
+    ensures { OnOk result (Adds (IsNameText name.now) out.old out.new) }
+{
+    if is_bare(name) {
+        return out.push(name);
+    }
+    write_words(name, out)
+}
+
+/// Writes a step in brackets.
+fn write_place(place: u32, out: &mut Text) -> Result<(), NoMemory>
+    ensures { OnOk result (Adds (IsStepText (Step.Place place)) out.old out.new) }
+{
+    out.push("[")?;
+    out.push(itoa::Buffer::new().format(place))?;
+    out.push("]")
+}
+
+/// Writes a step that follows another.
+fn write_step(step: &Step, out: &mut Text) -> Result<(), NoMemory>
+    ensures { OnOk result (Adds (IsStepText step.now) out.old out.new) }
+{
+    match step {
+        Step::Name(name) => {
+            out.push(".")?;
+            write_name(name.as_str(), out)
+        }
+        Step::Place(place) => write_place(*place, out),
+        Step::Each => out.push("[*]"),
+    }
+}
+
+/// Writes the step behind the colon.
+fn write_first(step: &Step, out: &mut Text) -> Result<(), NoMemory>
+    ensures { OnOk result (Adds (IsFirstText step.now) out.old out.new) }
+{
+    match step {
+        Step::Name(name) => write_name(name.as_str(), out),
+        Step::Place(_) | Step::Each => write_step(step, out),
+    }
+}
+
+/// Writes steps one after another.
+fn write_steps(steps: &[Step], out: &mut Text) -> Result<(), NoMemory>
+    ensures { OnOk result (Adds (AreJoined [] IsStepText steps.now) out.old out.new) }
+{
+    for step in steps {
+        write_step(step, out)?;
+    }
+    Ok(())
+}
+
+/// Writes an object path.
+pub(crate) fn write_path(path: &Path, out: &mut Text) -> Result<(), NoMemory>
+    ensures { OnOk result (Adds (IsPathText path.now) out.old out.new) }
+{
+    out.push(path.kind.as_str())?;
+    out.push(":")?;
+    match path.steps.as_slice() {
+        [first, others @ ..] => {
+            write_first(first, out)?;
+            write_steps(others, out)
+        }
+        [] => Ok(()),
+    }
+}

@@ -1,0 +1,104 @@
+ghost use Rattle.std.specs.Prelude.{◌≡◌, ◌+◌, ◌<◌, OnOk, IfOk, codes};
+ghost use Rattle.pattern_meaning.specs.Meant.{meant};
+ghost use Rattle.pattern_writer.specs.Parts.{AreSides, IsBetween, IsWithin, Adds};
+ghost use Rattle.pattern_writer.specs.Leaf.{IsFormulaText};
+ghost use Rattle.pattern_writer.specs.Canonical.{level, IsCanonical};
+ghost use Rattle.pattern_meaning.specs.Formula.{formula};
+
+use crate::leaves::write_leaf;
+use crate::limits::{write_seconds, write_span, write_times};
+use flow_values::{NoMemory, Text};
+use pattern_types::{Leaf, Pattern};
+use std::alloc::Global;
+
+/// How tightly what is written for a pattern binds. Takes no memory.
+fn tightness(pattern: &Pattern) -> u8
+    ensures { result ≡ level (meant pattern.now) }
+{
+    match pattern {
+        Pattern::Leaf(_)
+        | Pattern::Within(_, _)
+        | Pattern::Between(_, _, _)
+        | Pattern::Repeats(_, _) => 3,
+        Pattern::Both(_, _) => 2,
+        Pattern::Either(_, _) => 1,
+        Pattern::Then(_, _) => 0,
+    }
+}
+
+/// Writes a leaf in its brackets.
+fn write_brackets(alloc: Global, leaf: &Leaf, out: &mut Text) -> Result<(), NoMemory>
+    ensures { OnOk result (Adds (IsBetween (codes "[") (codes "]") (IsFormulaText (formula leaf.now))) out.old out.new) }
+{
+    out.push("[")?;
+    write_leaf(alloc, leaf, out)?;
+    out.push("]")
+}
+
+/// Writes a pattern, in parentheses where it binds less tightly.
+#[cycle(patterns)]
+fn write_part(alloc: Global, least: u8, pattern: &Pattern, out: &mut Text) -> Result<(), NoMemory>
+    ensures { OnOk result (Adds (IsWithin least (level (meant pattern.now)) (IsCanonical (meant pattern.now))) out.old out.new) }
+{
+    if least <= tightness(pattern) {
+        return write(alloc, pattern, out);
+    }
+    out.push("(")?;
+    write(alloc, pattern, out)?;
+    out.push(")")
+}
+
+/// Writes two patterns with an operator between them, that binds so tightly.
+#[cycle(patterns)]
+fn write_sides(
+    alloc: Global,
+    binds: u8,
+    left: &Pattern,
+    operator: &str,
+    right: &Pattern,
+    out: &mut Text,
+) -> Result<(), NoMemory>
+    requires { binds < 3 }
+    ensures { OnOk result (Adds (AreSides (IsWithin binds (level (meant left.now)) (IsCanonical (meant left.now))) operator.now (IsWithin (binds + 1) (level (meant right.now)) (IsCanonical (meant right.now)))) out.old out.new) }
+{
+    write_part(alloc, binds, left, out)?;
+    out.push(operator)?;
+    write_part(alloc, binds + 1, right, out)
+}
+
+/// Writes a pattern.
+#[cycle(patterns)]
+fn write(alloc: Global, pattern: &Pattern, out: &mut Text) -> Result<(), NoMemory>
+    ensures { OnOk result (Adds (IsCanonical (meant pattern.now)) out.old out.new) }
+{
+    match pattern {
+        Pattern::Leaf(leaf) => write_brackets(alloc, leaf, out),
+        Pattern::Both(left, right) => write_sides(alloc, 2, left, " AND ", right, out),
+        Pattern::Either(left, right) => write_sides(alloc, 1, left, " OR ", right, out),
+        Pattern::Then(left, right) => write_sides(alloc, 0, left, " FOLLOWEDBY ", right, out),
+        Pattern::Within(part, seconds) => {
+            write_part(alloc, 3, part, out)?;
+            out.push(" ")?;
+            write_seconds(*seconds, out)
+        }
+        Pattern::Between(part, begins, ends) => {
+            write_part(alloc, 3, part, out)?;
+            out.push(" ")?;
+            write_span(*begins, *ends, out)
+        }
+        Pattern::Repeats(part, times) => {
+            write_part(alloc, 3, part, out)?;
+            out.push(" ")?;
+            write_times(*times, out)
+        }
+    }
+}
+
+/// The canonical text of a pattern.
+pub fn write_pattern(alloc: Global, pattern: &Pattern) -> Result<Text, NoMemory>
+    ensures { IfOk result (λ text. IsCanonical (meant pattern.now) text) }
+{
+    let mut text = Text::new(alloc);
+    write(alloc, pattern, &mut text)?;
+    Ok(text)
+}

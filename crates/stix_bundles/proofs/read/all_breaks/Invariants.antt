@@ -1,0 +1,7 @@
+use Rattle.std.proofs.Common.{take}
+use Rattle.stix_bundles.specs.Objects.{data_in}
+use Rattle.stix_bundles.specs.Bundle.{AreAllBreaks}
+use Rattle.stix_bundles.proofs.read.all_breaks.Given as goal
+
+abbrev pub invariant-loop-at : goal.invariant-loop-at
+invariant-loop-at l = AreAllBreaks 0 (take l.at (data_in l.objects)) l.found

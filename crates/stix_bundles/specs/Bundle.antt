@@ -1,0 +1,98 @@
+-- Bundles (STIX 2.1, section 8): an object of the type `bundle`, with an identifier of that kind and, where there are
+-- some, a list of objects. Here it has at most 8,388,608 of them, and each meets the rules of its type.
+use Rattle.std.specs.Prelude.{◌≡◌, ◌≢◌, ◌⊎◌, ℕ, ◌+◌, ◌≤◌, ◌<◌, List, [], ◌∷◌, ◌++◌, length, map, All, slice_get, Some, MatchOption, IsSome, Result, Ok, Err, codes}
+use Rattle.serde_json.specs.Data.{Data, Items, no_items, item}
+use Rattle.serde_json.specs.Find.{get, as_array, as_object}
+use Rattle.stix_ids.specs.declared.id.Id.{Id}
+use Rattle.stix_json.specs.Walk.{path_text, place_part}
+use Rattle.stix_objects.specs.declared.broken.Break.{Break}
+use Rattle.stix_objects.specs.Conditions.{text_at}
+use Rattle.stix_objects.specs.Breaks.{AreBreaksOf}
+use Rattle.stix_bundles.specs.declared.object_break.ObjectBreak.{ObjectBreak}
+use Rattle.stix_bundles.specs.declared.refusal.BundleRefusal.{BundleRefusal}
+use Rattle.stix_bundles.specs.declared.refusal.BundleRefusal.TheVariants.{NotBundle, Breaks, NoMemory}
+use Rattle.stix_bundles.specs.Objects.{HasId}
+
+-- the items of a list, one after another
+abbrev pub listed : Items → List Data
+listed no_items = []
+listed (item d ds) = d ∷ listed ds
+
+abbrev pub IsObject : Data → Type 0
+IsObject d = IsSome (as_object d)
+
+-- its type is `bundle`
+abbrev pub IsTyped : Data → Type 0
+IsTyped d = text_at (codes "type") d ≡ Some (codes "bundle")
+
+-- its identifier is of the kind `bundle`
+abbrev pub IsIdentified : Data → Type 0
+IsIdentified d = (id : Id) × HasId d id × (id.kind ≡ codes "bundle")
+
+-- a list, with these members: 1 to 8,388,608 of them
+pub record IsListOf (value : Data) (members : List Data) : Type 0 where
+  pub items : Items
+  pub list : as_array value ≡ Some items
+  pub members_are : members ≡ listed items
+  pub some : 1 ≤ length members
+  pub not_too_many : length members ≤ 8_388_608
+
+-- its objects are these: none where it names none, else the members of a list
+abbrev pub HasObjects : Data → List Data → Type 0
+HasObjects d objects = MatchOption (get (codes "objects") d) (objects ≡ []) (λ value. IsListOf value objects)
+
+-- a bundle's outline, with these objects
+pub record IsOutlined (d : Data) (objects : List Data) : Type 0 where
+  pub is_object : IsObject d
+  pub typed : IsTyped d
+  pub identified : IsIdentified d
+  pub listed_are : HasObjects d objects
+  pub members : All IsObject objects
+
+-- the first of the members that is no object
+pub record IsFirstNoObject (objects : List Data) (at : ℕ) : Type 0 where
+  pub member : Data
+  pub there : slice_get objects at ≡ Some member
+  pub no_object : ¬ IsObject member
+  pub before : (n : ℕ) (other : Data) → n < at → slice_get objects n ≡ Some other → IsObject other
+
+-- the condition that fails first, by the parts of the path to what it is asked of
+abbrev pub FailsAt : Data → List (List ℕ) → Type 0
+FailsAt d [] = ¬ IsObject d
+FailsAt d (name ∷ []) = IsObject d × (
+    ((name ≡ codes "type") × (¬ IsTyped d))
+    ⊎ ((name ≡ codes "id") × IsTyped d × (¬ IsIdentified d))
+    ⊎ ((name ≡ codes "objects") × IsTyped d × IsIdentified d × ((objects : List Data) → ¬ HasObjects d objects)))
+FailsAt d (name ∷ place ∷ []) = (name ≡ codes "objects") × IsObject d × IsTyped d × IsIdentified d
+    × ((objects : List Data) × HasObjects d objects × ((at : ℕ) × (place ≡ place_part at) × IsFirstNoObject objects at))
+FailsAt d (name ∷ place ∷ more ∷ parts) = ⊥
+
+-- the path tells where the first condition fails
+abbrev pub IsNoBundle : Data → List ℕ → Type 0
+IsNoBundle d path = (parts : List (List ℕ)) × FailsAt d parts × (path ≡ path_text parts)
+
+-- a break, told of the object at this position
+abbrev pub told_of : ℕ → Break → ObjectBreak
+told_of at found = record { object = at; found = found }
+
+-- the breaks of the objects from a position on, object by object
+abbrev pub AreAllBreaks : ℕ → List Data → List ObjectBreak → Type 0
+AreAllBreaks at [] breaks = breaks ≡ []
+AreAllBreaks at (d ∷ ds) breaks = (own : List Break) × (rest : List ObjectBreak)
+    × AreBreaksOf d own × AreAllBreaks (at + 1) ds rest × (breaks ≡ map (told_of at) own ++ rest)
+
+-- the objects of a bundle, which meet their rules
+pub record IsBundle (d : Data) (objects : List Data) : Type 0 where
+  pub outline : IsOutlined d objects
+  pub unbroken : AreAllBreaks 0 objects []
+
+-- why a value is no bundle
+abbrev pub IsRefused : Data → BundleRefusal → Type 0
+IsRefused d (NotBundle path) = IsNoBundle d path
+IsRefused d (Breaks breaks) = (breaks ≢ []) × ((objects : List Data) × IsOutlined d objects × AreAllBreaks 0 objects breaks)
+IsRefused d NoMemory = ⊥
+
+-- what a value is read as, but for memory
+abbrev pub Reads : Data → Result (List Data) BundleRefusal → Type 0
+Reads d (Ok objects) = IsBundle d objects
+Reads d (Err refusal) = IsRefused d refusal

@@ -1,0 +1,52 @@
+-- Which object an identifier means. STIX 2.1, section 3.6: objects of one identifier are versions of one object, and of
+-- its versions the one with the greatest `modified` is the latest. An object without a `modified` counts as earliest,
+-- and of versions that are equally late the last in the bundle counts.
+use Rattle.std.specs.Prelude.{◌≡◌, ◌⊎◌, ⊤, ℕ, ◌≤◌, ℤ, ◌<ℤ◌, List, Option, Some, None, slice_get, codes}
+use Rattle.serde_json.specs.Data.{Data}
+use Rattle.stix_times.specs.Reading.{IsMillisTextOf}
+use Rattle.stix_ids.specs.declared.id.Id.{Id}
+use Rattle.stix_ids.specs.Identifier.{IsTextOf}
+use Rattle.stix_objects.specs.Conditions.{text_at}
+use Rattle.stix_bundles.specs.Objects.{HasId}
+
+-- the object's `modified` is a timestamp of that instant, to the millisecond at least (sections 3.2 and 2.16)
+pub record IsModifiedAt (object : Data) (instant : ℤ) : Type 0 where
+  pub text : List ℕ
+  pub there : text_at (codes "modified") object ≡ Some text
+  pub names : IsMillisTextOf text instant
+
+-- when the object was modified: none where it tells no such instant
+abbrev pub IsModified : Data → Option ℤ → Type 0
+IsModified d None = (instant : ℤ) → ¬ IsModifiedAt d instant
+IsModified d (Some instant) = IsModifiedAt d instant
+
+-- the first is earlier than the second, and none is earlier than any
+abbrev pub IsEarlier : Option ℤ → Option ℤ → Type 0
+IsEarlier first None = ⊥
+IsEarlier None (Some second) = ⊤
+IsEarlier (Some first) (Some second) = first <ℤ second
+
+-- the object at the place has the identifier
+pub record IsOf (objects : List Data) (id : Id) (at : ℕ) : Type 0 where
+  pub object : Data
+  pub there : slice_get objects at ≡ Some object
+  pub has : HasId object id
+
+-- the same, and that is when it was modified
+pub record IsVersion (objects : List Data) (id : Id) (at : ℕ) (modified : Option ℤ) : Type 0 where
+  pub object : Data
+  pub there : slice_get objects at ≡ Some object
+  pub has : HasId object id
+  pub when : IsModified object modified
+
+-- the place of the identifier's latest version: each other is earlier, or as late and at no later place
+pub record IsLatest (objects : List Data) (id : Id) (at : ℕ) : Type 0 where
+  pub modified : Option ℤ
+  pub version : IsVersion objects id at modified
+  pub latest : (other : ℕ) (when : Option ℤ) → IsVersion objects id other when
+      → IsEarlier when modified ⊎ ((when ≡ modified) × (other ≤ at))
+
+-- the place that a text means: the latest version of the identifier that it is, and none where there is no version
+abbrev pub Means : List Data → List ℕ → Option ℕ → Type 0
+Means objects text None = (id : Id) (at : ℕ) → IsTextOf text id → ¬ IsOf objects id at
+Means objects text (Some at) = (id : Id) × IsTextOf text id × IsLatest objects id at

@@ -1,0 +1,84 @@
+ghost use Rattle.std.specs.Prelude.{◌≡◌, ◌↔◌, ◌≤◌, [], IsTrue, length, option_map, slice_get};
+ghost use Rattle.stix_ids.specs.PartsOf.{id_of};
+ghost use Rattle.stix_bundles.specs.Objects.{data_in};
+ghost use Rattle.stix_bundles.specs.Bundle.{AreAllBreaks};
+ghost use Rattle.stix_bundles.specs.Indexed.{IsHeld, IsKept};
+
+use crate::index::Index;
+use flow_values::Items;
+use std::marker::Model;
+use stix_ids::Parts;
+use stix_json::Tree;
+
+/// A bundle. Contracts see the list of its objects.
+#[derive(Drop)]
+pub struct Bundle {
+    objects: Items<Tree>,
+    index: Index,
+}
+
+impl Model for Bundle {
+    ghost use Rattle.std.specs.Prelude.{List};
+    ghost use Rattle.std.specs.Coded.{codes, coded_list};
+    ghost use Rattle.stix_json.specs.declared.tree.Tree.{Tree};
+    ghost use Rattle.stix_json.specs.contracts.tree.Tree as tree;
+
+    ghost Value = { List Tree };
+
+    ghost coded = { coded_list (Prim.hlevel (codes, tree.the_row.coded)) };
+
+    ghost view = { λ bundle. bundle.objects };
+
+    ghost use Rattle.stix_bundles.specs.Objects.{data_in};
+    ghost use Rattle.stix_bundles.specs.Indexed.{IsKept};
+
+    ghost invariant = { λ bundle. IsKept (data_in bundle.objects) bundle.index };
+}
+
+impl Bundle {
+    /// A bundle of these objects, which have that index.
+    pub(crate) fn new(objects: Items<Tree>, index: Index) -> Bundle
+        requires { IsKept (data_in objects) index }
+        ensures { result ≡ objects }
+    {
+        Bundle { objects, index }
+    }
+
+    /// How many objects it has.
+    pub fn len(&self) -> usize
+        ensures { result ≡ length self.now }
+    {
+        self.objects.len()
+    }
+
+    /// Whether it has none.
+    pub fn is_empty(&self) -> bool
+        ensures { IsTrue result ↔ (self.now ≡ []) }
+    {
+        self.objects.is_empty()
+    }
+
+    /// Its objects, which are not too many and break no rule.
+    pub fn objects(&self) -> &[Tree]
+        ensures value { result.now ≡ self.now }
+        ensures counted { length self.now ≤ 8_388_608 }
+        ensures unbroken { AreAllBreaks 0 (data_in self.now) [] }
+    {
+        self.objects.as_slice()
+    }
+
+    /// The position of the latest version of an identifier. Takes no memory.
+    pub(crate) fn latest(&self, id: Parts<'_>) -> Option<u32>
+        ensures { IsHeld (data_in self.now) (id_of id.entry) result }
+    {
+        self.index.get(id)
+    }
+}
+
+/// The object at a position, counted from 0. None where the bundle has no more objects. Takes no
+/// memory.
+pub fn object(bundle: &Bundle, at: u32) -> Option<&Tree>
+    ensures { option_map (λ tree. tree.now) result ≡ slice_get bundle.now at }
+{
+    bundle.objects.as_slice().get(at as usize)
+}

@@ -1,0 +1,41 @@
+//! What follows from the definitions: the contracts are the laws, and the functions do nothing.
+
+ghost use Rattle.std.specs.Prelude.{◌≡◌, ℕ, ℤ, List, Option, None, slice_get, Some};
+ghost use Rattle.serde_json.specs.Data.{Data};
+ghost use Rattle.stix_ids.specs.declared.id.Id.{Id};
+ghost use Rattle.stix_ids.specs.Identifier.{IsTextOf};
+ghost use Rattle.stix_bundles.specs.Objects.{HasId};
+ghost use Rattle.stix_bundles.specs.Lookup.{IsModified, IsOf, Means};
+
+use stix_ids::laws::one_identifier;
+use stix_times::laws::one_instant;
+
+/// An object has at most one identifier.
+pub fn one_id()
+    ensures { (object : Data) (first second : Id) → HasId object first → HasId object second
+        → first ≡ second }
+{
+    one_identifier();
+}
+
+/// An object was modified at one time or at none.
+pub fn one_modified()
+    ensures { (object : Data) (first second : Option ℤ) → IsModified object first
+        → IsModified object second → first ≡ second }
+{
+    one_instant();
+}
+
+/// A text means one place, or none, and all texts of one identifier mean the same. The text of an
+/// object's own identifier means some place.
+pub fn one_meaning()
+    ensures one { (objects : List Data) (text : List ℕ) (first second : Option ℕ)
+        → Means objects text first → Means objects text second → first ≡ second }
+    ensures same { (objects : List Data) (id : Id) (text other : List ℕ) (meant : Option ℕ)
+        → IsTextOf text id → IsTextOf other id → Means objects text meant → Means objects other meant }
+    ensures own { (objects : List Data) (id : Id) (at : ℕ) (text : List ℕ) → IsOf objects id at
+        → IsTextOf text id → ¬ Means objects text None }
+{
+    one_identifier();
+    one_modified();
+}

@@ -1,0 +1,69 @@
+ghost use Rattle.std.specs.Prelude.{◌≤◌, ◌<◌, [], length, IfSome, IfNone, IfOk};
+ghost use Rattle.stix_bundles.specs.Objects.{data_in};
+ghost use Rattle.stix_bundles.specs.Bundle.{AreAllBreaks};
+ghost use Rattle.stix_bundles.specs.Observed.{IsObservedAt};
+ghost use Rattle.stix_bundles.specs.Moments.{IsMomentOf, AreMoments, AreInOrder};
+
+use crate::property::{is_observed_data, time_at};
+use flow_values::NoMemory;
+use stix_objects::laws::no_breaks;
+use std::alloc::Global;
+use stix_times::Instant;
+use stix_json::Tree;
+
+/// When an observed-data object was last observed, and its position. Moments are ordered by time,
+/// then by position.
+#[derive(Clone, Copy, Debug, PartialEq, Eq, PartialOrd, Ord)]
+pub(crate) struct Moment {
+    pub(crate) last: Instant,
+    pub(crate) at: u32,
+}
+
+/// The moments of all observed-data objects, in order.
+pub(crate) fn moments_in_order(alloc: Global, objects: &[Tree]) -> Result<Vec<Moment>, NoMemory>
+    requires counted { length objects.now ≤ 8_388_608 }
+    requires unbroken { AreAllBreaks 0 (data_in objects.now) [] }
+    ensures all { IfOk result (λ moments. AreMoments (data_in objects.now) moments.items) }
+    ensures ordered { IfOk result (λ moments. AreInOrder moments.items) }
+{
+    let mut moments = moments_of(alloc, objects)?;
+    moments.sort()?;
+    Ok(moments)
+}
+
+/// The same, in the order of the positions.
+fn moments_of(alloc: Global, objects: &[Tree]) -> Result<Vec<Moment>, NoMemory>
+    requires counted { length objects.now ≤ 8_388_608 }
+    requires unbroken { AreAllBreaks 0 (data_in objects.now) [] }
+    ensures { IfOk result (λ moments. AreMoments (data_in objects.now) moments.items) }
+{
+    let mut moments = Vec::new(alloc);
+    for at in 0..objects.len() {
+        if let Some(last) = last_observed(objects, at) {
+            moments.push(Moment {
+                last,
+                at: at as u32,
+            })?;
+        }
+    }
+    Ok(moments)
+}
+
+/// When the object at a position was last observed, where it is an observed-data.
+fn last_observed(objects: &[Tree], at: usize) -> Option<Instant>
+    requires there { at < length objects.now }
+    requires unbroken { AreAllBreaks 0 (data_in objects.now) [] }
+    ensures some { IfSome result (λ last. IsMomentOf (data_in objects.now)
+        (record { last = last; at = at })) }
+    ensures none { IfNone result (¬ IsObservedAt (data_in objects.now) at) }
+{
+    let object = &objects[at];
+    if !is_observed_data(object) {
+        return None;
+    }
+    no_breaks();
+    match time_at(object, "last_observed") {
+        Some(last) => Some(last),
+        None => unreachable!(),
+    }
+}

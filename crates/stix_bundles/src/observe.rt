@@ -1,0 +1,173 @@
+ghost use Rattle.std.specs.Prelude.{◌≡◌, ◌↔◌, IsTrue, ◌+◌, ◌≤◌, ◌^◌, [], length, All, filter_map, None, MatchOption, IfSome, IfNone, IfOk, IfErr, OnOk, codes};
+ghost use Rattle.serde_json.specs.Find.{as_str};
+ghost use Rattle.stix_json.specs.DataOf.{data_of};
+ghost use Rattle.stix_objects.specs.Breaks.{AreBreaksOf};
+ghost use Rattle.stix_bundles.specs.Objects.{data_in, HasId};
+ghost use Rattle.stix_bundles.specs.Lookup.{Means};
+ghost use Rattle.stix_bundles.specs.Observed.{how_many, NoneEmbeds, Embeds, IsFirstEmbedding, IsObservedData, IsTimeAt, references, AreMeant, IsSeenAt, AreObservations, AreRefused};
+ghost use Rattle.stix_bundles.specs.Moments.{IsMomentOf, AreSeenAt};
+
+use crate::moment::{Moment, moments_in_order};
+use crate::property::{is_observed_data, time_at};
+use crate::{Bundle, Observation, ObservationRefusal, find};
+use flow_values::{Items, NoMemory};
+use stix_objects::laws::no_breaks;
+use stix_objects::text_at;
+use std::alloc::Global;
+use stix_ids::{Id, read_id};
+use stix_times::Instant;
+use stix_json::{Tree, get};
+
+/// The observations of a bundle: its observed-data objects in the order in which they were last
+/// observed, of equal times the one that stands first, numbered from `first` on. Each has the
+/// positions of the objects that its references mean.
+pub fn observations(
+    alloc: Global,
+    bundle: &Bundle,
+    first: u64,
+) -> Result<Items<Observation>, ObservationRefusal>
+    requires { first + how_many (data_in bundle.now) ≤ 2 ^ 63 }
+    ensures ok { IfOk result (AreObservations (data_in bundle.now) first) }
+    ensures whole { OnOk result (NoneEmbeds (data_in bundle.now)) }
+    ensures err { IfErr result (AreRefused (data_in bundle.now)) }
+{
+    if let Some(object) = first_embedding(bundle.objects()) {
+        return Err(ObservationRefusal::EmbeddedObjects { object });
+    }
+    match all_observed(alloc, bundle, first) {
+        Ok(observations) => Ok(observations),
+        Err(NoMemory) => Err(ObservationRefusal::NoMemory),
+    }
+}
+
+/// The same, whether or not an observed-data holds its objects itself.
+fn all_observed(alloc: Global, bundle: &Bundle, first: u64) -> Result<Items<Observation>, NoMemory>
+    requires { first + how_many (data_in bundle.now) ≤ 2 ^ 63 }
+    ensures { IfOk result (AreObservations (data_in bundle.now) first) }
+{
+    let moments = moments_in_order(alloc, bundle.objects())?;
+    observed(alloc, bundle, first, moments.as_slice())
+}
+
+/// The first observed-data that holds its objects itself.
+fn first_embedding(objects: &[Tree]) -> Option<u32>
+    requires { length objects.now ≤ 8_388_608 }
+    ensures some { IfSome result (IsFirstEmbedding (data_in objects.now)) }
+    ensures none { IfNone result (NoneEmbeds (data_in objects.now)) }
+{
+    for at in 0..objects.len() {
+        if embeds(&objects[at]) {
+            return Some(at as u32);
+        }
+    }
+    None
+}
+
+/// Whether an object is an observed-data that holds its objects itself.
+fn embeds(object: &Tree) -> bool
+    ensures { IsTrue result ↔ Embeds (data_of object.now) }
+{
+    is_observed_data(object) && get(object, "objects").is_some()
+}
+
+/// The observations at these moments, numbered from `first` on.
+fn observed(
+    alloc: Global,
+    bundle: &Bundle,
+    first: u64,
+    moments: &[Moment],
+) -> Result<Items<Observation>, NoMemory>
+    requires each { All (IsMomentOf (data_in bundle.now)) moments.now }
+    requires fits { first + length moments.now ≤ 2 ^ 63 }
+    ensures { IfOk result (AreSeenAt (data_in bundle.now) first moments.now) }
+{
+    let mut observations = Items::new(alloc);
+    for at in 0..moments.len() {
+        observations.push(observation(alloc, bundle, moments[at], first + at as u64)?)?;
+    }
+    Ok(observations)
+}
+
+/// The observation at a moment.
+fn observation(
+    alloc: Global,
+    bundle: &Bundle,
+    moment: Moment,
+    number: u64,
+) -> Result<Observation, NoMemory>
+    requires { IsMomentOf (data_in bundle.now) moment }
+    ensures seen { IfOk result (IsSeenAt (data_in bundle.now) moment.at number) }
+    ensures last { IfOk result (λ observation. observation.last ≡ moment.last) }
+{
+    let object = &bundle.objects()[moment.at as usize];
+    let id = own_id(alloc, object)?;
+    let roots = roots_of(alloc, bundle, object)?;
+    Ok(Observation {
+        number,
+        id,
+        first: first_observed(object),
+        last: moment.last,
+        roots,
+    })
+}
+
+/// The identifier of an object that breaks no rule.
+fn own_id(alloc: Global, object: &Tree) -> Result<Id, NoMemory>
+    requires { AreBreaksOf (data_of object.now) [] }
+    ensures { IfOk result (HasId (data_of object.now)) }
+{
+    no_breaks();
+    let Some(text) = text_at(object, "id") else {
+        unreachable!();
+    };
+    read_id(alloc, text).map_err(|_refusal| NoMemory)
+}
+
+/// When an observed-data that breaks no rule was first observed.
+fn first_observed(object: &Tree) -> Instant
+    requires unbroken { AreBreaksOf (data_of object.now) [] }
+    requires observed { IsObservedData (data_of object.now) }
+    ensures { IsTimeAt (codes "first_observed") (data_of object.now) result }
+{
+    no_breaks();
+    match time_at(object, "first_observed") {
+        Some(first) => first,
+        None => unreachable!(),
+    }
+}
+
+/// The positions that an object's references mean.
+fn roots_of(alloc: Global, bundle: &Bundle, object: &Tree) -> Result<Items<u32>, NoMemory>
+    ensures { IfOk result (AreMeant (data_in bundle.now) (references (data_of object.now))) }
+{
+    match get(object, "object_refs") {
+        Some(Tree::Row(items)) => meant(alloc, bundle, items.as_slice()),
+        Some(Tree::Truth(_) | Tree::Whole(_) | Tree::Words(_) | Tree::Fields(_)) | None => {
+            Ok(Items::new(alloc))
+        }
+    }
+}
+
+/// The positions that the texts of a list mean.
+fn meant(alloc: Global, bundle: &Bundle, items: &[Tree]) -> Result<Items<u32>, NoMemory>
+    ensures { IfOk result (AreMeant (data_in bundle.now) (filter_map as_str (data_in items.now))) }
+{
+    let mut places = Items::new(alloc);
+    for item in items {
+        if let Some(place) = place_of(bundle, item) {
+            places.push(place)?;
+        }
+    }
+    Ok(places)
+}
+
+/// The position that an item means, where it is a text.
+fn place_of(bundle: &Bundle, item: &Tree) -> Option<u32>
+    ensures { MatchOption (as_str (data_of item.now)) (result ≡ None)
+        (λ text. Means (data_in bundle.now) text result) }
+{
+    match item {
+        Tree::Words(text) => find(bundle, text.as_str()),
+        Tree::Truth(_) | Tree::Whole(_) | Tree::Row(_) | Tree::Fields(_) => None,
+    }
+}

@@ -1,0 +1,129 @@
+ghost use Rattle.std.specs.Prelude.{◌≡◌, ◌↔◌, ◌≤◌, ◌∷◌, [], List, All, IsTrue, IfSome, IfNone, IfOk, codes, length};
+ghost use Rattle.serde_json.specs.Data.{Data};
+ghost use Rattle.stix_ids.specs.declared.id.Id.{Id};
+ghost use Rattle.stix_ids.specs.Identifier.{IsTextOf};
+ghost use Rattle.stix_json.specs.Walk.{path_text, place_part};
+ghost use Rattle.stix_json.specs.DataOf.{data_of};
+ghost use Rattle.stix_bundles.specs.Objects.{data_in};
+ghost use Rattle.stix_bundles.specs.Bundle.{IsObject, IsIdentified, IsListOf, FailsAt, IsOutlined};
+ghost use Rattle.stix_bundles.specs.Failures.{failed_parts, FailsInObjects, FailsInMembers};
+
+use flow_values::{NoMemory, Text};
+use stix_objects::text_at;
+use std::alloc::Global;
+use stix_ids::Parts;
+use stix_json::{Tree, get};
+
+/// How many objects a bundle has at most.
+const MAX_OBJECTS: usize = 8_388_608;
+
+/// The first condition of a bundle that fails.
+#[derive(Clone, Copy, Debug)]
+pub(crate) enum Failure {
+    NoObject,
+    NoType,
+    NoId,
+    NoList,
+    /// The first member that is no object.
+    NoMember(u32),
+}
+
+impl Failure {
+    /// The path to what fails.
+    pub(crate) fn path(self, alloc: Global) -> Result<Text, NoMemory>
+        ensures { IfOk result (λ path. path ≡ path_text (failed_parts self)) }
+    {
+        match self {
+            Failure::NoObject => Ok(Text::new(alloc)),
+            Failure::NoType => Text::from_text(alloc, "type"),
+            Failure::NoId => Text::from_text(alloc, "id"),
+            Failure::NoList => Text::from_text(alloc, "objects"),
+            Failure::NoMember(at) => member_path(alloc, at),
+        }
+    }
+}
+
+/// The path to a member of `objects`.
+fn member_path(alloc: Global, at: u32) -> Result<Text, NoMemory>
+    ensures { IfOk result (λ path. path ≡ path_text (codes "objects" ∷ place_part at ∷ [])) }
+{
+    let text = format!(in alloc; "objects.[{at}]")?;
+    Ok(Text::from_string(text))
+}
+
+/// The first condition of a bundle that a value fails, if there is one.
+pub(crate) fn first_failure(tree: &Tree) -> Option<Failure>
+    ensures some { IfSome result (λ failure. FailsAt (data_of tree.now) (failed_parts failure)) }
+    ensures none { IfNone result ((objects : List Data) × IsOutlined (data_of tree.now) objects) }
+{
+    if !is_object(tree) {
+        return Some(Failure::NoObject);
+    }
+    if text_at(tree, "type") != Some("bundle") {
+        return Some(Failure::NoType);
+    }
+    if !has_bundle_id(tree) {
+        return Some(Failure::NoId);
+    }
+    failure_in_objects(get(tree, "objects")?)
+}
+
+/// Whether the identifier is of the kind `bundle`.
+fn has_bundle_id(tree: &Tree) -> bool
+    ensures { IsTrue result ↔ IsIdentified (data_of tree.now) }
+{
+    match text_at(tree, "id") {
+        Some(text) => names_bundle(text),
+        None => false,
+    }
+}
+
+fn names_bundle(text: &str) -> bool
+    ensures { IsTrue result ↔ ((id : Id) × IsTextOf text.now id × (id.kind ≡ codes "bundle")) }
+{
+    match Parts::read(text) {
+        Ok(parts) => parts.kind == "bundle",
+        Err(_) => false,
+    }
+}
+
+/// What fails in the list of objects.
+fn failure_in_objects(value: &Tree) -> Option<Failure>
+    ensures some { IfSome result (FailsInObjects (data_of value.now)) }
+    ensures none { IfNone result ((members : List Data) × IsListOf (data_of value.now) members × All IsObject members) }
+{
+    let Tree::Row(objects) = value else {
+        return Some(Failure::NoList);
+    };
+    if !is_count(objects.len()) {
+        return Some(Failure::NoList);
+    }
+    first_no_object(objects.as_slice())
+}
+
+/// Whether a bundle may have so many objects, where it lists some.
+fn is_count(count: usize) -> bool
+    ensures { IsTrue result ↔ ((1 ≤ count) × (count ≤ 8_388_608)) }
+{
+    (1..=MAX_OBJECTS).contains(&count)
+}
+
+/// The first member that is no object.
+fn first_no_object(objects: &[Tree]) -> Option<Failure>
+    requires { length objects.now ≤ 8_388_608 }
+    ensures some { IfSome result (FailsInMembers (data_in objects.now)) }
+    ensures none { IfNone result (All IsObject (data_in objects.now)) }
+{
+    for at in 0..objects.len() {
+        if !is_object(&objects[at]) {
+            return Some(Failure::NoMember(at as u32));
+        }
+    }
+    None
+}
+
+fn is_object(tree: &Tree) -> bool
+    ensures { IsTrue result ↔ IsObject (data_of tree.now) }
+{
+    matches!(tree, Tree::Fields(_))
+}

@@ -1,0 +1,84 @@
+ghost use Rattle.std.specs.Prelude.{◌≡◌, ◌⊎◌, ◌≤◌, ◌++◌, List, length, map, IfOk, IfErr, OnOk};
+ghost use Rattle.serde_json.specs.Data.{Data};
+ghost use Rattle.stix_json.specs.DataOf.{data_of};
+ghost use Rattle.stix_bundles.specs.declared.refusal.BundleRefusal.{BundleRefusal};
+ghost use Rattle.stix_bundles.specs.Objects.{data_in};
+ghost use Rattle.stix_bundles.specs.Bundle.{IsListOf, HasObjects, AreAllBreaks, told_of, IsBundle, IsRefused};
+
+use crate::latest::index_of;
+use crate::outline::first_failure;
+use crate::{Bundle, BundleRefusal, ObjectBreak};
+use flow_values::{Items, NoMemory};
+use stix_objects::{Break, breaks};
+use std::alloc::Global;
+use stix_json::{Tree, take};
+
+/// The bundle that a tree is, which takes the tree's objects over; or why it is none: the first
+/// condition of a bundle that fails, else all breaks of its objects.
+pub fn read_bundle(alloc: Global, tree: Tree) -> Result<Bundle, BundleRefusal>
+    ensures ok { IfOk result (λ bundle. IsBundle (data_of tree) (data_in bundle)) }
+    ensures err { IfErr result (λ refusal. (refusal ≡ BundleRefusal.NoMemory) ⊎ IsRefused (data_of tree) refusal) }
+{
+    if let Some(failure) = first_failure(&tree) {
+        let path = failure.path(alloc)?;
+        return Err(BundleRefusal::NotBundle { path });
+    }
+    let objects = take_objects(alloc, tree);
+    let breaks = all_breaks(alloc, objects.as_slice())?;
+    if !breaks.is_empty() {
+        return Err(BundleRefusal::Breaks(breaks));
+    }
+    let index = index_of(alloc, objects.as_slice())?;
+    Ok(Bundle::new(objects, index))
+}
+
+/// The objects of a bundle, taken out of it.
+fn take_objects(alloc: Global, tree: Tree) -> Items<Tree>
+    requires { (objects : List Data) × HasObjects (data_of tree) objects }
+    ensures { HasObjects (data_of tree) (data_in result) }
+{
+    match take(tree, "objects") {
+        Some(value) => items_of(alloc, value),
+        None => Items::new(alloc),
+    }
+}
+
+/// The items of a list.
+fn items_of(alloc: Global, value: Tree) -> Items<Tree>
+    ensures { (members : List Data) → IsListOf (data_of value) members → members ≡ data_in result }
+{
+    match value {
+        Tree::Row(items) => items,
+        Tree::Truth(_) | Tree::Whole(_) | Tree::Words(_) | Tree::Fields(_) => Items::new(alloc),
+    }
+}
+
+/// The breaks of all objects, object by object.
+fn all_breaks(alloc: Global, objects: &[Tree]) -> Result<Items<ObjectBreak>, NoMemory>
+    requires { length objects.now ≤ 8_388_608 }
+    ensures { IfOk result (AreAllBreaks 0 (data_in objects.now)) }
+{
+    let mut found = Items::new(alloc);
+    for at in 0..objects.len() {
+        let own = breaks(alloc, &objects[at])?;
+        add_breaks(at as u32, own, &mut found)?;
+    }
+    Ok(found)
+}
+
+/// Adds the breaks of the object at a position.
+fn add_breaks(
+    object: u32,
+    own: Items<Break>,
+    found: &mut Items<ObjectBreak>,
+) -> Result<(), NoMemory>
+    ensures { OnOk result (found.new ≡ found.old ++ map (told_of object) own) }
+{
+    for broken in own.into_vec() {
+        found.push(ObjectBreak {
+            object,
+            found: broken,
+        })?;
+    }
+    Ok(())
+}

@@ -1,0 +1,25 @@
+use crate::ObjectBreak;
+use flow_values::{Items, NoMemory, Text};
+
+/// Why a tree was not read as a bundle.
+#[derive(Debug, Drop)]
+pub enum BundleRefusal {
+    /// It isn't a bundle, and the path tells where the first condition fails: the empty path, `type`,
+    /// `id`, `objects`, or `objects.[n]` for a member that is no object.
+    NotBundle { path: Text },
+    /// Objects of it break rules of their types: all of these, object by object.
+    Breaks(Items<ObjectBreak>),
+    /// Memory ran out.
+    NoMemory,
+}
+
+impl From<NoMemory> for BundleRefusal {
+    ghost use Rattle.std.specs.Prelude.{◌≡◌};
+    ghost use Rattle.stix_bundles.specs.declared.refusal.BundleRefusal.TheVariants as BundleRefusal;
+
+    ghost from_gives = { λ _ refusal. refusal ≡ BundleRefusal.NoMemory };
+
+    fn from(_error: NoMemory) -> BundleRefusal {
+        BundleRefusal::NoMemory
+    }
+}

@@ -1,0 +1,62 @@
+-- The list under a name of an object, and each entry judged by itself.
+use Rattle.std.specs.Prelude.{◌≡◌, ⊤, ℕ, List, [], ◌∷◌, Option, Some, None}
+use Rattle.serde_json.specs.Data.{Data, null, boolean, number, string, array, object, Items, no_items, item}
+use Rattle.serde_json.specs.Find.{get_member}
+use Rattle.stix_json.specs.declared.entry.Entry.{Entry}
+use Rattle.stix_json.specs.declared.refusal.TreeRefusal.{TreeRefusal}
+use Rattle.stix_json.specs.declared.refusal.TreeRefusal.TheVariants.{NotJson, TooDeep, NotWhole, Null, OutOfRange, NotList, NoMemory}
+use Rattle.stix_json.specs.Reading.{IsValueOf, HasNoValue, Judges}
+
+-- the items, where the value is a list
+abbrev pub list_of : Data → Option Items
+list_of null = None
+list_of (boolean b) = None
+list_of (number n) = None
+list_of (string s) = None
+list_of (array ds) = Some ds
+list_of (object ms) = None
+
+-- no value stands for no items
+abbrev pub list_or_none : Option Data → Option Items
+list_or_none None = Some no_items
+list_or_none (Some d) = list_of d
+
+-- the items under a name, where the value is an object with a list there or without that name
+abbrev pub list_under : List ℕ → Data → Option Items
+list_under name null = None
+list_under name (boolean b) = None
+list_under name (number n) = None
+list_under name (string s) = None
+list_under name (array ds) = None
+list_under name (object ms) = list_or_none (get_member name ms)
+
+-- each entry is its item judged by itself
+abbrev pub JudgesAll : Items → List Entry → Type 0
+JudgesAll no_items [] = ⊤
+JudgesAll no_items (e ∷ es) = ⊥
+JudgesAll (item d ds) [] = ⊥
+JudgesAll (item d ds) (e ∷ es) = Judges d e × JudgesAll ds es
+
+-- the entries of the list that some bytes have under a name
+pub record AreEntriesOf (bytes name : List ℕ) (entries : List Entry) : Type 0 where
+  pub whole : Data
+  pub list : Items
+  pub value : IsValueOf bytes whole
+  pub under : list_under name whole ≡ Some list
+  pub judged : JudgesAll list entries
+
+-- the bytes have no list under a name
+pub record HasNoList (bytes name : List ℕ) : Type 0 where
+  pub whole : Data
+  pub value : IsValueOf bytes whole
+  pub under : list_under name whole ≡ None
+
+-- why there are no entries; memory may run out at any time
+abbrev pub HasNoEntriesAs : List ℕ → List ℕ → TreeRefusal → Type 0
+HasNoEntriesAs bytes name NotJson = HasNoValue bytes
+HasNoEntriesAs bytes name (TooDeep path) = ⊥
+HasNoEntriesAs bytes name (NotWhole path) = ⊥
+HasNoEntriesAs bytes name (Null path) = ⊥
+HasNoEntriesAs bytes name (OutOfRange path) = ⊥
+HasNoEntriesAs bytes name NotList = HasNoList bytes name
+HasNoEntriesAs bytes name NoMemory = ⊤

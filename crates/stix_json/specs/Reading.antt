@@ -1,0 +1,58 @@
+-- The tree that some bytes are, the refusal where they are none, and the same of each entry of a list.
+use Rattle.std.specs.Prelude.{◌≡◌, ⊤, ℕ, List, Some, None, IsUtf8}
+use Rattle.serde_json.specs.Data.{Data}
+use Rattle.serde_json.specs.Read.{read}
+use Rattle.stix_json.specs.declared.tree.Tree.{Tree}
+use Rattle.stix_json.specs.declared.entry.Entry.{Entry}
+use Rattle.stix_json.specs.declared.entry.Entry.TheVariants.{Good, Bad}
+use Rattle.stix_json.specs.declared.refusal.TreeRefusal.{TreeRefusal}
+use Rattle.stix_json.specs.declared.refusal.TreeRefusal.TheVariants.{NotJson, TooDeep, NotWhole, Null, OutOfRange, NotList, NoMemory}
+use Rattle.stix_json.specs.DataOf.{data_of}
+use Rattle.stix_json.specs.Ordered.{IsOrdered}
+use Rattle.stix_json.specs.Refusal.{refusal_of}
+
+-- the bytes are the UTF-8 of a JSON text, and that text is the value
+pub record IsValueOf (bytes : List ℕ) (d : Data) : Type 0 where
+  pub text : IsUtf8 bytes
+  pub value : read bytes ≡ Some d
+
+-- the bytes are no JSON text
+abbrev pub HasNoValue : List ℕ → Type 0
+HasNoValue bytes = (d : Data) → ¬ (IsValueOf bytes d)
+
+-- the tree is that value, nothing in it is refused, and its names rise
+pub record IsTreeAs (d : Data) (tree : Tree) : Type 0 where
+  pub same : data_of tree ≡ d
+  pub good : refusal_of d ≡ None
+  pub ordered : IsOrdered d
+
+-- the value is refused so: only for its depth or for a value in it
+abbrev pub IsRefusalOf : Data → TreeRefusal → Type 0
+IsRefusalOf d NotJson = ⊥
+IsRefusalOf d (TooDeep path) = refusal_of d ≡ Some (TooDeep path)
+IsRefusalOf d (NotWhole path) = refusal_of d ≡ Some (NotWhole path)
+IsRefusalOf d (Null path) = refusal_of d ≡ Some (Null path)
+IsRefusalOf d (OutOfRange path) = refusal_of d ≡ Some (OutOfRange path)
+IsRefusalOf d NotList = ⊥
+IsRefusalOf d NoMemory = ⊥
+
+-- a value judged by itself
+abbrev pub Judges : Data → Entry → Type 0
+Judges d (Good tree) = IsTreeAs d tree
+Judges d (Bad refusal) = IsRefusalOf d refusal
+
+-- the tree of some bytes
+pub record IsTreeOf (bytes : List ℕ) (tree : Tree) : Type 0 where
+  pub value : IsValueOf bytes (data_of tree)
+  pub good : refusal_of (data_of tree) ≡ None
+  pub ordered : IsOrdered (data_of tree)
+
+-- the refusal of some bytes; memory may run out at any time
+abbrev pub IsRefusedAs : List ℕ → TreeRefusal → Type 0
+IsRefusedAs bytes NotJson = HasNoValue bytes
+IsRefusedAs bytes (TooDeep path) = (d : Data) × IsValueOf bytes d × IsRefusalOf d (TooDeep path)
+IsRefusedAs bytes (NotWhole path) = (d : Data) × IsValueOf bytes d × IsRefusalOf d (NotWhole path)
+IsRefusedAs bytes (Null path) = (d : Data) × IsValueOf bytes d × IsRefusalOf d (Null path)
+IsRefusedAs bytes (OutOfRange path) = (d : Data) × IsValueOf bytes d × IsRefusalOf d (OutOfRange path)
+IsRefusedAs bytes NotList = ⊥
+IsRefusedAs bytes NoMemory = ⊤

@@ -1,0 +1,52 @@
+-- Why a JSON value is no tree: it nests too deep, or holds null, a fraction or a number out of range.
+use Rattle.std.specs.Prelude.{ℕ, ◌+◌, ◌&&◌, List, [], ◌∷◌, length, Bool, true, false, nat_lt, nat_le, if◌then◌else◌, ℤ, unsigned_abs, Option, Some, None}
+use Rattle.std.specs.Option.{option_or}
+use Rattle.serde_json.specs.Data.{Data, null, boolean, number, string, array, object}
+use Rattle.serde_json.specs.Find.{as_integer}
+use Rattle.stix_json.specs.declared.limits.TheConstants.{MAX_LEVELS, MAX_WHOLE}
+use Rattle.stix_json.specs.declared.refusal.TreeRefusal.{TreeRefusal}
+use Rattle.stix_json.specs.declared.refusal.TreeRefusal.TheVariants.{TooDeep, NotWhole, Null, OutOfRange}
+use Rattle.stix_json.specs.Walk.{Visit, walk, path_text}
+
+-- the first that is told of these values in turn
+abbrev pub first_told : (Visit → Option TreeRefusal) → List Visit → Option TreeRefusal
+first_told tell [] = None
+first_told tell (v ∷ vs) = option_or (tell v) (first_told tell vs)
+
+-- only lists and objects have a level
+abbrev pub has_level : Data → Bool
+has_level null = false
+has_level (boolean b) = false
+has_level (number n) = false
+has_level (string s) = false
+has_level (array ds) = true
+has_level (object ms) = true
+
+-- the level of a value in the whole one: each part of its path stands for a list or an object around it
+abbrev pub level : Visit → ℕ
+level v = length v.parts + 1
+
+-- a list or an object past the last level
+abbrev pub depth_refusal : Visit → Option TreeRefusal
+depth_refusal v = if has_level v.value && nat_lt MAX_LEVELS (level v) then Some (TooDeep (path_text v.parts)) else None
+
+-- a number at a path, with its whole number where it is read as one
+abbrev pub number_refusal : List ℕ → Option ℤ → Option TreeRefusal
+number_refusal path None = Some (NotWhole path)
+number_refusal path (Some whole) = if nat_le (unsigned_abs whole) MAX_WHOLE then None else Some (OutOfRange path)
+
+-- a value at a path that a tree doesn't hold
+abbrev pub value_refusal : List ℕ → Data → Option TreeRefusal
+value_refusal path null = Some (Null path)
+value_refusal path (boolean b) = None
+value_refusal path (number n) = number_refusal path (as_integer n)
+value_refusal path (string s) = None
+value_refusal path (array ds) = None
+value_refusal path (object ms) = None
+
+abbrev pub visit_refusal : Visit → Option TreeRefusal
+visit_refusal v = value_refusal (path_text v.parts) v.value
+
+-- the first value that nests too deep, else the first that a tree doesn't hold
+abbrev pub refusal_of : Data → Option TreeRefusal
+refusal_of d = option_or (first_told depth_refusal (walk [] d)) (first_told visit_refusal (walk [] d))

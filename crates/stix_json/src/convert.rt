@@ -1,0 +1,100 @@
+ghost use Rattle.std.specs.Prelude.{◌≡◌, None, Some, IfOk, IfErr, map};
+ghost use Rattle.serde_json.specs.Data.{number as number_data};
+ghost use Rattle.serde_json.specs.Find.{of_integer};
+ghost use Rattle.serde_json.specs.View.{view, items_view, items_of, members_view, number_view};
+ghost use Rattle.stix_json.specs.DataOf.{data_of, field_data, members_of};
+ghost use Rattle.stix_json.specs.Flaws.{first_flaw, items_flaw, members_flaw, number_flaw, flaw_here, Halts};
+
+use crate::flaw::{Flaw, Halt, Reason};
+use crate::place::Place;
+use crate::{Field, MAX_WHOLE, Tree};
+use flow_values::{Items, Text};
+use serde_json::{Map, Number, Value};
+use std::alloc::Global;
+
+/// The whole number that a number is, where it is one in range.
+fn whole_of(number: Number) -> Result<i64, Reason>
+    ensures ok { IfOk result
+        (λ whole. (number_flaw (number_view number) ≡ None) × (of_integer whole ≡ number_view number)) }
+    ensures err { IfErr result (λ reason. number_flaw (number_view number) ≡ Some reason) }
+{
+    if number.is_f64() {
+        return Err(Reason::NotWhole);
+    }
+    let Some(whole) = number.as_i64() else {
+        return Err(Reason::OutOfRange);
+    };
+    if whole.unsigned_abs() > MAX_WHOLE {
+        return Err(Reason::OutOfRange);
+    }
+    Ok(whole)
+}
+
+/// The tree of a number.
+fn convert_number(number: Number) -> Result<Tree, Halt>
+    ensures ok { IfOk result (λ tree. (number_flaw (number_view number) ≡ None)
+        × (data_of tree ≡ number_data (number_view number))) }
+    ensures err { IfErr result (λ halt. Halts (flaw_here (number_flaw (number_view number))) halt) }
+{
+    match whole_of(number) {
+        Ok(whole) => Ok(Tree::Whole(whole)),
+        Err(reason) => Err(Halt::Flawed(Flaw {
+            reason,
+            place: Place::Here,
+        })),
+    }
+}
+
+/// The tree of a value, which owns the value's texts, or the first value that no tree holds.
+#[cycle(convert)]
+pub(crate) fn convert(alloc: Global, value: Value) -> Result<Tree, Halt>
+    ensures ok { IfOk result (λ tree. (first_flaw (view value) ≡ None) × (data_of tree ≡ view value)) }
+    ensures err { IfErr result (λ halt. Halts (first_flaw (view value)) halt) }
+{
+    match value {
+        Value::Null => Err(Halt::Flawed(Flaw {
+            reason: Reason::Null,
+            place: Place::Here,
+        })),
+        Value::Bool(truth) => Ok(Tree::Truth(truth)),
+        Value::Number(number) => convert_number(number),
+        Value::String(words) => Ok(Tree::Words(Text::from_string(words))),
+        Value::Array(items) => Ok(Tree::Row(convert_items(alloc, items)?)),
+        Value::Object(members) => Ok(Tree::Fields(convert_members(alloc, members)?)),
+    }
+}
+
+#[cycle(convert)]
+fn convert_items(alloc: Global, items: Vec<Value>) -> Result<Items<Tree>, Halt>
+    ensures ok { IfOk result (λ row. (items_flaw 0 (items_view items.items) ≡ None)
+        × (items_of (map data_of row) ≡ items_view items.items)) }
+    ensures err { IfErr result (λ halt. Halts (items_flaw 0 (items_view items.items)) halt) }
+{
+    let mut row = Items::with_capacity(alloc, items.len())?;
+    for item in items {
+        match convert(alloc, item) {
+            Ok(tree) => row.push(tree)?,
+            Err(halt) => return Err(halt.below_item(alloc, row.len())),
+        }
+    }
+    Ok(row)
+}
+
+#[cycle(convert)]
+fn convert_members(alloc: Global, members: Map<String, Value>) -> Result<Items<Field>, Halt>
+    ensures ok { IfOk result (λ fields. (members_flaw (members_view members.entries) ≡ None)
+        × (members_of (map field_data fields) ≡ members_view members.entries)) }
+    ensures err { IfErr result (λ halt. Halts (members_flaw (members_view members.entries)) halt) }
+{
+    let mut fields = Items::with_capacity(alloc, members.len())?;
+    for (name, member) in members {
+        match convert(alloc, member) {
+            Ok(value) => fields.push(Field {
+                name: Text::from_string(name),
+                value,
+            })?,
+            Err(halt) => return Err(halt.below(alloc, name.as_str())),
+        }
+    }
+    Ok(fields)
+}

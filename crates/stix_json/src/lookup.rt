@@ -1,0 +1,59 @@
+ghost use Rattle.std.specs.Prelude.{◌≡◌, None, IfSome, IfNone, map, option_map};
+ghost use Rattle.serde_json.specs.Find.{get_member, get as member_of};
+ghost use Rattle.stix_json.specs.DataOf.{data_of, field_data, members_of};
+ghost use Rattle.stix_json.specs.Naming.{IsFieldAt};
+
+use crate::{Field, Tree};
+
+/// The value of the first field of that name. None where there is none, or the tree has no fields.
+pub fn get<'a>(tree: &'a Tree, name: &str) -> Option<&'a Tree>
+    ensures { option_map (λ value. data_of value.now) result ≡ member_of name.now (data_of tree.now) }
+{
+    match tree {
+        Tree::Fields(fields) => first_named(fields.as_slice(), name),
+        Tree::Truth(_) | Tree::Whole(_) | Tree::Words(_) | Tree::Row(_) => None,
+    }
+}
+
+/// The same, taken out of the tree.
+pub fn take(tree: Tree, name: &str) -> Option<Tree>
+    ensures { option_map data_of result ≡ member_of name.now (data_of tree) }
+{
+    match tree {
+        Tree::Fields(fields) => take_first_named(fields.into_vec(), name),
+        Tree::Truth(_) | Tree::Whole(_) | Tree::Words(_) | Tree::Row(_) => None,
+    }
+}
+
+fn first_named<'a>(fields: &'a [Field], name: &str) -> Option<&'a Tree>
+    ensures { option_map (λ value. data_of value.now) result ≡ get_member name.now (members_of (map field_data fields.now)) }
+{
+    for field in fields {
+        if field.name.as_str() == name {
+            return Some(&field.value);
+        }
+    }
+    None
+}
+
+fn take_first_named(fields: Vec<Field>, name: &str) -> Option<Tree>
+    ensures { option_map data_of result ≡ get_member name.now (members_of (map field_data fields.items)) }
+{
+    let at = place_of(&fields, name)?;
+    let mut fields = fields;
+    let field = fields.swap_remove(at);
+    Some(field.value)
+}
+
+/// Where the first field of that name stands.
+fn place_of(fields: &[Field], name: &str) -> Option<usize>
+    ensures some { IfSome result (λ at. IsFieldAt name.now fields.now at) }
+    ensures none { IfNone result (get_member name.now (members_of (map field_data fields.now)) ≡ None) }
+{
+    for at in 0..fields.len() {
+        if fields[at].name.as_str() == name {
+            return Some(at);
+        }
+    }
+    None
+}

@@ -1,0 +1,60 @@
+use flow_values::{NoMemory, Text};
+use std::error::Error;
+use std::fmt;
+
+/// Why bytes give no tree. A path joins the names and the places `[n]`, counted from 0, by dots; the
+/// path of the whole value is empty.
+#[derive(Debug, Drop)]
+pub enum TreeRefusal {
+    /// The bytes aren't UTF-8, aren't JSON, or nest more than 127 levels.
+    NotJson,
+    /// The first list or object at level 65.
+    TooDeep { path: Text },
+    /// The first such value is a number that isn't read as a whole one: with a fraction or an
+    /// exponent, `-0`, or outside 64 bits.
+    NotWhole { path: Text },
+    /// The first such value is null.
+    Null { path: Text },
+    /// The first such value is a whole number outside -`MAX_WHOLE` to `MAX_WHOLE`.
+    OutOfRange { path: Text },
+    /// No list stands under the name, or the value is no object.
+    NotList,
+    /// Memory ran out.
+    NoMemory,
+}
+
+impl From<NoMemory> for TreeRefusal {
+    ghost use Rattle.std.specs.Prelude.{◌≡◌};
+    ghost use Rattle.stix_json.specs.declared.refusal.TreeRefusal.TheVariants.{NoMemory as OutOfMemory};
+
+    ghost from_gives = { λ _ refusal. refusal ≡ OutOfMemory };
+
+    fn from(_error: NoMemory) -> TreeRefusal {
+        TreeRefusal::NoMemory
+    }
+}
+
+impl fmt::Display for TreeRefusal {
+    fn fmt<W: fmt::Write>(&self, f: &mut fmt::Formatter<W>) -> fmt::Result {
+        match self {
+            TreeRefusal::NotJson => write!(f, "NotJson"),
+            TreeRefusal::TooDeep { path } => write_at(f, "TooDeep", path.as_str()),
+            TreeRefusal::NotWhole { path } => write_at(f, "NotWhole", path.as_str()),
+            TreeRefusal::Null { path } => write_at(f, "Null", path.as_str()),
+            TreeRefusal::OutOfRange { path } => write_at(f, "OutOfRange", path.as_str()),
+            TreeRefusal::NotList => write!(f, "NotList"),
+            TreeRefusal::NoMemory => write!(f, "out of memory"),
+        }
+    }
+}
+
+/// A rule and the path of the value that breaks it, which an empty path leaves out.
+fn write_at<W: fmt::Write>(f: &mut fmt::Formatter<W>, rule: &str, path: &str) -> fmt::Result {
+    if path.is_empty() {
+        write!(f, "{rule}")
+    } else {
+        write!(f, "{rule} at {path}")
+    }
+}
+
+impl Error for TreeRefusal {}

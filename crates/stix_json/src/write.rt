@@ -1,0 +1,75 @@
+ghost use Rattle.std.specs.Prelude.{◌≡◌, ◌++◌, None, IfOk, OnOk, map};
+ghost use Rattle.json.specs.Tree.{json_tokens, items_tokens, members_tokens};
+ghost use Rattle.serde_json.specs.Written.{outline, items_outline, members_outline, compact_text};
+ghost use Rattle.serde_json.specs.View.{items_of};
+ghost use Rattle.stix_json.specs.DataOf.{data_of, field_data, members_of};
+ghost use Rattle.stix_json.specs.Ordered.{IsOrdered};
+ghost use Rattle.stix_json.specs.Refusal.{refusal_of};
+ghost use Rattle.stix_json.specs.Reading.{IsTreeOf};
+
+use crate::{Field, Tree};
+use flow_values::{NoMemory, Text};
+use json::Writer;
+use std::alloc::{AllocError, Global};
+
+/// The text of an ordered tree as compact JSON, with its names in byte order. Where nothing in the
+/// tree is refused, the text reads as that tree.
+pub fn write_tree(alloc: Global, tree: &Tree) -> Result<Text, NoMemory>
+    requires { IsOrdered (data_of tree.now) }
+    ensures text { IfOk result (λ text. text ≡ compact_text (data_of tree.now)) }
+    ensures reads_back { IfOk result (λ text. refusal_of (data_of tree.now) ≡ None → IsTreeOf text tree.now) }
+{
+    let mut out = Writer::new(Vec::new(alloc));
+    write_value(tree, &mut out)?;
+    match String::from_utf8(out.into_inner()) {
+        Ok(text) => Ok(Text::from_string(text)),
+        Err(_) => Err(NoMemory),
+    }
+}
+
+#[cycle(write)]
+fn write_value(tree: &Tree, out: &mut Writer) -> Result<(), AllocError>
+    ensures ok { OnOk result (out.new.tokens ≡ out.old.tokens ++ json_tokens (outline (data_of tree.now))) }
+    ensures before { out.new.before ≡ out.old.before }
+{
+    match tree {
+        Tree::Truth(truth) => out.boolean(*truth),
+        Tree::Whole(whole) => out.i64(*whole),
+        Tree::Words(words) => out.string(words.as_str()),
+        Tree::Row(items) => {
+            out.begin_array()?;
+            write_items(items.as_slice(), out)
+        }
+        Tree::Fields(fields) => {
+            out.begin_object()?;
+            write_fields(fields.as_slice(), out)
+        }
+    }
+}
+
+/// The items and the closing bracket.
+#[cycle(write)]
+fn write_items(items: &[Tree], out: &mut Writer) -> Result<(), AllocError>
+    ensures ok { OnOk result (out.new.tokens
+        ≡ out.old.tokens ++ items_tokens (items_outline (items_of (map data_of items.now)))) }
+    ensures before { out.new.before ≡ out.old.before }
+{
+    for item in items {
+        write_value(item, out)?;
+    }
+    out.end_array()
+}
+
+/// The fields and the closing brace.
+#[cycle(write)]
+fn write_fields(fields: &[Field], out: &mut Writer) -> Result<(), AllocError>
+    ensures ok { OnOk result (out.new.tokens
+        ≡ out.old.tokens ++ members_tokens (members_outline (members_of (map field_data fields.now)))) }
+    ensures before { out.new.before ≡ out.old.before }
+{
+    for field in fields {
+        out.key(field.name.as_str())?;
+        write_value(&field.value, out)?;
+    }
+    out.end_object()
+}

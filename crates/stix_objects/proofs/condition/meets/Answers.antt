@@ -1,0 +1,25 @@
+use Rattle.std.proofs.Common.{◌≡◌, Bool, Option, Some, None, is_some, not, true, false, option_map, IsTrue, ◌↔◌, MatchOption, subst, refl}
+use Rattle.serde_json.specs.Data.{Data}
+use Rattle.stix_json.specs.DataOf.{data_of}
+use Rattle.stix_objects.specs.declared.found.Fault.{Fault}
+use Rattle.stix_objects.specs.Found.{Found}
+use Rattle.stix_objects.specs.Forms.{MeetsForm, JudgesForm}
+use Rattle.stix_objects.specs.Views.{form_view, fault_view}
+use Rattle.stix_objects.proofs.Unique.{IsOne, form_one}
+use Rattle.stix_objects.proofs.condition.meets.Goals as goal
+
+-- nothing is found exactly where the judgement's one outcome is none
+none_found : (Judges : Option Found → Type 0) → IsOne Judges → (found : Option Fault) (none : Bool) → is_some found ≡ not none → Judges (option_map fault_view found)
+    → (IsTrue none ↔ Judges None)
+none_found Judges one None true is judged = (λ met. judged, λ met. refl)
+none_found Judges one None false is judged = absurd (cc)
+none_found Judges one (Some fault) true is judged = absurd (cc)
+none_found Judges one (Some fault) false is judged =
+    (λ met. absurd (cc), λ met. let same : Some (fault_view fault) ≡ None = one (Some (fault_view fault)) None judged met in absurd (cc))
+
+pub returns-in-Some : goal.returns-in-Some
+returns-in-Some c =
+    let form = form_view c.args.form.now in
+    let d = data_of c.in-Some.value.now in
+    subst (λ (o : Option Data). IsTrue c.is_none.result ↔ MatchOption o ⊥ (MeetsForm form)) c.in-Some.ensures
+    (none_found (JudgesForm form d) (form_one form d) c.judge_form.result c.is_none.result c.is_none.ensures c.judge_form.ensures)

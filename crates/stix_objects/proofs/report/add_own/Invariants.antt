@@ -1,0 +1,11 @@
+use Rattle.std.proofs.Common.{List, drop, map}
+use Rattle.stix_json.specs.DataOf.{data_of}
+use Rattle.stix_objects.specs.declared.broken.Break.{Break}
+use Rattle.stix_objects.specs.Adding.{Adds}
+use Rattle.stix_objects.specs.Views.{row_view}
+use Rattle.stix_objects.proofs.report.add_own.Given as goal
+
+abbrev pub invariant-loop-row : goal.invariant-loop-row
+invariant-loop-row l =
+    (after : List Break) → Adds (map row_view (drop l.row-index l.rows)) (data_of l.object) l.found after
+    → Adds (map row_view l.rows) (data_of l.object) l.initial.found after

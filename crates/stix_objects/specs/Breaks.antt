@@ -1,0 +1,62 @@
+-- The breaks of an object: one for each row that it doesn't meet, in the order of the rows.
+use Rattle.std.specs.Prelude.{◌≡◌, ⊤, ℕ, List, [], ◌∷◌, ◌++◌, Bool, true, false, ◌&&◌, not, Option, Some, None, MatchOption, if◌then◌else◌, bytes_eq, codes, option_and_then, option_map, filter_map}
+use Rattle.std.specs.List.{list_any}
+use Rattle.serde_json.specs.Data.{Data}
+use Rattle.serde_json.specs.Find.{as_object}
+use Rattle.stix_objects.specs.declared.groups.Group.{Group}
+use Rattle.stix_objects.specs.declared.groups.Group.TheVariants.{Stated, Marking, Observable, Other}
+use Rattle.stix_objects.specs.declared.rule.Rule.TheVariants.{NotObject}
+use Rattle.stix_objects.specs.declared.broken.Break.{Break}
+use Rattle.stix_objects.specs.Found.{Found, here, break_of}
+use Rattle.stix_objects.specs.Row.{Row, required, optional, required_where, CommonRow, for, unless_own, ObjectType}
+use Rattle.stix_objects.specs.CommonRows.{common_rows}
+use Rattle.stix_objects.specs.Types.{type_named, group_in, rows_in}
+use Rattle.stix_objects.specs.Conditions.{text_at}
+use Rattle.stix_objects.specs.Rows.{Judges}
+
+-- whether two groups are one
+abbrev pub same_group : Group → Group → Bool
+same_group Stated Stated = true
+same_group Marking Marking = true
+same_group Observable Observable = true
+same_group Other Other = true
+same_group _ _ = false
+
+-- whether the row is a property's of that name
+abbrev pub is_row_of : List ℕ → Row → Bool
+is_row_of name (required own form) = bytes_eq own name
+is_row_of name (optional own form) = bytes_eq own name
+is_row_of name (required_where own form condition) = bytes_eq own name
+is_row_of name _ = false
+
+-- the common row as it stands for a group and beside a type's own rows
+abbrev pub standing : Group → List Row → CommonRow → Option Row
+standing group own (for groups row) = if list_any (same_group group) groups then Some row else None
+standing group own (unless_own groups name form) =
+    if list_any (same_group group) groups && not (list_any (is_row_of name) own) then Some (optional name form) else None
+
+-- the rows of a type: the common rows that stand for it, then its own
+abbrev pub rows_for : Option ObjectType → List Row
+rows_for type = filter_map (standing (group_in type) (rows_in type)) common_rows ++ rows_in type
+
+-- the type of an object, where its rows are stated
+abbrev pub type_of : Data → Option ObjectType
+type_of d = option_and_then type_named (text_at (codes "type") d)
+
+-- each row's outcome, in order
+abbrev pub JudgesAll : List Row → Data → List (Option Found) → Type 0
+JudgesAll [] d [] = ⊤
+JudgesAll [] d (outcome ∷ outcomes) = ⊥
+JudgesAll (row ∷ rows) d [] = ⊥
+JudgesAll (row ∷ rows) d (outcome ∷ outcomes) = Judges row d outcome × JudgesAll rows d outcomes
+
+-- these are the breaks of the rows
+pub record AreBreaksBy (rows : List Row) (d : Data) (breaks : List Break) : Type 0 where
+  pub outcomes : List (Option Found)
+  pub judged : JudgesAll rows d outcomes
+  pub told : breaks ≡ filter_map (option_map break_of) outcomes
+
+-- these are the breaks of a value: of an object those of its rows, and of another value the one that it is none
+abbrev pub AreBreaksOf : Data → List Break → Type 0
+AreBreaksOf d breaks =
+    MatchOption (as_object d) (breaks ≡ break_of (here NotObject) ∷ []) (λ ms. AreBreaksBy (rows_for (type_of d)) d breaks)

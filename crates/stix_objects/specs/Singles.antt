@@ -1,0 +1,88 @@
+-- What one value must be, and the rule that it breaks otherwise.
+use Rattle.std.specs.Prelude.{◌≡◌, ⊤, ℕ, ℤ, ◌≤ℤ◌, List, Option, Some, None, IsSome, IsTrue, codes}
+use Rattle.serde_json.specs.Data.{Data, null, boolean, number, string, array, object, Members, no_members, member}
+use Rattle.serde_json.specs.Find.{as_integer, as_str, as_bool, as_object}
+use Rattle.stix_times.specs.Reading.{IsTextOf as IsTimeOf, IsMillisTextOf as IsMillisOf}
+use Rattle.stix_ids.specs.declared.id.Id.{Id}
+use Rattle.stix_ids.specs.Kind.{IsKind}
+use Rattle.stix_ids.specs.Identifier.{IsTextOf, IsIdText}
+use Rattle.stix_objects.specs.declared.rule.Rule.{Rule}
+use Rattle.stix_objects.specs.declared.rule.Rule.TheVariants.{BadId, BadTime, NotMillis, OutOfRange, EmptyList, BadReference, BadWord, BadSpec, WrongKind}
+use Rattle.stix_objects.specs.declared.form.Precision.{Precision}
+use Rattle.stix_objects.specs.declared.form.Precision.TheVariants.{Any, Millis}
+use Rattle.stix_objects.specs.Form.{Single, words, kind, version, one_of, moment, any_reference, reference, truth, within, texts_by_name}
+use Rattle.stix_objects.specs.Form as forms
+use Rattle.stix_objects.specs.Types.{is_among}
+use Rattle.stix_objects.specs.Judging.{Asks, InTurn, OfKind}
+
+-- nothing is found
+abbrev pub Met : Option Rule → Type 0
+Met outcome = outcome ≡ None
+
+-- the whole number that a value is
+abbrev pub as_whole : Data → Option ℤ
+as_whole null = None
+as_whole (boolean b) = None
+as_whole (number n) = as_integer n
+as_whole (string s) = None
+as_whole (array ds) = None
+as_whole (object ms) = None
+
+-- the text is a timestamp of that instant, STIX 2.1, section 2.16; to the millisecond at least, section 3.2
+abbrev pub IsMomentOf : Precision → List ℕ → ℤ → Type 0
+IsMomentOf Any s instant = IsTimeOf s instant
+IsMomentOf Millis s instant = IsMillisOf s instant
+
+-- the text is some timestamp
+abbrev pub IsMoment : Precision → List ℕ → Type 0
+IsMoment precision s = (instant : ℤ) × IsMomentOf precision s instant
+
+-- what a text breaks of a timestamp
+abbrev pub JudgesMoment : Precision → List ℕ → Option Rule → Type 0
+JudgesMoment Any s outcome = Asks (IsMoment Any s) BadTime outcome
+JudgesMoment Millis s outcome = InTurn (Asks (IsMoment Any s) BadTime) (Asks (IsMoment Millis s) NotMillis) outcome
+
+-- the text is an identifier of one of these kinds
+abbrev pub Refers : List (List ℕ) → List ℕ → Type 0
+Refers kinds s = (id : Id) × IsTextOf s id × IsTrue (is_among id.kind kinds)
+
+-- what a text breaks of an identifier of these kinds
+abbrev pub JudgesReference : List (List ℕ) → List ℕ → Option Rule → Type 0
+JudgesReference kinds s outcome = InTurn (Asks (IsIdText s) BadId) (Asks (Refers kinds s) BadReference) outcome
+
+-- each member is a text
+abbrev pub AreTexts : Members → Type 0
+AreTexts no_members = ⊤
+AreTexts (member name d ms) = IsSome (as_str d) × AreTexts ms
+
+-- there is a member
+abbrev pub HasMember : Members → Type 0
+HasMember no_members = ⊥
+HasMember (member name d ms) = ⊤
+
+-- what the members of an object of hashes break
+abbrev pub JudgesTexts : Members → Option Rule → Type 0
+JudgesTexts ms outcome = InTurn (Asks (AreTexts ms) WrongKind) (Asks (HasMember ms) EmptyList) outcome
+
+-- what a value breaks of a form
+abbrev pub JudgesSingle : Single → Data → Option Rule → Type 0
+JudgesSingle words d outcome = OfKind (as_str d) (λ s. Met) outcome
+JudgesSingle kind d outcome = OfKind (as_str d) (λ s. Asks (IsKind s) BadWord) outcome
+JudgesSingle version d outcome = OfKind (as_str d) (λ s. Asks (s ≡ codes "2.1") BadSpec) outcome
+JudgesSingle (one_of known) d outcome = OfKind (as_str d) (λ s. Asks (IsTrue (is_among s known)) BadWord) outcome
+JudgesSingle (moment precision) d outcome = OfKind (as_str d) (JudgesMoment precision) outcome
+JudgesSingle any_reference d outcome = OfKind (as_str d) (λ s. Asks (IsIdText s) BadId) outcome
+JudgesSingle (reference kinds) d outcome = OfKind (as_str d) (JudgesReference kinds) outcome
+JudgesSingle truth d outcome = OfKind (as_bool d) (λ b. Met) outcome
+JudgesSingle (within least most) d outcome = OfKind (as_whole d) (λ z. Asks ((least ≤ℤ z) × (z ≤ℤ most)) OutOfRange) outcome
+JudgesSingle forms.object d outcome = OfKind (as_object d) (λ ms. Met) outcome
+JudgesSingle texts_by_name d outcome = OfKind (as_object d) JudgesTexts outcome
+
+-- the text is an identifier of the object's own kind, or of any where the object tells none
+abbrev pub NamesOwn : Option (List ℕ) → List ℕ → Type 0
+NamesOwn None s = IsIdText s
+NamesOwn (Some own) s = (number : ℕ) × IsTextOf s (record { kind = own; number = number })
+
+-- what an object's identifier breaks
+abbrev pub JudgesOwnId : Option (List ℕ) → Data → Option Rule → Type 0
+JudgesOwnId own d outcome = OfKind (as_str d) (λ s. Asks (NamesOwn own s) BadId) outcome

@@ -1,0 +1,64 @@
+ghost use Rattle.std.specs.Prelude.{◌≡◌, ◌↔◌, IsTrue, Some, true, false, option_map, map};
+ghost use Rattle.serde_json.specs.Data.{boolean};
+ghost use Rattle.serde_json.specs.Find.{get as member_of};
+ghost use Rattle.stix_json.specs.DataOf.{data_of};
+ghost use Rattle.stix_objects.specs.Conditions.{Meets, Holds, HoldAll, text_at as text_under};
+ghost use Rattle.stix_objects.specs.Views.{form_view, condition_view};
+
+use crate::form::Form;
+use crate::list::judge_form;
+use crate::row::Condition;
+use crate::single::text_of;
+use stix_json::{Tree, get};
+
+/// Whether an object meets all the conditions.
+pub(crate) fn hold_all(conditions: &[Condition], object: &Tree) -> bool
+    ensures { IsTrue result ↔ HoldAll (map condition_view conditions.now) (data_of object.now) }
+{
+    for condition in conditions {
+        if !holds(condition, object) {
+            return false;
+        }
+    }
+    true
+}
+
+/// Whether an object meets the condition.
+pub(crate) fn holds(condition: &Condition, object: &Tree) -> bool
+    ensures { IsTrue result ↔ Holds (condition_view condition.now) (data_of object.now) }
+{
+    match condition {
+        Condition::IsTrue(name) => is_flag(object, name, true),
+        Condition::IsFalse(name) => is_flag(object, name, false),
+        Condition::Meets(name, form) => meets(object, name, form),
+        Condition::Absent(name) => get(object, name).is_none(),
+    }
+}
+
+/// Whether the property is there and is that truth.
+fn is_flag(object: &Tree, name: &str, wanted: bool) -> bool
+    ensures { IsTrue result ↔ (member_of name.now (data_of object.now) ≡ Some (boolean wanted)) }
+{
+    match get(object, name) {
+        Some(Tree::Truth(truth)) => *truth == wanted,
+        Some(Tree::Whole(_) | Tree::Words(_) | Tree::Row(_) | Tree::Fields(_)) | None => false,
+    }
+}
+
+/// Whether the property is there and meets the form.
+fn meets(object: &Tree, name: &str, form: &Form) -> bool
+    ensures { IsTrue result ↔ Meets name.now (form_view form.now) (data_of object.now) }
+{
+    match get(object, name) {
+        Some(value) => judge_form(form, value).is_none(),
+        None => false,
+    }
+}
+
+/// The text of a property. None where the property is absent or no text, or the tree is no object.
+/// Takes no memory.
+pub fn text_at<'a>(object: &'a Tree, name: &str) -> Option<&'a str>
+    ensures { option_map (λ text. text.now) result ≡ text_under name.now (data_of object.now) }
+{
+    text_of(get(object, name)?)
+}

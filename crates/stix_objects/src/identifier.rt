@@ -1,0 +1,91 @@
+ghost use Rattle.std.specs.Prelude.{◌≡◌, ◌↔◌, Some, IsTrue, IfSome, option_map, map};
+ghost use Rattle.stix_ids.specs.declared.id.Id.{Id};
+ghost use Rattle.stix_ids.specs.Identifier.{IsTextOf};
+ghost use Rattle.stix_ids.specs.PartsOf.{id_of};
+ghost use Rattle.stix_json.specs.DataOf.{data_of};
+ghost use Rattle.stix_objects.specs.Form.{any_reference, reference};
+ghost use Rattle.stix_objects.specs.Singles.{NamesOwn, JudgesOwnId, JudgesSingle};
+ghost use Rattle.stix_objects.specs.Conditions.{HasNumber};
+
+use crate::Rule;
+use crate::condition::text_at;
+use crate::single::text_of;
+use stix_ids::Parts;
+use stix_json::Tree;
+
+/// The identifier that a text is, which is the only one.
+fn identifier_of(text: &str) -> Option<Parts<'_>>
+    ensures some { IfSome result (λ parts. IsTextOf text.now (id_of parts)) }
+    ensures only { (id : Id) → IsTextOf text.now id → option_map id_of result ≡ Some id }
+{
+    Parts::read(text).ok()
+}
+
+/// What a value breaks of an identifier of any kind.
+pub(crate) fn judge_any_reference(value: &Tree) -> Option<Rule>
+    ensures { JudgesSingle any_reference (data_of value.now) result }
+{
+    let Some(text) = text_of(value) else {
+        return Some(Rule::WrongKind);
+    };
+    match identifier_of(text) {
+        Some(_) => None,
+        None => Some(Rule::BadId),
+    }
+}
+
+/// What a value breaks of an identifier of one of these kinds.
+pub(crate) fn judge_reference(kinds: &[&str], value: &Tree) -> Option<Rule>
+    ensures { JudgesSingle (reference (map (λ kind. kind.now) kinds.now)) (data_of value.now) result }
+{
+    let Some(text) = text_of(value) else {
+        return Some(Rule::WrongKind);
+    };
+    let Some(parts) = identifier_of(text) else {
+        return Some(Rule::BadId);
+    };
+    if kinds.contains(&parts.kind) {
+        None
+    } else {
+        Some(Rule::BadReference)
+    }
+}
+
+/// What a value breaks of the identifier of an object of that type, where it tells one.
+pub(crate) fn judge_own_id(own: Option<&str>, value: &Tree) -> Option<Rule>
+    ensures { JudgesOwnId (option_map (λ kind. kind.now) own.entry) (data_of value.now) result }
+{
+    let Some(text) = text_of(value) else {
+        return Some(Rule::WrongKind);
+    };
+    if names_own(own, text) {
+        None
+    } else {
+        Some(Rule::BadId)
+    }
+}
+
+fn names_own(own: Option<&str>, text: &str) -> bool
+    ensures { IsTrue result ↔ NamesOwn (option_map (λ kind. kind.now) own.entry) text.now }
+{
+    let Some(parts) = identifier_of(text) else {
+        return false;
+    };
+    match own {
+        Some(kind) => parts.kind == kind,
+        None => true,
+    }
+}
+
+/// Whether the object has an identifier with that number.
+pub(crate) fn has_number(object: &Tree, number: u128) -> bool
+    ensures { IsTrue result ↔ HasNumber (data_of object.now) number }
+{
+    let Some(text) = text_at(object, "id") else {
+        return false;
+    };
+    match identifier_of(text) {
+        Some(parts) => parts.number == number,
+        None => false,
+    }
+}

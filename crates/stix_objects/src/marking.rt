@@ -1,0 +1,88 @@
+ghost use Rattle.std.specs.Prelude.{◌≡◌, ◌↔◌, IsTrue, option_map};
+ghost use Rattle.stix_json.specs.DataOf.{data_of};
+ghost use Rattle.stix_objects.specs.Conditions.{defined_text as text_defined, defined_colour as colour_defined, number_of_colour, DefinesObjectOrNone, IsMarking, HasOwnIdOrNone, HasOtherColour};
+ghost use Rattle.stix_objects.specs.Rows.{LacksStatement, LacksColour};
+
+use crate::condition::text_at;
+use crate::identifier::{has_number, judge_own_id};
+use stix_json::{Tree, get};
+
+/// Whether the object is a marking by a statement and lacks its text.
+pub(crate) fn lacks_statement(object: &Tree) -> bool
+    ensures { IsTrue result ↔ LacksStatement (data_of object.now) }
+{
+    is_marking(object, "statement") && defined_text(object, "statement").is_none()
+}
+
+/// Whether the object is a marking by a colour and lacks one of the four.
+pub(crate) fn lacks_colour(object: &Tree) -> bool
+    ensures { IsTrue result ↔ LacksColour (data_of object.now) }
+{
+    is_marking(object, "tlp") && defined_colour(object).is_none()
+}
+
+/// Whether the object is a marking by a colour and hasn't that colour's identifier.
+pub(crate) fn has_other_colour(object: &Tree) -> bool
+    ensures { IsTrue result ↔ HasOtherColour (data_of object.now) }
+{
+    match defined_colour(object) {
+        Some(number) => {
+            is_marking(object, "tlp") && has_own_id_or_none(object) && !has_number(object, number)
+        }
+        None => false,
+    }
+}
+
+/// Whether the object is a marking of the type, and its definition, if there is one, an object.
+fn is_marking(object: &Tree, definition_type: &str) -> bool
+    ensures { IsTrue result ↔ IsMarking definition_type.now (data_of object.now) }
+{
+    text_at(object, "definition_type") == Some(definition_type) && defines_object_or_none(object)
+}
+
+/// Whether the object's definition, if there is one, is an object.
+fn defines_object_or_none(object: &Tree) -> bool
+    ensures { IsTrue result ↔ DefinesObjectOrNone (data_of object.now) }
+{
+    match get(object, "definition") {
+        Some(Tree::Fields(_)) | None => true,
+        Some(Tree::Truth(_) | Tree::Whole(_) | Tree::Words(_) | Tree::Row(_)) => false,
+    }
+}
+
+/// Whether the object's identifier, if there is one, is of its type.
+fn has_own_id_or_none(object: &Tree) -> bool
+    ensures { IsTrue result ↔ HasOwnIdOrNone (data_of object.now) }
+{
+    match get(object, "id") {
+        Some(id) => judge_own_id(text_at(object, "type"), id).is_none(),
+        None => true,
+    }
+}
+
+/// A text of the definition.
+fn defined_text<'a>(object: &'a Tree, name: &str) -> Option<&'a str>
+    ensures { option_map (λ text. text.now) result ≡ text_defined name.now (data_of object.now) }
+{
+    text_at(get(object, "definition")?, name)
+}
+
+/// The number of the identifier of the colour that the marking defines.
+fn defined_colour(object: &Tree) -> Option<u128>
+    ensures { result ≡ colour_defined (data_of object.now) }
+{
+    number_of(defined_text(object, "tlp")?)
+}
+
+/// The number of a colour's identifier, which is the same everywhere.
+fn number_of(colour: &str) -> Option<u128>
+    ensures { result ≡ number_of_colour colour.now }
+{
+    match colour {
+        "white" => Some(0x613f2e26_407d_48c7_9eca_b8e91df99dc9),
+        "green" => Some(0x34098fce_860f_48ae_8e50_ebd3cc5e41da),
+        "amber" => Some(0xf88d31f6_486f_44da_b317_01333bde0b82),
+        "red" => Some(0x5e57c739_391a_4eb3_b6be_7d15ca92d5ed),
+        _ => None,
+    }
+}

@@ -1,0 +1,59 @@
+ghost use Rattle.std.specs.Prelude.{◌≡◌, map, option_map};
+ghost use Rattle.stix_objects.specs.Types.{type_named as named_type, first_named as first_type, group_in as group_of_type, rows_in as rows_of_type};
+ghost use Rattle.stix_objects.specs.Views.{row_view, type_view};
+
+use crate::Group;
+use crate::row::Row;
+use crate::tables::types::{observable_types, stated_types};
+
+/// An object type whose own rows are stated.
+#[derive(Clone, Copy)]
+pub(crate) struct ObjectType {
+    pub(crate) name: &'static str,
+    pub(crate) group: Group,
+    pub(crate) rows: &'static [Row],
+}
+
+/// The type of this name, where its rows are stated.
+pub(crate) fn type_named(name: &str) -> Option<&'static ObjectType>
+    ensures { option_map (λ found. type_view found.now) result ≡ named_type name.now }
+{
+    match first_named(stated_types(), name) {
+        Some(found) => Some(found),
+        None => first_named(observable_types(), name),
+    }
+}
+
+/// The first of some types that has the name.
+fn first_named(types: &'static [ObjectType], name: &str) -> Option<&'static ObjectType>
+    ensures { option_map (λ found. type_view found.now) result
+        ≡ first_type name.now (map type_view types.now) }
+{
+    for object_type in types {
+        if object_type.name == name {
+            return Some(object_type);
+        }
+    }
+    None
+}
+
+/// The group of a type, and `Other` where there is none.
+pub(crate) fn group_in(object_type: Option<&'static ObjectType>) -> Group
+    ensures { result ≡ group_of_type (option_map (λ found. type_view found.now) object_type.entry) }
+{
+    match object_type {
+        Some(object_type) => object_type.group,
+        None => Group::Other,
+    }
+}
+
+/// The own rows of a type, and none where there is no type.
+pub(crate) fn rows_in(object_type: Option<&'static ObjectType>) -> &'static [Row]
+    ensures { map row_view result.now
+        ≡ rows_of_type (option_map (λ found. type_view found.now) object_type.entry) }
+{
+    match object_type {
+        Some(object_type) => object_type.rows,
+        None => &[],
+    }
+}

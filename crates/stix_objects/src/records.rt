@@ -1,0 +1,105 @@
+ghost use Rattle.std.specs.Prelude.{◌↔◌, IsTrue, option_map, map};
+ghost use Rattle.serde_json.specs.View.{items_of};
+ghost use Rattle.stix_json.specs.DataOf.{data_of};
+ghost use Rattle.stix_objects.specs.Form.{records};
+ghost use Rattle.stix_objects.specs.Forms.{JudgesHere, JudgesItems, LacksAll, JudgesUnder, JudgesPart, JudgesParts, JudgesForm};
+ghost use Rattle.stix_objects.specs.Views.{single_view, part_view, flaw_view, fault_view};
+
+use crate::Rule;
+use crate::form::{Part, Single};
+use crate::found::{Fault, Flaw};
+use crate::list::judge_filled;
+use crate::single::judge_single;
+use stix_json::{Tree, get};
+
+/// What a value breaks of a list of objects with these parts.
+pub(crate) fn judge_records(parts: &[Part], value: &Tree) -> Option<Fault>
+    ensures { JudgesForm (records (map part_view parts.now)) (data_of value.now) (option_map fault_view result) }
+{
+    let Tree::Row(items) = value else {
+        return Some(Fault::here(Rule::WrongKind));
+    };
+    match judge_filled(&Single::Fields, items.as_slice()) {
+        Some(fault) => Some(fault),
+        None => first_flawed(parts, items.as_slice()),
+    }
+}
+
+/// What the first object breaks that breaks one of the parts.
+fn first_flawed(parts: &[Part], items: &[Tree]) -> Option<Fault>
+    ensures { JudgesItems (JudgesParts (map part_view parts.now)) 0 (items_of (map data_of items.now))
+        (option_map fault_view result) }
+{
+    for (at, item) in items.iter().enumerate() {
+        if let Some(flaw) = judge_parts(parts, item) {
+            return Some(flaw.in_item(at));
+        }
+    }
+    None
+}
+
+/// What an object breaks of the first part that it breaks.
+fn judge_parts(parts: &[Part], object: &Tree) -> Option<Flaw>
+    ensures { JudgesParts (map part_view parts.now) (data_of object.now) (option_map flaw_view result) }
+{
+    for part in parts {
+        if let Some(flaw) = judge_part(part, object) {
+            return Some(flaw);
+        }
+    }
+    None
+}
+
+fn judge_part(part: &Part, object: &Tree) -> Option<Flaw>
+    ensures { JudgesPart (part_view part.now) (data_of object.now) (option_map flaw_view result) }
+{
+    match part {
+        Part::Must(name, single) => match get(object, name) {
+            Some(value) => judge_in(name, single, value),
+            None => Some(Flaw {
+                rule: Rule::Missing,
+                part: Some(name),
+            }),
+        },
+        Part::May(name, single) => match get(object, name) {
+            Some(value) => judge_in(name, single, value),
+            None => None,
+        },
+        Part::SomeOf(names) => {
+            if lacks_all(object, names) {
+                Some(Flaw {
+                    rule: Rule::NeedsOneOf,
+                    part: None,
+                })
+            } else {
+                None
+            }
+        }
+    }
+}
+
+/// What the value of a part breaks of its form.
+fn judge_in(name: &'static str, single: &Single, value: &Tree) -> Option<Flaw>
+    ensures { JudgesUnder name.now (JudgesHere (single_view single.now) (data_of value.now))
+        (option_map flaw_view result) }
+{
+    match judge_single(single, value) {
+        Some(rule) => Some(Flaw {
+            rule,
+            part: Some(name),
+        }),
+        None => None,
+    }
+}
+
+/// Whether none of the properties is there.
+pub(crate) fn lacks_all(object: &Tree, names: &[&str]) -> bool
+    ensures { IsTrue result ↔ LacksAll (map (λ name. name.now) names.now) (data_of object.now) }
+{
+    for name in names {
+        if get(object, name).is_some() {
+            return false;
+        }
+    }
+    true
+}

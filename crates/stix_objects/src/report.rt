@@ -1,0 +1,137 @@
+ghost use Rattle.std.specs.Prelude.{◌≡◌, [], ◌∷◌, IfOk, OnOk, option_map, option_to_list, option_and_then, map};
+ghost use Rattle.stix_json.specs.DataOf.{data_of};
+ghost use Rattle.stix_objects.specs.declared.rule.Rule.TheVariants.{NotObject};
+ghost use Rattle.stix_objects.specs.Found.{here, break_of};
+ghost use Rattle.stix_objects.specs.Breaks.{type_of, AreBreaksBy, AreBreaksOf, rows_for, standing};
+ghost use Rattle.stix_objects.specs.Types.{group_in as group_of_type, rows_in as rows_of_type};
+ghost use Rattle.stix_objects.specs.CommonRows.{common_rows as shared_rows};
+ghost use Rattle.stix_objects.specs.Adding.{Adds, AddsOne, standing_rows};
+ghost use Rattle.stix_objects.specs.Views.{row_view, common_view, type_view, finding_view};
+
+use crate::condition::text_at;
+use crate::judge::judge;
+use crate::object_type::{ObjectType, group_in, rows_in, type_named};
+use crate::row::{CommonRow, Row};
+use crate::tables::common::common_rows;
+use crate::{Break, Group, Rule};
+use flow_values::{Items, NoMemory, Text};
+use std::alloc::Global;
+use stix_json::Tree;
+
+/// The breaks of a value: one for each row of its type that it doesn't meet, in the order of the
+/// rows, the common ones first. A value that is no object has one break.
+pub fn breaks(alloc: Global, tree: &Tree) -> Result<Items<Break>, NoMemory>
+    ensures { IfOk result (λ found. AreBreaksOf (data_of tree.now) found) }
+{
+    match tree {
+        Tree::Fields(_) => object_breaks(alloc, tree),
+        Tree::Truth(_) | Tree::Whole(_) | Tree::Words(_) | Tree::Row(_) => not_object(alloc),
+    }
+}
+
+/// The break of what is no object.
+fn not_object(alloc: Global) -> Result<Items<Break>, NoMemory>
+    ensures { IfOk result (λ found. found ≡ break_of (here NotObject) ∷ []) }
+{
+    let mut found = Items::new(alloc);
+    found.push(Break {
+        rule: Rule::NotObject,
+        path: Text::new(alloc),
+    })?;
+    Ok(found)
+}
+
+/// The breaks of the rows of an object's type.
+fn object_breaks(alloc: Global, object: &Tree) -> Result<Items<Break>, NoMemory>
+    ensures { IfOk result (λ found. AreBreaksBy (rows_for (type_of (data_of object.now)))
+        (data_of object.now) found) }
+{
+    let object_type = object_type(object);
+    let own = rows_in(object_type);
+    let mut found = Items::new(alloc);
+    add_common(
+        alloc,
+        common_rows(),
+        group_in(object_type),
+        own,
+        object,
+        &mut found,
+    )?;
+    add_own(alloc, own, object, &mut found)?;
+    Ok(found)
+}
+
+/// The type of an object, where its rows are stated.
+fn object_type(object: &Tree) -> Option<&'static ObjectType>
+    ensures { option_map (λ found. type_view found.now) result ≡ type_of (data_of object.now) }
+{
+    type_named(text_at(object, "type")?)
+}
+
+/// Adds the breaks of the common rows that stand for a group and beside a type's own rows.
+fn add_common(
+    alloc: Global,
+    commons: &[CommonRow],
+    group: Group,
+    own: &[Row],
+    object: &Tree,
+    found: &mut Items<Break>,
+) -> Result<(), NoMemory>
+    ensures { OnOk result (Adds
+        (standing_rows group (map row_view own.now) (map common_view commons.now))
+        (data_of object.now) found.old found.new) }
+{
+    for common in commons {
+        add_standing(alloc, common, group, own, object, found)?;
+    }
+    Ok(())
+}
+
+/// Adds the break of a common row, if it stands there and there is one.
+fn add_standing(
+    alloc: Global,
+    common: &CommonRow,
+    group: Group,
+    own: &[Row],
+    object: &Tree,
+    found: &mut Items<Break>,
+) -> Result<(), NoMemory>
+    ensures { OnOk result (Adds
+        (option_to_list (standing group (map row_view own.now) (common_view common.now)))
+        (data_of object.now) found.old found.new) }
+{
+    if let Some(row) = common.standing(group, own) {
+        add_break(alloc, &row, object, found)?;
+    }
+    Ok(())
+}
+
+/// Adds the breaks of the rows.
+fn add_own(
+    alloc: Global,
+    rows: &[Row],
+    object: &Tree,
+    found: &mut Items<Break>,
+) -> Result<(), NoMemory>
+    ensures { OnOk result (Adds (map row_view rows.now) (data_of object.now) found.old found.new) }
+{
+    for row in rows {
+        add_break(alloc, row, object, found)?;
+    }
+    Ok(())
+}
+
+/// Adds the break of a row, if there is one.
+fn add_break(
+    alloc: Global,
+    row: &Row,
+    object: &Tree,
+    found: &mut Items<Break>,
+) -> Result<(), NoMemory>
+    ensures { OnOk result (AddsOne (row_view row.now) (data_of object.now) found.old found.new) }
+{
+    if let Some(finding) = judge(row, object) {
+        found.push(finding.into_break(alloc)?)?;
+    }
+    Ok(())
+}

@@ -1,0 +1,153 @@
+ghost use Rattle.std.specs.Prelude.{◌≡◌, ◌↔◌, ℕ, List, IsTrue, option_map, map};
+ghost use Rattle.serde_json.specs.Find.{as_str};
+ghost use Rattle.stix_json.specs.DataOf.{data_of, field_data, members_of};
+ghost use Rattle.stix_objects.specs.Form.{words, kind as kind_form, version as version_form, one_of, truth, within, object, texts_by_name};
+ghost use Rattle.stix_objects.specs.Singles.{AreTexts, JudgesTexts, JudgesSingle};
+ghost use Rattle.stix_objects.specs.Views.{single_view};
+
+use crate::Rule;
+use crate::form::Single;
+use crate::identifier::{judge_any_reference, judge_reference};
+use crate::moment::judge_moment;
+use stix_ids::read_kind;
+use stix_json::{Field, Tree};
+
+/// What a value breaks of its form.
+pub(crate) fn judge_single(single: &Single, value: &Tree) -> Option<Rule>
+    ensures { JudgesSingle (single_view single.now) (data_of value.now) result }
+{
+    match single {
+        Single::Text => judge_text(value),
+        Single::Kind => judge_kind(value),
+        Single::Version => judge_version(value),
+        Single::Word(known) => judge_word(known, value),
+        Single::Moment(precision) => judge_moment(*precision, value),
+        Single::AnyRef => judge_any_reference(value),
+        Single::Ref(kinds) => judge_reference(kinds, value),
+        Single::Flag => judge_flag(value),
+        Single::Whole(least, most) => judge_whole(*least, *most, value),
+        Single::Fields => judge_fields(value),
+        Single::Hashes => judge_hashes(value),
+    }
+}
+
+/// The text that a value is.
+pub(crate) fn text_of(value: &Tree) -> Option<&str>
+    ensures { option_map (λ text. text.now) result ≡ as_str (data_of value.now) }
+{
+    match value {
+        Tree::Words(words) => Some(words.as_str()),
+        Tree::Truth(_) | Tree::Whole(_) | Tree::Row(_) | Tree::Fields(_) => None,
+    }
+}
+
+fn judge_text(value: &Tree) -> Option<Rule>
+    ensures { JudgesSingle words (data_of value.now) result }
+{
+    match text_of(value) {
+        Some(_) => None,
+        None => Some(Rule::WrongKind),
+    }
+}
+
+fn judge_kind(value: &Tree) -> Option<Rule>
+    ensures { JudgesSingle kind_form (data_of value.now) result }
+{
+    let Some(text) = text_of(value) else {
+        return Some(Rule::WrongKind);
+    };
+    match read_kind(text) {
+        Ok(()) => None,
+        Err(_) => Some(Rule::BadWord),
+    }
+}
+
+fn judge_version(value: &Tree) -> Option<Rule>
+    ensures { JudgesSingle version_form (data_of value.now) result }
+{
+    let Some(text) = text_of(value) else {
+        return Some(Rule::WrongKind);
+    };
+    if text == "2.1" {
+        None
+    } else {
+        Some(Rule::BadSpec)
+    }
+}
+
+fn judge_word(known: &[&str], value: &Tree) -> Option<Rule>
+    ensures { JudgesSingle (one_of (map (λ word. word.now) known.now)) (data_of value.now) result }
+{
+    let Some(text) = text_of(value) else {
+        return Some(Rule::WrongKind);
+    };
+    if known.contains(&text) {
+        None
+    } else {
+        Some(Rule::BadWord)
+    }
+}
+
+fn judge_flag(value: &Tree) -> Option<Rule>
+    ensures { JudgesSingle truth (data_of value.now) result }
+{
+    match value {
+        Tree::Truth(_) => None,
+        Tree::Whole(_) | Tree::Words(_) | Tree::Row(_) | Tree::Fields(_) => Some(Rule::WrongKind),
+    }
+}
+
+fn judge_whole(least: i64, most: i64, value: &Tree) -> Option<Rule>
+    ensures { JudgesSingle (within least most) (data_of value.now) result }
+{
+    let Tree::Whole(whole) = value else {
+        return Some(Rule::WrongKind);
+    };
+    if *whole < least || *whole > most {
+        return Some(Rule::OutOfRange);
+    }
+    None
+}
+
+fn judge_fields(value: &Tree) -> Option<Rule>
+    ensures { JudgesSingle object (data_of value.now) result }
+{
+    match value {
+        Tree::Fields(_) => None,
+        Tree::Truth(_) | Tree::Whole(_) | Tree::Words(_) | Tree::Row(_) => Some(Rule::WrongKind),
+    }
+}
+
+fn judge_hashes(value: &Tree) -> Option<Rule>
+    ensures { JudgesSingle texts_by_name (data_of value.now) result }
+{
+    match value {
+        Tree::Fields(hashes) => judge_texts(hashes.as_slice()),
+        Tree::Truth(_) | Tree::Whole(_) | Tree::Words(_) | Tree::Row(_) => Some(Rule::WrongKind),
+    }
+}
+
+/// What the members of an object of hashes break.
+fn judge_texts(fields: &[Field]) -> Option<Rule>
+    ensures { JudgesTexts (members_of (map field_data fields.now)) result }
+{
+    if !are_texts(fields) {
+        return Some(Rule::WrongKind);
+    }
+    if fields.is_empty() {
+        return Some(Rule::EmptyList);
+    }
+    None
+}
+
+/// Whether each value is a text.
+fn are_texts(fields: &[Field]) -> bool
+    ensures { IsTrue result ↔ AreTexts (members_of (map field_data fields.now)) }
+{
+    for field in fields {
+        if text_of(&field.value).is_none() {
+            return false;
+        }
+    }
+    true
+}

@@ -1,0 +1,80 @@
+//! The rows that the types share, in their order (STIX 2.1, sections 3.2 and 6).
+
+ghost use Rattle.std.specs.Prelude.{◌≡◌, map};
+ghost use Rattle.stix_objects.specs.CommonRows.{common_rows as shared_rows};
+ghost use Rattle.stix_objects.specs.Views.{common_view};
+
+use crate::Group;
+use crate::form::{
+    EXTERNAL, FIELDS, FLAG, Form, KIND, LISTED, MILLIS, Precision, Single, TEXT, TEXTS, VERSION,
+};
+use crate::row::{CommonRow, Row};
+
+const ALL: &[Group] = &[
+    Group::Stated,
+    Group::Marking,
+    Group::Observable,
+    Group::Other,
+];
+
+const STATED_AND_OTHER: &[Group] = &[Group::Stated, Group::Other];
+
+const ALL_BUT_OBSERVABLE: &[Group] = &[Group::Stated, Group::Marking, Group::Other];
+
+const COMMON_ROWS: &[CommonRow] = &[
+    CommonRow::For(ALL, Row::Required("type", KIND)),
+    CommonRow::For(
+        &[Group::Stated, Group::Marking],
+        Row::Required("spec_version", VERSION),
+    ),
+    CommonRow::For(
+        &[Group::Observable, Group::Other],
+        Row::Optional("spec_version", VERSION),
+    ),
+    CommonRow::For(ALL, Row::OwnId),
+    CommonRow::For(
+        ALL_BUT_OBSERVABLE,
+        Row::Optional("created_by_ref", Form::One(Single::Ref(&["identity"]))),
+    ),
+    CommonRow::For(
+        &[Group::Stated, Group::Marking],
+        Row::Required("created", MILLIS),
+    ),
+    CommonRow::For(&[Group::Other], Row::Optional("created", MILLIS)),
+    CommonRow::For(&[Group::Stated], Row::Required("modified", MILLIS)),
+    CommonRow::For(&[Group::Other], Row::Optional("modified", MILLIS)),
+    CommonRow::For(
+        STATED_AND_OTHER,
+        Row::Order(Precision::Millis, "created", "modified"),
+    ),
+    CommonRow::For(STATED_AND_OTHER, Row::Optional("revoked", FLAG)),
+    CommonRow::For(STATED_AND_OTHER, Row::Optional("labels", TEXTS)),
+    CommonRow::For(
+        STATED_AND_OTHER,
+        Row::Optional("confidence", Form::One(Single::Whole(0, 100))),
+    ),
+    CommonRow::For(STATED_AND_OTHER, Row::Optional("lang", TEXT)),
+    CommonRow::For(
+        ALL_BUT_OBSERVABLE,
+        Row::Optional("external_references", EXTERNAL),
+    ),
+    CommonRow::For(
+        ALL,
+        Row::Optional(
+            "object_marking_refs",
+            Form::List(Single::Ref(&["marking-definition"])),
+        ),
+    ),
+    CommonRow::For(ALL, Row::Optional("granular_markings", LISTED)),
+    CommonRow::For(ALL, Row::Optional("extensions", FIELDS)),
+    CommonRow::For(&[Group::Observable], Row::Optional("defanged", FLAG)),
+    CommonRow::UnlessOwn(&[Group::Stated], "name", TEXT),
+    CommonRow::For(&[Group::Stated], Row::Optional("description", TEXT)),
+];
+
+/// The common rows, each with the groups for which it stands.
+pub(crate) fn common_rows() -> &'static [CommonRow]
+    ensures { map common_view result.now ≡ shared_rows }
+{
+    COMMON_ROWS
+}

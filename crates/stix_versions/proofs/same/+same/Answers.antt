@@ -1,0 +1,36 @@
+use Rattle.std.proofs.Common.{arith, ◌<◌, length, sym, ◌∙◌}
+use Rattle.std.proofs.lemmas.Bool.{false≢true}
+use Rattle.stix_json.specs.DataOf.{data_of, field_data}
+use Rattle.stix_versions.proofs.Sameness.{same_item, same_rows, same_objects}
+use Rattle.stix_versions.proofs.same.+same.Goals as goal
+
+pub is_same-returns-in-Row-Row : goal.is_same-returns-in-Row-Row
+is_same-returns-in-Row-Row t c =
+    same_rows c.args.first.now c.args.second.now c.in-Row-Row.first c.in-Row-Row.second c.as_slice.result.now c.as_slice-in-Row-Row.result.now
+    c.in-Row-Row.is-0 c.in-Row-Row.is-1 c.as_slice.ensures c.as_slice-in-Row-Row.ensures c.are_same_items.result c.are_same_items.ensures
+
+pub is_same-returns-in-Fields-Fields : goal.is_same-returns-in-Fields-Fields
+is_same-returns-in-Fields-Fields t c =
+    same_objects c.args.first.now c.args.second.now c.in-Fields-Fields.first c.in-Fields-Fields.second c.as_slice-in-Fields-Fields.result.now
+    c.as_slice-in-Fields-Fields-2.result.now c.in-Fields-Fields.is-0 c.in-Fields-Fields.is-1 c.as_slice-in-Fields-Fields.ensures
+    c.as_slice-in-Fields-Fields-2.ensures c.are_same_fields.result c.are_same_fields.ensures
+
+pub are_same_items-returns-then-not-is_same : goal.are_same_items-returns-then-not-is_same
+are_same_items-returns-then-not-is_same t c =
+    let inside : c.loop-at.at < length c.args.first.now = omega arith in
+    let within : c.loop-at.at < length c.args.second.now = omega arith in (
+      λ yes. absurd (false≢true yes),
+      λ same. absurd (false≢true (sym c.if-not-is_same.true
+          ∙ c.is_same.ensures.1 (same_item data_of c.args.first.now c.args.second.now c.loop-at.at c.index-first-at.result c.index-second-at.result inside within
+          c.index-first-at.is c.index-second-at.is same))),
+    )
+
+pub are_same_fields-returns-then-not-is_same_field : goal.are_same_fields-returns-then-not-is_same_field
+are_same_fields-returns-then-not-is_same_field t c =
+    let inside : c.loop-at.at < length c.args.first.now = omega arith in
+    let within : c.loop-at.at < length c.args.second.now = omega arith in (
+      λ yes. absurd (false≢true yes),
+      λ same. absurd (false≢true (sym c.if-not-is_same_field.true
+          ∙ c.is_same_field.ensures.1 (same_item field_data c.args.first.now c.args.second.now c.loop-at.at c.index-first-at.result c.index-second-at.result inside within
+          c.index-first-at.is c.index-second-at.is same))),
+    )

@@ -1,0 +1,46 @@
+use Rattle.std.proofs.Common.{◌↔◌, ◌+◌, ◌++◌, IsTrue, List, [], append-nil, sym, subst}
+use Rattle.stix_json.specs.declared.tree.Tree.{Tree}
+use Rattle.stix_versions.specs.declared.version_break.VersionRule.TheVariants.{CreatedChanged, AfterRevoked, SameVersionTwice}
+use Rattle.stix_versions.specs.Twin.{AreTwinsBefore}
+use Rattle.stix_bundles.specs.Objects.{data_in}
+use Rattle.stix_versions.specs.Versions.{Breaks}
+use Rattle.stix_versions.proofs.Creation.{created_past}
+use Rattle.stix_versions.proofs.Twinning.{twins_past}
+use Rattle.stix_versions.proofs.ToldLists.{so, none_broken, broken_where, told_where}
+use Rattle.stix_versions.proofs.versions.add_breaks.Goals as goal
+
+pub returns-in_default-clause-told : goal.returns-in_default-clause-told
+returns-in_default-clause-told c =
+    ([], none_broken (data_in c.args.bundle.now) c.args.at c.in_default.ensures.none, sym (append-nil c.args.found.now))
+
+pub returns-in_default-clause-kept : goal.returns-in_default-clause-kept
+returns-in_default-clause-kept c = record {
+  created = created_past (data_in c.args.bundle.now) c.args.at c.args.seen.now.created c.in_default.ensures.none c.requires.before.created;
+  twins = twins_past (data_in c.args.bundle.now) c.args.at c.args.seen.now.twins c.in_default.ensures.none c.requires.before.twins;
+}
+
+pub add-requires-2-clause-before : goal.add-requires-2-clause-before
+add-requires-2-clause-before c =
+    subst (λ (ts : List Tree). AreTwinsBefore (data_in ts) c.args.at c.args.seen.now.twins) (sym c.objects-objects.ensures.value) c.requires.before.twins
+
+pub returns-clause-told : goal.returns-clause-told
+returns-clause-told c =
+    let objects = data_in c.args.bundle.now in
+    let at = c.args.at in
+    let is = c.in-Some.ensures.some in
+    let changed = c.in_ok-changed.changed in
+    let after = c.precedes-after.result in
+    let twice = c.in_ok-twice.twice in
+    let first = c.in_ok-changed.ensures.told objects at is c.requires.before.created in
+    let second = c.precedes-after.ensures objects at is c.requires.revoked in
+    let third = subst (λ (ts : List Tree). IsTrue twice ↔ Breaks (data_in ts) at SameVersionTwice) c.objects-objects.ensures.value c.in_ok-twice.ensures.told in (
+      so changed CreatedChanged ++ (so after AfterRevoked ++ (so twice SameVersionTwice ++ [])),
+      broken_where (Breaks objects at) changed after twice first second third,
+      told_where at c.args.found.now c.add-3.new.found c.add-4.new.found c.add-5.new.found changed after twice c.in_ok-add.ensures c.in_ok-add-2.ensures c.in_ok-add-3.ensures,
+    )
+
+pub returns-clause-kept : goal.returns-clause-kept
+returns-clause-kept c = record {
+  created = c.in_ok-changed.ensures.kept (data_in c.args.bundle.now) c.args.at c.in-Some.ensures.some c.requires.before.created;
+  twins = subst (λ (ts : List Tree). AreTwinsBefore (data_in ts) (c.args.at + 1) c.add-2.new.self) c.objects-objects.ensures.value c.in_ok-twice.ensures.kept;
+}

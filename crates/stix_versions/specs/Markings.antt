@@ -1,0 +1,90 @@
+-- Granular markings (STIX 2.1, section 7.2.3): each names a marking or a language, and the properties of its object that
+-- it marks.
+use Rattle.std.specs.Prelude.{◌≡◌, ◌≢◌, ◌⊎◌, ℕ, ◌+◌, List, [], ◌∷◌, ◌++◌, map, Option, Some, None, IsSome, codes, Contains, option_to_list, MatchOption}
+use Rattle.serde_json.specs.Data.{Data, Items, string}
+use Rattle.serde_json.specs.Find.{get, as_array}
+use Rattle.stix_ids.specs.declared.id.Id.{Id}
+use Rattle.stix_ids.specs.Identifier.{IsTextOf}
+use Rattle.stix_objects.specs.Conditions.{text_at}
+use Rattle.stix_bundles.specs.Bundle.{listed}
+use Rattle.stix_versions.specs.declared.marking_break.MarkingRule.{MarkingRule}
+use Rattle.stix_versions.specs.declared.marking_break.MarkingRule.TheVariants.{MarkingOrLang, BadMarkingRef, BadSelector, SelectorMissing}
+use Rattle.stix_versions.specs.declared.marking_break.MarkingBreak.{MarkingBreak}
+use Rattle.stix_versions.specs.Selector.{Part, IsSelector, value_at}
+
+-- the property is there
+abbrev pub Has : List ℕ → Data → Type 0
+Has name d = IsSome (get name d)
+
+-- exactly one of `marking_ref` and `lang` is there
+abbrev pub HasOne : Data → Type 0
+HasOne marking = (Has (codes "marking_ref") marking × (¬ Has (codes "lang") marking)) ⊎ ((¬ Has (codes "marking_ref") marking) × Has (codes "lang") marking)
+
+-- `marking_ref` is the text of a marking-definition's identifier
+abbrev pub RefersToMarking : Data → Type 0
+RefersToMarking marking = (text : List ℕ) × (id : Id) × (text_at (codes "marking_ref") marking ≡ Some text) × IsTextOf text id × (id.kind ≡ codes "marking-definition")
+
+-- the texts are selectors
+abbrev pub AreSelectors : List (List ℕ) → Type 0
+AreSelectors [] = Unit {0}
+AreSelectors (text ∷ texts) = ((parts : List Part) × IsSelector text parts) × AreSelectors texts
+
+-- `selectors` is a list of these texts, one or more
+pub record ListsSelectors (marking : Data) (texts : List (List ℕ)) : Type 0 where
+  pub value : Data
+  pub items : Items
+  pub there : get (codes "selectors") marking ≡ Some value
+  pub list : as_array value ≡ Some items
+  pub texts_are : listed items ≡ map string texts
+  pub some : texts ≢ []
+
+-- `selectors` is a list of one or more selectors
+abbrev pub HasSelectors : Data → Type 0
+HasSelectors marking = (texts : List (List ℕ)) × ListsSelectors marking texts × AreSelectors texts
+
+-- one of the selectors names nothing in the object
+pub record MissesOne (object marking : Data) : Type 0 where
+  pub texts : List (List ℕ)
+  pub lists : ListsSelectors marking texts
+  pub text : List ℕ
+  pub one : Contains texts text
+  pub parts : List Part
+  pub selector : IsSelector text parts
+  pub missing : value_at parts object ≡ None
+
+-- the rule applies to a marking of the object, and none before it does
+abbrev pub Breaks : Data → Data → MarkingRule → Type 0
+Breaks d marking MarkingOrLang = ¬ HasOne marking
+Breaks d marking BadMarkingRef = HasOne marking × Has (codes "marking_ref") marking × (¬ RefersToMarking marking)
+Breaks d marking BadSelector = HasOne marking × (Has (codes "marking_ref") marking → RefersToMarking marking) × (¬ HasSelectors marking)
+Breaks d marking SelectorMissing = HasOne marking × (Has (codes "marking_ref") marking → RefersToMarking marking) × HasSelectors marking × MissesOne d marking
+
+-- the rule that a marking breaks, or none
+abbrev pub IsBreakOf : Data → Data → Option MarkingRule → Type 0
+IsBreakOf d marking found = MatchOption found ((rule : MarkingRule) → ¬ Breaks d marking rule) (Breaks d marking)
+
+-- a rule, told of a marking of an object by their places
+abbrev pub told_of : ℕ → ℕ → MarkingRule → MarkingBreak
+told_of place at rule = record { object = place; marking = at; rule = rule }
+
+-- the breaks of the markings of an object, from a place on
+abbrev pub AreBreaksOf : ℕ → Data → ℕ → List Data → List MarkingBreak → Type 0
+AreBreaksOf place d at [] breaks = breaks ≡ []
+AreBreaksOf place d at (marking ∷ markings) breaks = (found : Option MarkingRule) × (rest : List MarkingBreak)
+    × IsBreakOf d marking found × AreBreaksOf place d (at + 1) markings rest
+    × (breaks ≡ map (told_of place at) (option_to_list found) ++ rest)
+
+-- the granular markings of an object: none where it names none, or names no list
+abbrev pub AreMarkings : Data → List Data → Type 0
+AreMarkings d markings = MatchOption (get (codes "granular_markings") d) (markings ≡ []) (λ value. MatchOption (as_array value) (markings ≡ []) (λ items. markings ≡ listed items))
+
+-- the breaks of the objects from a place on, object by object
+abbrev pub AreBreaksFrom : ℕ → List Data → List MarkingBreak → Type 0
+AreBreaksFrom place [] breaks = breaks ≡ []
+AreBreaksFrom place (d ∷ ds) breaks = (markings : List Data) × (own rest : List MarkingBreak)
+    × AreMarkings d markings × AreBreaksOf place d 0 markings own × AreBreaksFrom (place + 1) ds rest
+    × (breaks ≡ own ++ rest)
+
+-- all breaks of the granular markings in a bundle
+abbrev pub AreMarkingBreaks : List Data → List MarkingBreak → Type 0
+AreMarkingBreaks objects = AreBreaksFrom 0 objects

@@ -1,0 +1,64 @@
+-- Selectors of granular markings (STIX 2.1, section 7.2.3.1): property names and places of lists, joined by dots, from a
+-- property of the object on.
+use Rattle.std.specs.Prelude.{◌≡◌, ◌≢◌, ◌⊎◌, ℕ, List, [], ◌∷◌, ◌++◌, map, All, Option, Some, option_and_then, slice_index, codes}
+use Rattle.std.specs.Char.{IsAsciiLowercase, IsAsciiDigit}
+use Rattle.std.specs.Str.Parse.{IsNumeral, digits_value}
+use Rattle.serde_json.specs.Data.{Data}
+use Rattle.serde_json.specs.Find.{get, at as item_at}
+use Rattle.stix_json.specs.Walk.{path_text}
+
+-- a to z, 0 to 9, `_` or `-`
+abbrev pub IsNameCharacter : ℕ → Type 0
+IsNameCharacter c = IsAsciiLowercase c ⊎ IsAsciiDigit c ⊎ (c ≡ 95) ⊎ (c ≡ 45)
+
+-- one or more of these
+abbrev pub IsName : List ℕ → Type 0
+IsName name = (name ≢ []) × All IsNameCharacter name
+
+-- decimal digits, one or more, without leading zeros
+abbrev pub IsPlace : List ℕ → Type 0
+IsPlace digits = IsNumeral 10 digits × ((digits ≡ codes "0") ⊎ (slice_index digits 0 ≢ 48))
+
+-- one part: a property's name, or the digits of a place in a list, counted from 0
+pub data Part : Type 0 where
+  named : List ℕ → Part
+  placed : List ℕ → Part
+
+abbrev pub IsPart : Part → Type 0
+IsPart (named name) = IsName name
+IsPart (placed digits) = IsPlace digits
+
+-- digits in brackets: [n]
+abbrev pub in_brackets : List ℕ → List ℕ
+in_brackets digits = 91 ∷ (digits ++ 93 ∷ [])
+
+-- the text of a part: the name, or the digits in brackets
+abbrev pub part_text : Part → List ℕ
+part_text (named name) = name
+part_text (placed digits) = in_brackets digits
+
+abbrev pub AreParts : List Part → Type 0
+AreParts [] = Unit {0}
+AreParts (part ∷ parts) = IsPart part × AreParts parts
+
+-- it begins with a property's name
+abbrev pub BeginsNamed : List Part → Type 0
+BeginsNamed [] = ⊥
+BeginsNamed (named name ∷ parts) = Unit {0}
+BeginsNamed (placed digits ∷ parts) = ⊥
+
+-- the text is a selector of these parts
+pub record IsSelector (text : List ℕ) (parts : List Part) : Type 0 where
+  pub are_parts : AreParts parts
+  pub begins : BeginsNamed parts
+  pub spelled : text ≡ path_text (map part_text parts)
+
+-- what a part names in a value
+abbrev pub chosen : Part → Data → Option Data
+chosen (named name) d = get name d
+chosen (placed digits) d = item_at (digits_value 10 digits) d
+
+-- what parts name in a value, one after another
+abbrev pub value_at : List Part → Data → Option Data
+value_at [] d = Some d
+value_at (part ∷ parts) d = option_and_then (value_at parts) (chosen part d)

@@ -1,0 +1,106 @@
+-- Versions (STIX 2.1, section 3.6): objects of one identifier are versions of one object. All have its `created`, none is
+-- later than one that revokes it, and two of one `modified` are the same.
+use Rattle.std.specs.Prelude.{◌≡◌, ◌≢◌, ◌⊎◌, ℕ, ◌+◌, ◌<◌, ℤ, ◌<ℤ◌, List, [], ◌∷◌, ◌++◌, map, Some, slice_get, true, codes}
+use Rattle.serde_json.specs.Data.{Data, boolean}
+use Rattle.serde_json.specs.Find.{get}
+use Rattle.stix_times.specs.Reading.{IsMillisTextOf}
+use Rattle.stix_ids.specs.declared.id.Id.{Id}
+use Rattle.stix_objects.specs.declared.groups.Group.TheVariants.{Observable}
+use Rattle.stix_objects.specs.Conditions.{text_at}
+use Rattle.stix_objects.specs.Types.{group_of}
+use Rattle.stix_bundles.specs.Objects.{HasId}
+use Rattle.stix_bundles.specs.Lookup.{IsModifiedAt}
+use Rattle.stix_versions.specs.declared.version_break.VersionRule.{VersionRule}
+use Rattle.stix_versions.specs.declared.version_break.VersionRule.TheVariants.{CreatedChanged, AfterRevoked, SameVersionTwice}
+use Rattle.stix_versions.specs.declared.version_break.VersionBreak.{VersionBreak}
+
+-- the object's `created` is a timestamp of that instant, to the millisecond at least (sections 3.2 and 2.16)
+pub record IsCreatedAt (object : Data) (instant : ℤ) : Type 0 where
+  pub text : List ℕ
+  pub there : text_at (codes "created") object ≡ Some text
+  pub names : IsMillisTextOf text instant
+
+-- its type is that of a cyber-observable, which has no versions (section 6)
+abbrev pub IsObservable : Data → Type 0
+IsObservable d = (kind : List ℕ) × (text_at (codes "type") d ≡ Some kind) × (group_of kind ≡ Observable)
+
+-- the object at the place is a version of the identifier, created and modified then
+pub record IsVersion (objects : List Data) (at : ℕ) (id : Id) (created modified : ℤ) (object : Data) : Type 0 where
+  pub there : slice_get objects at ≡ Some object
+  pub versioned : ¬ IsObservable object
+  pub has : HasId object id
+  pub was_created : IsCreatedAt object created
+  pub was_modified : IsModifiedAt object modified
+
+-- `revoked` is true
+abbrev pub IsRevoked : Data → Type 0
+IsRevoked d = get (codes "revoked") d ≡ Some (boolean true)
+
+-- an earlier version has another `created`
+pub record ChangesCreated (objects : List Data) (at : ℕ) (id : Id) (created : ℤ) : Type 0 where
+  pub earlier : ℕ
+  pub before : earlier < at
+  pub other_created : ℤ
+  pub other_modified : ℤ
+  pub other : Data
+  pub version : IsVersion objects earlier id other_created other_modified other
+  pub changed : other_created ≢ created
+
+-- some version is revoked that was modified before
+pub record FollowsRevoked (objects : List Data) (id : Id) (modified : ℤ) : Type 0 where
+  pub place : ℕ
+  pub other_created : ℤ
+  pub other_modified : ℤ
+  pub other : Data
+  pub version : IsVersion objects place id other_created other_modified other
+  pub revoked : IsRevoked other
+  pub before : other_modified <ℤ modified
+
+-- an earlier version was modified then too, and is another object
+pub record RepeatsVersion (objects : List Data) (at : ℕ) (id : Id) (modified : ℤ) (object : Data) : Type 0 where
+  pub earlier : ℕ
+  pub before : earlier < at
+  pub other_created : ℤ
+  pub other : Data
+  pub version : IsVersion objects earlier id other_created modified other
+  pub differs : other ≢ object
+
+-- the version at the place breaks the rule
+abbrev pub BreaksAs : List Data → ℕ → Id → ℤ → ℤ → Data → VersionRule → Type 0
+BreaksAs objects at id created modified d CreatedChanged = ChangesCreated objects at id created
+BreaksAs objects at id created modified d AfterRevoked = FollowsRevoked objects id modified
+BreaksAs objects at id created modified d SameVersionTwice = RepeatsVersion objects at id modified d
+
+-- the object at the place is a version that breaks the rule
+pub record Breaks (objects : List Data) (at : ℕ) (rule : VersionRule) : Type 0 where
+  pub id : Id
+  pub created : ℤ
+  pub modified : ℤ
+  pub object : Data
+  pub version : IsVersion objects at id created modified object
+  pub breaks : BreaksAs objects at id created modified object rule
+
+-- the rules, in the order in which they are told
+abbrev pub rules_told : List VersionRule
+rules_told = CreatedChanged ∷ AfterRevoked ∷ SameVersionTwice ∷ []
+
+-- the rules of a list that are broken, in its order
+abbrev pub AreBroken : (VersionRule → Type 0) → List VersionRule → List VersionRule → Type 0
+AreBroken IsBroken [] broken = broken ≡ []
+AreBroken IsBroken (rule ∷ rules) broken =
+    (IsBroken rule × ((rest : List VersionRule) × AreBroken IsBroken rules rest × (broken ≡ rule ∷ rest)))
+    ⊎ ((¬ IsBroken rule) × AreBroken IsBroken rules broken)
+
+-- a rule, told of the object at the place
+abbrev pub told_of : ℕ → VersionRule → VersionBreak
+told_of at rule = record { object = at; rule = rule }
+
+-- the breaks of so many objects from a place on, object by object
+abbrev pub AreBreaksFrom : List Data → ℕ → List Data → List VersionBreak → Type 0
+AreBreaksFrom objects at [] breaks = breaks ≡ []
+AreBreaksFrom objects at (d ∷ ds) breaks = (own : List VersionRule) × (rest : List VersionBreak)
+    × AreBroken (Breaks objects at) rules_told own × AreBreaksFrom objects (at + 1) ds rest × (breaks ≡ map (told_of at) own ++ rest)
+
+-- all breaks of the objects of a bundle
+abbrev pub AreVersionBreaks : List Data → List VersionBreak → Type 0
+AreVersionBreaks objects = AreBreaksFrom objects 0 objects

@@ -1,0 +1,73 @@
+ghost use Rattle.std.specs.Prelude.{◌↔◌, ◌+◌, ℕ, List, IsTrue, IfOk, OnOk};
+ghost use Rattle.serde_json.specs.Data.{Data};
+ghost use Rattle.stix_versions.specs.declared.version_break.VersionRule.TheVariants as rule;
+ghost use Rattle.stix_versions.specs.Versions.{Breaks};
+ghost use Rattle.stix_versions.specs.Seen.{IsSeenAs};
+ghost use Rattle.stix_versions.specs.Kept.{IsNextCreated, AreCreatedBefore};
+
+use crate::version::Version;
+use stix_bundles::laws::{one_id, one_meaning};
+use flow_values::NoMemory;
+use std::alloc::Global;
+use std::collections::BTreeMap;
+use stix_times::laws::one_instant;
+use stix_times::{Instant, nanos};
+
+/// Of an object's versions so far, the `created` of the first, and whether another one has another.
+#[derive(Clone, Copy)]
+pub(crate) struct FirstCreated {
+    pub(crate) created: Instant,
+    pub(crate) changed: bool,
+}
+
+/// The same for each object, by the group of its versions.
+#[derive(Drop)]
+pub(crate) struct Created {
+    groups: BTreeMap<u32, FirstCreated>,
+}
+
+impl Created {
+    /// That of no versions. Takes no memory.
+    pub(crate) fn new(alloc: Global) -> Created
+        ensures { (objects : List Data) → AreCreatedBefore objects 0 result }
+    {
+        Created {
+            groups: BTreeMap::new(alloc),
+        }
+    }
+
+    /// Adds the version at the next position, and tells whether one before it has another `created`.
+    pub(crate) fn add(&mut self, version: &Version) -> Result<bool, NoMemory>
+        ensures told { IfOk result (λ changed. (objects : List Data) (at : ℕ) → IsSeenAs objects at version.now
+            → AreCreatedBefore objects at self.old → IsTrue changed ↔ Breaks objects at rule.CreatedChanged) }
+        ensures kept { OnOk result ((objects : List Data) (at : ℕ) → IsSeenAs objects at version.now
+            → AreCreatedBefore objects at self.old → AreCreatedBefore objects (at + 1) self.new) }
+    {
+        one_id();
+        one_meaning();
+        one_instant();
+        let group = version.group;
+        let created = version.created;
+        let first = self.groups.get(&group).copied();
+        let next = next_created(first, created);
+        let changed = next.changed;
+        self.groups.insert(group, next)?;
+        Ok(changed)
+    }
+}
+
+/// What is kept of versions, with one more that was created then.
+fn next_created(first: Option<FirstCreated>, created: Instant) -> FirstCreated
+    ensures { IsNextCreated first created result }
+{
+    match first {
+        Some(first) => FirstCreated {
+            created: first.created,
+            changed: first.changed || nanos(first.created) != nanos(created),
+        },
+        None => FirstCreated {
+            created,
+            changed: false,
+        },
+    }
+}

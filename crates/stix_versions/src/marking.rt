@@ -1,0 +1,119 @@
+ghost use Rattle.std.specs.Prelude.{◌≡◌, ◌↔◌, IsTrue, Any, All, codes};
+ghost use Rattle.stix_ids.specs.declared.id.Id.{Id};
+ghost use Rattle.stix_ids.specs.Identifier.{IsTextOf};
+ghost use Rattle.stix_json.specs.DataOf.{data_of};
+ghost use Rattle.stix_bundles.specs.Objects.{data_in};
+ghost use Rattle.stix_versions.specs.Markings.{Has, HasOne, RefersToMarking, IsBreakOf};
+ghost use Rattle.stix_versions.specs.Selected.{IsSelectorText, Misses, IsWellNamed, IsListAt};
+
+use crate::MarkingRule;
+use crate::list_at::list_at;
+use crate::selector::{is_selector, selected};
+use stix_objects::text_at;
+use stix_ids::Parts;
+use stix_json::{Tree, get};
+
+/// The first rule that a marking of the object breaks.
+pub(crate) fn broken_rule(object: &Tree, marking: &Tree) -> Option<MarkingRule>
+    ensures { IsBreakOf (data_of object.now) (data_of marking.now) result }
+{
+    if !has_one(marking) {
+        return Some(MarkingRule::MarkingOrLang);
+    }
+    if has(marking, "marking_ref") && !refers_to_marking(marking) {
+        return Some(MarkingRule::BadMarkingRef);
+    }
+    broken_by_selectors(object, marking)
+}
+
+/// Whether exactly one of `marking_ref` and `lang` is there.
+fn has_one(marking: &Tree) -> bool
+    ensures { IsTrue result ↔ HasOne (data_of marking.now) }
+{
+    has(marking, "marking_ref") != has(marking, "lang")
+}
+
+/// Whether the property is there.
+fn has(object: &Tree, name: &str) -> bool
+    ensures { IsTrue result ↔ Has name.now (data_of object.now) }
+{
+    get(object, name).is_some()
+}
+
+/// Whether `marking_ref` is the identifier of a marking-definition.
+fn refers_to_marking(marking: &Tree) -> bool
+    ensures { IsTrue result ↔ RefersToMarking (data_of marking.now) }
+{
+    match text_at(marking, "marking_ref") {
+        Some(text) => names_marking(text),
+        None => false,
+    }
+}
+
+fn names_marking(text: &str) -> bool
+    ensures { IsTrue result ↔ ((id : Id) × IsTextOf text.now id × (id.kind ≡ codes "marking-definition")) }
+{
+    match Parts::read(text) {
+        Ok(parts) => parts.kind == "marking-definition",
+        Err(_) => false,
+    }
+}
+
+/// The first rule that the selectors of a marking break, which names one marking or language well.
+fn broken_by_selectors(object: &Tree, marking: &Tree) -> Option<MarkingRule>
+    requires { IsWellNamed (data_of marking.now) }
+    ensures { IsBreakOf (data_of object.now) (data_of marking.now) result }
+{
+    let Some(selectors) = list_at(marking, "selectors") else {
+        return Some(MarkingRule::BadSelector);
+    };
+    broken_in_list(object, marking, selectors)
+}
+
+/// The same of the list that they are.
+fn broken_in_list(object: &Tree, marking: &Tree, selectors: &[Tree]) -> Option<MarkingRule>
+    requires named { IsWellNamed (data_of marking.now) }
+    requires listed { IsListAt (codes "selectors") (data_of marking.now) (data_in selectors.now) }
+    ensures { IsBreakOf (data_of object.now) (data_of marking.now) result }
+{
+    if selectors.is_empty() || !are_selectors(selectors) {
+        return Some(MarkingRule::BadSelector);
+    }
+    if misses_one(object, selectors) {
+        return Some(MarkingRule::SelectorMissing);
+    }
+    None
+}
+
+/// Whether each of the values is the text of a selector.
+fn are_selectors(values: &[Tree]) -> bool
+    ensures { IsTrue result ↔ All (λ value. IsSelectorText (data_of value)) values.now }
+{
+    values.iter().all(|value| is_selector_text(value))
+}
+
+fn is_selector_text(value: &Tree) -> bool
+    ensures { IsTrue result ↔ IsSelectorText (data_of value.now) }
+{
+    match value {
+        Tree::Words(text) => is_selector(text.as_str()),
+        Tree::Truth(_) | Tree::Whole(_) | Tree::Row(_) | Tree::Fields(_) => false,
+    }
+}
+
+/// Whether one of the values is a selector that names nothing in the object.
+fn misses_one(object: &Tree, values: &[Tree]) -> bool
+    ensures { IsTrue result ↔ Any (λ value. Misses (data_of object.now) (data_of value)) values.now }
+{
+    values.iter().any(|value| misses(object, value))
+}
+
+fn misses(object: &Tree, value: &Tree) -> bool
+    ensures { IsTrue result ↔ Misses (data_of object.now) (data_of value.now) }
+{
+    match value {
+        Tree::Words(text) => is_selector(text.as_str())
+            && selected(text.as_str(), object).is_none(),
+        Tree::Truth(_) | Tree::Whole(_) | Tree::Row(_) | Tree::Fields(_) => false,
+    }
+}

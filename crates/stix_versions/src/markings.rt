@@ -1,0 +1,67 @@
+ghost use Rattle.std.specs.Prelude.{◌≡◌, ◌++◌, ◌≤◌, List, length, IfOk, OnOk};
+ghost use Rattle.stix_json.specs.DataOf.{data_of};
+ghost use Rattle.stix_bundles.specs.Objects.{data_in};
+ghost use Rattle.stix_versions.specs.declared.marking_break.MarkingBreak.{MarkingBreak};
+ghost use Rattle.stix_versions.specs.Markings.{AreBreaksOf, AreMarkingBreaks};
+ghost use Rattle.stix_versions.specs.Selected.{AreOwnBreaks};
+
+use crate::MarkingBreak;
+use crate::list_at::list_at;
+use crate::marking::broken_rule;
+use stix_bundles::Bundle;
+use flow_values::{Items, NoMemory};
+use std::alloc::Global;
+use stix_json::Tree;
+
+/// What is wrong with the granular markings of the objects of a bundle, object by object, and for each
+/// in the order of its markings (STIX 2.1, section 7.2.3); for each marking the first rule that it
+/// breaks.
+pub fn marking_breaks(alloc: Global, bundle: &Bundle) -> Result<Items<MarkingBreak>, NoMemory>
+    ensures { IfOk result (AreMarkingBreaks (data_in bundle.now)) }
+{
+    all_breaks(alloc, bundle.objects())
+}
+
+/// The same of a list of objects.
+fn all_breaks(alloc: Global, objects: &[Tree]) -> Result<Items<MarkingBreak>, NoMemory>
+    requires { length objects.now ≤ 8_388_608 }
+    ensures { IfOk result (AreMarkingBreaks (data_in objects.now)) }
+{
+    let mut found = Items::new(alloc);
+    for at in 0..objects.len() {
+        add_breaks(at as u32, &objects[at], &mut found)?;
+    }
+    Ok(found)
+}
+
+/// Adds the breaks of the object at a position.
+fn add_breaks(at: u32, object: &Tree, found: &mut Items<MarkingBreak>) -> Result<(), NoMemory>
+    ensures { OnOk result ((own : List MarkingBreak) × AreOwnBreaks at (data_of object.now) own × (found.new ≡ found.old ++ own)) }
+{
+    match list_at(object, "granular_markings") {
+        Some(markings) => add_list(at, object, markings, found),
+        None => Ok(()),
+    }
+}
+
+/// Adds the breaks of these markings of the object.
+fn add_list(
+    object_at: u32,
+    object: &Tree,
+    markings: &[Tree],
+    found: &mut Items<MarkingBreak>,
+) -> Result<(), NoMemory>
+    ensures { OnOk result ((own : List MarkingBreak)
+        × AreBreaksOf object_at (data_of object.now) 0 (data_in markings.now) own × (found.new ≡ found.old ++ own)) }
+{
+    for at in 0..markings.len() {
+        if let Some(rule) = broken_rule(object, &markings[at]) {
+            found.push(MarkingBreak {
+                object: object_at,
+                marking: at as u64,
+                rule,
+            })?;
+        }
+    }
+    Ok(())
+}

@@ -1,0 +1,91 @@
+ghost use Rattle.std.specs.Prelude.{◌≡◌, ◌≢◌, ◌↔◌, ℕ, List, IsTrue, IfSome, IfNone, option_map, slice_get, All};
+ghost use Rattle.std.specs.Char.{IsAsciiDigit};
+ghost use Rattle.std.specs.Str.Parse.{IsNumeral, digits_value};
+ghost use Rattle.serde_json.specs.Find.{at as at_place};
+ghost use Rattle.stix_json.specs.DataOf.{data_of};
+ghost use Rattle.stix_versions.specs.Selector.{Part, IsNameCharacter, IsName, IsPlace, in_brackets, chosen as chosen_by};
+ghost use Rattle.stix_versions.specs.Paths.{IsPartOf};
+
+use stix_json::{Tree, get};
+
+/// Whether the text is one part of a selector.
+pub(crate) fn is_part(text: &str) -> bool
+    ensures { IsTrue result ↔ ((part : Part) × IsPartOf text.now part) }
+{
+    match bracketed(text) {
+        Some(digits) => is_place(digits),
+        None => is_name(text),
+    }
+}
+
+/// What a part names in a value.
+pub(crate) fn chosen<'a>(text: &str, value: &'a Tree) -> Option<&'a Tree>
+    ensures { (part : Part) → IsPartOf text.now part
+        → option_map (λ inner. data_of inner.now) result ≡ chosen_by part (data_of value.now) }
+{
+    match bracketed(text) {
+        Some(digits) => item_at(digits, value),
+        None => get(value, text),
+    }
+}
+
+/// What stands between the brackets.
+fn bracketed(text: &str) -> Option<&str>
+    ensures some { IfSome result (λ inner. text.now ≡ in_brackets inner.now) }
+    ensures none { IfNone result ((inner : List ℕ) → text.now ≢ in_brackets inner) }
+{
+    text.strip_prefix('[')?.strip_suffix(']')
+}
+
+/// Whether the text is a place: digits without leading zeros.
+fn is_place(text: &str) -> bool
+    ensures { IsTrue result ↔ IsPlace text.now }
+{
+    text == "0" || (!text.starts_with('0') && is_numeral(text))
+}
+
+fn is_numeral(text: &str) -> bool
+    ensures { IsTrue result ↔ IsNumeral 10 text.now }
+{
+    !text.is_empty() && is_all_digits(text)
+}
+
+fn is_all_digits(text: &str) -> bool
+    ensures { IsTrue result ↔ All IsAsciiDigit text.now }
+{
+    text.as_bytes().iter().all(|byte| byte.is_ascii_digit())
+}
+
+/// Whether the text is the name of a property.
+fn is_name(text: &str) -> bool
+    ensures { IsTrue result ↔ IsName text.now }
+{
+    !text.is_empty() && text.as_bytes().iter().all(|byte| is_name_character(*byte))
+}
+
+fn is_name_character(byte: u8) -> bool
+    ensures { IsTrue result ↔ IsNameCharacter byte }
+{
+    matches!(byte, b'a'..=b'z' | b'0'..=b'9' | b'_' | b'-')
+}
+
+/// The item of a list at the place that the digits write. None in what is no list, and where the list
+/// has no such place.
+fn item_at<'a>(digits: &str, value: &'a Tree) -> Option<&'a Tree>
+    ensures { IsNumeral 10 digits.now
+        → option_map (λ item. data_of item.now) result ≡ at_place (digits_value 10 digits.now) (data_of value.now) }
+{
+    match value {
+        Tree::Row(items) => numbered(digits, items.as_slice()),
+        Tree::Truth(_) | Tree::Whole(_) | Tree::Words(_) | Tree::Fields(_) => None,
+    }
+}
+
+/// The item at the place that the digits write.
+fn numbered<'a>(digits: &str, items: &'a [Tree]) -> Option<&'a Tree>
+    ensures { IsNumeral 10 digits.now
+        → option_map (λ item. item.now) result ≡ slice_get items.now (digits_value 10 digits.now) }
+{
+    let at: usize = digits.parse().ok()?;
+    items.get(at)
+}

@@ -1,0 +1,91 @@
+ghost use Rattle.std.specs.Prelude.{◌↔◌, ◌+◌, ℕ, List, length, IsTrue, IfOk, OnOk};
+ghost use Rattle.serde_json.specs.Data.{Data};
+ghost use Rattle.stix_bundles.specs.Objects.{data_in};
+ghost use Rattle.stix_versions.specs.declared.version_break.VersionRule.TheVariants as rule;
+ghost use Rattle.stix_versions.specs.Versions.{Breaks};
+ghost use Rattle.stix_versions.specs.Seen.{IsSeenAs};
+ghost use Rattle.stix_versions.specs.Kept.{IsNextRevoked, AreRevokedBefore};
+
+use crate::version::{Version, version_at};
+use stix_bundles::Bundle;
+use stix_bundles::laws::{one_id, one_meaning};
+use flow_values::NoMemory;
+use std::alloc::Global;
+use std::collections::BTreeMap;
+use stix_times::Instant;
+use stix_times::laws::{is_before, one_instant};
+
+/// For each object with a version that is revoked, the earliest `modified` of such a version, by the
+/// group of its versions.
+#[derive(Drop)]
+pub(crate) struct Revoked {
+    groups: BTreeMap<u32, Instant>,
+}
+
+impl Revoked {
+    /// That of the versions of a bundle.
+    pub(crate) fn of(alloc: Global, bundle: &Bundle) -> Result<Revoked, NoMemory>
+        ensures { IfOk result (AreRevokedBefore (data_in bundle.now) (length bundle.now)) }
+    {
+        let mut revoked = Revoked {
+            groups: BTreeMap::new(alloc),
+        };
+        for at in 0..bundle.len() {
+            if let Some(version) = version_at(bundle, at) {
+                revoked.add(&version)?;
+            }
+        }
+        Ok(revoked)
+    }
+
+    /// Adds the version at the next position.
+    fn add(&mut self, version: &Version) -> Result<(), NoMemory>
+        ensures { OnOk result ((objects : List Data) (at : ℕ) → IsSeenAs objects at version.now
+            → AreRevokedBefore objects at self.old → AreRevokedBefore objects (at + 1) self.new) }
+    {
+        one_id();
+        one_meaning();
+        one_instant();
+        if !version.revoked {
+            return Ok(());
+        }
+        let group = version.group;
+        let modified = version.modified;
+        let first = self.groups.get(&group).copied();
+        let next = earlier(first, modified);
+        self.groups.insert(group, next)?;
+        Ok(())
+    }
+
+    /// Whether a version of the same object that was modified before is revoked.
+    pub(crate) fn precedes(&self, version: &Version) -> bool
+        ensures { (objects : List Data) (at : ℕ) → IsSeenAs objects at version.now
+            → AreRevokedBefore objects (length objects) self.now → IsTrue result ↔ Breaks objects at rule.AfterRevoked }
+    {
+        one_id();
+        one_meaning();
+        one_instant();
+        let group = version.group;
+        let modified = version.modified;
+        match self.groups.get(&group) {
+            Some(first) => is_before(*first, modified),
+            None => false,
+        }
+    }
+}
+
+/// The earlier time.
+fn earlier(first: Option<Instant>, modified: Instant) -> Instant
+    ensures { IsNextRevoked first modified result }
+{
+    match first {
+        Some(first) => {
+            if is_before(first, modified) {
+                first
+            } else {
+                modified
+            }
+        }
+        None => modified,
+    }
+}

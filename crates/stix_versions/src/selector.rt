@@ -1,0 +1,42 @@
+ghost use Rattle.std.specs.Prelude.{◌≡◌, ◌↔◌, List, IsTrue, option_map};
+ghost use Rattle.stix_json.specs.DataOf.{data_of};
+ghost use Rattle.stix_versions.specs.Selector.{Part, IsSelector, value_at};
+ghost use Rattle.stix_versions.specs.Paths.{IsPath};
+
+use crate::part::{chosen, is_part};
+use stix_json::Tree;
+
+/// Whether the text is a selector.
+pub(crate) fn is_selector(text: &str) -> bool
+    ensures { IsTrue result ↔ ((parts : List Part) × IsSelector text.now parts) }
+{
+    !text.starts_with('[') && is_path(text)
+}
+
+/// Whether the text is parts joined by dots.
+fn is_path(text: &str) -> bool
+    ensures { IsTrue result ↔ ((parts : List Part) × IsPath text.now parts) }
+{
+    let mut rest = text;
+    while let Some((part, after)) = rest.split_once('.') {
+        if !is_part(part) {
+            return false;
+        }
+        rest = after;
+    }
+    is_part(rest)
+}
+
+/// What a selector names in an object.
+pub(crate) fn selected<'a>(text: &str, object: &'a Tree) -> Option<&'a Tree>
+    ensures { (parts : List Part) → IsPath text.now parts
+        → option_map (λ value. data_of value.now) result ≡ value_at parts (data_of object.now) }
+{
+    let mut rest = text;
+    let mut here = object;
+    while let Some((part, after)) = rest.split_once('.') {
+        here = chosen(part, here)?;
+        rest = after;
+    }
+    chosen(rest, here)
+}

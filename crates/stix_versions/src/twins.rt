@@ -1,0 +1,95 @@
+ghost use Rattle.std.specs.Prelude.{◌≡◌, ◌↔◌, ◌+◌, ◌<◌, ◌≤◌, List, length, IsTrue, IfOk, OnOk, Some, slice_get};
+ghost use Rattle.serde_json.specs.Data.{Data};
+ghost use Rattle.stix_json.specs.DataOf.{data_of};
+ghost use Rattle.stix_bundles.specs.Objects.{data_in};
+ghost use Rattle.stix_versions.specs.declared.version_break.VersionRule.TheVariants as rule;
+ghost use Rattle.stix_versions.specs.Versions.{Breaks};
+ghost use Rattle.stix_versions.specs.Seen.{IsSeenAs};
+ghost use Rattle.stix_versions.specs.Twin.{IsNextTwin, AreTwinsBefore};
+
+use crate::same::is_same;
+use crate::version::Version;
+use stix_bundles::laws::{one_id, one_meaning};
+use flow_values::NoMemory;
+use std::alloc::Global;
+use std::collections::BTreeMap;
+use stix_times::laws::one_instant;
+use stix_times::nanos;
+use stix_json::Tree;
+
+/// Of an object's versions of one `modified` so far, the position of the first, and whether another
+/// one is another object.
+#[derive(Clone, Copy)]
+pub(crate) struct FirstTwin {
+    pub(crate) at: u32,
+    pub(crate) differs: bool,
+}
+
+/// The same for each object and `modified`, by the group of its versions and the instant.
+#[derive(Drop)]
+pub(crate) struct Twins {
+    moments: BTreeMap<(u32, i128), FirstTwin>,
+}
+
+impl Twins {
+    /// That of no versions. Takes no memory.
+    pub(crate) fn new(alloc: Global) -> Twins
+        ensures { (objects : List Data) → AreTwinsBefore objects 0 result }
+    {
+        Twins {
+            moments: BTreeMap::new(alloc),
+        }
+    }
+
+    /// Adds the version at a position, and tells whether one before it of the same `modified` is
+    /// another object.
+    pub(crate) fn add(
+        &mut self,
+        objects: &[Tree],
+        at: usize,
+        version: &Version,
+    ) -> Result<bool, NoMemory>
+        requires counted { length objects.now ≤ 8_388_608 }
+        requires there { at < length objects.now }
+        requires version { IsSeenAs (data_in objects.now) at version.now }
+        requires before { AreTwinsBefore (data_in objects.now) at self.old }
+        ensures told { IfOk result (λ differs. IsTrue differs ↔ Breaks (data_in objects.now) at rule.SameVersionTwice) }
+        ensures kept { OnOk result (AreTwinsBefore (data_in objects.now) (at + 1) self.new) }
+    {
+        one_id();
+        one_meaning();
+        one_instant();
+        let moment = (version.group, nanos(version.modified));
+        let first = self.moments.get(&moment).copied();
+        let next = next_twin(objects, first, &objects[at], at as u32);
+        let differs = next.differs;
+        self.moments.insert(moment, next)?;
+        Ok(differs)
+    }
+}
+
+/// What is kept of versions of one `modified`, with this object at that position.
+fn next_twin(objects: &[Tree], first: Option<FirstTwin>, object: &Tree, at: u32) -> FirstTwin
+    ensures { IsNextTwin (data_in objects.now) first (data_of object.now) at result }
+{
+    match first {
+        Some(first) => {
+            let same = stands_at(objects, first.at, object);
+            FirstTwin {
+                at: first.at,
+                differs: first.differs || !same,
+            }
+        }
+        None => FirstTwin { at, differs: false },
+    }
+}
+
+/// Whether the same object stands at a position.
+fn stands_at(objects: &[Tree], at: u32, object: &Tree) -> bool
+    ensures { IsTrue result ↔ (slice_get (data_in objects.now) at ≡ Some (data_of object.now)) }
+{
+    match objects.get(at as usize) {
+        Some(other) => is_same(other, object),
+        None => false,
+    }
+}

@@ -1,0 +1,74 @@
+ghost use Rattle.std.specs.Prelude.{◌≡◌, ◌↔◌, ◌<◌, ℤ, length, true, IsTrue, IfSome, IfNone, Some, codes};
+ghost use Rattle.serde_json.specs.Data.{boolean};
+ghost use Rattle.serde_json.specs.Find.{get as member_of};
+ghost use Rattle.stix_json.specs.DataOf.{data_of};
+ghost use Rattle.stix_bundles.specs.Objects.{data_in};
+ghost use Rattle.stix_versions.specs.Versions.{IsObservable, IsRevoked};
+ghost use Rattle.stix_versions.specs.Seen.{IsMillisAt, IsSeenAs, IsNoVersion};
+
+use stix_bundles::laws::one_meaning;
+use stix_bundles::{Bundle, find};
+use stix_objects::{Group, group, text_at};
+use stix_times::{Instant, read_millis};
+use stix_json::{Tree, get};
+
+/// A version of an object.
+#[derive(Clone, Copy)]
+pub(crate) struct Version {
+    /// The position of the latest version of the object.
+    pub(crate) group: u32,
+    pub(crate) created: Instant,
+    pub(crate) modified: Instant,
+    pub(crate) revoked: bool,
+}
+
+/// The version that the object at a position is. None where it has no versions.
+pub(crate) fn version_at(bundle: &Bundle, at: usize) -> Option<Version>
+    requires { at < length bundle.now }
+    ensures some { IfSome result (IsSeenAs (data_in bundle.now) at) }
+    ensures none { IfNone result (IsNoVersion (data_in bundle.now) at) }
+{
+    one_meaning();
+    let object = &bundle.objects()[at];
+    if is_observable(object) {
+        return None;
+    }
+    let id = text_at(object, "id")?;
+    let created = millis_at(object, "created")?;
+    let modified = millis_at(object, "modified")?;
+    let group = find(bundle, id)?;
+    Some(Version {
+        group,
+        created,
+        modified,
+        revoked: is_revoked(object),
+    })
+}
+
+/// Whether an object is a cyber-observable.
+fn is_observable(object: &Tree) -> bool
+    ensures { IsTrue result ↔ IsObservable (data_of object.now) }
+{
+    match text_at(object, "type") {
+        Some(kind) => group(kind) == Group::Observable,
+        None => false,
+    }
+}
+
+/// The instant that a property names, to the millisecond at least.
+fn millis_at(object: &Tree, name: &str) -> Option<Instant>
+    ensures some { IfSome result (IsMillisAt name.now (data_of object.now)) }
+    ensures none { IfNone result ((instant : ℤ) → ¬ IsMillisAt name.now (data_of object.now) instant) }
+{
+    read_millis(text_at(object, name)?).ok()
+}
+
+/// Whether a version revokes its object.
+fn is_revoked(object: &Tree) -> bool
+    ensures { IsTrue result ↔ IsRevoked (data_of object.now) }
+{
+    match get(object, "revoked") {
+        Some(Tree::Truth(truth)) => *truth,
+        Some(Tree::Whole(_) | Tree::Words(_) | Tree::Row(_) | Tree::Fields(_)) | None => false,
+    }
+}

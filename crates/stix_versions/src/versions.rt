@@ -1,0 +1,85 @@
+ghost use Rattle.std.specs.Prelude.{◌≡◌, ◌↔◌, ◌+◌, ◌<◌, ◌++◌, List, length, map, take, IsTrue, IfOk, OnOk};
+ghost use Rattle.stix_bundles.specs.Objects.{data_in};
+ghost use Rattle.stix_versions.specs.declared.version_break.VersionRule.{VersionRule};
+ghost use Rattle.stix_versions.specs.Versions.{Breaks, AreBroken, rules_told, told_of, AreBreaksFrom, AreVersionBreaks};
+ghost use Rattle.stix_versions.specs.Kept.{AreCreatedBefore, AreRevokedBefore};
+ghost use Rattle.stix_versions.specs.Twin.{AreTwinsBefore};
+ghost use Rattle.stix_versions.specs.Told.{AreSeenBefore, where_so};
+
+use crate::created::Created;
+use crate::revoked::Revoked;
+use crate::twins::Twins;
+use crate::version::version_at;
+use crate::{VersionBreak, VersionRule};
+use stix_bundles::Bundle;
+use flow_values::{Items, NoMemory};
+use std::alloc::Global;
+
+/// What is wrong with the versions of objects in a bundle, object by object, and for each object in
+/// the order of the rules (STIX 2.1, section 3.6). Only objects that have both `created` and `modified`
+/// and are no cyber-observables have versions.
+pub fn version_breaks(alloc: Global, bundle: &Bundle) -> Result<Items<VersionBreak>, NoMemory>
+    ensures { IfOk result (AreVersionBreaks (data_in bundle.now)) }
+{
+    let revoked = Revoked::of(alloc, bundle)?;
+    let mut seen = Seen {
+        created: Created::new(alloc),
+        twins: Twins::new(alloc),
+    };
+    let mut found = Items::new(alloc);
+    for at in 0..bundle.len() {
+        add_breaks(bundle, at, &revoked, &mut seen, &mut found)?;
+    }
+    Ok(found)
+}
+
+/// What is kept of the versions so far.
+#[derive(Drop)]
+pub(crate) struct Seen {
+    created: Created,
+    twins: Twins,
+}
+
+/// Adds the breaks of the object at a position.
+fn add_breaks(
+    bundle: &Bundle,
+    at: usize,
+    revoked: &Revoked,
+    seen: &mut Seen,
+    found: &mut Items<VersionBreak>,
+) -> Result<(), NoMemory>
+    requires there { at < length bundle.now }
+    requires revoked { AreRevokedBefore (data_in bundle.now) (length (data_in bundle.now)) revoked.now }
+    requires before { AreSeenBefore (data_in bundle.now) at seen.old }
+    ensures told { OnOk result ((own : List VersionRule) × AreBroken (Breaks (data_in bundle.now) at) rules_told own
+        × (found.new ≡ found.old ++ map (told_of at) own)) }
+    ensures kept { OnOk result (AreSeenBefore (data_in bundle.now) (at + 1) seen.new) }
+{
+    let Some(version) = version_at(bundle, at) else {
+        return Ok(());
+    };
+    let objects = bundle.objects();
+    let object = at as u32;
+    let changed = seen.created.add(&version)?;
+    let after = revoked.precedes(&version);
+    let twice = seen.twins.add(objects, at, &version)?;
+    add(changed, object, VersionRule::CreatedChanged, found)?;
+    add(after, object, VersionRule::AfterRevoked, found)?;
+    add(twice, object, VersionRule::SameVersionTwice, found)?;
+    Ok(())
+}
+
+/// Adds the break of a rule where it is broken.
+fn add(
+    broken: bool,
+    object: u32,
+    rule: VersionRule,
+    found: &mut Items<VersionBreak>,
+) -> Result<(), NoMemory>
+    ensures { OnOk result (found.new ≡ found.old ++ where_so broken (told_of object rule)) }
+{
+    if broken {
+        found.push(VersionBreak { object, rule })?;
+    }
+    Ok(())
+}

@@ -1,8 +1,0 @@
-use Rattle.version_rules.proofs.OneList.{versions_once, markings_once}
-use Rattle.version_rules.proofs.laws.one_list.Goals as goal
-
-pub returns-clause-versions : goal.returns-clause-versions
-returns-clause-versions c = λ objects first second a b. versions_once objects 0 objects first second a b
-
-pub returns-clause-markings : goal.returns-clause-markings
-returns-clause-markings c = λ objects first second a b. markings_once 0 objects first second a b
