@@ -1,20 +1,20 @@
 -- The texts of refused lines.
 use Rattle.std.specs.Prelude.{ℕ, List, [], ◌∷◌, ◌++◌, codes, decimal}
-use Rattle.stix_json.specs.declared.refusal.TreeRefusal.{TreeRefusal}
-use Rattle.stix_json.specs.declared.refusal.TreeRefusal.TheVariants as tree
+use Rattle.stix_json.specs.declared.refusal.JsonRefusal.{JsonRefusal}
+use Rattle.stix_json.specs.declared.refusal.JsonRefusal.TheVariants as tree
 use Rattle.stix_objects.specs.RuleName.{rule_name}
 use Rattle.stix_bundles.specs.declared.object_break.ObjectBreak.{ObjectBreak}
 use Rattle.stix_bundles.specs.declared.refusal.BundleRefusal.{BundleRefusal}
 use Rattle.stix_bundles.specs.declared.refusal.BundleRefusal.TheVariants as bundle
 use Rattle.match_log.specs.declared.end.InputRule.{InputRule}
-use Rattle.match_log.specs.declared.end.InputRule.TheVariants.{NotYet, InputTooLong, Tree, Bundle}
+use Rattle.match_log.specs.declared.end.InputRule.TheVariants.{NotYet, InputTooLong, Json, Bundle}
 
 -- a name, and the path of what it is told of, where that isn't the whole
 abbrev pub at_path : List ℕ → List ℕ → List ℕ
 at_path name [] = name
 at_path name (c ∷ path) = name ++ (codes " at " ++ c ∷ path)
 
-abbrev pub tree_text : TreeRefusal → List ℕ
+abbrev pub tree_text : JsonRefusal → List ℕ
 tree_text tree.NotJson = codes "NotJson"
 tree_text (tree.TooDeep path) = at_path (codes "TooDeep") path
 tree_text (tree.NotWhole path) = at_path (codes "NotWhole") path
@@ -40,7 +40,7 @@ bundle_text bundle.NoMemory = codes "out of memory"
 abbrev pub rule_text : InputRule → List ℕ
 rule_text NotYet = codes "NotYet"
 rule_text InputTooLong = codes "InputTooLong"
-rule_text (Tree refusal) = tree_text refusal
+rule_text (Json refusal) = tree_text refusal
 rule_text (Bundle refusal) = bundle_text refusal
 
 -- line N refused: WHAT, of the number's text

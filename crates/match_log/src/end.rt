@@ -3,7 +3,7 @@ ghost use Rattle.match_log.specs.declared.end.MatchEnd.TheVariants.{NoMemory as 
 
 use stix_bundles::BundleRefusal;
 use flow_values::NoMemory;
-use stix_json::TreeRefusal;
+use stix_json::JsonRefusal;
 
 /// How the input is cut into bundles.
 #[derive(Clone, Copy, Debug, PartialEq, Eq)]
@@ -20,7 +20,7 @@ pub enum InputRule {
     /// The input is longer than it may be.
     InputTooLong,
     /// The bytes are no tree.
-    Tree(TreeRefusal),
+    Json(JsonRefusal),
     /// The tree is no bundle.
     Bundle(BundleRefusal),
 }

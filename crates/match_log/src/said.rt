@@ -5,7 +5,7 @@ ghost use Rattle.match_log.specs.Said.{said_text};
 use crate::InputRule;
 use stix_bundles::{BundleRefusal, ObjectBreak};
 use stix_objects::Rule;
-use stix_json::TreeRefusal;
+use stix_json::JsonRefusal;
 
 /// An object of a bundle, and a rule that it breaks.
 #[derive(Clone, Copy, Debug)]
@@ -40,22 +40,22 @@ impl<'a> Said<'a> {
         match rule {
             InputRule::NotYet => Said::at("NotYet", ""),
             InputRule::InputTooLong => Said::at("InputTooLong", ""),
-            InputRule::Tree(refusal) => Said::of_tree(refusal),
+            InputRule::Json(refusal) => Said::of_tree(refusal),
             InputRule::Bundle(refusal) => Said::of_bundle(refusal),
         }
     }
 
-    fn of_tree(refusal: &'a TreeRefusal) -> Said<'a>
+    fn of_tree(refusal: &'a JsonRefusal) -> Said<'a>
         ensures { said_text result ≡ tree_text refusal.now }
     {
         match refusal {
-            TreeRefusal::NotJson => Said::at("NotJson", ""),
-            TreeRefusal::TooDeep { path } => Said::at("TooDeep", path.as_str()),
-            TreeRefusal::NotWhole { path } => Said::at("NotWhole", path.as_str()),
-            TreeRefusal::Null { path } => Said::at("Null", path.as_str()),
-            TreeRefusal::OutOfRange { path } => Said::at("OutOfRange", path.as_str()),
-            TreeRefusal::NotList => Said::at("NotList", ""),
-            TreeRefusal::NoMemory => Said::at("out of memory", ""),
+            JsonRefusal::NotJson => Said::at("NotJson", ""),
+            JsonRefusal::TooDeep { path } => Said::at("TooDeep", path.as_str()),
+            JsonRefusal::NotWhole { path } => Said::at("NotWhole", path.as_str()),
+            JsonRefusal::Null { path } => Said::at("Null", path.as_str()),
+            JsonRefusal::OutOfRange { path } => Said::at("OutOfRange", path.as_str()),
+            JsonRefusal::NotList => Said::at("NotList", ""),
+            JsonRefusal::NoMemory => Said::at("out of memory", ""),
         }
     }
 

@@ -10,7 +10,7 @@ use pattern_types::{Check, Constant, Leaf, Path, Pattern, Step, Test};
 use std::alloc::Global;
 use std::process::Abort;
 use std::test::Fail;
-use stix_json::TreeRefusal;
+use stix_json::JsonRefusal;
 
 /// The path `file:name`.
 fn file_name(alloc: Global) -> Result<Path, NoMemory> {
@@ -157,7 +157,7 @@ fn a_refused_line_has_its_text(rt: HostRuntime) -> Result<(), Fail> {
     for (rule, wanted) in [
         (InputRule::NotYet, "NotYet"),
         (
-            InputRule::Tree(TreeRefusal::Null { path }),
+            InputRule::Json(JsonRefusal::Null { path }),
             "Null at objects.[0]",
         ),
         (

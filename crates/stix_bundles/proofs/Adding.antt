@@ -3,7 +3,7 @@ use Rattle.std.proofs.Common.{◌≡◌, inl, inr, ◌+◌, ◌<◌, ℕ, ℤ, L
 use Rattle.serde_json.specs.Data.{Data}
 use Rattle.flow_values.specs.declared.no_memory.NoMemory.{NoMemory}
 use Rattle.stix_ids.specs.declared.id.Id.{Id}
-use Rattle.stix_json.specs.declared.tree.Tree.{Tree}
+use Rattle.stix_json.specs.declared.value.Json.{Json}
 use Rattle.stix_json.specs.DataOf.{data_of}
 use Rattle.stix_bundles.specs.declared.index.Index.{Index}
 use Rattle.stix_bundles.specs.Objects.{data_in, HasId}
@@ -12,7 +12,7 @@ use Rattle.stix_bundles.specs.Indexed.{held, Puts, Overtakes, IsHeld, IsIndexOf}
 use Rattle.stix_bundles.proofs.Members.{data_read}
 use Rattle.stix_bundles.proofs.Versions.{OneModified, OneId, same_cases, held_beside, held_overtaken, index_put}
 
-pub there_at : (trees : List Tree) (at : ℕ) (tree : Tree) → at < length trees → tree ≡ slice_index_or trees at tree → slice_get (data_in trees) at ≡ Some (data_of tree)
+pub there_at : (trees : List Json) (at : ℕ) (tree : Json) → at < length trees → tree ≡ slice_index_or trees at tree → slice_get (data_in trees) at ≡ Some (data_of tree)
 there_at = data_read
 
 pub add_beside : (ds : List Data) (at : ℕ) (d : Data) → slice_get ds at ≡ Some d → (index : Index) → ((id : Id) → ¬ HasId d id) → IsIndexOf (take at ds) index

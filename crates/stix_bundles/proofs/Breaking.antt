@@ -3,7 +3,7 @@ use Rattle.std.proofs.Common.{arith, ◌≡◌, ℕ, ◌+◌, ◌<◌, List, [],
 use Rattle.std.proofs.lemmas.Option.{get_or_from_slice_get}
 use Rattle.std.proofs.lemmas.List.{take_more, length-map, length-take-le}
 use Rattle.serde_json.specs.Data.{Data}
-use Rattle.stix_json.specs.declared.tree.Tree.{Tree}
+use Rattle.stix_json.specs.declared.value.Json.{Json}
 use Rattle.stix_json.specs.DataOf.{data_of}
 use Rattle.stix_objects.specs.declared.broken.Break.{Break}
 use Rattle.stix_objects.specs.Breaks.{AreBreaksOf}
@@ -31,7 +31,7 @@ all_breaks_more at (y ∷ ys) x breaks own all is =
     )
 
 -- the same in a loop over trees
-pub breaks_at : (trees : List Tree) (at : ℕ) (tree : Tree) (breaks : List ObjectBreak) (own : List Break) → at < length trees
+pub breaks_at : (trees : List Json) (at : ℕ) (tree : Json) (breaks : List ObjectBreak) (own : List Break) → at < length trees
     → tree ≡ slice_index_or trees at tree → AreAllBreaks 0 (take at (data_in trees)) breaks → AreBreaksOf (data_of tree) own
     → AreAllBreaks 0 (take (at + 1) (data_in trees)) (breaks ++ map (told_of at) own)
 breaks_at trees at tree breaks own inside is all broken =

@@ -5,7 +5,7 @@ use Rattle.std.proofs.lemmas.List.Elements.{filter_map-append}
 use Rattle.std.specs.List.{cons_option}
 use Rattle.serde_json.specs.Data.{Data}
 use Rattle.serde_json.specs.Find.{as_str}
-use Rattle.stix_json.specs.declared.tree.Tree.{Tree}
+use Rattle.stix_json.specs.declared.value.Json.{Json}
 use Rattle.stix_json.specs.DataOf.{data_of}
 use Rattle.stix_bundles.specs.Objects.{data_in}
 use Rattle.stix_bundles.specs.Lookup.{Means}
@@ -31,17 +31,17 @@ meant_item objects texts None places place are none =
 meant_item objects texts (Some text) places place are is = meant_more objects texts text places place are is
 
 -- the texts of the first items
-abbrev pub texts_of : List Tree → ℕ → List (List ℕ)
+abbrev pub texts_of : List Json → ℕ → List (List ℕ)
 texts_of items k = filter_map as_str (data_in (take k items))
 
 -- the same in a loop over items
-pub meant_step : (objects : List Data) (items : List Tree) (k : ℕ) (item : Tree) (places : List ℕ) (place : Option ℕ) → k < length items → get_or items k item ≡ item
+pub meant_step : (objects : List Data) (items : List Json) (k : ℕ) (item : Json) (places : List ℕ) (place : Option ℕ) → k < length items → get_or items k item ≡ item
     → AreMeant objects (texts_of items k) places → MatchOption (as_str (data_of item)) (place ≡ None) (λ text. Means objects text place)
     → AreMeant objects (texts_of items (k + 1)) (places ++ option_to_list place)
 meant_step objects items k item places place inside read are is =
-    let grown : take (k + 1) items ≡ take k items ++ item ∷ [] = take_more items k item inside ∙ ap (λ (x : Tree). take k items ++ x ∷ []) read in
+    let grown : take (k + 1) items ≡ take k items ++ item ∷ [] = take_more items k item inside ∙ ap (λ (x : Json). take k items ++ x ∷ []) read in
     let mapped : data_in (take (k + 1) items) ≡ data_in (take k items) ++ data_of item ∷ [] =
-    ap (λ (ts : List Tree). data_in ts) grown ∙ map-append data_of (take k items) (item ∷ []) in
+    ap (λ (ts : List Json). data_in ts) grown ∙ map-append data_of (take k items) (item ∷ []) in
     let texts : texts_of items (k + 1) ≡ texts_of items k ++ cons_option (as_str (data_of item)) [] =
     ap (filter_map as_str) mapped ∙ filter_map-append as_str (data_in (take k items)) (data_of item ∷ []) in
     subst (λ (ts : List (List ℕ)). AreMeant objects ts (places ++ option_to_list place)) (sym texts)

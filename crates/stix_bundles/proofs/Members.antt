@@ -3,7 +3,7 @@ use Rattle.std.proofs.Common.{arith, ◌≡◌, ℕ, ◌+◌, ◌<◌, List, len
 use Rattle.std.proofs.lemmas.Bool.{cases_lt}
 use Rattle.std.proofs.lemmas.Option.{slice_get-map, slice_get-get_or, slice_get_read}
 use Rattle.serde_json.specs.Data.{Data}
-use Rattle.stix_json.specs.declared.tree.Tree.{Tree}
+use Rattle.stix_json.specs.declared.value.Json.{Json}
 use Rattle.stix_json.specs.DataOf.{data_of}
 use Rattle.stix_bundles.specs.Objects.{data_in}
 
@@ -11,10 +11,10 @@ use Rattle.stix_bundles.specs.Objects.{data_in}
 abbrev pub HoldsBefore : (Data → Type 0) → List Data → ℕ → Type 0
 HoldsBefore P xs at = (n : ℕ) (other : Data) → n < at → slice_get xs n ≡ Some other → P other
 
-pub data_at : (trees : List Tree) (at : ℕ) (tree : Tree) → slice_get trees at ≡ Some tree → slice_get (data_in trees) at ≡ Some (data_of tree)
-data_at trees at tree there = slice_get-map data_of trees at ∙ ap (λ (x : Option Tree). option_map data_of x) there
+pub data_at : (trees : List Json) (at : ℕ) (tree : Json) → slice_get trees at ≡ Some tree → slice_get (data_in trees) at ≡ Some (data_of tree)
+data_at trees at tree there = slice_get-map data_of trees at ∙ ap (λ (x : Option Json). option_map data_of x) there
 
-pub data_read : (trees : List Tree) (at : ℕ) (tree : Tree) → at < length trees → tree ≡ slice_index_or trees at tree → slice_get (data_in trees) at ≡ Some (data_of tree)
+pub data_read : (trees : List Json) (at : ℕ) (tree : Json) → at < length trees → tree ≡ slice_index_or trees at tree → slice_get (data_in trees) at ≡ Some (data_of tree)
 data_read trees at tree inside is = data_at trees at tree (slice_get_read trees (length trees) at tree refl inside is)
 
 pub holds_before_more : (P : Data → Type 0) (xs : List Data) (at : ℕ) (x : Data) → slice_get xs at ≡ Some x → P x → HoldsBefore P xs at → HoldsBefore P xs (at + 1)

@@ -4,7 +4,7 @@ use Rattle.std.proofs.lemmas.Bool.Decides.{nat_tests}
 use Rattle.std.proofs.lemmas.Option.{slice_get_within}
 use Rattle.std.proofs.lemmas.List.{length-map}
 use Rattle.serde_json.specs.Data.{Data}
-use Rattle.stix_json.specs.declared.tree.Tree.{Tree}
+use Rattle.stix_json.specs.declared.value.Json.{Json}
 use Rattle.stix_json.specs.DataOf.{data_of}
 use Rattle.stix_bundles.specs.Objects.{data_in}
 use Rattle.stix_bundles.specs.Lookup.{IsModified, IsEarlier}
@@ -20,7 +20,7 @@ less : (a b : ℕ) → true ≡ nat_lt a b → a < b
 less a b is = grind (arith, nat_tests)
 
 -- nothing stands past the end
-pub not_past : (trees : List Tree) (at : ℕ) (place : Option ℕ) (time : Option ℤ) → place ≡ Some at → false ≡ nat_lt at (length trees)
+pub not_past : (trees : List Json) (at : ℕ) (place : Option ℕ) (time : Option ℤ) → place ≡ Some at → false ≡ nat_lt at (length trees)
     → ¬ Overtakes (data_in trees) place time
 not_past trees at place time is past over =
     let there = subst (λ (p : Option ℕ). Overtakes (data_in trees) p time) is over in
@@ -29,13 +29,13 @@ not_past trees at place time is past over =
     let outside = not_less at (length trees) past in
     absurd (omega arith)
 
-pub overtakes_at : (trees : List Tree) (at : ℕ) (place : Option ℕ) (time modified : Option ℤ) (tree : Tree) → place ≡ Some at → true ≡ nat_lt at (length trees)
+pub overtakes_at : (trees : List Json) (at : ℕ) (place : Option ℕ) (time modified : Option ℤ) (tree : Json) → place ≡ Some at → true ≡ nat_lt at (length trees)
     → tree ≡ slice_index_or trees at tree → IsModified (data_of tree) modified → IsEarlier time modified → Overtakes (data_in trees) place time
 overtakes_at trees at place time modified tree is inside read when earlier =
     subst (λ (p : Option ℕ). Overtakes (data_in trees) p time) (sym is)
     (data_of tree, modified, data_read trees at tree (less at (length trees) inside) read, when, earlier)
 
-pub earlier_at : OneModified → (trees : List Tree) (at : ℕ) (place : Option ℕ) (time modified : Option ℤ) (tree : Tree) → place ≡ Some at
+pub earlier_at : OneModified → (trees : List Json) (at : ℕ) (place : Option ℕ) (time modified : Option ℤ) (tree : Json) → place ≡ Some at
     → true ≡ nat_lt at (length trees) → tree ≡ slice_index_or trees at tree → IsModified (data_of tree) modified → Overtakes (data_in trees) place time
     → IsEarlier time modified
 earlier_at one trees at place time modified tree is inside read when over =

@@ -8,22 +8,22 @@ use crate::index::Index;
 use flow_values::Items;
 use std::marker::Model;
 use stix_ids::Parts;
-use stix_json::Tree;
+use stix_json::Json;
 
 /// A bundle. Contracts see the list of its objects.
 #[derive(Drop)]
 pub struct Bundle {
-    objects: Items<Tree>,
+    objects: Items<Json>,
     index: Index,
 }
 
 impl Model for Bundle {
     ghost use Rattle.std.specs.Prelude.{List};
     ghost use Rattle.std.specs.Coded.{codes, coded_list};
-    ghost use Rattle.stix_json.specs.declared.tree.Tree.{Tree};
-    ghost use Rattle.stix_json.specs.contracts.tree.Tree as tree;
+    ghost use Rattle.stix_json.specs.declared.value.Json.{Json};
+    ghost use Rattle.stix_json.specs.contracts.value.Json as tree;
 
-    ghost Value = { List Tree };
+    ghost Value = { List Json };
 
     ghost coded = { coded_list (Prim.hlevel (codes, tree.the_row.coded)) };
 
@@ -37,7 +37,7 @@ impl Model for Bundle {
 
 impl Bundle {
     /// A bundle of these objects, which have that index.
-    pub(crate) fn new(objects: Items<Tree>, index: Index) -> Bundle
+    pub(crate) fn new(objects: Items<Json>, index: Index) -> Bundle
         requires { IsKept (data_in objects) index }
         ensures { result ≡ objects }
     {
@@ -59,7 +59,7 @@ impl Bundle {
     }
 
     /// Its objects, which are not too many and break no rule.
-    pub fn objects(&self) -> &[Tree]
+    pub fn objects(&self) -> &[Json]
         ensures value { result.now ≡ self.now }
         ensures counted { length self.now ≤ 8_388_608 }
         ensures unbroken { AreAllBreaks 0 (data_in self.now) [] }
@@ -77,7 +77,7 @@ impl Bundle {
 
 /// The object at a position, counted from 0. None where the bundle has no more objects. Takes no
 /// memory.
-pub fn object(bundle: &Bundle, at: u32) -> Option<&Tree>
+pub fn object(bundle: &Bundle, at: u32) -> Option<&Json>
     ensures { option_map (λ tree. tree.now) result ≡ slice_get bundle.now at }
 {
     bundle.objects.as_slice().get(at as usize)

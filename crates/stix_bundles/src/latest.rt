@@ -10,10 +10,10 @@ use flow_values::NoMemory;
 use std::alloc::Global;
 use stix_times::Instant;
 use stix_times::laws::is_before;
-use stix_json::Tree;
+use stix_json::Json;
 
 /// The latest versions of the objects.
-pub(crate) fn index_of(alloc: Global, objects: &[Tree]) -> Result<Index, NoMemory>
+pub(crate) fn index_of(alloc: Global, objects: &[Json]) -> Result<Index, NoMemory>
     requires { length objects.now ≤ 8_388_608 }
     ensures { IfOk result (IsIndexOf (data_in objects.now)) }
 {
@@ -25,7 +25,7 @@ pub(crate) fn index_of(alloc: Global, objects: &[Tree]) -> Result<Index, NoMemor
 }
 
 /// Adds the object at a position to an index of those before it.
-fn add(alloc: Global, objects: &[Tree], at: usize, index: &mut Index) -> Result<(), NoMemory>
+fn add(alloc: Global, objects: &[Json], at: usize, index: &mut Index) -> Result<(), NoMemory>
     requires within { length objects.now ≤ 8_388_608 }
     requires there { at < length objects.now }
     requires before { IsIndexOf (first at (data_in objects.now)) index.old }
@@ -44,7 +44,7 @@ fn add(alloc: Global, objects: &[Tree], at: usize, index: &mut Index) -> Result<
 }
 
 /// Whether an object stands at the position that was modified later than that time.
-fn is_overtaken(objects: &[Tree], at: Option<u32>, time: Option<Instant>) -> bool
+fn is_overtaken(objects: &[Json], at: Option<u32>, time: Option<Instant>) -> bool
     ensures { IsTrue result ↔ Overtakes (data_in objects.now) at time }
 {
     one_modified();

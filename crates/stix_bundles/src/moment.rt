@@ -9,7 +9,7 @@ use flow_values::NoMemory;
 use stix_objects::laws::no_breaks;
 use std::alloc::Global;
 use stix_times::Instant;
-use stix_json::Tree;
+use stix_json::Json;
 
 /// When an observed-data object was last observed, and its position. Moments are ordered by time,
 /// then by position.
@@ -20,7 +20,7 @@ pub(crate) struct Moment {
 }
 
 /// The moments of all observed-data objects, in order.
-pub(crate) fn moments_in_order(alloc: Global, objects: &[Tree]) -> Result<Vec<Moment>, NoMemory>
+pub(crate) fn moments_in_order(alloc: Global, objects: &[Json]) -> Result<Vec<Moment>, NoMemory>
     requires counted { length objects.now ≤ 8_388_608 }
     requires unbroken { AreAllBreaks 0 (data_in objects.now) [] }
     ensures all { IfOk result (λ moments. AreMoments (data_in objects.now) moments.items) }
@@ -32,7 +32,7 @@ pub(crate) fn moments_in_order(alloc: Global, objects: &[Tree]) -> Result<Vec<Mo
 }
 
 /// The same, in the order of the positions.
-fn moments_of(alloc: Global, objects: &[Tree]) -> Result<Vec<Moment>, NoMemory>
+fn moments_of(alloc: Global, objects: &[Json]) -> Result<Vec<Moment>, NoMemory>
     requires counted { length objects.now ≤ 8_388_608 }
     requires unbroken { AreAllBreaks 0 (data_in objects.now) [] }
     ensures { IfOk result (λ moments. AreMoments (data_in objects.now) moments.items) }
@@ -50,7 +50,7 @@ fn moments_of(alloc: Global, objects: &[Tree]) -> Result<Vec<Moment>, NoMemory>
 }
 
 /// When the object at a position was last observed, where it is an observed-data.
-fn last_observed(objects: &[Tree], at: usize) -> Option<Instant>
+fn last_observed(objects: &[Json], at: usize) -> Option<Instant>
     requires there { at < length objects.now }
     requires unbroken { AreAllBreaks 0 (data_in objects.now) [] }
     ensures some { IfSome result (λ last. IsMomentOf (data_in objects.now)

@@ -16,7 +16,7 @@ use stix_objects::text_at;
 use std::alloc::Global;
 use stix_ids::{Id, read_id};
 use stix_times::Instant;
-use stix_json::{Tree, get};
+use stix_json::{Json, get};
 
 /// The observations of a bundle: its observed-data objects in the order in which they were last
 /// observed, of equal times the one that stands first, numbered from `first` on. Each has the
@@ -50,7 +50,7 @@ fn all_observed(alloc: Global, bundle: &Bundle, first: u64) -> Result<Items<Obse
 }
 
 /// The first observed-data that holds its objects itself.
-fn first_embedding(objects: &[Tree]) -> Option<u32>
+fn first_embedding(objects: &[Json]) -> Option<u32>
     requires { length objects.now ≤ 8_388_608 }
     ensures some { IfSome result (IsFirstEmbedding (data_in objects.now)) }
     ensures none { IfNone result (NoneEmbeds (data_in objects.now)) }
@@ -64,7 +64,7 @@ fn first_embedding(objects: &[Tree]) -> Option<u32>
 }
 
 /// Whether an object is an observed-data that holds its objects itself.
-fn embeds(object: &Tree) -> bool
+fn embeds(object: &Json) -> bool
     ensures { IsTrue result ↔ Embeds (data_of object.now) }
 {
     is_observed_data(object) && get(object, "objects").is_some()
@@ -112,7 +112,7 @@ fn observation(
 }
 
 /// The identifier of an object that breaks no rule.
-fn own_id(alloc: Global, object: &Tree) -> Result<Id, NoMemory>
+fn own_id(alloc: Global, object: &Json) -> Result<Id, NoMemory>
     requires { AreBreaksOf (data_of object.now) [] }
     ensures { IfOk result (HasId (data_of object.now)) }
 {
@@ -124,7 +124,7 @@ fn own_id(alloc: Global, object: &Tree) -> Result<Id, NoMemory>
 }
 
 /// When an observed-data that breaks no rule was first observed.
-fn first_observed(object: &Tree) -> Instant
+fn first_observed(object: &Json) -> Instant
     requires unbroken { AreBreaksOf (data_of object.now) [] }
     requires observed { IsObservedData (data_of object.now) }
     ensures { IsTimeAt (codes "first_observed") (data_of object.now) result }
@@ -137,19 +137,19 @@ fn first_observed(object: &Tree) -> Instant
 }
 
 /// The positions that an object's references mean.
-fn roots_of(alloc: Global, bundle: &Bundle, object: &Tree) -> Result<Items<u32>, NoMemory>
+fn roots_of(alloc: Global, bundle: &Bundle, object: &Json) -> Result<Items<u32>, NoMemory>
     ensures { IfOk result (AreMeant (data_in bundle.now) (references (data_of object.now))) }
 {
     match get(object, "object_refs") {
-        Some(Tree::Row(items)) => meant(alloc, bundle, items.as_slice()),
-        Some(Tree::Truth(_) | Tree::Whole(_) | Tree::Words(_) | Tree::Fields(_)) | None => {
+        Some(Json::Array(items)) => meant(alloc, bundle, items.as_slice()),
+        Some(Json::Bool(_) | Json::Integer(_) | Json::String(_) | Json::Object(_)) | None => {
             Ok(Items::new(alloc))
         }
     }
 }
 
 /// The positions that the texts of a list mean.
-fn meant(alloc: Global, bundle: &Bundle, items: &[Tree]) -> Result<Items<u32>, NoMemory>
+fn meant(alloc: Global, bundle: &Bundle, items: &[Json]) -> Result<Items<u32>, NoMemory>
     ensures { IfOk result (AreMeant (data_in bundle.now) (filter_map as_str (data_in items.now))) }
 {
     let mut places = Items::new(alloc);
@@ -162,12 +162,12 @@ fn meant(alloc: Global, bundle: &Bundle, items: &[Tree]) -> Result<Items<u32>, N
 }
 
 /// The position that an item means, where it is a text.
-fn place_of(bundle: &Bundle, item: &Tree) -> Option<u32>
+fn place_of(bundle: &Bundle, item: &Json) -> Option<u32>
     ensures { MatchOption (as_str (data_of item.now)) (result ≡ None)
         (λ text. Means (data_in bundle.now) text result) }
 {
     match item {
-        Tree::Words(text) => find(bundle, text.as_str()),
-        Tree::Truth(_) | Tree::Whole(_) | Tree::Row(_) | Tree::Fields(_) => None,
+        Json::String(text) => find(bundle, text.as_str()),
+        Json::Bool(_) | Json::Integer(_) | Json::Array(_) | Json::Object(_) => None,
     }
 }

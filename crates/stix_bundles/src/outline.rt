@@ -12,7 +12,7 @@ use flow_values::{NoMemory, Text};
 use stix_objects::text_at;
 use std::alloc::Global;
 use stix_ids::Parts;
-use stix_json::{Tree, get};
+use stix_json::{Json, get};
 
 /// How many objects a bundle has at most.
 const MAX_OBJECTS: usize = 8_388_608;
@@ -52,7 +52,7 @@ fn member_path(alloc: Global, at: u32) -> Result<Text, NoMemory>
 }
 
 /// The first condition of a bundle that a value fails, if there is one.
-pub(crate) fn first_failure(tree: &Tree) -> Option<Failure>
+pub(crate) fn first_failure(tree: &Json) -> Option<Failure>
     ensures some { IfSome result (λ failure. FailsAt (data_of tree.now) (failed_parts failure)) }
     ensures none { IfNone result ((objects : List Data) × IsOutlined (data_of tree.now) objects) }
 {
@@ -69,7 +69,7 @@ pub(crate) fn first_failure(tree: &Tree) -> Option<Failure>
 }
 
 /// Whether the identifier is of the kind `bundle`.
-fn has_bundle_id(tree: &Tree) -> bool
+fn has_bundle_id(tree: &Json) -> bool
     ensures { IsTrue result ↔ IsIdentified (data_of tree.now) }
 {
     match text_at(tree, "id") {
@@ -88,11 +88,11 @@ fn names_bundle(text: &str) -> bool
 }
 
 /// What fails in the list of objects.
-fn failure_in_objects(value: &Tree) -> Option<Failure>
+fn failure_in_objects(value: &Json) -> Option<Failure>
     ensures some { IfSome result (FailsInObjects (data_of value.now)) }
     ensures none { IfNone result ((members : List Data) × IsListOf (data_of value.now) members × All IsObject members) }
 {
-    let Tree::Row(objects) = value else {
+    let Json::Array(objects) = value else {
         return Some(Failure::NoList);
     };
     if !is_count(objects.len()) {
@@ -109,7 +109,7 @@ fn is_count(count: usize) -> bool
 }
 
 /// The first member that is no object.
-fn first_no_object(objects: &[Tree]) -> Option<Failure>
+fn first_no_object(objects: &[Json]) -> Option<Failure>
     requires { length objects.now ≤ 8_388_608 }
     ensures some { IfSome result (FailsInMembers (data_in objects.now)) }
     ensures none { IfNone result (All IsObject (data_in objects.now)) }
@@ -122,8 +122,8 @@ fn first_no_object(objects: &[Tree]) -> Option<Failure>
     None
 }
 
-fn is_object(tree: &Tree) -> bool
+fn is_object(tree: &Json) -> bool
     ensures { IsTrue result ↔ IsObject (data_of tree.now) }
 {
-    matches!(tree, Tree::Fields(_))
+    matches!(tree, Json::Object(_))
 }

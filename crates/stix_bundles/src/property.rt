@@ -9,10 +9,10 @@ ghost use Rattle.stix_bundles.specs.Observed.{IsObservedData, IsTimeAt};
 use stix_objects::text_at;
 use stix_ids::Parts;
 use stix_times::{Instant, read, read_millis};
-use stix_json::Tree;
+use stix_json::Json;
 
 /// The identifier of an object.
-pub(crate) fn identifier(object: &Tree) -> Option<Parts<'_>>
+pub(crate) fn identifier(object: &Json) -> Option<Parts<'_>>
     ensures some { IfSome result (λ parts. HasId (data_of object.now) (id_of parts)) }
     ensures none { IfNone result ((id : Id) → ¬ HasId (data_of object.now) id) }
 {
@@ -20,14 +20,14 @@ pub(crate) fn identifier(object: &Tree) -> Option<Parts<'_>>
 }
 
 /// When an object was modified, where it tells so.
-pub(crate) fn modified(object: &Tree) -> Option<Instant>
+pub(crate) fn modified(object: &Json) -> Option<Instant>
     ensures { IsModified (data_of object.now) result }
 {
     read_millis(text_at(object, "modified")?).ok()
 }
 
 /// The instant that a property names.
-pub(crate) fn time_at(object: &Tree, name: &str) -> Option<Instant>
+pub(crate) fn time_at(object: &Json, name: &str) -> Option<Instant>
     ensures some { IfSome result (IsTimeAt name.now (data_of object.now)) }
     ensures none { IfNone result ((instant : ℤ) → ¬ IsTimeAt name.now (data_of object.now) instant) }
 {
@@ -35,7 +35,7 @@ pub(crate) fn time_at(object: &Tree, name: &str) -> Option<Instant>
 }
 
 /// Whether an object is an observed-data.
-pub(crate) fn is_observed_data(object: &Tree) -> bool
+pub(crate) fn is_observed_data(object: &Json) -> bool
     ensures { IsTrue result ↔ IsObservedData (data_of object.now) }
 {
     text_at(object, "type") == Some("observed-data")

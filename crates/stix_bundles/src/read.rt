@@ -11,11 +11,11 @@ use crate::{Bundle, BundleRefusal, ObjectBreak};
 use flow_values::{Items, NoMemory};
 use stix_objects::{Break, breaks};
 use std::alloc::Global;
-use stix_json::{Tree, take};
+use stix_json::{Json, take};
 
 /// The bundle that a tree is, which takes the tree's objects over; or why it is none: the first
 /// condition of a bundle that fails, else all breaks of its objects.
-pub fn read_bundle(alloc: Global, tree: Tree) -> Result<Bundle, BundleRefusal>
+pub fn read_bundle(alloc: Global, tree: Json) -> Result<Bundle, BundleRefusal>
     ensures ok { IfOk result (λ bundle. IsBundle (data_of tree) (data_in bundle)) }
     ensures err { IfErr result (λ refusal. (refusal ≡ BundleRefusal.NoMemory) ⊎ IsRefused (data_of tree) refusal) }
 {
@@ -33,7 +33,7 @@ pub fn read_bundle(alloc: Global, tree: Tree) -> Result<Bundle, BundleRefusal>
 }
 
 /// The objects of a bundle, taken out of it.
-fn take_objects(alloc: Global, tree: Tree) -> Items<Tree>
+fn take_objects(alloc: Global, tree: Json) -> Items<Json>
     requires { (objects : List Data) × HasObjects (data_of tree) objects }
     ensures { HasObjects (data_of tree) (data_in result) }
 {
@@ -44,17 +44,17 @@ fn take_objects(alloc: Global, tree: Tree) -> Items<Tree>
 }
 
 /// The items of a list.
-fn items_of(alloc: Global, value: Tree) -> Items<Tree>
+fn items_of(alloc: Global, value: Json) -> Items<Json>
     ensures { (members : List Data) → IsListOf (data_of value) members → members ≡ data_in result }
 {
     match value {
-        Tree::Row(items) => items,
-        Tree::Truth(_) | Tree::Whole(_) | Tree::Words(_) | Tree::Fields(_) => Items::new(alloc),
+        Json::Array(items) => items,
+        Json::Bool(_) | Json::Integer(_) | Json::String(_) | Json::Object(_) => Items::new(alloc),
     }
 }
 
 /// The breaks of all objects, object by object.
-fn all_breaks(alloc: Global, objects: &[Tree]) -> Result<Items<ObjectBreak>, NoMemory>
+fn all_breaks(alloc: Global, objects: &[Json]) -> Result<Items<ObjectBreak>, NoMemory>
     requires { length objects.now ≤ 8_388_608 }
     ensures { IfOk result (AreAllBreaks 0 (data_in objects.now)) }
 {

@@ -6,7 +6,7 @@ use flow_values::{NoMemory, Text};
 use std::alloc::Global;
 use std::test::Fail;
 use stix_times::nanos;
-use stix_json::{Tree, read_tree};
+use stix_json::{Json, read_json};
 
 /// The breaks, each with its object, its rule and its path.
 fn told_breaks(alloc: Global, breaks: &[ObjectBreak]) -> Result<Text, NoMemory> {
@@ -20,7 +20,7 @@ fn told_breaks(alloc: Global, breaks: &[ObjectBreak]) -> Result<Text, NoMemory> 
 }
 
 /// What is read of a tree: how many objects, the path of a refusal, or the breaks.
-fn told(alloc: Global, tree: Tree) -> Result<Text, NoMemory> {
+fn told(alloc: Global, tree: Json) -> Result<Text, NoMemory> {
     match read_bundle(alloc, tree) {
         Ok(bundle) => {
             let last = object(&bundle, bundle.len() as u32).is_none();
@@ -55,7 +55,7 @@ fn reads_a_bundle_or_tells_why_not(rt: HostRuntime) -> Result<(), Fail> {
         (two.as_str(), "2 true"),
         (mixed.as_str(), "0 Missing type;0 Missing id;2 Missing id;"),
     ] {
-        let tree = read_tree(alloc, json.as_bytes())?;
+        let tree = read_json(alloc, json.as_bytes())?;
         let text = told(alloc, tree)?;
         assert_eq!(rt; text.as_str(), wanted, "{json}");
     }
@@ -66,7 +66,7 @@ fn reads_a_bundle_or_tells_why_not(rt: HostRuntime) -> Result<(), Fail> {
 fn bundle_of(alloc: Global, objects: &str) -> Result<Bundle, Fail> {
     let id = "\"type\":\"bundle\",\"id\":\"bundle--00000000-0000-4000-8000-00000000000F\"";
     let json = format!(in alloc; "{{{id},\"objects\":[{objects}]}}")?;
-    let tree = read_tree(alloc, json.as_bytes())?;
+    let tree = read_json(alloc, json.as_bytes())?;
     Ok(read_bundle(alloc, tree)?)
 }
 

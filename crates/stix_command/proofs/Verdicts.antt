@@ -4,9 +4,9 @@ use Rattle.std.proofs.lemmas.Bool.{cases_lt}
 use Rattle.std.proofs.lemmas.Option.{slice_get_within, get_or_from_slice_get}
 use Rattle.serde_json.specs.Data.{Data, Items}
 use Rattle.serde_json.specs.Find.{get}
-use Rattle.stix_json.specs.declared.tree.Tree.{Tree}
-use Rattle.stix_json.specs.declared.refusal.TreeRefusal.{TreeRefusal}
-use Rattle.stix_json.specs.declared.refusal.TreeRefusal.TheVariants as refused
+use Rattle.stix_json.specs.declared.value.Json.{Json}
+use Rattle.stix_json.specs.declared.refusal.JsonRefusal.{JsonRefusal}
+use Rattle.stix_json.specs.declared.refusal.JsonRefusal.TheVariants as refused
 use Rattle.stix_json.specs.DataOf.{data_of}
 use Rattle.stix_json.specs.Refusal.{refusal_of}
 use Rattle.stix_json.specs.Reading.{IsValueOf, IsTreeOf, IsRefusedAs}
@@ -21,7 +21,7 @@ use Rattle.stix_versions.specs.declared.marking_break.MarkingBreak.{MarkingBreak
 use Rattle.stix_versions.specs.Versions.{AreVersionBreaks}
 use Rattle.stix_versions.specs.Markings.{AreMarkingBreaks}
 use Rattle.match_log.specs.declared.end.InputRule.{InputRule}
-use Rattle.match_log.specs.declared.end.InputRule.TheVariants.{NotYet, InputTooLong, Tree as NoTree, Bundle as NoBundle}
+use Rattle.match_log.specs.declared.end.InputRule.TheVariants.{NotYet, InputTooLong, Json as NoTree, Bundle as NoBundle}
 use Rattle.stix_command.specs.declared.verdict.Verdict.{Verdict}
 use Rattle.stix_command.specs.declared.verdict.Verdict.TheVariants.{Sound, Broken, Unfit, Refused}
 use Rattle.stix_command.specs.Judged.{IsNotBundleFor, AreJudged, IsBundleJudged, HasTree, IsJudged}
@@ -210,11 +210,11 @@ judged_once versions markings one d (Refused rule) (Broken breaks) a b = let fai
 judged_once versions markings one d (Refused rule) (Refused other) a b = ap Refused (one_rule d rule other a b)
 
 -- bytes that are refused as a tree: they have no value, or it is refused
-abbrev IsToldOf : List ℕ → TreeRefusal → Type 0
+abbrev IsToldOf : List ℕ → JsonRefusal → Type 0
 IsToldOf bytes refusal = ((refusal ≡ refused.NotJson) × ((d : Data) → ¬ (IsValueOf bytes d)))
     ⊎ ((d : Data) × IsValueOf bytes d × (refusal_of d ≡ Some refusal))
 
-told : (bytes : List ℕ) (refusal : TreeRefusal) → refusal ≢ refused.NoMemory → IsRefusedAs bytes refusal → IsToldOf bytes refusal
+told : (bytes : List ℕ) (refusal : JsonRefusal) → refusal ≢ refused.NoMemory → IsRefusedAs bytes refusal → IsToldOf bytes refusal
 told bytes refused.NotJson other why = inl (refl, why)
 told bytes (refused.TooDeep path) other why = inr why
 told bytes (refused.NotWhole path) other why = inr why
@@ -223,24 +223,24 @@ told bytes (refused.OutOfRange path) other why = inr why
 told bytes refused.NotList other why = elim why [ ]
 told bytes refused.NoMemory other why = absurd (other refl)
 
-no_tree : (bytes : List ℕ) (tree : Tree) (refusal : TreeRefusal) → IsTreeOf bytes tree → ¬ (IsToldOf bytes refusal)
+no_tree : (bytes : List ℕ) (tree : Json) (refusal : JsonRefusal) → IsTreeOf bytes tree → ¬ (IsToldOf bytes refusal)
 no_tree bytes tree refusal is (inl none) = none.1 (data_of tree) is.value
 no_tree bytes tree refusal is (inr some) =
     let same : some.0 ≡ data_of tree = one_value bytes some.0 (data_of tree) some.1 is.value in
     let clash : Some refusal ≡ None = sym some.2 ∙ ap refusal_of same ∙ is.good in
     cc
 
-one_refusal : (bytes : List ℕ) (r s : TreeRefusal) → IsToldOf bytes r → IsToldOf bytes s → r ≡ s
+one_refusal : (bytes : List ℕ) (r s : JsonRefusal) → IsToldOf bytes r → IsToldOf bytes s → r ≡ s
 one_refusal bytes r s (inl a) (inl b) = a.0 ∙ sym b.0
 one_refusal bytes r s (inl a) (inr b) = absurd (a.1 b.0 b.1)
 one_refusal bytes r s (inr a) (inl b) = absurd (b.1 a.0 a.1)
 one_refusal bytes r s (inr a) (inr b) =
     let same : a.0 ≡ b.0 = one_value bytes a.0 b.0 a.1 b.1 in
-    ap (λ (o : Option TreeRefusal). unwrap_or o r) (sym a.2 ∙ ap refusal_of same ∙ b.2)
+    ap (λ (o : Option JsonRefusal). unwrap_or o r) (sym a.2 ∙ ap refusal_of same ∙ b.2)
 
 -- bytes are judged by their tree, or have none
 record NoTreeFor (bytes : List ℕ) (a : Verdict) : Type 0 where
-  refusal : TreeRefusal
+  refusal : JsonRefusal
   is : a ≡ Refused (NoTree refusal)
   why : IsToldOf bytes refusal
 
@@ -263,6 +263,6 @@ one_verdict versions markings one bytes a b first second = elim (by_tree bytes a
   ]
   | inr x ↦ elim (by_tree bytes b second) [
     | inl y ↦ absurd (no_tree bytes y.0 x.refusal y.1 x.why)
-    | inr y ↦ x.is ∙ ap (λ (r : TreeRefusal). Refused (NoTree r)) (one_refusal bytes x.refusal y.refusal x.why y.why) ∙ sym y.is
+    | inr y ↦ x.is ∙ ap (λ (r : JsonRefusal). Refused (NoTree r)) (one_refusal bytes x.refusal y.refusal x.why y.why) ∙ sym y.is
   ]
 ]

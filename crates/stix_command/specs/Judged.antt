@@ -1,8 +1,8 @@
 -- What an input is found to be, as a bundle.
 use Rattle.std.specs.Prelude.{◌≡◌, ◌≢◌, ℕ, List, [], length}
 use Rattle.serde_json.specs.Data.{Data}
-use Rattle.stix_json.specs.declared.tree.Tree.{Tree}
-use Rattle.stix_json.specs.declared.refusal.TreeRefusal.TheVariants as tree_refusal
+use Rattle.stix_json.specs.declared.value.Json.{Json}
+use Rattle.stix_json.specs.declared.refusal.JsonRefusal.TheVariants as tree_refusal
 use Rattle.stix_json.specs.DataOf.{data_of}
 use Rattle.stix_json.specs.Reading.{IsTreeOf, IsRefusedAs}
 use Rattle.stix_bundles.specs.declared.refusal.BundleRefusal.TheVariants.{NotBundle, Breaks, NoMemory}
@@ -10,7 +10,7 @@ use Rattle.stix_bundles.specs.Bundle.{IsBundle, IsRefused}
 use Rattle.stix_versions.specs.Versions.{AreVersionBreaks}
 use Rattle.stix_versions.specs.Markings.{AreMarkingBreaks}
 use Rattle.match_log.specs.declared.end.InputRule.{InputRule}
-use Rattle.match_log.specs.declared.end.InputRule.TheVariants.{NotYet, InputTooLong, Tree as NoTree, Bundle as NoBundle}
+use Rattle.match_log.specs.declared.end.InputRule.TheVariants.{NotYet, InputTooLong, Json as NoTree, Bundle as NoBundle}
 use Rattle.stix_command.specs.declared.verdict.Verdict.{Verdict}
 use Rattle.stix_command.specs.declared.verdict.Verdict.TheVariants.{Sound, Broken, Unfit, Refused}
 
@@ -39,7 +39,7 @@ IsBundleJudged d (Refused rule) = IsNotBundleFor d rule
 
 -- some bytes are a tree of which that is known
 abbrev pub HasTree : List ℕ → (Data → Type 0) → Type 0
-HasTree bytes P = (tree : Tree) × IsTreeOf bytes tree × P (data_of tree)
+HasTree bytes P = (tree : Json) × IsTreeOf bytes tree × P (data_of tree)
 
 -- why bytes are refused, of which there aren't too many: they are no tree, or it is no bundle
 abbrev pub IsRefusedFor : List ℕ → InputRule → Type 0

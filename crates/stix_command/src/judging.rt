@@ -1,5 +1,5 @@
 ghost use Rattle.std.specs.Prelude.{◌≡◌, ◌≢◌, IfOk};
-ghost use Rattle.stix_json.specs.declared.refusal.TreeRefusal.TheVariants as tree_refusal;
+ghost use Rattle.stix_json.specs.declared.refusal.JsonRefusal.TheVariants as tree_refusal;
 ghost use Rattle.stix_bundles.specs.Objects.{data_in};
 ghost use Rattle.stix_json.specs.DataOf.{data_of};
 ghost use Rattle.stix_json.specs.Reading.{IsRefusedAs};
@@ -10,36 +10,36 @@ use stix_bundles::{Bundle, BundleRefusal, read_bundle};
 use flow_values::NoMemory;
 use match_log::InputRule;
 use std::alloc::Global;
-use stix_json::{Tree, TreeRefusal, read_tree};
+use stix_json::{Json, JsonRefusal, read_json};
 use stix_versions::{marking_breaks, version_breaks};
 
 /// What bytes are, as a bundle.
 pub fn judge(alloc: Global, bytes: &[u8]) -> Result<Verdict, NoMemory>
     ensures { IfOk result (IsJudged bytes.now) }
 {
-    match read_tree(alloc, bytes) {
+    match read_json(alloc, bytes) {
         Ok(tree) => judge_tree(alloc, tree),
         Err(refusal) => refuse(refusal),
     }
 }
 
 /// The verdict on bytes that are refused as a tree.
-fn refuse(refusal: TreeRefusal) -> Result<Verdict, NoMemory>
-    ensures { IfOk result (λ verdict. (refusal ≢ tree_refusal.NoMemory) × (verdict ≡ Verdict.Refused (InputRule.Tree refusal))) }
+fn refuse(refusal: JsonRefusal) -> Result<Verdict, NoMemory>
+    ensures { IfOk result (λ verdict. (refusal ≢ tree_refusal.NoMemory) × (verdict ≡ Verdict.Refused (InputRule.Json refusal))) }
 {
     match &refusal {
-        TreeRefusal::NoMemory => Err(NoMemory),
-        TreeRefusal::NotJson
-        | TreeRefusal::TooDeep { .. }
-        | TreeRefusal::NotWhole { .. }
-        | TreeRefusal::Null { .. }
-        | TreeRefusal::OutOfRange { .. }
-        | TreeRefusal::NotList => Ok(Verdict::Refused(InputRule::Tree(refusal))),
+        JsonRefusal::NoMemory => Err(NoMemory),
+        JsonRefusal::NotJson
+        | JsonRefusal::TooDeep { .. }
+        | JsonRefusal::NotWhole { .. }
+        | JsonRefusal::Null { .. }
+        | JsonRefusal::OutOfRange { .. }
+        | JsonRefusal::NotList => Ok(Verdict::Refused(InputRule::Json(refusal))),
     }
 }
 
 /// What a tree is, as a bundle.
-fn judge_tree(alloc: Global, tree: Tree) -> Result<Verdict, NoMemory>
+fn judge_tree(alloc: Global, tree: Json) -> Result<Verdict, NoMemory>
     ensures { IfOk result (IsBundleJudged (data_of tree)) }
 {
     match read_bundle(alloc, tree) {

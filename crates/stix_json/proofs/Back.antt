@@ -24,7 +24,7 @@ use Rattle.stix_json.specs.Reading.{IsTreeOf}
 use Rattle.stix_json.specs.Flaws.{under, flaw_under, number_flaw, flaw_here, first_flaw, items_flaw, members_flaw, too_deep, items_too_deep, members_too_deep}
 use Rattle.stix_json.specs.declared.limits.TheConstants.{MAX_LEVELS, MAX_WHOLE}
 use Rattle.stix_json.specs.declared.flaw.Reason.TheVariants.{OutOfRange as PastRange}
-use Rattle.stix_json.specs.declared.tree.Tree.{Tree}
+use Rattle.stix_json.specs.declared.value.Json.{Json}
 use Rattle.stix_json.proofs.Steps.{option_or_none, option_map_none}
 use Rattle.stix_json.proofs.Walks.{nothing_found}
 use Rattle.stix_json.proofs.Signs.{IsSigned, HasSigns, ItemsHaveSigns, MembersHaveSigns, tree_signs}
@@ -204,7 +204,7 @@ text_back d ts text ordered sent lexed shallow =
     ap (option_and_then (λ j. of_json j)) (ap (option_and_then (λ p. json.if_last p.0 p.1)) (ap (json.value max_depth) (lexed ∙ sent ∙ sym (append-nil _)) ∙ value-json_tokens (outline d) max_depth [] (let h = depth_same d in omega (arith, h, shallow)))) ∙ of_outline d ordered
 
 -- the text of an ordered tree with nothing refused is of that tree
-pub reads_back : (t : Tree) (ts : List Token) (text : List ℕ) → IsOrdered (data_of t) → ts ≡ json_tokens (outline (data_of t)) → tokens text ≡ ts → IsUtf8 text
+pub reads_back : (t : Json) (ts : List Token) (text : List ℕ) → IsOrdered (data_of t) → ts ≡ json_tokens (outline (data_of t)) → tokens text ≡ ts → IsUtf8 text
     → refusal_of (data_of t) ≡ None → IsTreeOf text t
 reads_back t ts text ordered sent lexed utf8 good =
     let found = nothing_found (data_of t) good in

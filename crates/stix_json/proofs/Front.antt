@@ -7,8 +7,8 @@ use Rattle.serde_json.specs.View.{items_of}
 use Rattle.serde_json.specs.Written.{outline, items_outline, members_outline}
 use Rattle.std.proofs.lemmas.List.{take_more, take_all}
 use Rattle.stix_json.specs.DataOf.{Member, members_of, field_data, data_of}
-use Rattle.stix_json.specs.declared.tree.Tree.{Tree}
-use Rattle.stix_json.specs.declared.tree.Field.{Field}
+use Rattle.stix_json.specs.declared.value.Json.{Json}
+use Rattle.stix_json.specs.declared.value.Field.{Field}
 use Rattle.stix_json.proofs.Steps.{map_pushed}
 
 abbrev pub front : List Data → List Token
@@ -35,7 +35,7 @@ pub members_end : (fs : List Member) → members_tokens (members_outline (member
 members_end [] = refl
 members_end (f ∷ fs) = ap (λ ts. key f.name ∷ (json_tokens (outline f.value) ++ ts)) (members_end fs) ∙ sym (append_assoc (key f.name ∷ json_tokens (outline f.value)) (member_front fs) _)
 
-pub items_step : (xs : List Tree) (i : ℕ) (x : Tree) (start old new : List Token) → i < length xs → x ≡ get_or xs i x → old ≡ start ++ front (map data_of (take i xs))
+pub items_step : (xs : List Json) (i : ℕ) (x : Json) (start old new : List Token) → i < length xs → x ≡ get_or xs i x → old ≡ start ++ front (map data_of (take i xs))
     → new ≡ old ++ json_tokens (outline (data_of x)) → new ≡ start ++ front (map data_of (take (i + 1) xs))
 items_step xs i x start old new within is before after =
     let grown : take (i + 1) xs ≡ take i xs ++ x ∷ [] = take_more xs i x within ∙ ap (λ y. take i xs ++ y ∷ []) (sym is) in
@@ -53,7 +53,7 @@ fields_step xs i x start old named_old new within is before at_key after =
     let both : new ≡ old ++ more = after ∙ ap (λ ts. ts ++ json_tokens (outline (data_of x.value))) at_key ∙ append_assoc old _ _ in
     both ∙ ap (λ ts. ts ++ more) before ∙ append_assoc start _ _ ∙ ap (λ ts. start ++ ts) (sym tokens)
 
-pub items_done : (xs : List Tree) (i : ℕ) (start old new : List Token) → length xs ≤ i → old ≡ start ++ front (map data_of (take i xs)) → new ≡ old ++ end_array ∷ []
+pub items_done : (xs : List Json) (i : ℕ) (start old new : List Token) → length xs ≤ i → old ≡ start ++ front (map data_of (take i xs)) → new ≡ old ++ end_array ∷ []
     → new ≡ start ++ items_tokens (items_outline (items_of (map data_of xs)))
 items_done xs i start old new past before after =
     let all : take i xs ≡ xs = take_all i xs past in

@@ -6,7 +6,7 @@ use Rattle.std.proofs.lemmas.Map.Text.{is_eq-slice_cmp}
 use Rattle.std.proofs.lemmas.Cmp.{nat_list_eq_equiv}
 use Rattle.std.proofs.lemmas.List.{drop_more}
 use Rattle.stix_json.specs.DataOf.{data_of, field_data, members_of}
-use Rattle.stix_json.specs.declared.tree.Field.{Field}
+use Rattle.stix_json.specs.declared.value.Field.{Field}
 use Rattle.serde_json.specs.Data.{Data, Members, member}
 use Rattle.serde_json.specs.Find.{get_member}
 

@@ -12,7 +12,7 @@ use Rattle.serde_json.specs.View.{view, items_view}
 use Rattle.serde_json.specs.declared.value.Value.{Value}
 use Rattle.stix_json.specs.Entries.{list_of, list_or_none, list_under}
 use Rattle.serde_json.specs.Read.{of_json, of_items, of_members, number_of, read, max_depth}
-use Rattle.stix_json.specs.declared.tree.Tree.{Tree}
+use Rattle.stix_json.specs.declared.value.Json.{Json}
 use Rattle.stix_json.specs.Refusal.{refusal_of}
 use Rattle.stix_json.specs.Reading.{IsValueOf, IsTreeAs, IsTreeOf}
 use Rattle.stix_json.specs.Ordered.{IsBefore, IsOrdered, ItemsAreOrdered, MembersAreOrdered}
@@ -95,7 +95,7 @@ pub read_ordered : (text : List ℕ) (d : Data) → read text ≡ Some d → IsO
 read_ordered text d is = on_some (read text) d is (whole_ordered (option_and_then (λ p. json.if_last p.0 p.1) (json.value max_depth (tokens text))))
 
 -- a tree that is the value of some bytes and has nothing refused is their tree
-pub tree_of : (bytes : List ℕ) (d : Data) (t : Tree) → IsValueOf bytes d → IsTreeAs d t → IsTreeOf bytes t
+pub tree_of : (bytes : List ℕ) (d : Data) (t : Json) → IsValueOf bytes d → IsTreeAs d t → IsTreeOf bytes t
 tree_of bytes d t value good =
     let Q : Data → Type 0 = λ e. IsValueOf bytes e in
     let R : Data → Type 0 = λ e. refusal_of e ≡ None in

@@ -5,11 +5,11 @@ use Rattle.serde_json.specs.Data.{Num, unsigned, negative, float, Data, null, bo
 use Rattle.serde_json.specs.Find.{of_integer}
 use Rattle.serde_json.specs.View.{items_of}
 use Rattle.stix_json.specs.DataOf.{Member, members_of, data_of, tree_level, field_level}
-use Rattle.stix_json.specs.declared.tree.Tree.{Tree}
-use Rattle.stix_json.specs.declared.tree.Field.{Field}
-use Rattle.stix_json.specs.declared.tree.Tree.TheOpen.{Tree-F, Field-F}
-use Rattle.stix_json.specs.declared.tree.Tree.TheFolds.{map-Tree, map-Field, fold-Field, fold-roll-Tree, fold-roll-Field, ind-Tree}
-use Rattle.stix_json.specs.declared.tree.Tree.TheViews.{roll-Tree, roll-Field}
+use Rattle.stix_json.specs.declared.value.Json.{Json}
+use Rattle.stix_json.specs.declared.value.Field.{Field}
+use Rattle.stix_json.specs.declared.value.Json.TheOpen.{Json-F, Field-F}
+use Rattle.stix_json.specs.declared.value.Json.TheFolds.{map-Json, map-Field, fold-Field, fold-roll-Json, fold-roll-Field, ind-Json}
+use Rattle.stix_json.specs.declared.value.Json.TheViews.{roll-Json, roll-Field}
 
 abbrev pub IsSigned : Num → Type 0
 IsSigned (unsigned n) = ⊤
@@ -34,7 +34,7 @@ abbrev mutual
   MembersHaveSigns no_members = ⊤
   MembersHaveSigns (member k d ms) = HasSigns d × MembersHaveSigns ms
 
-abbrev TreeHasSigns : Tree → Type 0
+abbrev TreeHasSigns : Json → Type 0
 TreeHasSigns t = HasSigns (data_of t)
 
 -- the member that a field is, as the fold gives it
@@ -48,7 +48,7 @@ signed : (z : ℤ) → IsSigned (of_integer z)
 signed (pos n) = tt
 signed (negsuc n) = tt
 
-signs_in_items : (ts : List ((t : Tree) × TreeHasSigns t)) → ItemsHaveSigns (items_of (map data_of (map (λ e. e.0) ts)))
+signs_in_items : (ts : List ((t : Json) × TreeHasSigns t)) → ItemsHaveSigns (items_of (map data_of (map (λ e. e.0) ts)))
 signs_in_items [] = tt
 signs_in_items (t ∷ ts) = (t.1, signs_in_items ts)
 
@@ -57,26 +57,26 @@ signs_in_fields [] = tt
 signs_in_fields (f ∷ fs) = (f.1, signs_in_fields fs)
 
 abbrev Trees : Type 0
-Trees = (t : Tree) × TreeHasSigns t
+Trees = (t : Json) × TreeHasSigns t
 
 abbrev FieldsOf : Type 0
 FieldsOf = (f : Field) × FieldHasSigns f
 
-level_signs : (y : Tree-F Trees FieldsOf) → HasSigns (tree_level (map-Tree Tree Field Data Member data_of member_of (map-Tree Trees FieldsOf Tree Field (λ e. e.0) (λ e. e.0) y)))
-level_signs (Tree-F.Truth b) = tt
-level_signs (Tree-F.Whole z) = signed z
-level_signs (Tree-F.Words s) = tt
-level_signs (Tree-F.Row ts) = signs_in_items ts
-level_signs (Tree-F.Fields fs) = signs_in_fields fs
+level_signs : (y : Json-F Trees FieldsOf) → HasSigns (tree_level (map-Json Json Field Data Member data_of member_of (map-Json Trees FieldsOf Json Field (λ e. e.0) (λ e. e.0) y)))
+level_signs (Json-F.Bool b) = tt
+level_signs (Json-F.Integer z) = signed z
+level_signs (Json-F.String s) = tt
+level_signs (Json-F.Array ts) = signs_in_items ts
+level_signs (Json-F.Object fs) = signs_in_fields fs
 
-rolled : (z : Tree-F Tree Field) → HasSigns (tree_level (map-Tree Tree Field Data Member data_of member_of z)) → TreeHasSigns (roll-Tree z)
-rolled z h = subst HasSigns (sym (fold-roll-Tree Data Member tree_level field_level z)) h
+rolled : (z : Json-F Json Field) → HasSigns (tree_level (map-Json Json Field Data Member data_of member_of z)) → TreeHasSigns (roll-Json z)
+rolled z h = subst HasSigns (sym (fold-roll-Json Data Member tree_level field_level z)) h
 
-rolled_field : (z : Field-F Tree Field) → HasSigns (data_of z.value) → FieldHasSigns (roll-Field z)
+rolled_field : (z : Field-F Json Field) → HasSigns (data_of z.value) → FieldHasSigns (roll-Field z)
 rolled_field z h = subst (λ (m : Member). HasSigns m.value) (sym (fold-roll-Field Data Member tree_level field_level z)) h
 
 -- every tree has
-pub tree_signs : (t : Tree) → HasSigns (data_of t)
-tree_signs = ind-Tree TreeHasSigns FieldHasSigns
-    (λ x y is. subst (λ (z : Tree-F Tree Field). TreeHasSigns (roll-Tree z)) is (rolled (map-Tree Trees FieldsOf Tree Field (λ e. e.0) (λ e. e.0) y) (level_signs y)))
-    (λ x y is. subst (λ (z : Field-F Tree Field). FieldHasSigns (roll-Field z)) is (rolled_field (map-Field Trees FieldsOf Tree Field (λ e. e.0) (λ e. e.0) y) y.value.1))
+pub tree_signs : (t : Json) → HasSigns (data_of t)
+tree_signs = ind-Json TreeHasSigns FieldHasSigns
+    (λ x y is. subst (λ (z : Json-F Json Field). TreeHasSigns (roll-Json z)) is (rolled (map-Json Trees FieldsOf Json Field (λ e. e.0) (λ e. e.0) y) (level_signs y)))
+    (λ x y is. subst (λ (z : Field-F Json Field). FieldHasSigns (roll-Field z)) is (rolled_field (map-Field Trees FieldsOf Json Field (λ e. e.0) (λ e. e.0) y) y.value.1))

@@ -10,9 +10,9 @@ use Rattle.stix_json.specs.Flaws.{flaw_under, first_flaw, items_flaw, members_fl
 use Rattle.stix_json.specs.declared.flaw.Flaw.{Flaw}
 use Rattle.stix_json.specs.declared.flaw.Halt.{Halt}
 use Rattle.stix_json.specs.declared.flaw.Halt.TheVariants.{Flawed, NoMemory}
-use Rattle.stix_json.specs.declared.tree.Tree.{Tree, Fields, the_lemmas}
-use Rattle.stix_json.specs.declared.tree.Field.{Field}
-use Rattle.stix_json.specs.declared.tree.Tree.TheViews.{roll-Field}
+use Rattle.stix_json.specs.declared.value.Json.{Json, Object, the_lemmas}
+use Rattle.stix_json.specs.declared.value.Field.{Field}
+use Rattle.stix_json.specs.declared.value.Json.TheViews.{roll-Field}
 
 abbrev pub Entry : Type 0
 Entry = String Global × Value
@@ -25,8 +25,8 @@ pub members_of-entries : (es : List Entry) → members_of (map entry_data es) �
 members_of-entries [] = refl
 members_of-entries (e ∷ es) = ap (member (string_bytes e.0) (view e.1)) (members_of-entries es)
 
-pub data_of-Fields : (fields : List Field) → data_of (Fields fields) ≡ object (members_of (map field_data fields))
-data_of-Fields fields = search (rules, the_lemmas)
+pub data_of-Object : (fields : List Field) → data_of (Object fields) ≡ object (members_of (map field_data fields))
+data_of-Object fields = search (rules, the_lemmas)
 
 pub option_or_none : {X : Type 0} (a b : Option X) → option_or a b ≡ None → (a ≡ None) × (b ≡ None)
 option_or_none None b h = (refl, h)
@@ -97,5 +97,5 @@ same_length f g (x ∷ xs) [] h = absurd (cc)
 same_length f g (x ∷ xs) (y ∷ ys) h = let rest : map f xs ≡ map g ys = cc in let e = same_length f g xs ys rest in omega (arith, e)
 
 -- a field is the member that its entry was
-pub same_member : {name bytes : List ℕ} {d : Data} (t : Tree) → name ≡ bytes → data_of t ≡ d → field_data (roll-Field (record { name = name; value = t })) ≡ record { name = bytes; value = d }
+pub same_member : {name bytes : List ℕ} {d : Data} (t : Json) → name ≡ bytes → data_of t ≡ d → field_data (roll-Field (record { name = name; value = t })) ≡ record { name = bytes; value = d }
 same_member t named is = rw (named, is) refl

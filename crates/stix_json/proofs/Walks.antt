@@ -10,8 +10,8 @@ use Rattle.stix_json.specs.declared.place.Place.TheVariants.{Here, Below}
 use Rattle.stix_json.specs.declared.flaw.Reason.{Reason}
 use Rattle.stix_json.specs.declared.flaw.Reason.TheVariants.{NotWhole as NoWhole, Null as IsNull, OutOfRange as PastRange}
 use Rattle.stix_json.specs.declared.flaw.Flaw.{Flaw}
-use Rattle.stix_json.specs.declared.refusal.TreeRefusal.{TreeRefusal}
-use Rattle.stix_json.specs.declared.refusal.TreeRefusal.TheVariants.{TooDeep, NotWhole, Null, OutOfRange}
+use Rattle.stix_json.specs.declared.refusal.JsonRefusal.{JsonRefusal}
+use Rattle.stix_json.specs.declared.refusal.JsonRefusal.TheVariants.{TooDeep, NotWhole, Null, OutOfRange}
 use Rattle.stix_json.specs.Walk.{Visit, walk, walk_items, walk_members, path_text, place_part}
 use Rattle.stix_json.specs.Refusal.{first_told, depth_refusal, visit_refusal, number_refusal, refusal_of}
 use Rattle.stix_json.specs.Reading.{IsRefusalOf}
@@ -34,21 +34,21 @@ path_placed : (parts : List (List ℕ)) → path_of (placed parts Here) ≡ path
 path_placed [] = refl
 path_placed (part ∷ parts) = ap path_of (under_below part parts)
 
-or_again : (a b c : Option TreeRefusal) → option_or a (option_or b c) ≡ option_or (option_or a b) c
+or_again : (a b c : Option JsonRefusal) → option_or a (option_or b c) ≡ option_or (option_or a b) c
 or_again None b c = refl
 or_again (Some x) b c = refl
 
-or_none : (a : Option TreeRefusal) → option_or a None ≡ a
+or_none : (a : Option JsonRefusal) → option_or a None ≡ a
 or_none None = refl
 or_none (Some x) = refl
 
-first_told_append : (tell : Visit → Option TreeRefusal) (xs ys : List Visit) → first_told tell (xs ++ ys) ≡ option_or (first_told tell xs) (first_told tell ys)
+first_told_append : (tell : Visit → Option JsonRefusal) (xs ys : List Visit) → first_told tell (xs ++ ys) ≡ option_or (first_told tell xs) (first_told tell ys)
 first_told_append tell [] ys = refl
 first_told_append tell (x ∷ xs) ys = ap (option_or (tell x)) (first_told_append tell xs ys) ∙ or_again (tell x) (first_told tell xs) (first_told tell ys)
 
 -- ---- flaws
 
-abbrev flaw_placed : List (List ℕ) → Flaw → TreeRefusal
+abbrev flaw_placed : List (List ℕ) → Flaw → JsonRefusal
 flaw_placed parts flaw = refusal_for flaw.reason (path_of (placed parts flaw.place))
 
 range_told : (parts : List (List ℕ)) (b : Bool) → option_or (cond b None (Some (OutOfRange (path_text parts)))) None ≡ option_map (flaw_placed parts) (flaw_here (cond b None (Some PastRange)))
@@ -87,7 +87,7 @@ mutual
 
 -- ---- levels
 
-abbrev deep_placed : List (List ℕ) → Place → TreeRefusal
+abbrev deep_placed : List (List ℕ) → Place → JsonRefusal
 deep_placed parts place = TooDeep (path_of (placed parts place))
 
 past_last : (n : ℕ) → n ≡ MAX_LEVELS → nat_lt MAX_LEVELS (n + 1) ≡ true
@@ -101,11 +101,11 @@ deep_of_part : (parts : List (List ℕ)) (part : List ℕ) (found later : Option
 deep_of_part parts part None later = refl
 deep_of_part parts part (Some place) later = ap (λ place. Some (TooDeep (path_of place))) (placed_more parts part place)
 
-told_here : (parts : List (List ℕ)) (later : Option TreeRefusal) → length parts ≡ MAX_LEVELS
+told_here : (parts : List (List ℕ)) (later : Option JsonRefusal) → length parts ≡ MAX_LEVELS
     → option_or (cond (nat_lt MAX_LEVELS (length parts + 1)) (Some (TooDeep (path_text parts))) None) later ≡ Some (deep_placed parts Here)
 told_here parts later is = rw (past_last (length parts) is) (ap (λ path. Some (TooDeep path)) (sym (path_placed parts)))
 
-told_later : (parts : List (List ℕ)) (left : ℕ) (later : Option TreeRefusal) → suc left + length parts ≡ MAX_LEVELS
+told_later : (parts : List (List ℕ)) (left : ℕ) (later : Option JsonRefusal) → suc left + length parts ≡ MAX_LEVELS
     → option_or (cond (nat_lt MAX_LEVELS (length parts + 1)) (Some (TooDeep (path_text parts))) None) later ≡ later
 told_later parts left later is = rw (not_past (length parts) left is) refl
 
@@ -147,7 +147,7 @@ mutual
 refusal_found : (d : Data) → refusal_of d ≡ option_or (option_map (deep_placed []) (too_deep MAX_LEVELS d)) (option_map (flaw_placed []) (first_flaw d))
 refusal_found d = rw (walk_deep [] MAX_LEVELS d (omega arith), walk_flaw [] d) refl
 
-some_path : (found : Option Place) (later : Option TreeRefusal) (path : List ℕ) → Some path ≡ option_map path_of found → option_or (option_map (deep_placed []) found) later ≡ Some (TooDeep path)
+some_path : (found : Option Place) (later : Option JsonRefusal) (path : List ℕ) → Some path ≡ option_map path_of found → option_or (option_map (deep_placed []) found) later ≡ Some (TooDeep path)
 some_path None later path is = absurd (cc)
 some_path (Some place) later path is = let e : path_of place ≡ path = cc in ap (λ path. Some (TooDeep path)) e
 

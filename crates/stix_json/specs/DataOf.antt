@@ -3,9 +3,9 @@ use Rattle.std.specs.Prelude.{ℕ, List, [], ◌∷◌}
 use Rattle.serde_json.specs.Data.{Data, boolean, number, string, array, object, Members, no_members, member}
 use Rattle.serde_json.specs.Find.{of_integer}
 use Rattle.serde_json.specs.View.{items_of}
-use Rattle.stix_json.specs.declared.tree.Tree.{Tree, fold-Tree}
-use Rattle.stix_json.specs.declared.tree.Field.{Field}
-use Rattle.stix_json.specs.declared.tree.Tree.TheOpen.{Tree-F, Field-F}
+use Rattle.stix_json.specs.declared.value.Json.{Json, fold-Json}
+use Rattle.stix_json.specs.declared.value.Field.{Field}
+use Rattle.stix_json.specs.declared.value.Json.TheOpen.{Json-F, Field-F}
 
 -- a name and its value
 pub record Member : Type 0 where
@@ -18,19 +18,19 @@ members_of [] = no_members
 members_of (m ∷ ms) = member m.name m.value (members_of ms)
 
 -- one level, whose items and fields are values already
-abbrev pub tree_level : Tree-F Data Member → Data
-tree_level (Tree-F.Truth truth) = boolean truth
-tree_level (Tree-F.Whole whole) = number (of_integer whole)
-tree_level (Tree-F.Words words) = string words
-tree_level (Tree-F.Row items) = array (items_of items)
-tree_level (Tree-F.Fields fields) = object (members_of fields)
+abbrev pub tree_level : Json-F Data Member → Data
+tree_level (Json-F.Bool truth) = boolean truth
+tree_level (Json-F.Integer whole) = number (of_integer whole)
+tree_level (Json-F.String words) = string words
+tree_level (Json-F.Array items) = array (items_of items)
+tree_level (Json-F.Object fields) = object (members_of fields)
 
 abbrev pub field_level : Field-F Data Member → Member
 field_level field = record { name = field.name; value = field.value }
 
 -- the value that a tree is
-abbrev pub data_of : Tree → Data
-data_of = fold-Tree Data Member tree_level field_level
+abbrev pub data_of : Json → Data
+data_of = fold-Json Data Member tree_level field_level
 
 -- the member that a field is
 abbrev pub field_data : Field → Member

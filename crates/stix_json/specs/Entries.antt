@@ -3,8 +3,8 @@ use Rattle.std.specs.Prelude.{◌≡◌, ⊤, ℕ, List, [], ◌∷◌, Option, 
 use Rattle.serde_json.specs.Data.{Data, null, boolean, number, string, array, object, Items, no_items, item}
 use Rattle.serde_json.specs.Find.{get_member}
 use Rattle.stix_json.specs.declared.entry.Entry.{Entry}
-use Rattle.stix_json.specs.declared.refusal.TreeRefusal.{TreeRefusal}
-use Rattle.stix_json.specs.declared.refusal.TreeRefusal.TheVariants.{NotJson, TooDeep, NotWhole, Null, OutOfRange, NotList, NoMemory}
+use Rattle.stix_json.specs.declared.refusal.JsonRefusal.{JsonRefusal}
+use Rattle.stix_json.specs.declared.refusal.JsonRefusal.TheVariants.{NotJson, TooDeep, NotWhole, Null, OutOfRange, NotList, NoMemory}
 use Rattle.stix_json.specs.Reading.{IsValueOf, HasNoValue, Judges}
 
 -- the items, where the value is a list
@@ -52,7 +52,7 @@ pub record HasNoList (bytes name : List ℕ) : Type 0 where
   pub under : list_under name whole ≡ None
 
 -- why there are no entries; memory may run out at any time
-abbrev pub HasNoEntriesAs : List ℕ → List ℕ → TreeRefusal → Type 0
+abbrev pub HasNoEntriesAs : List ℕ → List ℕ → JsonRefusal → Type 0
 HasNoEntriesAs bytes name NotJson = HasNoValue bytes
 HasNoEntriesAs bytes name (TooDeep path) = ⊥
 HasNoEntriesAs bytes name (NotWhole path) = ⊥

@@ -12,8 +12,8 @@ use Rattle.stix_json.specs.declared.flaw.Reason.TheVariants.{NotWhole as NoWhole
 use Rattle.stix_json.specs.declared.flaw.Flaw.{Flaw}
 use Rattle.stix_json.specs.declared.flaw.Halt.{Halt}
 use Rattle.stix_json.specs.declared.flaw.Halt.TheVariants.{Flawed, NoMemory}
-use Rattle.stix_json.specs.declared.refusal.TreeRefusal.{TreeRefusal}
-use Rattle.stix_json.specs.declared.refusal.TreeRefusal.TheVariants.{NotWhole, Null, OutOfRange}
+use Rattle.stix_json.specs.declared.refusal.JsonRefusal.{JsonRefusal}
+use Rattle.stix_json.specs.declared.refusal.JsonRefusal.TheVariants.{NotWhole, Null, OutOfRange}
 use Rattle.stix_json.specs.Walk.{place_part}
 
 -- the same place, seen from one part higher
@@ -29,12 +29,12 @@ abbrev pub flaw_under : List ℕ → Flaw → Flaw
 flaw_under part flaw = record { reason = flaw.reason; place = under part flaw.place }
 
 -- the refusal of a whole value with this flaw
-abbrev pub refusal_for : Reason → List ℕ → TreeRefusal
+abbrev pub refusal_for : Reason → List ℕ → JsonRefusal
 refusal_for NoWhole path = NotWhole path
 refusal_for IsNull path = Null path
 refusal_for PastRange path = OutOfRange path
 
-abbrev pub refusal_at : Flaw → TreeRefusal
+abbrev pub refusal_at : Flaw → JsonRefusal
 refusal_at flaw = refusal_for flaw.reason (path_of flaw.place)
 
 -- a conversion stops for the first flaw, or for memory

@@ -1,7 +1,7 @@
 -- For private clauses: the field that a name finds.
 use Rattle.std.specs.Prelude.{◌≡◌, ℕ, List, map, Some, slice_get}
 use Rattle.serde_json.specs.Find.{get_member}
-use Rattle.stix_json.specs.declared.tree.Field.{Field}
+use Rattle.stix_json.specs.declared.value.Field.{Field}
 use Rattle.stix_json.specs.DataOf.{data_of, field_data, members_of}
 
 -- the field at the place is the one that the name finds among them

@@ -2,11 +2,11 @@
 use Rattle.std.specs.Prelude.{◌≡◌, ⊤, ℕ, List, Some, None, IsUtf8}
 use Rattle.serde_json.specs.Data.{Data}
 use Rattle.serde_json.specs.Read.{read}
-use Rattle.stix_json.specs.declared.tree.Tree.{Tree}
+use Rattle.stix_json.specs.declared.value.Json.{Json}
 use Rattle.stix_json.specs.declared.entry.Entry.{Entry}
 use Rattle.stix_json.specs.declared.entry.Entry.TheVariants.{Good, Bad}
-use Rattle.stix_json.specs.declared.refusal.TreeRefusal.{TreeRefusal}
-use Rattle.stix_json.specs.declared.refusal.TreeRefusal.TheVariants.{NotJson, TooDeep, NotWhole, Null, OutOfRange, NotList, NoMemory}
+use Rattle.stix_json.specs.declared.refusal.JsonRefusal.{JsonRefusal}
+use Rattle.stix_json.specs.declared.refusal.JsonRefusal.TheVariants.{NotJson, TooDeep, NotWhole, Null, OutOfRange, NotList, NoMemory}
 use Rattle.stix_json.specs.DataOf.{data_of}
 use Rattle.stix_json.specs.Ordered.{IsOrdered}
 use Rattle.stix_json.specs.Refusal.{refusal_of}
@@ -21,13 +21,13 @@ abbrev pub HasNoValue : List ℕ → Type 0
 HasNoValue bytes = (d : Data) → ¬ (IsValueOf bytes d)
 
 -- the tree is that value, nothing in it is refused, and its names rise
-pub record IsTreeAs (d : Data) (tree : Tree) : Type 0 where
+pub record IsTreeAs (d : Data) (tree : Json) : Type 0 where
   pub same : data_of tree ≡ d
   pub good : refusal_of d ≡ None
   pub ordered : IsOrdered d
 
 -- the value is refused so: only for its depth or for a value in it
-abbrev pub IsRefusalOf : Data → TreeRefusal → Type 0
+abbrev pub IsRefusalOf : Data → JsonRefusal → Type 0
 IsRefusalOf d NotJson = ⊥
 IsRefusalOf d (TooDeep path) = refusal_of d ≡ Some (TooDeep path)
 IsRefusalOf d (NotWhole path) = refusal_of d ≡ Some (NotWhole path)
@@ -42,13 +42,13 @@ Judges d (Good tree) = IsTreeAs d tree
 Judges d (Bad refusal) = IsRefusalOf d refusal
 
 -- the tree of some bytes
-pub record IsTreeOf (bytes : List ℕ) (tree : Tree) : Type 0 where
+pub record IsTreeOf (bytes : List ℕ) (tree : Json) : Type 0 where
   pub value : IsValueOf bytes (data_of tree)
   pub good : refusal_of (data_of tree) ≡ None
   pub ordered : IsOrdered (data_of tree)
 
 -- the refusal of some bytes; memory may run out at any time
-abbrev pub IsRefusedAs : List ℕ → TreeRefusal → Type 0
+abbrev pub IsRefusedAs : List ℕ → JsonRefusal → Type 0
 IsRefusedAs bytes NotJson = HasNoValue bytes
 IsRefusedAs bytes (TooDeep path) = (d : Data) × IsValueOf bytes d × IsRefusalOf d (TooDeep path)
 IsRefusedAs bytes (NotWhole path) = (d : Data) × IsValueOf bytes d × IsRefusalOf d (NotWhole path)

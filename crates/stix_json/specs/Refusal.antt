@@ -4,12 +4,12 @@ use Rattle.std.specs.Option.{option_or}
 use Rattle.serde_json.specs.Data.{Data, null, boolean, number, string, array, object}
 use Rattle.serde_json.specs.Find.{as_integer}
 use Rattle.stix_json.specs.declared.limits.TheConstants.{MAX_LEVELS, MAX_WHOLE}
-use Rattle.stix_json.specs.declared.refusal.TreeRefusal.{TreeRefusal}
-use Rattle.stix_json.specs.declared.refusal.TreeRefusal.TheVariants.{TooDeep, NotWhole, Null, OutOfRange}
+use Rattle.stix_json.specs.declared.refusal.JsonRefusal.{JsonRefusal}
+use Rattle.stix_json.specs.declared.refusal.JsonRefusal.TheVariants.{TooDeep, NotWhole, Null, OutOfRange}
 use Rattle.stix_json.specs.Walk.{Visit, walk, path_text}
 
 -- the first that is told of these values in turn
-abbrev pub first_told : (Visit → Option TreeRefusal) → List Visit → Option TreeRefusal
+abbrev pub first_told : (Visit → Option JsonRefusal) → List Visit → Option JsonRefusal
 first_told tell [] = None
 first_told tell (v ∷ vs) = option_or (tell v) (first_told tell vs)
 
@@ -27,16 +27,16 @@ abbrev pub level : Visit → ℕ
 level v = length v.parts + 1
 
 -- a list or an object past the last level
-abbrev pub depth_refusal : Visit → Option TreeRefusal
+abbrev pub depth_refusal : Visit → Option JsonRefusal
 depth_refusal v = if has_level v.value && nat_lt MAX_LEVELS (level v) then Some (TooDeep (path_text v.parts)) else None
 
 -- a number at a path, with its whole number where it is read as one
-abbrev pub number_refusal : List ℕ → Option ℤ → Option TreeRefusal
+abbrev pub number_refusal : List ℕ → Option ℤ → Option JsonRefusal
 number_refusal path None = Some (NotWhole path)
 number_refusal path (Some whole) = if nat_le (unsigned_abs whole) MAX_WHOLE then None else Some (OutOfRange path)
 
 -- a value at a path that a tree doesn't hold
-abbrev pub value_refusal : List ℕ → Data → Option TreeRefusal
+abbrev pub value_refusal : List ℕ → Data → Option JsonRefusal
 value_refusal path null = Some (Null path)
 value_refusal path (boolean b) = None
 value_refusal path (number n) = number_refusal path (as_integer n)
@@ -44,9 +44,9 @@ value_refusal path (string s) = None
 value_refusal path (array ds) = None
 value_refusal path (object ms) = None
 
-abbrev pub visit_refusal : Visit → Option TreeRefusal
+abbrev pub visit_refusal : Visit → Option JsonRefusal
 visit_refusal v = value_refusal (path_text v.parts) v.value
 
 -- the first value that nests too deep, else the first that a tree doesn't hold
-abbrev pub refusal_of : Data → Option TreeRefusal
+abbrev pub refusal_of : Data → Option JsonRefusal
 refusal_of d = option_or (first_told depth_refusal (walk [] d)) (first_told visit_refusal (walk [] d))

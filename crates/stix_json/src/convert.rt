@@ -7,7 +7,7 @@ ghost use Rattle.stix_json.specs.Flaws.{first_flaw, items_flaw, members_flaw, nu
 
 use crate::flaw::{Flaw, Halt, Reason};
 use crate::place::Place;
-use crate::{Field, MAX_WHOLE, Tree};
+use crate::{Field, MAX_WHOLE, Json};
 use flow_values::{Items, Text};
 use serde_json::{Map, Number, Value};
 use std::alloc::Global;
@@ -31,13 +31,13 @@ fn whole_of(number: Number) -> Result<i64, Reason>
 }
 
 /// The tree of a number.
-fn convert_number(number: Number) -> Result<Tree, Halt>
+fn convert_number(number: Number) -> Result<Json, Halt>
     ensures ok { IfOk result (λ tree. (number_flaw (number_view number) ≡ None)
         × (data_of tree ≡ number_data (number_view number))) }
     ensures err { IfErr result (λ halt. Halts (flaw_here (number_flaw (number_view number))) halt) }
 {
     match whole_of(number) {
-        Ok(whole) => Ok(Tree::Whole(whole)),
+        Ok(whole) => Ok(Json::Integer(whole)),
         Err(reason) => Err(Halt::Flawed(Flaw {
             reason,
             place: Place::Here,
@@ -47,7 +47,7 @@ fn convert_number(number: Number) -> Result<Tree, Halt>
 
 /// The tree of a value, which owns the value's texts, or the first value that no tree holds.
 #[cycle(convert)]
-pub(crate) fn convert(alloc: Global, value: Value) -> Result<Tree, Halt>
+pub(crate) fn convert(alloc: Global, value: Value) -> Result<Json, Halt>
     ensures ok { IfOk result (λ tree. (first_flaw (view value) ≡ None) × (data_of tree ≡ view value)) }
     ensures err { IfErr result (λ halt. Halts (first_flaw (view value)) halt) }
 {
@@ -56,16 +56,16 @@ pub(crate) fn convert(alloc: Global, value: Value) -> Result<Tree, Halt>
             reason: Reason::Null,
             place: Place::Here,
         })),
-        Value::Bool(truth) => Ok(Tree::Truth(truth)),
+        Value::Bool(truth) => Ok(Json::Bool(truth)),
         Value::Number(number) => convert_number(number),
-        Value::String(words) => Ok(Tree::Words(Text::from_string(words))),
-        Value::Array(items) => Ok(Tree::Row(convert_items(alloc, items)?)),
-        Value::Object(members) => Ok(Tree::Fields(convert_members(alloc, members)?)),
+        Value::String(words) => Ok(Json::String(Text::from_string(words))),
+        Value::Array(items) => Ok(Json::Array(convert_items(alloc, items)?)),
+        Value::Object(members) => Ok(Json::Object(convert_members(alloc, members)?)),
     }
 }
 
 #[cycle(convert)]
-fn convert_items(alloc: Global, items: Vec<Value>) -> Result<Items<Tree>, Halt>
+fn convert_items(alloc: Global, items: Vec<Value>) -> Result<Items<Json>, Halt>
     ensures ok { IfOk result (λ row. (items_flaw 0 (items_view items.items) ≡ None)
         × (items_of (map data_of row) ≡ items_view items.items)) }
     ensures err { IfErr result (λ halt. Halts (items_flaw 0 (items_view items.items)) halt) }

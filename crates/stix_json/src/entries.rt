@@ -6,7 +6,7 @@ ghost use Rattle.stix_json.specs.Ordered.{ItemsAreOrdered};
 
 use crate::judge::judge;
 use crate::read::read_value;
-use crate::{Entry, TreeRefusal};
+use crate::{Entry, JsonRefusal};
 use flow_values::{Items, NoMemory};
 use serde_json::{Map, Value};
 use std::alloc::Global;
@@ -57,16 +57,16 @@ fn judge_items(alloc: Global, items: Vec<Value>) -> Result<Items<Entry>, NoMemor
     Ok(entries)
 }
 
-/// The entries of the list that an object has under a name, each judged by itself as by `read_tree`:
+/// The entries of the list that an object has under a name, each judged by itself as by `read_json`:
 /// its levels begin at 1 and its paths at the entry. An absent list is empty. `NotJson` where the
 /// bytes are no JSON, `NotList` where they are no object or have another value under the name.
-pub fn read_entries(alloc: Global, bytes: &[u8], name: &str) -> Result<Items<Entry>, TreeRefusal>
+pub fn read_entries(alloc: Global, bytes: &[u8], name: &str) -> Result<Items<Entry>, JsonRefusal>
     ensures ok { IfOk result (λ entries. AreEntriesOf bytes.now name.now entries) }
     ensures err { IfErr result (λ refusal. HasNoEntriesAs bytes.now name.now refusal) }
 {
     let value = read_value(alloc, bytes)?;
     match take_list(alloc, value, name) {
         Some(items) => Ok(judge_items(alloc, items)?),
-        None => Err(TreeRefusal::NotList),
+        None => Err(JsonRefusal::NotList),
     }
 }

@@ -1,9 +1,9 @@
-use crate::{Tree, TreeRefusal};
+use crate::{Json, JsonRefusal};
 
 /// A value judged by itself: a tree, or why it is none.
 #[derive(Drop)]
 pub enum Entry {
-    Good(Tree),
+    Good(Json),
     /// `TooDeep`, `NotWhole`, `Null` or `OutOfRange`.
-    Bad(TreeRefusal),
+    Bad(JsonRefusal),
 }

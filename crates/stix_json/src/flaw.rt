@@ -4,7 +4,7 @@ ghost use Rattle.stix_json.specs.Flaws.{flaw_under, refusal_at, Halts};
 ghost use Rattle.stix_json.specs.declared.flaw.Flaw.{Flaw as FlawOf};
 ghost use Rattle.stix_json.specs.declared.flaw.Halt.TheVariants.{NoMemory as OutOfMemory};
 
-use crate::TreeRefusal;
+use crate::JsonRefusal;
 use crate::place::Place;
 use flow_values::NoMemory;
 use std::alloc::Global;
@@ -41,14 +41,14 @@ impl From<NoMemory> for Halt {
 
 impl Flaw {
     /// The refusal of the whole value.
-    pub fn into_refusal(self, alloc: Global) -> TreeRefusal
+    pub fn into_refusal(self, alloc: Global) -> JsonRefusal
         ensures { result ≡ refusal_at self }
     {
         let path = self.place.into_path(alloc);
         match self.reason {
-            Reason::NotWhole => TreeRefusal::NotWhole { path },
-            Reason::Null => TreeRefusal::Null { path },
-            Reason::OutOfRange => TreeRefusal::OutOfRange { path },
+            Reason::NotWhole => JsonRefusal::NotWhole { path },
+            Reason::Null => JsonRefusal::Null { path },
+            Reason::OutOfRange => JsonRefusal::OutOfRange { path },
         }
     }
 }

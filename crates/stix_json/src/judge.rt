@@ -7,7 +7,7 @@ ghost use Rattle.stix_json.specs.Reading.{Judges};
 use crate::convert::convert;
 use crate::depth::first_too_deep;
 use crate::flaw::Halt;
-use crate::{Entry, MAX_LEVELS, TreeRefusal};
+use crate::{Entry, MAX_LEVELS, JsonRefusal};
 use flow_values::{NoMemory, Text};
 use serde_json::Value;
 use std::alloc::Global;
@@ -41,7 +41,7 @@ pub(crate) fn judge(alloc: Global, value: Value) -> Result<Entry, NoMemory>
     ensures { IfOk result (λ entry. Judges (view value) entry) }
 {
     match deep_path(alloc, &value)? {
-        Some(path) => Ok(Entry::Bad(TreeRefusal::TooDeep { path })),
+        Some(path) => Ok(Entry::Bad(JsonRefusal::TooDeep { path })),
         None => judge_shallow(alloc, value),
     }
 }

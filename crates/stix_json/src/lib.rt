@@ -1,7 +1,7 @@
 //! JSON values without fractions and null (RFC 8259), as trees that own their texts and lists.
 //!
-//! `read_tree` gives the value that `serde_json`'s definition of reading gives, or the first reason
-//! against it, with its path. `write_tree` writes a tree so that it reads back.
+//! `read_json` gives the value that `serde_json`'s definition of reading gives, or the first reason
+//! against it, with its path. `write_json` writes a tree so that it reads back.
 #![tactic(auto)]
 
 mod convert;
@@ -17,14 +17,14 @@ mod read;
 mod refusal;
 #[cfg(test)]
 mod tests;
-mod tree;
+mod value;
 mod write;
 
 pub use entries::read_entries;
 pub use entry::Entry;
 pub use limits::{MAX_LEVELS, MAX_WHOLE};
 pub use lookup::{get, take};
-pub use read::read_tree;
-pub use refusal::TreeRefusal;
-pub use tree::{Field, Tree};
-pub use write::write_tree;
+pub use read::read_json;
+pub use refusal::JsonRefusal;
+pub use value::{Field, Json};
+pub use write::write_json;

@@ -3,29 +3,29 @@ ghost use Rattle.serde_json.specs.Find.{get_member, get as member_of};
 ghost use Rattle.stix_json.specs.DataOf.{data_of, field_data, members_of};
 ghost use Rattle.stix_json.specs.Naming.{IsFieldAt};
 
-use crate::{Field, Tree};
+use crate::{Field, Json};
 
 /// The value of the first field of that name. None where there is none, or the tree has no fields.
-pub fn get<'a>(tree: &'a Tree, name: &str) -> Option<&'a Tree>
+pub fn get<'a>(tree: &'a Json, name: &str) -> Option<&'a Json>
     ensures { option_map (λ value. data_of value.now) result ≡ member_of name.now (data_of tree.now) }
 {
     match tree {
-        Tree::Fields(fields) => first_named(fields.as_slice(), name),
-        Tree::Truth(_) | Tree::Whole(_) | Tree::Words(_) | Tree::Row(_) => None,
+        Json::Object(fields) => first_named(fields.as_slice(), name),
+        Json::Bool(_) | Json::Integer(_) | Json::String(_) | Json::Array(_) => None,
     }
 }
 
 /// The same, taken out of the tree.
-pub fn take(tree: Tree, name: &str) -> Option<Tree>
+pub fn take(tree: Json, name: &str) -> Option<Json>
     ensures { option_map data_of result ≡ member_of name.now (data_of tree) }
 {
     match tree {
-        Tree::Fields(fields) => take_first_named(fields.into_vec(), name),
-        Tree::Truth(_) | Tree::Whole(_) | Tree::Words(_) | Tree::Row(_) => None,
+        Json::Object(fields) => take_first_named(fields.into_vec(), name),
+        Json::Bool(_) | Json::Integer(_) | Json::String(_) | Json::Array(_) => None,
     }
 }
 
-fn first_named<'a>(fields: &'a [Field], name: &str) -> Option<&'a Tree>
+fn first_named<'a>(fields: &'a [Field], name: &str) -> Option<&'a Json>
     ensures { option_map (λ value. data_of value.now) result ≡ get_member name.now (members_of (map field_data fields.now)) }
 {
     for field in fields {
@@ -36,7 +36,7 @@ fn first_named<'a>(fields: &'a [Field], name: &str) -> Option<&'a Tree>
     None
 }
 
-fn take_first_named(fields: Vec<Field>, name: &str) -> Option<Tree>
+fn take_first_named(fields: Vec<Field>, name: &str) -> Option<Json>
     ensures { option_map data_of result ≡ get_member name.now (members_of (map field_data fields.items)) }
 {
     let at = place_of(&fields, name)?;

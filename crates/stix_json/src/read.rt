@@ -1,24 +1,24 @@
 ghost use Rattle.std.specs.Prelude.{◌≡◌, ◌⊎◌, IfOk, IfErr};
 ghost use Rattle.serde_json.specs.View.{view};
 ghost use Rattle.stix_json.specs.Reading.{IsValueOf, HasNoValue, IsTreeOf, IsRefusedAs};
-ghost use Rattle.stix_json.specs.declared.refusal.TreeRefusal.TheVariants.{NotJson, NoMemory as OutOfMemory};
+ghost use Rattle.stix_json.specs.declared.refusal.JsonRefusal.TheVariants.{NotJson, NoMemory as OutOfMemory};
 
 use crate::judge::judge;
-use crate::{Entry, Tree, TreeRefusal};
+use crate::{Entry, Json, JsonRefusal};
 use serde_json::{Category, Value};
 use std::alloc::Global;
 
 /// The JSON value that bytes are.
-pub(crate) fn read_value(alloc: Global, bytes: &[u8]) -> Result<Value, TreeRefusal>
+pub(crate) fn read_value(alloc: Global, bytes: &[u8]) -> Result<Value, JsonRefusal>
     ensures ok { IfOk result (λ value. IsValueOf bytes.now (view value)) }
     ensures err { IfErr result (λ refusal. (refusal ≡ OutOfMemory) ⊎ ((refusal ≡ NotJson) × HasNoValue bytes.now)) }
 {
     match Value::from_slice(alloc, bytes) {
         Ok(value) => Ok(value),
         Err(error) => match error.classify() {
-            Category::Memory => Err(TreeRefusal::NoMemory),
+            Category::Memory => Err(JsonRefusal::NoMemory),
             Category::Syntax | Category::Data | Category::Eof | Category::Io => {
-                Err(TreeRefusal::NotJson)
+                Err(JsonRefusal::NotJson)
             }
         },
     }
@@ -26,7 +26,7 @@ pub(crate) fn read_value(alloc: Global, bytes: &[u8]) -> Result<Value, TreeRefus
 
 /// The tree that bytes are, which is ordered, or why they are none: `NotJson`, else `TooDeep`, else
 /// the first value that a tree doesn't hold, with its path. Never `NotList`.
-pub fn read_tree(alloc: Global, bytes: &[u8]) -> Result<Tree, TreeRefusal>
+pub fn read_json(alloc: Global, bytes: &[u8]) -> Result<Json, JsonRefusal>
     ensures ok { IfOk result (λ tree. IsTreeOf bytes.now tree) }
     ensures err { IfErr result (λ refusal. IsRefusedAs bytes.now refusal) }
 {

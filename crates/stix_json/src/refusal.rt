@@ -5,7 +5,7 @@ use std::fmt;
 /// Why bytes give no tree. A path joins the names and the places `[n]`, counted from 0, by dots; the
 /// path of the whole value is empty.
 #[derive(Debug, Drop)]
-pub enum TreeRefusal {
+pub enum JsonRefusal {
     /// The bytes aren't UTF-8, aren't JSON, or nest more than 127 levels.
     NotJson,
     /// The first list or object at level 65.
@@ -23,27 +23,27 @@ pub enum TreeRefusal {
     NoMemory,
 }
 
-impl From<NoMemory> for TreeRefusal {
+impl From<NoMemory> for JsonRefusal {
     ghost use Rattle.std.specs.Prelude.{◌≡◌};
-    ghost use Rattle.stix_json.specs.declared.refusal.TreeRefusal.TheVariants.{NoMemory as OutOfMemory};
+    ghost use Rattle.stix_json.specs.declared.refusal.JsonRefusal.TheVariants.{NoMemory as OutOfMemory};
 
     ghost from_gives = { λ _ refusal. refusal ≡ OutOfMemory };
 
-    fn from(_error: NoMemory) -> TreeRefusal {
-        TreeRefusal::NoMemory
+    fn from(_error: NoMemory) -> JsonRefusal {
+        JsonRefusal::NoMemory
     }
 }
 
-impl fmt::Display for TreeRefusal {
+impl fmt::Display for JsonRefusal {
     fn fmt<W: fmt::Write>(&self, f: &mut fmt::Formatter<W>) -> fmt::Result {
         match self {
-            TreeRefusal::NotJson => write!(f, "NotJson"),
-            TreeRefusal::TooDeep { path } => write_at(f, "TooDeep", path.as_str()),
-            TreeRefusal::NotWhole { path } => write_at(f, "NotWhole", path.as_str()),
-            TreeRefusal::Null { path } => write_at(f, "Null", path.as_str()),
-            TreeRefusal::OutOfRange { path } => write_at(f, "OutOfRange", path.as_str()),
-            TreeRefusal::NotList => write!(f, "NotList"),
-            TreeRefusal::NoMemory => write!(f, "out of memory"),
+            JsonRefusal::NotJson => write!(f, "NotJson"),
+            JsonRefusal::TooDeep { path } => write_at(f, "TooDeep", path.as_str()),
+            JsonRefusal::NotWhole { path } => write_at(f, "NotWhole", path.as_str()),
+            JsonRefusal::Null { path } => write_at(f, "Null", path.as_str()),
+            JsonRefusal::OutOfRange { path } => write_at(f, "OutOfRange", path.as_str()),
+            JsonRefusal::NotList => write!(f, "NotList"),
+            JsonRefusal::NoMemory => write!(f, "out of memory"),
         }
     }
 }
@@ -57,4 +57,4 @@ fn write_at<W: fmt::Write>(f: &mut fmt::Formatter<W>, rule: &str, path: &str) ->
     }
 }
 
-impl Error for TreeRefusal {}
+impl Error for JsonRefusal {}

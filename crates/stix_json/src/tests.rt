@@ -1,6 +1,6 @@
 //! Rows of JSON texts and what RFC 8259 and the bounds of a tree say of them.
 
-use crate::{Entry, Field, Tree, TreeRefusal, get, read_entries, read_tree, write_tree};
+use crate::{Entry, Field, Json, JsonRefusal, get, read_entries, read_json, write_json};
 use flow_values::{Items, NoMemory, Text};
 use std::alloc::Global;
 use std::process::Abort;
@@ -8,13 +8,13 @@ use std::test::Fail;
 
 /// The text of the tree that bytes are, or of their refusal.
 fn read_again(alloc: Global, bytes: &[u8]) -> Result<Text, NoMemory> {
-    match read_tree(alloc, bytes) {
-        Ok(tree) => write_tree(alloc, &tree),
+    match read_json(alloc, bytes) {
+        Ok(tree) => write_json(alloc, &tree),
         Err(refusal) => refusal_text(alloc, &refusal),
     }
 }
 
-fn refusal_text(alloc: Global, refusal: &TreeRefusal) -> Result<Text, NoMemory> {
+fn refusal_text(alloc: Global, refusal: &JsonRefusal) -> Result<Text, NoMemory> {
     Ok(Text::from_string(format!(in alloc; "{refusal}")?))
 }
 
@@ -37,8 +37,8 @@ fn entry_texts(alloc: Global, entries: &[Entry]) -> Result<Text, NoMemory> {
 
 fn entry_text(alloc: Global, entry: &Entry) -> Result<Text, NoMemory> {
     match entry {
-        Entry::Good(Tree::Whole(whole)) => Ok(Text::from_string(format!(in alloc; "{whole}")?)),
-        Entry::Good(Tree::Words(words)) => Text::from_text(alloc, words.as_str()),
+        Entry::Good(Json::Integer(whole)) => Ok(Text::from_string(format!(in alloc; "{whole}")?)),
+        Entry::Good(Json::String(words)) => Text::from_text(alloc, words.as_str()),
         Entry::Good(_) => Text::from_text(alloc, "good"),
         Entry::Bad(refusal) => refusal_text(alloc, refusal),
     }
@@ -235,9 +235,9 @@ fn reads_entries(rt: HostRuntime) -> Result<(), Fail> {
 }
 
 /// Whether the value under a name is that whole number, or is none.
-fn has(rt: &impl Abort, tree: &Tree, name: &str, wanted: Option<i64>) {
+fn has(rt: &impl Abort, tree: &Json, name: &str, wanted: Option<i64>) {
     let found = match get(tree, name) {
-        Some(Tree::Whole(whole)) => Some(*whole),
+        Some(Json::Integer(whole)) => Some(*whole),
         Some(_) | None => None,
     };
     assert_eq!(rt; found, wanted, "under {name}");
@@ -246,7 +246,7 @@ fn has(rt: &impl Abort, tree: &Tree, name: &str, wanted: Option<i64>) {
 fn field(alloc: Global, name: &str, whole: i64) -> Result<Field, NoMemory> {
     Ok(Field {
         name: Text::from_text(alloc, name)?,
-        value: Tree::Whole(whole),
+        value: Json::Integer(whole),
     })
 }
 
@@ -257,12 +257,12 @@ fn finds_the_first_field(rt: HostRuntime) -> Result<(), Fail> {
     fields.push(field(alloc, "b", 1)?)?;
     fields.push(field(alloc, "a", 2)?)?;
     fields.push(field(alloc, "b", 3)?)?;
-    let tree = Tree::Fields(fields);
+    let tree = Json::Object(fields);
     has(&rt, &tree, "b", Some(1));
     has(&rt, &tree, "a", Some(2));
     has(&rt, &tree, "", None);
     has(&rt, &tree, "bb", None);
-    has(&rt, &Tree::Whole(1), "b", None);
-    has(&rt, &Tree::Row(Items::new(alloc)), "b", None);
+    has(&rt, &Json::Integer(1), "b", None);
+    has(&rt, &Json::Array(Items::new(alloc)), "b", None);
     Ok(())
 }

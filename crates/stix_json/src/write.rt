@@ -7,14 +7,14 @@ ghost use Rattle.stix_json.specs.Ordered.{IsOrdered};
 ghost use Rattle.stix_json.specs.Refusal.{refusal_of};
 ghost use Rattle.stix_json.specs.Reading.{IsTreeOf};
 
-use crate::{Field, Tree};
+use crate::{Field, Json};
 use flow_values::{NoMemory, Text};
 use json::Writer;
 use std::alloc::{AllocError, Global};
 
 /// The text of an ordered tree as compact JSON, with its names in byte order. Where nothing in the
 /// tree is refused, the text reads as that tree.
-pub fn write_tree(alloc: Global, tree: &Tree) -> Result<Text, NoMemory>
+pub fn write_json(alloc: Global, tree: &Json) -> Result<Text, NoMemory>
     requires { IsOrdered (data_of tree.now) }
     ensures text { IfOk result (λ text. text ≡ compact_text (data_of tree.now)) }
     ensures reads_back { IfOk result (λ text. refusal_of (data_of tree.now) ≡ None → IsTreeOf text tree.now) }
@@ -28,19 +28,19 @@ pub fn write_tree(alloc: Global, tree: &Tree) -> Result<Text, NoMemory>
 }
 
 #[cycle(write)]
-fn write_value(tree: &Tree, out: &mut Writer) -> Result<(), AllocError>
+fn write_value(tree: &Json, out: &mut Writer) -> Result<(), AllocError>
     ensures ok { OnOk result (out.new.tokens ≡ out.old.tokens ++ json_tokens (outline (data_of tree.now))) }
     ensures before { out.new.before ≡ out.old.before }
 {
     match tree {
-        Tree::Truth(truth) => out.boolean(*truth),
-        Tree::Whole(whole) => out.i64(*whole),
-        Tree::Words(words) => out.string(words.as_str()),
-        Tree::Row(items) => {
+        Json::Bool(truth) => out.boolean(*truth),
+        Json::Integer(whole) => out.i64(*whole),
+        Json::String(words) => out.string(words.as_str()),
+        Json::Array(items) => {
             out.begin_array()?;
             write_items(items.as_slice(), out)
         }
-        Tree::Fields(fields) => {
+        Json::Object(fields) => {
             out.begin_object()?;
             write_fields(fields.as_slice(), out)
         }
@@ -49,7 +49,7 @@ fn write_value(tree: &Tree, out: &mut Writer) -> Result<(), AllocError>
 
 /// The items and the closing bracket.
 #[cycle(write)]
-fn write_items(items: &[Tree], out: &mut Writer) -> Result<(), AllocError>
+fn write_items(items: &[Json], out: &mut Writer) -> Result<(), AllocError>
     ensures ok { OnOk result (out.new.tokens
         ≡ out.old.tokens ++ items_tokens (items_outline (items_of (map data_of items.now)))) }
     ensures before { out.new.before ≡ out.old.before }

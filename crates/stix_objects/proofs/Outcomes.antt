@@ -5,7 +5,7 @@ use Rattle.stix_objects.specs.declared.rule.Rule.{Rule}
 use Rattle.stix_objects.specs.declared.rule.Rule.TheVariants.{WrongKind}
 use Rattle.serde_json.specs.Data.{Data}
 use Rattle.serde_json.specs.View.{items_of}
-use Rattle.stix_json.specs.declared.tree.Tree.{Tree}
+use Rattle.stix_json.specs.declared.value.Json.{Json}
 use Rattle.stix_json.specs.DataOf.{data_of}
 use Rattle.stix_json.specs.Walk.{place_part}
 use Rattle.stix_objects.specs.Found.{Found, under}
@@ -28,7 +28,7 @@ value_there Needed name Judges found d outcome is judged =
     subst (λ (o : Option Data). JudgesValue Needed name Judges o outcome) is judged
 
 -- the item at a place is the first that breaks something
-pub first_at : (Judges : Data → Option Found → Type 0) (items : List Tree) (i : ℕ) (item : Tree) (inner told : Found) → i < length items → item ≡ get_or items i item
+pub first_at : (Judges : Data → Option Found → Type 0) (items : List Json) (i : ℕ) (item : Json) (inner told : Found) → i < length items → item ≡ get_or items i item
     → Judges (data_of item) (Some inner) → told ≡ under (place_part i) inner → JudgesItems Judges i (items_of (map data_of (drop i items))) (Some told)
 first_at Judges items i item inner told within is judged same =
     close_item (λ ts. JudgesItems Judges i (items_of (map data_of ts)) (Some told)) items i item within is

@@ -9,10 +9,10 @@ use crate::form::Form;
 use crate::list::judge_form;
 use crate::row::Condition;
 use crate::single::text_of;
-use stix_json::{Tree, get};
+use stix_json::{Json, get};
 
 /// Whether an object meets all the conditions.
-pub(crate) fn hold_all(conditions: &[Condition], object: &Tree) -> bool
+pub(crate) fn hold_all(conditions: &[Condition], object: &Json) -> bool
     ensures { IsTrue result ↔ HoldAll (map condition_view conditions.now) (data_of object.now) }
 {
     for condition in conditions {
@@ -24,7 +24,7 @@ pub(crate) fn hold_all(conditions: &[Condition], object: &Tree) -> bool
 }
 
 /// Whether an object meets the condition.
-pub(crate) fn holds(condition: &Condition, object: &Tree) -> bool
+pub(crate) fn holds(condition: &Condition, object: &Json) -> bool
     ensures { IsTrue result ↔ Holds (condition_view condition.now) (data_of object.now) }
 {
     match condition {
@@ -36,17 +36,17 @@ pub(crate) fn holds(condition: &Condition, object: &Tree) -> bool
 }
 
 /// Whether the property is there and is that truth.
-fn is_flag(object: &Tree, name: &str, wanted: bool) -> bool
+fn is_flag(object: &Json, name: &str, wanted: bool) -> bool
     ensures { IsTrue result ↔ (member_of name.now (data_of object.now) ≡ Some (boolean wanted)) }
 {
     match get(object, name) {
-        Some(Tree::Truth(truth)) => *truth == wanted,
-        Some(Tree::Whole(_) | Tree::Words(_) | Tree::Row(_) | Tree::Fields(_)) | None => false,
+        Some(Json::Bool(truth)) => *truth == wanted,
+        Some(Json::Integer(_) | Json::String(_) | Json::Array(_) | Json::Object(_)) | None => false,
     }
 }
 
 /// Whether the property is there and meets the form.
-fn meets(object: &Tree, name: &str, form: &Form) -> bool
+fn meets(object: &Json, name: &str, form: &Form) -> bool
     ensures { IsTrue result ↔ Meets name.now (form_view form.now) (data_of object.now) }
 {
     match get(object, name) {
@@ -57,7 +57,7 @@ fn meets(object: &Tree, name: &str, form: &Form) -> bool
 
 /// The text of a property. None where the property is absent or no text, or the tree is no object.
 /// Takes no memory.
-pub fn text_at<'a>(object: &'a Tree, name: &str) -> Option<&'a str>
+pub fn text_at<'a>(object: &'a Json, name: &str) -> Option<&'a str>
     ensures { option_map (λ text. text.now) result ≡ text_under name.now (data_of object.now) }
 {
     text_of(get(object, name)?)

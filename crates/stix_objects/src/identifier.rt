@@ -11,7 +11,7 @@ use crate::Rule;
 use crate::condition::text_at;
 use crate::single::text_of;
 use stix_ids::Parts;
-use stix_json::Tree;
+use stix_json::Json;
 
 /// The identifier that a text is, which is the only one.
 fn identifier_of(text: &str) -> Option<Parts<'_>>
@@ -22,7 +22,7 @@ fn identifier_of(text: &str) -> Option<Parts<'_>>
 }
 
 /// What a value breaks of an identifier of any kind.
-pub(crate) fn judge_any_reference(value: &Tree) -> Option<Rule>
+pub(crate) fn judge_any_reference(value: &Json) -> Option<Rule>
     ensures { JudgesSingle any_reference (data_of value.now) result }
 {
     let Some(text) = text_of(value) else {
@@ -35,7 +35,7 @@ pub(crate) fn judge_any_reference(value: &Tree) -> Option<Rule>
 }
 
 /// What a value breaks of an identifier of one of these kinds.
-pub(crate) fn judge_reference(kinds: &[&str], value: &Tree) -> Option<Rule>
+pub(crate) fn judge_reference(kinds: &[&str], value: &Json) -> Option<Rule>
     ensures { JudgesSingle (reference (map (λ kind. kind.now) kinds.now)) (data_of value.now) result }
 {
     let Some(text) = text_of(value) else {
@@ -52,7 +52,7 @@ pub(crate) fn judge_reference(kinds: &[&str], value: &Tree) -> Option<Rule>
 }
 
 /// What a value breaks of the identifier of an object of that type, where it tells one.
-pub(crate) fn judge_own_id(own: Option<&str>, value: &Tree) -> Option<Rule>
+pub(crate) fn judge_own_id(own: Option<&str>, value: &Json) -> Option<Rule>
     ensures { JudgesOwnId (option_map (λ kind. kind.now) own.entry) (data_of value.now) result }
 {
     let Some(text) = text_of(value) else {
@@ -78,7 +78,7 @@ fn names_own(own: Option<&str>, text: &str) -> bool
 }
 
 /// Whether the object has an identifier with that number.
-pub(crate) fn has_number(object: &Tree, number: u128) -> bool
+pub(crate) fn has_number(object: &Json, number: u128) -> bool
     ensures { IsTrue result ↔ HasNumber (data_of object.now) number }
 {
     let Some(text) = text_at(object, "id") else {

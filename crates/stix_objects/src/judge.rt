@@ -17,10 +17,10 @@ use crate::marking::{has_other_colour, lacks_colour, lacks_statement};
 use crate::moment::{is_earlier, is_not_later};
 use crate::records::lacks_all;
 use crate::row::Row;
-use stix_json::{Tree, get};
+use stix_json::{Json, get};
 
 /// What an object breaks of a row.
-pub(crate) fn judge(row: &Row, object: &Tree) -> Option<Finding>
+pub(crate) fn judge(row: &Row, object: &Json) -> Option<Finding>
     ensures { Judges (row_view row.now) (data_of object.now) (option_map finding_view result) }
 {
     match row {
@@ -62,7 +62,7 @@ pub(crate) fn judge(row: &Row, object: &Tree) -> Option<Finding>
 }
 
 /// What an object breaks of a property in that form, which is required or not.
-fn judge_property(required: bool, name: &'static str, form: &Form, object: &Tree) -> Option<Finding>
+fn judge_property(required: bool, name: &'static str, form: &Form, object: &Json) -> Option<Finding>
     ensures { JudgesValue (IsTrue required) name.now (JudgesForm (form_view form.now))
         (member_of name.now (data_of object.now)) (option_map finding_view result) }
 {
@@ -76,7 +76,7 @@ fn judge_property(required: bool, name: &'static str, form: &Form, object: &Tree
 }
 
 /// What an object breaks of its identifier, which is of its type.
-fn judge_id(object: &Tree) -> Option<Finding>
+fn judge_id(object: &Json) -> Option<Finding>
     ensures { Judges own_id (data_of object.now) (option_map finding_view result) }
 {
     let Some(id) = get(object, "id") else {

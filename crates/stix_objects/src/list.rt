@@ -10,10 +10,10 @@ use crate::form::{Form, Single};
 use crate::found::{Fault, Flaw};
 use crate::records::judge_records;
 use crate::single::judge_single;
-use stix_json::Tree;
+use stix_json::Json;
 
 /// What a property's value breaks of its form.
-pub(crate) fn judge_form(form: &Form, value: &Tree) -> Option<Fault>
+pub(crate) fn judge_form(form: &Form, value: &Json) -> Option<Fault>
     ensures { JudgesForm (form_view form.now) (data_of value.now) (option_map fault_view result) }
 {
     match form {
@@ -23,7 +23,7 @@ pub(crate) fn judge_form(form: &Form, value: &Tree) -> Option<Fault>
     }
 }
 
-fn judge_here(single: &Single, value: &Tree) -> Option<Fault>
+fn judge_here(single: &Single, value: &Json) -> Option<Fault>
     ensures { JudgesHere (single_view single.now) (data_of value.now) (option_map fault_view result) }
 {
     match judge_single(single, value) {
@@ -32,17 +32,17 @@ fn judge_here(single: &Single, value: &Tree) -> Option<Fault>
     }
 }
 
-fn judge_list(single: &Single, value: &Tree) -> Option<Fault>
+fn judge_list(single: &Single, value: &Json) -> Option<Fault>
     ensures { JudgesForm (list (single_view single.now)) (data_of value.now) (option_map fault_view result) }
 {
-    let Tree::Row(items) = value else {
+    let Json::Array(items) = value else {
         return Some(Fault::here(Rule::WrongKind));
     };
     judge_filled(single, items.as_slice())
 }
 
 /// What a list breaks that must have an item.
-pub(crate) fn judge_filled(single: &Single, items: &[Tree]) -> Option<Fault>
+pub(crate) fn judge_filled(single: &Single, items: &[Json]) -> Option<Fault>
     ensures { JudgesList (JudgesHere (single_view single.now)) (items_of (map data_of items.now))
         (option_map fault_view result) }
 {
@@ -53,7 +53,7 @@ pub(crate) fn judge_filled(single: &Single, items: &[Tree]) -> Option<Fault>
 }
 
 /// What the first item breaks that breaks something.
-fn first_broken(single: &Single, items: &[Tree]) -> Option<Fault>
+fn first_broken(single: &Single, items: &[Json]) -> Option<Fault>
     ensures { JudgesItems (JudgesHere (single_view single.now)) 0 (items_of (map data_of items.now))
         (option_map fault_view result) }
 {

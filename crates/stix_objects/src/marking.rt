@@ -5,24 +5,24 @@ ghost use Rattle.stix_objects.specs.Rows.{LacksStatement, LacksColour};
 
 use crate::condition::text_at;
 use crate::identifier::{has_number, judge_own_id};
-use stix_json::{Tree, get};
+use stix_json::{Json, get};
 
 /// Whether the object is a marking by a statement and lacks its text.
-pub(crate) fn lacks_statement(object: &Tree) -> bool
+pub(crate) fn lacks_statement(object: &Json) -> bool
     ensures { IsTrue result ↔ LacksStatement (data_of object.now) }
 {
     is_marking(object, "statement") && defined_text(object, "statement").is_none()
 }
 
 /// Whether the object is a marking by a colour and lacks one of the four.
-pub(crate) fn lacks_colour(object: &Tree) -> bool
+pub(crate) fn lacks_colour(object: &Json) -> bool
     ensures { IsTrue result ↔ LacksColour (data_of object.now) }
 {
     is_marking(object, "tlp") && defined_colour(object).is_none()
 }
 
 /// Whether the object is a marking by a colour and hasn't that colour's identifier.
-pub(crate) fn has_other_colour(object: &Tree) -> bool
+pub(crate) fn has_other_colour(object: &Json) -> bool
     ensures { IsTrue result ↔ HasOtherColour (data_of object.now) }
 {
     match defined_colour(object) {
@@ -34,24 +34,24 @@ pub(crate) fn has_other_colour(object: &Tree) -> bool
 }
 
 /// Whether the object is a marking of the type, and its definition, if there is one, an object.
-fn is_marking(object: &Tree, definition_type: &str) -> bool
+fn is_marking(object: &Json, definition_type: &str) -> bool
     ensures { IsTrue result ↔ IsMarking definition_type.now (data_of object.now) }
 {
     text_at(object, "definition_type") == Some(definition_type) && defines_object_or_none(object)
 }
 
 /// Whether the object's definition, if there is one, is an object.
-fn defines_object_or_none(object: &Tree) -> bool
+fn defines_object_or_none(object: &Json) -> bool
     ensures { IsTrue result ↔ DefinesObjectOrNone (data_of object.now) }
 {
     match get(object, "definition") {
-        Some(Tree::Fields(_)) | None => true,
-        Some(Tree::Truth(_) | Tree::Whole(_) | Tree::Words(_) | Tree::Row(_)) => false,
+        Some(Json::Object(_)) | None => true,
+        Some(Json::Bool(_) | Json::Integer(_) | Json::String(_) | Json::Array(_)) => false,
     }
 }
 
 /// Whether the object's identifier, if there is one, is of its type.
-fn has_own_id_or_none(object: &Tree) -> bool
+fn has_own_id_or_none(object: &Json) -> bool
     ensures { IsTrue result ↔ HasOwnIdOrNone (data_of object.now) }
 {
     match get(object, "id") {
@@ -61,14 +61,14 @@ fn has_own_id_or_none(object: &Tree) -> bool
 }
 
 /// A text of the definition.
-fn defined_text<'a>(object: &'a Tree, name: &str) -> Option<&'a str>
+fn defined_text<'a>(object: &'a Json, name: &str) -> Option<&'a str>
     ensures { option_map (λ text. text.now) result ≡ text_defined name.now (data_of object.now) }
 {
     text_at(get(object, "definition")?, name)
 }
 
 /// The number of the identifier of the colour that the marking defines.
-fn defined_colour(object: &Tree) -> Option<u128>
+fn defined_colour(object: &Json) -> Option<u128>
     ensures { result ≡ colour_defined (data_of object.now) }
 {
     number_of(defined_text(object, "tlp")?)

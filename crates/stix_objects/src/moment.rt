@@ -11,10 +11,10 @@ use crate::form::Precision;
 use crate::single::text_of;
 use stix_times::laws::is_before;
 use stix_times::{Instant, TimeRefusal, read, read_millis};
-use stix_json::Tree;
+use stix_json::Json;
 
 /// What a value breaks of a timestamp.
-pub(crate) fn judge_moment(precision: Precision, value: &Tree) -> Option<Rule>
+pub(crate) fn judge_moment(precision: Precision, value: &Json) -> Option<Rule>
     ensures { JudgesSingle (moment precision) (data_of value.now) result }
 {
     let Some(text) = text_of(value) else {
@@ -85,7 +85,7 @@ fn millis_of(text: &str) -> Option<Instant>
 }
 
 /// The instant of a property.
-fn moment_at(object: &Tree, precision: Precision, name: &str) -> Option<Instant>
+fn moment_at(object: &Json, precision: Precision, name: &str) -> Option<Instant>
     ensures there { IfSome result (IsAt precision name.now (data_of object.now)) }
     ensures only { (instant : ℤ) → IsAt precision name.now (data_of object.now) instant
         → result ≡ Some instant }
@@ -94,7 +94,7 @@ fn moment_at(object: &Tree, precision: Precision, name: &str) -> Option<Instant>
 }
 
 /// Whether both properties are timestamps, and the second is earlier than the first.
-pub(crate) fn is_earlier(object: &Tree, precision: Precision, first: &str, second: &str) -> bool
+pub(crate) fn is_earlier(object: &Json, precision: Precision, first: &str, second: &str) -> bool
     ensures { IsTrue result ↔ IsEarlier precision first.now second.now (data_of object.now) }
 {
     let Some(from) = moment_at(object, precision, first) else {
@@ -107,7 +107,7 @@ pub(crate) fn is_earlier(object: &Tree, precision: Precision, first: &str, secon
 }
 
 /// Whether both properties are timestamps, and the second isn't later than the first.
-pub(crate) fn is_not_later(object: &Tree, precision: Precision, first: &str, second: &str) -> bool
+pub(crate) fn is_not_later(object: &Json, precision: Precision, first: &str, second: &str) -> bool
     ensures { IsTrue result ↔ IsNotLater precision first.now second.now (data_of object.now) }
 {
     let Some(from) = moment_at(object, precision, first) else {

@@ -10,13 +10,13 @@ use crate::form::{Part, Single};
 use crate::found::{Fault, Flaw};
 use crate::list::judge_filled;
 use crate::single::judge_single;
-use stix_json::{Tree, get};
+use stix_json::{Json, get};
 
 /// What a value breaks of a list of objects with these parts.
-pub(crate) fn judge_records(parts: &[Part], value: &Tree) -> Option<Fault>
+pub(crate) fn judge_records(parts: &[Part], value: &Json) -> Option<Fault>
     ensures { JudgesForm (records (map part_view parts.now)) (data_of value.now) (option_map fault_view result) }
 {
-    let Tree::Row(items) = value else {
+    let Json::Array(items) = value else {
         return Some(Fault::here(Rule::WrongKind));
     };
     match judge_filled(&Single::Fields, items.as_slice()) {
@@ -26,7 +26,7 @@ pub(crate) fn judge_records(parts: &[Part], value: &Tree) -> Option<Fault>
 }
 
 /// What the first object breaks that breaks one of the parts.
-fn first_flawed(parts: &[Part], items: &[Tree]) -> Option<Fault>
+fn first_flawed(parts: &[Part], items: &[Json]) -> Option<Fault>
     ensures { JudgesItems (JudgesParts (map part_view parts.now)) 0 (items_of (map data_of items.now))
         (option_map fault_view result) }
 {
@@ -39,7 +39,7 @@ fn first_flawed(parts: &[Part], items: &[Tree]) -> Option<Fault>
 }
 
 /// What an object breaks of the first part that it breaks.
-fn judge_parts(parts: &[Part], object: &Tree) -> Option<Flaw>
+fn judge_parts(parts: &[Part], object: &Json) -> Option<Flaw>
     ensures { JudgesParts (map part_view parts.now) (data_of object.now) (option_map flaw_view result) }
 {
     for part in parts {
@@ -50,7 +50,7 @@ fn judge_parts(parts: &[Part], object: &Tree) -> Option<Flaw>
     None
 }
 
-fn judge_part(part: &Part, object: &Tree) -> Option<Flaw>
+fn judge_part(part: &Part, object: &Json) -> Option<Flaw>
     ensures { JudgesPart (part_view part.now) (data_of object.now) (option_map flaw_view result) }
 {
     match part {
@@ -79,7 +79,7 @@ fn judge_part(part: &Part, object: &Tree) -> Option<Flaw>
 }
 
 /// What the value of a part breaks of its form.
-fn judge_in(name: &'static str, single: &Single, value: &Tree) -> Option<Flaw>
+fn judge_in(name: &'static str, single: &Single, value: &Json) -> Option<Flaw>
     ensures { JudgesUnder name.now (JudgesHere (single_view single.now) (data_of value.now))
         (option_map flaw_view result) }
 {
@@ -93,7 +93,7 @@ fn judge_in(name: &'static str, single: &Single, value: &Tree) -> Option<Flaw>
 }
 
 /// Whether none of the properties is there.
-pub(crate) fn lacks_all(object: &Tree, names: &[&str]) -> bool
+pub(crate) fn lacks_all(object: &Json, names: &[&str]) -> bool
     ensures { IsTrue result ↔ LacksAll (map (λ name. name.now) names.now) (data_of object.now) }
 {
     for name in names {

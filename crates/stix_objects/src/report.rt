@@ -16,16 +16,16 @@ use crate::tables::common::common_rows;
 use crate::{Break, Group, Rule};
 use flow_values::{Items, NoMemory, Text};
 use std::alloc::Global;
-use stix_json::Tree;
+use stix_json::Json;
 
 /// The breaks of a value: one for each row of its type that it doesn't meet, in the order of the
 /// rows, the common ones first. A value that is no object has one break.
-pub fn breaks(alloc: Global, tree: &Tree) -> Result<Items<Break>, NoMemory>
+pub fn breaks(alloc: Global, tree: &Json) -> Result<Items<Break>, NoMemory>
     ensures { IfOk result (λ found. AreBreaksOf (data_of tree.now) found) }
 {
     match tree {
-        Tree::Fields(_) => object_breaks(alloc, tree),
-        Tree::Truth(_) | Tree::Whole(_) | Tree::Words(_) | Tree::Row(_) => not_object(alloc),
+        Json::Object(_) => object_breaks(alloc, tree),
+        Json::Bool(_) | Json::Integer(_) | Json::String(_) | Json::Array(_) => not_object(alloc),
     }
 }
 
@@ -42,7 +42,7 @@ fn not_object(alloc: Global) -> Result<Items<Break>, NoMemory>
 }
 
 /// The breaks of the rows of an object's type.
-fn object_breaks(alloc: Global, object: &Tree) -> Result<Items<Break>, NoMemory>
+fn object_breaks(alloc: Global, object: &Json) -> Result<Items<Break>, NoMemory>
     ensures { IfOk result (λ found. AreBreaksBy (rows_for (type_of (data_of object.now)))
         (data_of object.now) found) }
 {
@@ -62,7 +62,7 @@ fn object_breaks(alloc: Global, object: &Tree) -> Result<Items<Break>, NoMemory>
 }
 
 /// The type of an object, where its rows are stated.
-fn object_type(object: &Tree) -> Option<&'static ObjectType>
+fn object_type(object: &Json) -> Option<&'static ObjectType>
     ensures { option_map (λ found. type_view found.now) result ≡ type_of (data_of object.now) }
 {
     type_named(text_at(object, "type")?)
@@ -74,7 +74,7 @@ fn add_common(
     commons: &[CommonRow],
     group: Group,
     own: &[Row],
-    object: &Tree,
+    object: &Json,
     found: &mut Items<Break>,
 ) -> Result<(), NoMemory>
     ensures { OnOk result (Adds
@@ -93,7 +93,7 @@ fn add_standing(
     common: &CommonRow,
     group: Group,
     own: &[Row],
-    object: &Tree,
+    object: &Json,
     found: &mut Items<Break>,
 ) -> Result<(), NoMemory>
     ensures { OnOk result (Adds
@@ -110,7 +110,7 @@ fn add_standing(
 fn add_own(
     alloc: Global,
     rows: &[Row],
-    object: &Tree,
+    object: &Json,
     found: &mut Items<Break>,
 ) -> Result<(), NoMemory>
     ensures { OnOk result (Adds (map row_view rows.now) (data_of object.now) found.old found.new) }
@@ -125,7 +125,7 @@ fn add_own(
 fn add_break(
     alloc: Global,
     row: &Row,
-    object: &Tree,
+    object: &Json,
     found: &mut Items<Break>,
 ) -> Result<(), NoMemory>
     ensures { OnOk result (AddsOne (row_view row.now) (data_of object.now) found.old found.new) }

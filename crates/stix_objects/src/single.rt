@@ -10,10 +10,10 @@ use crate::form::Single;
 use crate::identifier::{judge_any_reference, judge_reference};
 use crate::moment::judge_moment;
 use stix_ids::read_kind;
-use stix_json::{Field, Tree};
+use stix_json::{Field, Json};
 
 /// What a value breaks of its form.
-pub(crate) fn judge_single(single: &Single, value: &Tree) -> Option<Rule>
+pub(crate) fn judge_single(single: &Single, value: &Json) -> Option<Rule>
     ensures { JudgesSingle (single_view single.now) (data_of value.now) result }
 {
     match single {
@@ -32,16 +32,16 @@ pub(crate) fn judge_single(single: &Single, value: &Tree) -> Option<Rule>
 }
 
 /// The text that a value is.
-pub(crate) fn text_of(value: &Tree) -> Option<&str>
+pub(crate) fn text_of(value: &Json) -> Option<&str>
     ensures { option_map (λ text. text.now) result ≡ as_str (data_of value.now) }
 {
     match value {
-        Tree::Words(words) => Some(words.as_str()),
-        Tree::Truth(_) | Tree::Whole(_) | Tree::Row(_) | Tree::Fields(_) => None,
+        Json::String(words) => Some(words.as_str()),
+        Json::Bool(_) | Json::Integer(_) | Json::Array(_) | Json::Object(_) => None,
     }
 }
 
-fn judge_text(value: &Tree) -> Option<Rule>
+fn judge_text(value: &Json) -> Option<Rule>
     ensures { JudgesSingle words (data_of value.now) result }
 {
     match text_of(value) {
@@ -50,7 +50,7 @@ fn judge_text(value: &Tree) -> Option<Rule>
     }
 }
 
-fn judge_kind(value: &Tree) -> Option<Rule>
+fn judge_kind(value: &Json) -> Option<Rule>
     ensures { JudgesSingle kind_form (data_of value.now) result }
 {
     let Some(text) = text_of(value) else {
@@ -62,7 +62,7 @@ fn judge_kind(value: &Tree) -> Option<Rule>
     }
 }
 
-fn judge_version(value: &Tree) -> Option<Rule>
+fn judge_version(value: &Json) -> Option<Rule>
     ensures { JudgesSingle version_form (data_of value.now) result }
 {
     let Some(text) = text_of(value) else {
@@ -75,7 +75,7 @@ fn judge_version(value: &Tree) -> Option<Rule>
     }
 }
 
-fn judge_word(known: &[&str], value: &Tree) -> Option<Rule>
+fn judge_word(known: &[&str], value: &Json) -> Option<Rule>
     ensures { JudgesSingle (one_of (map (λ word. word.now) known.now)) (data_of value.now) result }
 {
     let Some(text) = text_of(value) else {
@@ -88,19 +88,19 @@ fn judge_word(known: &[&str], value: &Tree) -> Option<Rule>
     }
 }
 
-fn judge_flag(value: &Tree) -> Option<Rule>
+fn judge_flag(value: &Json) -> Option<Rule>
     ensures { JudgesSingle truth (data_of value.now) result }
 {
     match value {
-        Tree::Truth(_) => None,
-        Tree::Whole(_) | Tree::Words(_) | Tree::Row(_) | Tree::Fields(_) => Some(Rule::WrongKind),
+        Json::Bool(_) => None,
+        Json::Integer(_) | Json::String(_) | Json::Array(_) | Json::Object(_) => Some(Rule::WrongKind),
     }
 }
 
-fn judge_whole(least: i64, most: i64, value: &Tree) -> Option<Rule>
+fn judge_whole(least: i64, most: i64, value: &Json) -> Option<Rule>
     ensures { JudgesSingle (within least most) (data_of value.now) result }
 {
-    let Tree::Whole(whole) = value else {
+    let Json::Integer(whole) = value else {
         return Some(Rule::WrongKind);
     };
     if *whole < least || *whole > most {
@@ -109,21 +109,21 @@ fn judge_whole(least: i64, most: i64, value: &Tree) -> Option<Rule>
     None
 }
 
-fn judge_fields(value: &Tree) -> Option<Rule>
+fn judge_fields(value: &Json) -> Option<Rule>
     ensures { JudgesSingle object (data_of value.now) result }
 {
     match value {
-        Tree::Fields(_) => None,
-        Tree::Truth(_) | Tree::Whole(_) | Tree::Words(_) | Tree::Row(_) => Some(Rule::WrongKind),
+        Json::Object(_) => None,
+        Json::Bool(_) | Json::Integer(_) | Json::String(_) | Json::Array(_) => Some(Rule::WrongKind),
     }
 }
 
-fn judge_hashes(value: &Tree) -> Option<Rule>
+fn judge_hashes(value: &Json) -> Option<Rule>
     ensures { JudgesSingle texts_by_name (data_of value.now) result }
 {
     match value {
-        Tree::Fields(hashes) => judge_texts(hashes.as_slice()),
-        Tree::Truth(_) | Tree::Whole(_) | Tree::Words(_) | Tree::Row(_) => Some(Rule::WrongKind),
+        Json::Object(hashes) => judge_texts(hashes.as_slice()),
+        Json::Bool(_) | Json::Integer(_) | Json::String(_) | Json::Array(_) => Some(Rule::WrongKind),
     }
 }
 

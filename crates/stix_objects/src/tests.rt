@@ -9,11 +9,11 @@ use flow_values::{NoMemory, Text};
 use std::alloc::Global;
 use std::process::Abort;
 use std::test::Fail;
-use stix_json::read_tree;
+use stix_json::read_json;
 
 /// The breaks of the value that bytes are: rules and paths, parted by semicolons.
 fn told(alloc: Global, bytes: &[u8]) -> Result<Text, NoMemory> {
-    match read_tree(alloc, bytes) {
+    match read_json(alloc, bytes) {
         Ok(tree) => joined(alloc, breaks(alloc, &tree)?.as_slice()),
         Err(refusal) => Ok(Text::from_string(format!(in alloc; "{refusal}")?)),
     }

@@ -6,8 +6,8 @@ use denote.Ref.{Bor}
 use Rattle.serde_json.specs.Data.{Data, array}
 use Rattle.serde_json.specs.Find.{at as at_place, get_item}
 use Rattle.serde_json.specs.View.{items_of}
-use Rattle.stix_json.specs.declared.tree.Tree.{Tree, the_lemmas}
-use Rattle.stix_json.specs.declared.tree.Tree.TheVariants as tree
+use Rattle.stix_json.specs.declared.value.Json.{Json, the_lemmas}
+use Rattle.stix_json.specs.declared.value.Json.TheVariants as json
 use Rattle.stix_json.specs.DataOf.{data_of}
 use Rattle.stix_bundles.specs.Bundle.{listed}
 use Rattle.stix_bundles.specs.Objects.{data_in}
@@ -16,25 +16,25 @@ pub listed_items : (ds : List Data) → listed (items_of ds) ≡ ds
 listed_items [] = refl
 listed_items (d ∷ ds) = ap (λ (rest : List Data). d ∷ rest) (listed_items ds)
 
-pub data_of-Row : (items : List Tree) → data_of (tree.Row items) ≡ array (items_of (data_in items))
-data_of-Row items = search (rules, the_lemmas)
+pub data_of-Array : (items : List Json) → data_of (json.Array items) ≡ array (items_of (data_in items))
+data_of-Array items = search (rules, the_lemmas)
 
 item_of_list : (ds : List Data) (n : ℕ) → get_item n (items_of ds) ≡ slice_get ds n
 item_of_list [] n = refl
 item_of_list (d ∷ ds) zero = refl
 item_of_list (d ∷ ds) (suc n) = item_of_list ds n
 
-data_within : (found : Option (Bor Tree)) → option_map (λ item. data_of item.now) found ≡ option_map data_of (option_map (λ item. item.now) found)
+data_within : (found : Option (Bor Json)) → option_map (λ item. data_of item.now) found ≡ option_map data_of (option_map (λ item. item.now) found)
 data_within None = refl
 data_within (Some item) = refl
 
-pub item_read : (value : Tree) (items : List Tree) → value ≡ tree.Row items → (n : ℕ) (found : Option (Bor Tree))
+pub item_read : (value : Json) (items : List Json) → value ≡ json.Array items → (n : ℕ) (found : Option (Bor Json))
     → option_map (λ item. item.now) found ≡ slice_get items n → option_map (λ item. data_of item.now) found ≡ at_place n (data_of value)
 item_read value items row n found is =
-    data_within found ∙ ap (λ (o : Option Tree). option_map data_of o) is ∙ sym (slice_get-map data_of items n) ∙ sym (item_of_list (data_in items) n)
-    ∙ sym (ap (at_place n) (data_of-Row items)) ∙ sym (ap (λ (t : Tree). at_place n (data_of t)) row)
+    data_within found ∙ ap (λ (o : Option Json). option_map data_of o) is ∙ sym (slice_get-map data_of items n) ∙ sym (item_of_list (data_in items) n)
+    ∙ sym (ap (at_place n) (data_of-Array items)) ∙ sym (ap (λ (t : Json). at_place n (data_of t)) row)
 
-pub item_looked_up : (items : List Tree) (at : ℕ) (found : Option (Bor Tree)) → IfSome found (λ item. item.now ≡ get_or items at item.now)
+pub item_looked_up : (items : List Json) (at : ℕ) (found : Option (Bor Json)) → IfSome found (λ item. item.now ≡ get_or items at item.now)
     → MatchOption found (length items ≤ at) (λ item. (at < length items) × HoldsAt (λ t. item.now ≡ t) items at) → option_map (λ item. item.now) found ≡ slice_get items at
 item_looked_up items at None read within = sym (slice_get_past items at within)
 item_looked_up items at (Some item) read within = sym (slice_get_read items (length items) at item.now refl within.0 read)

@@ -5,7 +5,7 @@ use Rattle.std.proofs.lemmas.List.Elements.{All-nil, All-cons, All-head, All-tai
 use Rattle.serde_json.specs.Data.{Data, Items, string}
 use Rattle.serde_json.specs.Find.{get, as_array, as_str}
 use Rattle.serde_json.specs.View.{items_of}
-use Rattle.stix_json.specs.declared.tree.Tree.{Tree}
+use Rattle.stix_json.specs.declared.value.Json.{Json}
 use Rattle.stix_json.specs.DataOf.{data_of}
 use Rattle.stix_bundles.specs.Bundle.{listed}
 use Rattle.stix_bundles.specs.Objects.{data_in}
@@ -31,45 +31,45 @@ lists_them marking ds is texts same some =
     let found = list_value (get (codes "selectors") marking) (items_of ds) is in
     record { value = found.0; items = items_of ds; there = found.1; list = found.2; texts_are = listed_items ds ∙ same; some = some }
 
-abbrev pub AllSelectorTexts : List Tree → Type 0
-AllSelectorTexts trees = All (λ (tree : Tree). IsSelectorText (data_of tree)) trees
+abbrev pub AllSelectorTexts : List Json → Type 0
+AllSelectorTexts trees = All (λ (tree : Json). IsSelectorText (data_of tree)) trees
 
-pub texts_of_all : (trees : List Tree) → AllSelectorTexts trees → (texts : List (List ℕ)) × (data_in trees ≡ map string texts) × AreSelectors texts
+pub texts_of_all : (trees : List Json) → AllSelectorTexts trees → (texts : List (List ℕ)) × (data_in trees ≡ map string texts) × AreSelectors texts
 texts_of_all [] all = ([], refl, tt)
 texts_of_all (tree ∷ trees) all =
-    let first = All-head (λ (t : Tree). IsSelectorText (data_of t)) tree trees all in
-    let rest = texts_of_all trees (All-tail (λ (t : Tree). IsSelectorText (data_of t)) tree trees all) in (
+    let first = All-head (λ (t : Json). IsSelectorText (data_of t)) tree trees all in
+    let rest = texts_of_all trees (All-tail (λ (t : Json). IsSelectorText (data_of t)) tree trees all) in (
       first.text ∷ rest.0,
       ap (λ (d : Data). d ∷ data_in trees) first.is_text ∙ ap (λ (ds : List Data). string first.text ∷ ds) rest.1,
       ((first.parts, first.selector), rest.2),
     )
 
-pub all_of_texts : (trees : List Tree) (texts : List (List ℕ)) → data_in trees ≡ map string texts → AreSelectors texts → AllSelectorTexts trees
-all_of_texts [] texts same are = All-nil (λ (t : Tree). IsSelectorText (data_of t))
+pub all_of_texts : (trees : List Json) (texts : List (List ℕ)) → data_in trees ≡ map string texts → AreSelectors texts → AllSelectorTexts trees
+all_of_texts [] texts same are = All-nil (λ (t : Json). IsSelectorText (data_of t))
 all_of_texts (tree ∷ trees) [] same are = absurd cc
 all_of_texts (tree ∷ trees) (text ∷ texts) same are =
     let first : data_of tree ≡ string text = cc in
     let rest : data_in trees ≡ map string texts = cc in
-    All-cons (λ (t : Tree). IsSelectorText (data_of t)) tree trees (record { text = text; parts = are.0.0; is_text = first; selector = are.0.1 })
+    All-cons (λ (t : Json). IsSelectorText (data_of t)) tree trees (record { text = text; parts = are.0.0; is_text = first; selector = are.0.1 })
     (all_of_texts trees texts rest are.1)
 
 text_of_some : (o : Option (List ℕ)) (text : List ℕ) → option_map string o ≡ Some (string text) → o ≡ Some text
 text_of_some None text is = absurd cc
 text_of_some (Some other) text is = ap Some (same_text other text (same_Some (string other) (string text) is))
 
-tree_of_some : (o : Option Tree) (d : Data) → option_map data_of o ≡ Some d → (tree : Tree) × (o ≡ Some tree) × (data_of tree ≡ d)
+tree_of_some : (o : Option Json) (d : Data) → option_map data_of o ≡ Some d → (tree : Json) × (o ≡ Some tree) × (data_of tree ≡ d)
 tree_of_some None d is = absurd cc
 tree_of_some (Some tree) d is = (tree, refl, same_Some (data_of tree) d is)
 
-pub misses_of_any : (d marking : Data) (trees : List Tree) (texts : List (List ℕ)) → ListsSelectors marking texts → data_in trees ≡ map string texts
-    → Any (λ (tree : Tree). Misses d (data_of tree)) trees → MissesOne d marking
+pub misses_of_any : (d marking : Data) (trees : List Json) (texts : List (List ℕ)) → ListsSelectors marking texts → data_in trees ≡ map string texts
+    → Any (λ (tree : Json). Misses d (data_of tree)) trees → MissesOne d marking
 misses_of_any d marking trees texts lists same any =
     let k = any.0 in
     let tree = any.1 in
     let missed = any.4 in
     let there : slice_get trees k ≡ Some tree = slice_get_read trees (length trees) k tree refl any.2 (sym any.3) in
     let value : slice_get (map string texts) k ≡ Some (string missed.text) =
-    ap (λ (ds : List Data). slice_get ds k) (sym same) ∙ slice_get-map data_of trees k ∙ ap (λ (o : Option Tree). option_map data_of o) there ∙ ap Some missed.is_text in
+    ap (λ (ds : List Data). slice_get ds k) (sym same) ∙ slice_get-map data_of trees k ∙ ap (λ (o : Option Json). option_map data_of o) there ∙ ap Some missed.is_text in
     let text : slice_get texts k ≡ Some missed.text = text_of_some (slice_get texts k) missed.text (sym (slice_get-map string texts k) ∙ value) in
     record {
       texts = texts;
@@ -81,8 +81,8 @@ misses_of_any d marking trees texts lists same any =
       missing = missed.missing;
     }
 
-pub any_of_misses : (d marking : Data) (trees : List Tree) → IsListAt (codes "selectors") marking (data_in trees) → MissesOne d marking
-    → Any (λ (tree : Tree). Misses d (data_of tree)) trees
+pub any_of_misses : (d marking : Data) (trees : List Json) → IsListAt (codes "selectors") marking (data_in trees) → MissesOne d marking
+    → Any (λ (tree : Json). Misses d (data_of tree)) trees
 any_of_misses d marking trees is one =
     let k = one.one.0 in
     let same = texts_are marking (data_in trees) is one.texts one.lists in

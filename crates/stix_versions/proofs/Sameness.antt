@@ -4,12 +4,12 @@ use Rattle.std.proofs.lemmas.Option.{slice_get-map, slice_get_read, get_or_from_
 use Rattle.std.proofs.lemmas.List.{take_more, take_all, map-append}
 use Rattle.serde_json.specs.Data.{Data, array, object}
 use Rattle.serde_json.specs.View.{items_of}
-use Rattle.stix_json.specs.declared.tree.Tree.{Tree, the_lemmas}
-use Rattle.stix_json.specs.declared.tree.Tree.TheVariants as tree
-use Rattle.stix_json.specs.declared.tree.Field.{Field}
+use Rattle.stix_json.specs.declared.value.Json.{Json, the_lemmas}
+use Rattle.stix_json.specs.declared.value.Json.TheVariants as json
+use Rattle.stix_json.specs.declared.value.Field.{Field}
 use Rattle.stix_json.specs.DataOf.{Member, members_of, data_of, field_data}
 use Rattle.stix_versions.proofs.Seeing.{one_some}
-use Rattle.stix_versions.proofs.Items.{data_of-Row}
+use Rattle.stix_versions.proofs.Items.{data_of-Array}
 
 read_at : {A : Type 0} (xs : List A) (at : ℕ) (x : A) → at < length xs → x ≡ slice_index_or xs at x → slice_get xs at ≡ Some x
 read_at xs at x inside is = slice_get_read xs (length xs) at x refl inside is
@@ -65,28 +65,28 @@ same_array xs ys is = let inside : items_of xs ≡ items_of ys = cc in one_items
 pub same_object : (xs ys : List Member) → object (members_of xs) ≡ object (members_of ys) → xs ≡ ys
 same_object xs ys is = let inside : members_of xs ≡ members_of ys = cc in one_members xs ys inside
 
-data_of-Fields : (fields : List Field) → data_of (tree.Fields fields) ≡ object (members_of (map field_data fields))
-data_of-Fields fields = search (rules, the_lemmas)
+data_of-Object : (fields : List Field) → data_of (json.Object fields) ≡ object (members_of (map field_data fields))
+data_of-Object fields = search (rules, the_lemmas)
 
 -- two lists are the same value where their items are
-pub same_rows : (first second : Tree) (xs ys read also : List Tree) → first ≡ tree.Row xs → second ≡ tree.Row ys → read ≡ xs → also ≡ ys → (told : Bool)
+pub same_rows : (first second : Json) (xs ys read also : List Json) → first ≡ json.Array xs → second ≡ json.Array ys → read ≡ xs → also ≡ ys → (told : Bool)
     → (IsTrue told ↔ (map data_of read ≡ map data_of also)) → IsTrue told ↔ (data_of first ≡ data_of second)
 same_rows first second xs ys read also is other reads reads_also told same =
-    let one : data_of first ≡ array (items_of (map data_of read)) = ap data_of is ∙ data_of-Row xs ∙ sym (ap (λ (zs : List Tree). array (items_of (map data_of zs))) reads) in
+    let one : data_of first ≡ array (items_of (map data_of read)) = ap data_of is ∙ data_of-Array xs ∙ sym (ap (λ (zs : List Json). array (items_of (map data_of zs))) reads) in
     let two : data_of second ≡ array (items_of (map data_of also)) =
-    ap data_of other ∙ data_of-Row ys ∙ sym (ap (λ (zs : List Tree). array (items_of (map data_of zs))) reads_also) in (
+    ap data_of other ∙ data_of-Array ys ∙ sym (ap (λ (zs : List Json). array (items_of (map data_of zs))) reads_also) in (
       λ yes. one ∙ ap (λ (ds : List Data). array (items_of ds)) (same.0 yes) ∙ sym two,
       λ equal. same.1 (same_array (map data_of read) (map data_of also) (sym one ∙ equal ∙ two)),
     )
 
 -- two objects are the same value where their fields are
-pub same_objects : (first second : Tree) (xs ys read also : List Field) → first ≡ tree.Fields xs → second ≡ tree.Fields ys → read ≡ xs → also ≡ ys
+pub same_objects : (first second : Json) (xs ys read also : List Field) → first ≡ json.Object xs → second ≡ json.Object ys → read ≡ xs → also ≡ ys
     → (told : Bool) → (IsTrue told ↔ (map field_data read ≡ map field_data also)) → IsTrue told ↔ (data_of first ≡ data_of second)
 same_objects first second xs ys read also is other reads reads_also told same =
     let one : data_of first ≡ object (members_of (map field_data read)) =
-    ap data_of is ∙ data_of-Fields xs ∙ sym (ap (λ (zs : List Field). object (members_of (map field_data zs))) reads) in
+    ap data_of is ∙ data_of-Object xs ∙ sym (ap (λ (zs : List Field). object (members_of (map field_data zs))) reads) in
     let two : data_of second ≡ object (members_of (map field_data also)) =
-    ap data_of other ∙ data_of-Fields ys ∙ sym (ap (λ (zs : List Field). object (members_of (map field_data zs))) reads_also) in (
+    ap data_of other ∙ data_of-Object ys ∙ sym (ap (λ (zs : List Field). object (members_of (map field_data zs))) reads_also) in (
       λ yes. one ∙ ap (λ (ms : List Member). object (members_of ms)) (same.0 yes) ∙ sym two,
       λ equal. same.1 (same_object (map field_data read) (map field_data also) (sym one ∙ equal ∙ two)),
     )

@@ -7,7 +7,7 @@ use Rattle.stix_times.specs.declared.refusal.TimeRefusal.{TimeRefusal}
 use Rattle.stix_times.specs.Reading.{IsMillisTextOf, ReadsMillis}
 use Rattle.stix_ids.specs.declared.id.Id.{Id}
 use Rattle.stix_ids.specs.Identifier.{IsTextOf}
-use Rattle.stix_json.specs.declared.tree.Tree.{Tree}
+use Rattle.stix_json.specs.declared.value.Json.{Json}
 use Rattle.stix_json.specs.DataOf.{data_of}
 use Rattle.stix_objects.specs.Conditions.{text_at}
 use Rattle.stix_bundles.specs.Objects.{data_in}
@@ -40,8 +40,8 @@ some_millis name d text there (Ok instant) ok o is =
     subst (λ (x : Option ℤ). IfSome x (IsMillisAt name d)) (sym is) (record { text = text; there = sym there; names = ok })
 some_millis name d text there (Err refusal) ok o is = subst (λ (x : Option ℤ). IfSome x (IsMillisAt name d)) (sym is) tt
 
-pub data_there : (trees : List Tree) (at : ℕ) (tree : Tree) → at < length trees → tree ≡ slice_index_or trees at tree → slice_get (data_in trees) at ≡ Some (data_of tree)
-data_there trees at tree inside is = slice_get-map data_of trees at ∙ ap (λ (x : Option Tree). option_map data_of x) (slice_get_read trees (length trees) at tree refl inside is)
+pub data_there : (trees : List Json) (at : ℕ) (tree : Json) → at < length trees → tree ≡ slice_index_or trees at tree → slice_get (data_in trees) at ≡ Some (data_of tree)
+data_there trees at tree inside is = slice_get-map data_of trees at ∙ ap (λ (x : Option Json). option_map data_of x) (slice_get_read trees (length trees) at tree refl inside is)
 
 -- a version at the place is one of the object there
 pub version_of : (objects : List Data) (at : ℕ) (d : Data) → slice_get objects at ≡ Some d → (id : Id) (created modified : ℤ) (other : Data)
@@ -99,6 +99,6 @@ seen_as objects at d there seen versioned text named means created modified revo
 }
 
 -- the object that the code reads
-pub object_there : (trees read : List Tree) → read ≡ trees → (at : ℕ) (tree : Tree) → at < length trees → tree ≡ slice_index_or read at tree
+pub object_there : (trees read : List Json) → read ≡ trees → (at : ℕ) (tree : Json) → at < length trees → tree ≡ slice_index_or read at tree
     → slice_get (data_in trees) at ≡ Some (data_of tree)
-object_there trees read same at tree inside is = data_there trees at tree inside (subst (λ (xs : List Tree). tree ≡ slice_index_or xs at tree) same is)
+object_there trees read same at tree inside is = data_there trees at tree inside (subst (λ (xs : List Json). tree ≡ slice_index_or xs at tree) same is)

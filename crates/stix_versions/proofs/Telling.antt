@@ -1,7 +1,7 @@
 -- The breaks of the first markings of an object, and of the first objects, one more.
 use Rattle.std.proofs.Common.{arith, ◌≡◌, ℕ, ◌+◌, ◌<◌, List, [], ◌∷◌, ◌++◌, length, map, take, slice_index_or, Option, option_to_list, append-nil, append_assoc, refl, sym, ap, subst, ◌∙◌}
 use Rattle.serde_json.specs.Data.{Data}
-use Rattle.stix_json.specs.declared.tree.Tree.{Tree}
+use Rattle.stix_json.specs.declared.value.Json.{Json}
 use Rattle.stix_json.specs.DataOf.{data_of}
 use Rattle.stix_bundles.specs.Objects.{data_in}
 use Rattle.stix_versions.specs.declared.marking_break.MarkingRule.{MarkingRule}
@@ -51,7 +51,7 @@ objects_more place (y ∷ ys) x breaks own all is =
     )
 
 -- the same in a loop over trees
-pub breaks_at : (place : ℕ) (d : Data) (trees : List Tree) (at : ℕ) (tree : Tree) (own : List MarkingBreak) (found : Option MarkingRule) → at < length trees
+pub breaks_at : (place : ℕ) (d : Data) (trees : List Json) (at : ℕ) (tree : Json) (own : List MarkingBreak) (found : Option MarkingRule) → at < length trees
     → tree ≡ slice_index_or trees at tree → AreBreaksOf place d 0 (take at (data_in trees)) own → IsBreakOf d (data_of tree) found
     → AreBreaksOf place d 0 (take (at + 1) (data_in trees)) (own ++ told place at found)
 breaks_at place d trees at tree own found inside is all broken =
@@ -61,7 +61,7 @@ breaks_at place d trees at tree own found inside is all broken =
     subst (λ (ys : List Data). AreBreaksOf place d 0 ys (own ++ told place at found)) (sym (taken_more trees at tree inside is))
     (subst (λ n. AreBreaksOf place d 0 (before ++ data_of tree ∷ []) (own ++ told place n found)) count more)
 
-pub objects_at : (trees : List Tree) (at : ℕ) (tree : Tree) (breaks own : List MarkingBreak) → at < length trees → tree ≡ slice_index_or trees at tree
+pub objects_at : (trees : List Json) (at : ℕ) (tree : Json) (breaks own : List MarkingBreak) → at < length trees → tree ≡ slice_index_or trees at tree
     → AreBreaksFrom 0 (take at (data_in trees)) breaks → AreOwnBreaks at (data_of tree) own → AreBreaksFrom 0 (take (at + 1) (data_in trees)) (breaks ++ own)
 objects_at trees at tree breaks own inside is all broken =
     let before = take at (data_in trees) in

@@ -12,7 +12,7 @@ use Rattle.std.proofs.lemmas.Option.{slice_get_within}
 use Rattle.std.proofs.lemmas.List.{length-map}
 use Rattle.serde_json.specs.Data.{Data}
 use Rattle.stix_ids.specs.declared.id.Id.{Id}
-use Rattle.stix_json.specs.declared.tree.Tree.{Tree}
+use Rattle.stix_json.specs.declared.value.Json.{Json}
 use Rattle.stix_json.specs.DataOf.{data_of}
 use Rattle.stix_bundles.specs.Objects.{data_in}
 use Rattle.stix_versions.specs.declared.version.Version.{Version}
@@ -32,7 +32,7 @@ less a b is = grind (arith, nat_tests)
 not_less : (a b : ℕ) → false ≡ nat_lt a b → b ≤ a
 not_less a b is = grind (arith, nat_tests)
 
-pub stands_here : (trees : List Tree) (at : ℕ) (tree : Tree) (d : Data) → true ≡ nat_lt at (length trees) → tree ≡ slice_index_or trees at tree → (told : Bool)
+pub stands_here : (trees : List Json) (at : ℕ) (tree : Json) (d : Data) → true ≡ nat_lt at (length trees) → tree ≡ slice_index_or trees at tree → (told : Bool)
     → (IsTrue told ↔ (data_of tree ≡ d)) → IsTrue told ↔ (slice_get (data_in trees) at ≡ Some d)
 stands_here trees at tree d inside is told same =
     let there = data_there trees at tree (less at (length trees) inside) is in (
@@ -40,7 +40,7 @@ stands_here trees at tree d inside is told same =
       λ stands. same.1 (one_some (data_of tree) d (sym there ∙ stands)),
     )
 
-pub stands_nowhere : (trees : List Tree) (at : ℕ) (d : Data) → false ≡ nat_lt at (length trees) → IsTrue false ↔ (slice_get (data_in trees) at ≡ Some d)
+pub stands_nowhere : (trees : List Json) (at : ℕ) (d : Data) → false ≡ nat_lt at (length trees) → IsTrue false ↔ (slice_get (data_in trees) at ≡ Some d)
 stands_nowhere trees at d past = (
   λ so. absurd (false≢true so),
   λ stands.

@@ -11,10 +11,10 @@ use crate::list_at::list_at;
 use crate::selector::{is_selector, selected};
 use stix_objects::text_at;
 use stix_ids::Parts;
-use stix_json::{Tree, get};
+use stix_json::{Json, get};
 
 /// The first rule that a marking of the object breaks.
-pub(crate) fn broken_rule(object: &Tree, marking: &Tree) -> Option<MarkingRule>
+pub(crate) fn broken_rule(object: &Json, marking: &Json) -> Option<MarkingRule>
     ensures { IsBreakOf (data_of object.now) (data_of marking.now) result }
 {
     if !has_one(marking) {
@@ -27,21 +27,21 @@ pub(crate) fn broken_rule(object: &Tree, marking: &Tree) -> Option<MarkingRule>
 }
 
 /// Whether exactly one of `marking_ref` and `lang` is there.
-fn has_one(marking: &Tree) -> bool
+fn has_one(marking: &Json) -> bool
     ensures { IsTrue result ↔ HasOne (data_of marking.now) }
 {
     has(marking, "marking_ref") != has(marking, "lang")
 }
 
 /// Whether the property is there.
-fn has(object: &Tree, name: &str) -> bool
+fn has(object: &Json, name: &str) -> bool
     ensures { IsTrue result ↔ Has name.now (data_of object.now) }
 {
     get(object, name).is_some()
 }
 
 /// Whether `marking_ref` is the identifier of a marking-definition.
-fn refers_to_marking(marking: &Tree) -> bool
+fn refers_to_marking(marking: &Json) -> bool
     ensures { IsTrue result ↔ RefersToMarking (data_of marking.now) }
 {
     match text_at(marking, "marking_ref") {
@@ -60,7 +60,7 @@ fn names_marking(text: &str) -> bool
 }
 
 /// The first rule that the selectors of a marking break, which names one marking or language well.
-fn broken_by_selectors(object: &Tree, marking: &Tree) -> Option<MarkingRule>
+fn broken_by_selectors(object: &Json, marking: &Json) -> Option<MarkingRule>
     requires { IsWellNamed (data_of marking.now) }
     ensures { IsBreakOf (data_of object.now) (data_of marking.now) result }
 {
@@ -71,7 +71,7 @@ fn broken_by_selectors(object: &Tree, marking: &Tree) -> Option<MarkingRule>
 }
 
 /// The same of the list that they are.
-fn broken_in_list(object: &Tree, marking: &Tree, selectors: &[Tree]) -> Option<MarkingRule>
+fn broken_in_list(object: &Json, marking: &Json, selectors: &[Json]) -> Option<MarkingRule>
     requires named { IsWellNamed (data_of marking.now) }
     requires listed { IsListAt (codes "selectors") (data_of marking.now) (data_in selectors.now) }
     ensures { IsBreakOf (data_of object.now) (data_of marking.now) result }
@@ -86,34 +86,34 @@ fn broken_in_list(object: &Tree, marking: &Tree, selectors: &[Tree]) -> Option<M
 }
 
 /// Whether each of the values is the text of a selector.
-fn are_selectors(values: &[Tree]) -> bool
+fn are_selectors(values: &[Json]) -> bool
     ensures { IsTrue result ↔ All (λ value. IsSelectorText (data_of value)) values.now }
 {
     values.iter().all(|value| is_selector_text(value))
 }
 
-fn is_selector_text(value: &Tree) -> bool
+fn is_selector_text(value: &Json) -> bool
     ensures { IsTrue result ↔ IsSelectorText (data_of value.now) }
 {
     match value {
-        Tree::Words(text) => is_selector(text.as_str()),
-        Tree::Truth(_) | Tree::Whole(_) | Tree::Row(_) | Tree::Fields(_) => false,
+        Json::String(text) => is_selector(text.as_str()),
+        Json::Bool(_) | Json::Integer(_) | Json::Array(_) | Json::Object(_) => false,
     }
 }
 
 /// Whether one of the values is a selector that names nothing in the object.
-fn misses_one(object: &Tree, values: &[Tree]) -> bool
+fn misses_one(object: &Json, values: &[Json]) -> bool
     ensures { IsTrue result ↔ Any (λ value. Misses (data_of object.now) (data_of value)) values.now }
 {
     values.iter().any(|value| misses(object, value))
 }
 
-fn misses(object: &Tree, value: &Tree) -> bool
+fn misses(object: &Json, value: &Json) -> bool
     ensures { IsTrue result ↔ Misses (data_of object.now) (data_of value.now) }
 {
     match value {
-        Tree::Words(text) => is_selector(text.as_str())
+        Json::String(text) => is_selector(text.as_str())
             && selected(text.as_str(), object).is_none(),
-        Tree::Truth(_) | Tree::Whole(_) | Tree::Row(_) | Tree::Fields(_) => false,
+        Json::Bool(_) | Json::Integer(_) | Json::Array(_) | Json::Object(_) => false,
     }
 }

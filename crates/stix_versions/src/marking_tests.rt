@@ -5,7 +5,7 @@ use stix_bundles::{Bundle, read_bundle};
 use flow_values::{NoMemory, Text};
 use std::alloc::Global;
 use std::test::Fail;
-use stix_json::read_tree;
+use stix_json::read_json;
 
 /// The bundle of an object without markings, and of one with these.
 fn bundle_of(alloc: Global, markings: &str) -> Result<Bundle, Fail> {
@@ -17,7 +17,7 @@ fn bundle_of(alloc: Global, markings: &str) -> Result<Bundle, Fail> {
     let json = format!(in alloc;
         "{{{head},\"objects\":[{{{thing}}},{{{thing},{more},\"granular_markings\":[{markings}]}}]}}"
     )?;
-    let tree = read_tree(alloc, json.as_bytes())?;
+    let tree = read_json(alloc, json.as_bytes())?;
     Ok(read_bundle(alloc, tree)?)
 }
 

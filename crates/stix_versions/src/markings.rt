@@ -11,7 +11,7 @@ use crate::marking::broken_rule;
 use stix_bundles::Bundle;
 use flow_values::{Items, NoMemory};
 use std::alloc::Global;
-use stix_json::Tree;
+use stix_json::Json;
 
 /// What is wrong with the granular markings of the objects of a bundle, object by object, and for each
 /// in the order of its markings (STIX 2.1, section 7.2.3); for each marking the first rule that it
@@ -23,7 +23,7 @@ pub fn marking_breaks(alloc: Global, bundle: &Bundle) -> Result<Items<MarkingBre
 }
 
 /// The same of a list of objects.
-fn all_breaks(alloc: Global, objects: &[Tree]) -> Result<Items<MarkingBreak>, NoMemory>
+fn all_breaks(alloc: Global, objects: &[Json]) -> Result<Items<MarkingBreak>, NoMemory>
     requires { length objects.now ≤ 8_388_608 }
     ensures { IfOk result (AreMarkingBreaks (data_in objects.now)) }
 {
@@ -35,7 +35,7 @@ fn all_breaks(alloc: Global, objects: &[Tree]) -> Result<Items<MarkingBreak>, No
 }
 
 /// Adds the breaks of the object at a position.
-fn add_breaks(at: u32, object: &Tree, found: &mut Items<MarkingBreak>) -> Result<(), NoMemory>
+fn add_breaks(at: u32, object: &Json, found: &mut Items<MarkingBreak>) -> Result<(), NoMemory>
     ensures { OnOk result ((own : List MarkingBreak) × AreOwnBreaks at (data_of object.now) own × (found.new ≡ found.old ++ own)) }
 {
     match list_at(object, "granular_markings") {
@@ -47,8 +47,8 @@ fn add_breaks(at: u32, object: &Tree, found: &mut Items<MarkingBreak>) -> Result
 /// Adds the breaks of these markings of the object.
 fn add_list(
     object_at: u32,
-    object: &Tree,
-    markings: &[Tree],
+    object: &Json,
+    markings: &[Json],
     found: &mut Items<MarkingBreak>,
 ) -> Result<(), NoMemory>
     ensures { OnOk result ((own : List MarkingBreak)

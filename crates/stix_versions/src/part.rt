@@ -6,7 +6,7 @@ ghost use Rattle.stix_json.specs.DataOf.{data_of};
 ghost use Rattle.stix_versions.specs.Selector.{Part, IsNameCharacter, IsName, IsPlace, in_brackets, chosen as chosen_by};
 ghost use Rattle.stix_versions.specs.Paths.{IsPartOf};
 
-use stix_json::{Tree, get};
+use stix_json::{Json, get};
 
 /// Whether the text is one part of a selector.
 pub(crate) fn is_part(text: &str) -> bool
@@ -19,7 +19,7 @@ pub(crate) fn is_part(text: &str) -> bool
 }
 
 /// What a part names in a value.
-pub(crate) fn chosen<'a>(text: &str, value: &'a Tree) -> Option<&'a Tree>
+pub(crate) fn chosen<'a>(text: &str, value: &'a Json) -> Option<&'a Json>
     ensures { (part : Part) → IsPartOf text.now part
         → option_map (λ inner. data_of inner.now) result ≡ chosen_by part (data_of value.now) }
 {
@@ -71,18 +71,18 @@ fn is_name_character(byte: u8) -> bool
 
 /// The item of a list at the place that the digits write. None in what is no list, and where the list
 /// has no such place.
-fn item_at<'a>(digits: &str, value: &'a Tree) -> Option<&'a Tree>
+fn item_at<'a>(digits: &str, value: &'a Json) -> Option<&'a Json>
     ensures { IsNumeral 10 digits.now
         → option_map (λ item. data_of item.now) result ≡ at_place (digits_value 10 digits.now) (data_of value.now) }
 {
     match value {
-        Tree::Row(items) => numbered(digits, items.as_slice()),
-        Tree::Truth(_) | Tree::Whole(_) | Tree::Words(_) | Tree::Fields(_) => None,
+        Json::Array(items) => numbered(digits, items.as_slice()),
+        Json::Bool(_) | Json::Integer(_) | Json::String(_) | Json::Object(_) => None,
     }
 }
 
 /// The item at the place that the digits write.
-fn numbered<'a>(digits: &str, items: &'a [Tree]) -> Option<&'a Tree>
+fn numbered<'a>(digits: &str, items: &'a [Json]) -> Option<&'a Json>
     ensures { IsNumeral 10 digits.now
         → option_map (λ item. item.now) result ≡ slice_get items.now (digits_value 10 digits.now) }
 {

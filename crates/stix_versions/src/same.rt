@@ -1,24 +1,24 @@
 ghost use Rattle.std.specs.Prelude.{◌≡◌, ◌↔◌, IsTrue, map};
 ghost use Rattle.stix_json.specs.DataOf.{data_of, field_data};
 
-use stix_json::{Field, Tree};
+use stix_json::{Field, Json};
 
 /// Whether two trees are the same value.
 #[cycle(same)]
-pub(crate) fn is_same(first: &Tree, second: &Tree) -> bool
+pub(crate) fn is_same(first: &Json, second: &Json) -> bool
     ensures { IsTrue result ↔ (data_of first.now ≡ data_of second.now) }
 {
     match (first, second) {
-        (Tree::Truth(first), Tree::Truth(second)) => first == second,
-        (Tree::Whole(first), Tree::Whole(second)) => first == second,
-        (Tree::Words(first), Tree::Words(second)) => first.as_str() == second.as_str(),
-        (Tree::Row(first), Tree::Row(second)) => {
+        (Json::Bool(first), Json::Bool(second)) => first == second,
+        (Json::Integer(first), Json::Integer(second)) => first == second,
+        (Json::String(first), Json::String(second)) => first.as_str() == second.as_str(),
+        (Json::Array(first), Json::Array(second)) => {
             are_same_items(first.as_slice(), second.as_slice())
         }
-        (Tree::Fields(first), Tree::Fields(second)) => {
+        (Json::Object(first), Json::Object(second)) => {
             are_same_fields(first.as_slice(), second.as_slice())
         }
-        (Tree::Truth(_) | Tree::Whole(_) | Tree::Words(_) | Tree::Row(_) | Tree::Fields(_), _) => {
+        (Json::Bool(_) | Json::Integer(_) | Json::String(_) | Json::Array(_) | Json::Object(_), _) => {
             false
         }
     }
@@ -26,7 +26,7 @@ pub(crate) fn is_same(first: &Tree, second: &Tree) -> bool
 
 /// Whether two lists have the same items.
 #[cycle(same)]
-fn are_same_items(first: &[Tree], second: &[Tree]) -> bool
+fn are_same_items(first: &[Json], second: &[Json]) -> bool
     ensures { IsTrue result ↔ (map data_of first.now ≡ map data_of second.now) }
 {
     if first.len() != second.len() {

@@ -4,7 +4,7 @@ ghost use Rattle.stix_versions.specs.Selector.{Part, IsSelector, value_at};
 ghost use Rattle.stix_versions.specs.Paths.{IsPath};
 
 use crate::part::{chosen, is_part};
-use stix_json::Tree;
+use stix_json::Json;
 
 /// Whether the text is a selector.
 pub(crate) fn is_selector(text: &str) -> bool
@@ -28,7 +28,7 @@ fn is_path(text: &str) -> bool
 }
 
 /// What a selector names in an object.
-pub(crate) fn selected<'a>(text: &str, object: &'a Tree) -> Option<&'a Tree>
+pub(crate) fn selected<'a>(text: &str, object: &'a Json) -> Option<&'a Json>
     ensures { (parts : List Part) → IsPath text.now parts
         → option_map (λ value. data_of value.now) result ≡ value_at parts (data_of object.now) }
 {

@@ -15,7 +15,7 @@ use std::alloc::Global;
 use std::collections::BTreeMap;
 use stix_times::laws::one_instant;
 use stix_times::nanos;
-use stix_json::Tree;
+use stix_json::Json;
 
 /// Of an object's versions of one `modified` so far, the position of the first, and whether another
 /// one is another object.
@@ -45,7 +45,7 @@ impl Twins {
     /// another object.
     pub(crate) fn add(
         &mut self,
-        objects: &[Tree],
+        objects: &[Json],
         at: usize,
         version: &Version,
     ) -> Result<bool, NoMemory>
@@ -69,7 +69,7 @@ impl Twins {
 }
 
 /// What is kept of versions of one `modified`, with this object at that position.
-fn next_twin(objects: &[Tree], first: Option<FirstTwin>, object: &Tree, at: u32) -> FirstTwin
+fn next_twin(objects: &[Json], first: Option<FirstTwin>, object: &Json, at: u32) -> FirstTwin
     ensures { IsNextTwin (data_in objects.now) first (data_of object.now) at result }
 {
     match first {
@@ -85,7 +85,7 @@ fn next_twin(objects: &[Tree], first: Option<FirstTwin>, object: &Tree, at: u32)
 }
 
 /// Whether the same object stands at a position.
-fn stands_at(objects: &[Tree], at: u32, object: &Tree) -> bool
+fn stands_at(objects: &[Json], at: u32, object: &Json) -> bool
     ensures { IsTrue result ↔ (slice_get (data_in objects.now) at ≡ Some (data_of object.now)) }
 {
     match objects.get(at as usize) {

@@ -10,7 +10,7 @@ use stix_bundles::laws::one_meaning;
 use stix_bundles::{Bundle, find};
 use stix_objects::{Group, group, text_at};
 use stix_times::{Instant, read_millis};
-use stix_json::{Tree, get};
+use stix_json::{Json, get};
 
 /// A version of an object.
 #[derive(Clone, Copy)]
@@ -46,7 +46,7 @@ pub(crate) fn version_at(bundle: &Bundle, at: usize) -> Option<Version>
 }
 
 /// Whether an object is a cyber-observable.
-fn is_observable(object: &Tree) -> bool
+fn is_observable(object: &Json) -> bool
     ensures { IsTrue result ↔ IsObservable (data_of object.now) }
 {
     match text_at(object, "type") {
@@ -56,7 +56,7 @@ fn is_observable(object: &Tree) -> bool
 }
 
 /// The instant that a property names, to the millisecond at least.
-fn millis_at(object: &Tree, name: &str) -> Option<Instant>
+fn millis_at(object: &Json, name: &str) -> Option<Instant>
     ensures some { IfSome result (IsMillisAt name.now (data_of object.now)) }
     ensures none { IfNone result ((instant : ℤ) → ¬ IsMillisAt name.now (data_of object.now) instant) }
 {
@@ -64,11 +64,11 @@ fn millis_at(object: &Tree, name: &str) -> Option<Instant>
 }
 
 /// Whether a version revokes its object.
-fn is_revoked(object: &Tree) -> bool
+fn is_revoked(object: &Json) -> bool
     ensures { IsTrue result ↔ IsRevoked (data_of object.now) }
 {
     match get(object, "revoked") {
-        Some(Tree::Truth(truth)) => *truth,
-        Some(Tree::Whole(_) | Tree::Words(_) | Tree::Row(_) | Tree::Fields(_)) | None => false,
+        Some(Json::Bool(truth)) => *truth,
+        Some(Json::Integer(_) | Json::String(_) | Json::Array(_) | Json::Object(_)) | None => false,
     }
 }

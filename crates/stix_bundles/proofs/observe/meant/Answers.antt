@@ -1,6 +1,6 @@
 use Rattle.std.proofs.Common.{◌+◌, ◌≤◌, arith, ℕ, List, length, Some, None, append-nil, sym, subst, ◌∙◌}
 use Rattle.std.proofs.lemmas.List.{take_all}
-use Rattle.stix_json.specs.declared.tree.Tree.{Tree}
+use Rattle.stix_json.specs.declared.value.Json.{Json}
 use Rattle.serde_json.specs.Find.{as_str}
 use Rattle.std.proofs.Common.{filter_map}
 use Rattle.stix_bundles.specs.Objects.{data_in}
@@ -31,5 +31,5 @@ pub returns : goal.returns
 returns c =
     let items = c.args.items.now in
     let past : length items ≤ c.loop-item.item-index = omega arith in
-    subst (λ (ts : List Tree). AreMeant (data_in c.args.bundle.now) (filter_map as_str (data_in ts)) c.loop-item.places) (take_all c.loop-item.item-index items past)
+    subst (λ (ts : List Json). AreMeant (data_in c.args.bundle.now) (filter_map as_str (data_in ts)) c.loop-item.places) (take_all c.loop-item.item-index items past)
     c.loop-item.invariant

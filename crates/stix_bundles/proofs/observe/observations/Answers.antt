@@ -1,11 +1,11 @@
 use Rattle.std.proofs.Common.{List, subst}
-use Rattle.stix_json.specs.declared.tree.Tree.{Tree}
+use Rattle.stix_json.specs.declared.value.Json.{Json}
 use Rattle.stix_bundles.specs.Objects.{data_in}
 use Rattle.stix_bundles.specs.Observed.{NoneEmbeds}
 use Rattle.stix_bundles.proofs.observe.observations.Goals as goal
 
 pub returns-in-Ok-clause-whole : goal.returns-in-Ok-clause-whole
-returns-in-Ok-clause-whole c = subst (λ (trees : List Tree). NoneEmbeds (data_in trees)) c.objects.ensures.value c.in_default.ensures.none
+returns-in-Ok-clause-whole c = subst (λ (trees : List Json). NoneEmbeds (data_in trees)) c.objects.ensures.value c.in_default.ensures.none
 
 pub returns-in-Err-clause-err : goal.returns-in-Err-clause-err
-returns-in-Err-clause-err c = subst (λ (trees : List Tree). NoneEmbeds (data_in trees)) c.objects.ensures.value c.in_default.ensures.none
+returns-in-Err-clause-err c = subst (λ (trees : List Json). NoneEmbeds (data_in trees)) c.objects.ensures.value c.in_default.ensures.none

@@ -4,7 +4,7 @@ use Rattle.serde_json.specs.Data.{object}
 use Rattle.serde_json.proofs.Views.{view-Object}
 use Rattle.stix_json.specs.DataOf.{data_of, field_data, members_of}
 use Rattle.stix_json.specs.Flaws.{flaw_under, first_flaw, Halts}
-use Rattle.stix_json.proofs.Steps.{Entry, entry_data, same_member, members_of-entries, data_of-Fields, item_passes, member_passes, both_pushed, item_halts, member_halts, same_length}
+use Rattle.stix_json.proofs.Steps.{Entry, entry_data, same_member, members_of-entries, data_of-Object, item_passes, member_passes, both_pushed, item_halts, member_halts, same_length}
 use Rattle.stix_json.proofs.convert.+convert.Goals as goal
 
 pub convert_items-loop-item-preserved : goal.convert_items-loop-item-preserved
@@ -41,7 +41,7 @@ pub convert-returns-in_ok-convert_members-in-Object-clause-ok : goal.convert-ret
 convert-returns-in_ok-convert_members-in-Object-clause-ok t c =
     let converted = c.in_ok-convert_members-in-Object.ensures.ok in
     let seen = view-Object c.in-Object.members in
-    rw (c.in-Object.is, seen) (converted.0, data_of-Fields c.in_ok-convert_members-in-Object.field-0 ∙ ap object converted.1)
+    rw (c.in-Object.is, seen) (converted.0, data_of-Object c.in_ok-convert_members-in-Object.field-0 ∙ ap object converted.1)
 
 pub convert_items-returns-in-Err-clause-err : goal.convert_items-returns-in-Err-clause-err
 convert_items-returns-in-Err-clause-err t c =

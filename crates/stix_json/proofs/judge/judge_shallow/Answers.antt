@@ -1,6 +1,6 @@
 use Rattle.std.proofs.Common.{sym, subst}
 use Rattle.serde_json.specs.View.{view}
-use Rattle.stix_json.specs.declared.refusal.TreeRefusal.{TreeRefusal}
+use Rattle.stix_json.specs.declared.refusal.JsonRefusal.{JsonRefusal}
 use Rattle.stix_json.specs.Reading.{IsRefusalOf}
 use Rattle.stix_json.specs.Flaws.{first_flaw, Halts}
 use Rattle.stix_json.specs.declared.flaw.Halt.{Halt}
@@ -14,5 +14,5 @@ returns-in-Ok c =
 
 pub returns-in-Err-Flawed : goal.returns-in-Err-Flawed
 returns-in-Err-Flawed c =
-    let P : TreeRefusal → Type 0 = λ refusal. IsRefusalOf (view c.args.value) refusal in
+    let P : JsonRefusal → Type 0 = λ refusal. IsRefusalOf (view c.args.value) refusal in
     subst P (sym c.into_refusal.ensures) (flaw_refused (view c.args.value) c.in-Err-Flawed.flaw c.requires.shallow (subst (λ (halt : Halt). Halts (first_flaw (view c.args.value)) halt) c.in-Err-Flawed.field-0-is c.in-Err-Flawed.ensures.err))

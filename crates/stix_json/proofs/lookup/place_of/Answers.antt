@@ -1,6 +1,6 @@
 use Rattle.std.proofs.Common.{◌≡◌, ℕ, List, length, true, false, bytes_eq, refl, sym, ap, ◌∙◌}
 use Rattle.std.proofs.lemmas.Option.{slice_get_read}
-use Rattle.stix_json.specs.declared.tree.Field.{Field}
+use Rattle.stix_json.specs.declared.value.Field.{Field}
 use Rattle.stix_json.proofs.Names.{found_field, passed_field}
 use Rattle.stix_json.proofs.lookup.place_of.Goals as goal
 

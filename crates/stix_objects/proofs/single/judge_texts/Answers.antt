@@ -1,5 +1,5 @@
 use Rattle.std.proofs.Common.{◌≡◌, List, [], ◌∷◌, length, map, Some, None, false, refl, ◌==◌, sym, ◌∙◌}
-use Rattle.stix_json.specs.declared.tree.Field.{Field}
+use Rattle.stix_json.specs.declared.value.Field.{Field}
 use Rattle.stix_json.specs.DataOf.{field_data, members_of}
 use Rattle.stix_objects.specs.declared.rule.Rule.TheVariants.{WrongKind}
 use Rattle.stix_objects.specs.Singles.{HasMember}

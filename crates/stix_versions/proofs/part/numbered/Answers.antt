@@ -1,7 +1,7 @@
 use Rattle.std.proofs.Common.{arith, ◌≡◌, ◌≤◌, ◌^◌, Option, Some, None, length, option_map, slice_get, sym, ap, ◌∙◌}
 use denote.Ref.{Bor}
 use Rattle.std.specs.Str.Parse.{digits_value}
-use Rattle.stix_json.specs.declared.tree.Tree.{Tree}
+use Rattle.stix_json.specs.declared.value.Json.{Json}
 use Rattle.std.proofs.lemmas.Option.{slice_get_past}
 use Rattle.stix_versions.proofs.Digits.{parsed}
 use Rattle.stix_versions.proofs.Items.{item_looked_up}
@@ -13,7 +13,7 @@ returns-in_err-at c = λ numeral.
     let large : 2 ^ 64 ≤ digits_value 10 digits = parsed digits numeral c.parse.result c.parse.ensures.value.0 None (sym c.in_err-at.was ∙ c.ok.ensures.value) in
     let short : length c.args.items.now ≤ 2 ^ 64 = omega (arith, c.well_formed) in
     let past : length c.args.items.now ≤ digits_value 10 digits = omega arith in
-    ap (λ (found : Option (Bor Tree)). option_map (λ item. item.now) found) c.from_residual.ensures ∙ sym (slice_get_past c.args.items.now (digits_value 10 digits) past)
+    ap (λ (found : Option (Bor Json)). option_map (λ item. item.now) found) c.from_residual.ensures ∙ sym (slice_get_past c.args.items.now (digits_value 10 digits) past)
 
 pub returns : goal.returns
 returns c = λ numeral.

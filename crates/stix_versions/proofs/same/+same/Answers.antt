@@ -4,16 +4,16 @@ use Rattle.stix_json.specs.DataOf.{data_of, field_data}
 use Rattle.stix_versions.proofs.Sameness.{same_item, same_rows, same_objects}
 use Rattle.stix_versions.proofs.same.+same.Goals as goal
 
-pub is_same-returns-in-Row-Row : goal.is_same-returns-in-Row-Row
-is_same-returns-in-Row-Row t c =
-    same_rows c.args.first.now c.args.second.now c.in-Row-Row.first c.in-Row-Row.second c.as_slice.result.now c.as_slice-in-Row-Row.result.now
-    c.in-Row-Row.is-0 c.in-Row-Row.is-1 c.as_slice.ensures c.as_slice-in-Row-Row.ensures c.are_same_items.result c.are_same_items.ensures
+pub is_same-returns-in-Array-Array : goal.is_same-returns-in-Array-Array
+is_same-returns-in-Array-Array t c =
+    same_rows c.args.first.now c.args.second.now c.in-Array-Array.first c.in-Array-Array.second c.as_slice.result.now c.as_slice-in-Array-Array.result.now
+    c.in-Array-Array.is-0 c.in-Array-Array.is-1 c.as_slice.ensures c.as_slice-in-Array-Array.ensures c.are_same_items.result c.are_same_items.ensures
 
-pub is_same-returns-in-Fields-Fields : goal.is_same-returns-in-Fields-Fields
-is_same-returns-in-Fields-Fields t c =
-    same_objects c.args.first.now c.args.second.now c.in-Fields-Fields.first c.in-Fields-Fields.second c.as_slice-in-Fields-Fields.result.now
-    c.as_slice-in-Fields-Fields-2.result.now c.in-Fields-Fields.is-0 c.in-Fields-Fields.is-1 c.as_slice-in-Fields-Fields.ensures
-    c.as_slice-in-Fields-Fields-2.ensures c.are_same_fields.result c.are_same_fields.ensures
+pub is_same-returns-in-Object-Object : goal.is_same-returns-in-Object-Object
+is_same-returns-in-Object-Object t c =
+    same_objects c.args.first.now c.args.second.now c.in-Object-Object.first c.in-Object-Object.second c.as_slice-in-Object-Object.result.now
+    c.as_slice-in-Object-Object-2.result.now c.in-Object-Object.is-0 c.in-Object-Object.is-1 c.as_slice-in-Object-Object.ensures
+    c.as_slice-in-Object-Object-2.ensures c.are_same_fields.result c.are_same_fields.ensures
 
 pub are_same_items-returns-then-not-is_same : goal.are_same_items-returns-then-not-is_same
 are_same_items-returns-then-not-is_same t c =

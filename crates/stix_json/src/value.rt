@@ -2,24 +2,24 @@ use flow_values::{Items, Text};
 
 /// A JSON value without fractions and null.
 #[derive(Drop)]
-#[cycle(tree)]
-pub enum Tree {
+#[cycle(json)]
+pub enum Json {
     /// `true` or `false`.
-    Truth(bool),
+    Bool(bool),
     /// A whole number.
-    Whole(i64),
+    Integer(i64),
     /// A text.
-    Words(Text),
+    String(Text),
     /// A list.
-    Row(Items<Tree>),
+    Array(Items<Json>),
     /// An object. It is ordered where its names rise strictly by bytes.
-    Fields(Items<Field>),
+    Object(Items<Field>),
 }
 
 /// A name of an object and its value.
 #[derive(Drop)]
-#[cycle(tree)]
+#[cycle(json)]
 pub struct Field {
     pub name: Text,
-    pub value: Tree,
+    pub value: Json,
 }
