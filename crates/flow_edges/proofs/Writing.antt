@@ -3,7 +3,8 @@ use Rattle.std.proofs.Common.{◌≡◌, ℕ, ◌<◌, List, [], ◌∷◌, ◌+
 use Rattle.std.proofs.lemmas.List.{append-nil, take-append-drop, take-append-le}
 use Rattle.std.proofs.lemmas.Grind.{flat_map-append}
 use Rattle.std.proofs.Math.Seq.{take-append_seam, take-length, take-append-add, take-suc}
-use Rattle.flow_edges.specs.Flow.{written_with, WritesPrefix, joined}
+use Rattle.std.specs.Prelude.{Result, Ok, Err, IsErr}
+use Rattle.flow_edges.specs.Flow.{written_with, WritesPrefix, WritesWhole, joined}
 
 pub written_with-written_with : (a b : List ℕ) (w : Option (List ℕ)) → written_with b (written_with a w) ≡ written_with (a ++ b) w
 written_with-written_with a b None = refl
@@ -48,11 +49,6 @@ part_way-prefix all rest before now later way same = (
   same ∙ way.written ∙ ap (λ done. written_with done before) (sym (ap (take (length way.done)) way.cut ∙ take-append_seam way.done rest)),
 )
 
--- a write of nothing leaves the bytes that are written as they were
-pub part_way-nothing : (all rest : List ℕ) (before now later : Option (List ℕ)) (n : ℕ) → IsPartWay all rest before now → later ≡ written_with (take n rest) now → n ≡ 0 → WritesPrefix all before later
-part_way-nothing all rest before now later n way more none =
-    part_way-prefix all rest before now later way (more ∙ ap (λ n. written_with (take n rest) now) none ∙ sym (written_with-nil now))
-
 -- ---- several pieces
 
 pub joined-step : (pieces : List (Bor (List ℕ))) (i : ℕ) (d : Bor (List ℕ)) → i < length pieces → joined (take (i + 1) pieces) ≡ joined (take i pieces) ++ (get_or pieces i d).now
@@ -80,3 +76,9 @@ prefix-joined pieces i d before mid now within done prefix =
       omega (arith, ap length split, length-append front (piece ++ back), length-append piece back, prefix.1),
       prefix.2 ∙ ap (λ w. written_with (take n piece) w) done ∙ written_with-written_with front (take n piece) before ∙ ap (λ some. written_with some before) (sym cut),
     )
+
+-- a call that hands a fault on has written a prefix
+pub writes_whole-err : {T E : Type 0} (bytes : List ℕ) (before now : Option (List ℕ)) (answer : Result T E) → IsErr answer → WritesPrefix bytes before now
+    → WritesWhole bytes before now answer
+writes_whole-err bytes before now (Ok done) failed part = absurd (cc failed)
+writes_whole-err bytes before now (Err fault) failed part = part

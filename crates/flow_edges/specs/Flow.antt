@@ -1,5 +1,5 @@
 -- Bytes that come from a source and go to a sink. What is left and what is written is told by some objects alone: `None` claims nothing.
-use Rattle.std.specs.Prelude.{◌≡◌, ℕ, ◌≤◌, List, [], ◌++◌, length, take, drop, Option, option_map, IfSome}
+use Rattle.std.specs.Prelude.{◌≡◌, ℕ, ◌≤◌, List, [], ◌++◌, length, take, drop, Option, option_map, IfSome, Result, MatchResult}
 use Rattle.std.specs.Borrow.{Bor}
 use Rattle.std.specs.List.{flat_map}
 
@@ -22,6 +22,10 @@ IsAtEnd left = IfSome left (λ bytes. bytes ≡ [])
 -- a prefix of the bytes was written after what was there
 abbrev pub WritesPrefix : List ℕ → Option (List ℕ) → Option (List ℕ) → Type 0
 WritesPrefix bytes before now = (n : ℕ) × (n ≤ length bytes) × (now ≡ written_with (take n bytes) before)
+
+-- what the answer of a call says that writes bytes whole: all of them were written, or a prefix of them and a fault
+abbrev pub WritesWhole : {T E : Type 0} → List ℕ → Option (List ℕ) → Option (List ℕ) → Result T E → Type 0
+WritesWhole bytes before now answer = MatchResult answer (λ _. now ≡ written_with bytes before) (λ _. WritesPrefix bytes before now)
 
 -- some pieces of bytes, one after the other
 abbrev pub joined : List (Bor (List ℕ)) → List ℕ

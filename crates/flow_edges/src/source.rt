@@ -13,7 +13,8 @@ pub trait Source {
     ghost faults: { Self → ℕ };
 
     /// Takes the next bytes into the front of the buffer, and answers how many. Into a buffer that
-    /// isn't empty, 0 comes only at the end of the bytes. A `Fault` has taken none, and is counted.
+    /// isn't empty, 0 comes only at the end of the bytes. A `Fault` has taken none, and is counted; no
+    /// other call is.
     ///
     /// No caller asks for more than 65,536 bytes at once.
     fn read(&mut self, buffer: &mut [u8]) -> Result<usize, Fault>

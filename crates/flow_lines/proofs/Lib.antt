@@ -1,4 +1,4 @@
-pub mod Cutting
-pub mod Ahead
-pub mod Held
-pub mod Accounts
+pub mod RawLinesLemmas
+pub mod LinesAheadLemmas
+pub mod HoldsLineLemmas
+pub mod AccountsForLemmas

@@ -1,2 +1,3 @@
 pub mod Lines
-pub mod LinesSteps
+pub mod WholeInput
+pub mod inner

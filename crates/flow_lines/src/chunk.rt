@@ -1,7 +1,7 @@
-ghost use Rattle.std.specs.Prelude.{◌≡◌, ℕ, ◌≤◌, [], Ok, length, IfOk, OnErr, MatchBool};
+ghost use Rattle.std.specs.Prelude.{◌≡◌, ℕ, ◌≤◌, ◌++◌, [], Ok, length, IfOk, OnOk, OnErr, MatchBool};
 ghost use Rattle.flow_edges.specs.Faults.{Causes};
 ghost use Rattle.flow_edges.specs.Flow.{left_after, IsNextOf, IsAtEnd};
-ghost use Rattle.flow_lines.specs.LinesSteps.{TakesToLineFeed, TakesAll};
+ghost use Rattle.flow_lines.specs.inner.Reading.{TakesToLineFeed, TakesAll};
 
 use flow_edges::Source;
 use flow_values::{Fault, NoMemory};
@@ -83,5 +83,14 @@ impl Chunk {
                 Ok(false)
             }
         }
+    }
+
+    /// Moves all bytes to others, at their end.
+    pub fn take_all(&mut self, bytes: &mut Vec<u8>) -> Result<(), NoMemory>
+        ensures ok { OnOk result ((self.new ≡ []) × (bytes.new.items ≡ bytes.old.items ++ self.old)) }
+    {
+        bytes.extend_from_slice(&self.bytes[self.from..self.to])?;
+        self.from = self.to;
+        Ok(())
     }
 }

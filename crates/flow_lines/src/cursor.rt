@@ -1,12 +1,12 @@
-ghost use Rattle.std.specs.Prelude.{◌≡◌, ℕ, ◌≤◌, ◌++◌, [], true, false, Ok, Err, IfOk, IfErr, OnOk, MatchBool};
+ghost use Rattle.std.specs.Prelude.{◌≡◌, ◌≢◌, ℕ, ◌≤◌, ◌++◌, [], true, false, Ok, Err, IfOk, IfErr, OnOk, MatchBool};
 ghost use Rattle.flow_edges.specs.Faults.{Rose};
 ghost use Rattle.flow_lines.specs.Lines.{AnswersLine, GivesEnd, RefusesLine, HoldsLine, AccountsFor, LosesNone, is_blank};
-ghost use Rattle.flow_lines.specs.LinesSteps.{IsBetweenLines, ReadsNext, lines_state};
+ghost use Rattle.flow_lines.specs.inner.Reading.{IsBetweenLines, ReadsNext, lines_state};
 
 use crate::chunk::Chunk;
 use crate::line::{Line, is_blank_line, strip_return};
 use crate::refusal::LineRefusal;
-use crate::whole::{LineStart, read_line};
+use crate::raw_line::{LineStart, read_line};
 use flow_edges::Source;
 use flow_values::{Items, NoMemory};
 use std::alloc::Global;
@@ -53,6 +53,7 @@ impl Cursor {
         ensures held { IfOk result (λ found. found ≡ true
             → HoldsLine self.old.chunk → is_blank self.new.line.items ≡ true → HoldsLine self.new.chunk) }
         ensures failed { result ≡ Err LineRefusal.Fault → Rose (S.faults source.old) (S.faults source.new) }
+        ensures quiet { result ≢ Err LineRefusal.Fault → S.faults source.new ≡ S.faults source.old }
         ensures later { S.faults source.old ≤ S.faults source.new }
     {
         let start = LineStart {
@@ -85,6 +86,7 @@ impl Cursor {
             (S.left source.old) (S.left source.new) result }
         ensures unread { HoldsLine (self.old.line.items ++ self.old.chunk) → source.new ≡ source.old }
         ensures failed { result ≡ Err LineRefusal.Fault → Rose (S.faults source.old) (S.faults source.new) }
+        ensures quiet { result ≢ Err LineRefusal.Fault → S.faults source.new ≡ S.faults source.old }
         ensures later { S.faults source.old ≤ S.faults source.new }
     {
         'lines: loop {

@@ -1,17 +1,20 @@
-//! The lines of an input, however a source cuts it into reads.
+//! The lines of an input, however a source cuts it into reads, and a short input whole.
 //!
-//! A reader of lines takes no more than it needs, loses no byte, and answers each refusal again.
+//! `Lines` loses no byte, reads only where the bytes taken hold no whole line, and answers each refusal
+//! again. `read_whole` gives all bytes of an input that has at most 67,108,864 of them.
 #![tactic(auto)]
 
 mod chunk;
 mod cursor;
 mod line;
-mod reader;
+mod lines;
+mod raw_line;
 mod refusal;
 #[cfg(test)]
 mod tests;
-mod whole;
+mod whole_input;
 
 pub use line::Line;
-pub use reader::Lines;
+pub use lines::Lines;
 pub use refusal::{LineRefusal, MAX_INPUT, MAX_LINE};
+pub use whole_input::{InputRefusal, MAX_WHOLE_INPUT, read_whole};

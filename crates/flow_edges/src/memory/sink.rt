@@ -1,5 +1,5 @@
-ghost use Rattle.std.specs.Prelude.{◌≡◌, ◌≤◌, ◌<◌, ◌-◌, ◌↔◌, [], Ok, Some, true, length, take, min, IsErr, IfOk, OnOk, OnErr, ◌||◌, nat_le};
-ghost use Rattle.flow_edges.specs.Faults.{counted, Rose, Causes};
+ghost use Rattle.std.specs.Prelude.{◌≡◌, ◌≤◌, ◌<◌, ◌-◌, ◌↔◌, [], Some, true, length, take, min, IsErr, IfOk, OnErr, ◌||◌, nat_le};
+ghost use Rattle.flow_edges.specs.Faults.{counted, Causes};
 ghost use Rattle.flow_edges.specs.Flow.{written_with};
 ghost use Rattle.flow_edges.specs.Memory.{is_failing};
 
@@ -68,7 +68,7 @@ impl Sink for MemorySink {
     fn write(&mut self, piece: &[u8]) -> Result<usize, Fault>
         ensures within { IfOk result (λ n. n ≤ length piece.now) }
         ensures written { IfOk result (λ n. Some self.new.written ≡ written_with (take n piece.now) (Some self.old.written)) }
-        ensures nothing { result ≡ Ok 0 → 0 < length piece.now → Rose self.old.faults self.new.faults }
+        ensures some { IfOk result (λ n. 0 < length piece.now → 0 < n) }
         ensures err { OnErr result (Some self.new.written ≡ Some self.old.written) }
         ensures causes { Causes self.old.faults self.new.faults result }
 
@@ -76,7 +76,6 @@ impl Sink for MemorySink {
         ensures count { IfOk result (λ n. n ≡ min (length piece.now) (self.old.room - length self.old.written)) }
         ensures calls { self.new.calls ≡ counted self.old.calls }
         ensures counted { OnErr result (self.new.faults ≡ counted self.old.faults) }
-        ensures uncounted { OnOk result (self.new.faults ≡ self.old.faults) }
         ensures stays { (self.new.room ≡ self.old.room) × (self.new.failing ≡ self.old.failing) }
     {
         self.calls = self.calls.saturating_add(1);

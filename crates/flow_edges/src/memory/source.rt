@@ -1,4 +1,4 @@
-ghost use Rattle.std.specs.Prelude.{◌≡◌, ◌≤◌, ◌<◌, ◌↔◌, Ok, Some, true, length, take, drop, min, IsErr, IfOk, OnOk, OnErr};
+ghost use Rattle.std.specs.Prelude.{◌≡◌, ◌≤◌, ◌<◌, ◌↔◌, Ok, Some, true, length, take, drop, min, IsErr, IfOk, OnErr};
 ghost use Rattle.flow_edges.specs.Faults.{counted, Causes};
 ghost use Rattle.flow_edges.specs.Flow.{left_after, IsNextOf, IsAtEnd};
 ghost use Rattle.flow_edges.specs.Memory.{is_failing};
@@ -78,7 +78,8 @@ impl Source for MemorySource {
         ensures count { IfOk result (λ n. n ≡ min self.old.piece (min (length buffer.old) (length self.old.left))) }
         ensures calls { self.new.calls ≡ counted self.old.calls }
         ensures counted { OnErr result (self.new.faults ≡ counted self.old.faults) }
-        ensures uncounted { OnOk result (self.new.faults ≡ self.old.faults) }
+        ensures behind { IfOk result (λ n. drop n buffer.new ≡ drop n buffer.old) }
+        ensures unchanged { OnErr result (buffer.new ≡ buffer.old) }
         ensures stays { (self.new.piece ≡ self.old.piece) × (self.new.failing ≡ self.old.failing) }
     {
         self.calls = self.calls.saturating_add(1);

@@ -1,4 +1,7 @@
-ghost use Rattle.std.specs.Prelude.{◌≡◌, ◌≤◌, Some};
+ghost use Rattle.std.specs.Prelude.{◌≡◌, ◌≤◌, ◌<◌, Some, Ok, length, take, drop, IsOk, IfOk, OnErr};
+ghost use Rattle.flow_edges.specs.Faults.{Causes};
+ghost use Rattle.flow_edges.specs.Flow.{left_after, IsNextOf, IsAtEnd};
+
 
 use crate::Source;
 use flow_values::{Fault, Items};
@@ -41,7 +44,17 @@ impl Source for QuietSource {
 
     ghost faults = { λ _. 0 };
 
-    fn read(&mut self, buffer: &mut [u8]) -> Result<usize, Fault> {
+    fn read(&mut self, buffer: &mut [u8]) -> Result<usize, Fault>
+        ensures within { IfOk result (λ n. n ≤ length buffer.old) }
+        ensures given { IfOk result (λ n. IsNextOf (take n buffer.new) (Some self.old)) }
+        ensures rest { IfOk result (λ n. Some self.new ≡ left_after n (Some self.old)) }
+        ensures end { result ≡ Ok 0 → 0 < length buffer.old → IsAtEnd (Some self.old) }
+        ensures err { OnErr result (Some self.new ≡ Some self.old) }
+        ensures causes { Causes 0 0 result }
+
+        ensures fails { IsOk result }
+        ensures behind { IfOk result (λ n. drop n buffer.new ≡ drop n buffer.old) }
+    {
         let left = &self.bytes.as_slice()[self.at..];
         let count = self.piece.min(buffer.len().min(left.len()));
         buffer[..count].copy_from_slice(&left[..count]);

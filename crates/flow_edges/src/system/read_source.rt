@@ -1,12 +1,15 @@
-ghost use Rattle.std.specs.Prelude.{◌≡◌, None};
+ghost use Rattle.std.specs.Prelude.{◌≡◌, ◌≤◌, ◌<◌, None, Ok, length, take, IfOk, OnErr};
+ghost use Rattle.std.specs.Io.KnownBytes.{ReadConsumes};
+ghost use Rattle.flow_edges.specs.Faults.{Causes};
 
-use crate::fault::counted_fault;
 use crate::Source;
+use crate::fault::counted_fault;
 use flow_values::Fault;
 use std::io::Read;
 use std::marker::Model;
 
-/// A reader of the system as a source. It tells no content, and counts each error. Contracts see the count.
+/// A reader of the system as a source. It tells no content, and counts each error. Contracts see what
+/// the reader has left, where it tells that, and the count.
 #[derive(Drop)]
 pub struct ReadSource<R: Read> {
     reader: R,
@@ -14,17 +17,17 @@ pub struct ReadSource<R: Read> {
 }
 
 impl<R: Read> Model for ReadSource<R> {
-    ghost use Rattle.std.specs.Prelude.{ℕ};
+    ghost use Rattle.flow_edges.specs.System.{ReaderState};
 
-    ghost Value = { ℕ };
+    ghost Value = { ReaderState };
 
-    ghost view = { λ source. source.faults };
+    ghost view = { λ source. record { remaining = R.remaining source.reader; faults = source.faults } };
 }
 
 impl<R: Read> ReadSource<R> {
     /// A source over this reader, which has failed in no call yet.
     pub fn new(reader: R) -> ReadSource<R>
-        ensures { result ≡ 0 }
+        ensures { result ≡ record { remaining = R.remaining reader; faults = 0 } }
     {
         ReadSource { reader, faults: 0 }
     }
@@ -33,9 +36,14 @@ impl<R: Read> ReadSource<R> {
 impl<R: Read> Source for ReadSource<R> {
     ghost left = { λ _. None };
 
-    ghost faults = { λ source. source };
+    ghost faults = { λ source. source.faults };
 
-    fn read(&mut self, buffer: &mut [u8]) -> Result<usize, Fault> {
+    /// One read of the reader, whose answer is handed on; an error is a `Fault`.
+    fn read(&mut self, buffer: &mut [u8]) -> Result<usize, Fault>
+        ensures within { IfOk result (λ n. n ≤ length buffer.old) }
+        ensures causes { Causes self.old.faults self.new.faults result }
+        ensures handed { ReadConsumes self.old.remaining self.new.remaining result buffer.new }
+    {
         match self.reader.read(buffer) {
             Ok(count) => Ok(count),
             Err(_) => Err(counted_fault(&mut self.faults)),

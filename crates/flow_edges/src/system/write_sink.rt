@@ -1,13 +1,15 @@
-ghost use Rattle.std.specs.Prelude.{◌≡◌, None};
+ghost use Rattle.std.specs.Prelude.{◌≡◌, ◌≤◌, ◌<◌, None, length, take, IfOk, OnErr};
+ghost use Rattle.std.specs.Io.KnownBytes.{WriteAppends};
+ghost use Rattle.flow_edges.specs.Faults.{Causes};
 
-use crate::fault::counted_fault;
 use crate::Sink;
+use crate::fault::counted_fault;
 use flow_values::Fault;
 use std::io::Write;
 use std::marker::Model;
 
 /// A writer of the system as a sink. It tells no content, and counts each error. A write that takes
-/// nothing of a piece is one. Contracts see the count.
+/// nothing of a piece is one. Contracts see what the writer holds, where it tells that, and the count.
 #[derive(Drop)]
 pub struct WriteSink<W: Write> {
     writer: W,
@@ -15,17 +17,17 @@ pub struct WriteSink<W: Write> {
 }
 
 impl<W: Write> Model for WriteSink<W> {
-    ghost use Rattle.std.specs.Prelude.{ℕ};
+    ghost use Rattle.flow_edges.specs.System.{WriterState};
 
-    ghost Value = { ℕ };
+    ghost Value = { WriterState };
 
-    ghost view = { λ sink. sink.faults };
+    ghost view = { λ sink. record { contents = W.contents sink.writer; faults = sink.faults } };
 }
 
 impl<W: Write> WriteSink<W> {
     /// A sink over this writer, which has failed in no call yet.
     pub fn new(writer: W) -> WriteSink<W>
-        ensures { result ≡ 0 }
+        ensures { result ≡ record { contents = W.contents writer; faults = 0 } }
     {
         WriteSink { writer, faults: 0 }
     }
@@ -34,9 +36,15 @@ impl<W: Write> WriteSink<W> {
 impl<W: Write> Sink for WriteSink<W> {
     ghost written = { λ _. None };
 
-    ghost faults = { λ sink. sink };
+    ghost faults = { λ sink. sink.faults };
 
-    fn write(&mut self, piece: &[u8]) -> Result<usize, Fault> {
+    /// One write of the writer, whose answer is handed on; an error, and a write of nothing, is a `Fault`.
+    fn write(&mut self, piece: &[u8]) -> Result<usize, Fault>
+        ensures within { IfOk result (λ n. n ≤ length piece.now) }
+        ensures some { IfOk result (λ n. 0 < length piece.now → 0 < n) }
+        ensures causes { Causes self.old.faults self.new.faults result }
+        ensures handed { WriteAppends self.old.contents self.new.contents result piece.now }
+    {
         match self.writer.write(piece) {
             Ok(0) if !piece.is_empty() => Err(counted_fault(&mut self.faults)),
             Ok(count) => Ok(count),

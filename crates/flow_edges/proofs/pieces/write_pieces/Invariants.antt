@@ -1,9 +1,9 @@
-use Rattle.std.proofs.Common.{◌≡◌, ◌≤◌, take}
+use Rattle.std.proofs.Common.{◌≡◌, take}
 use Rattle.flow_edges.specs.Flow.{written_with, joined}
 use Rattle.flow_edges.proofs.pieces.write_pieces.Given as goal
 
 abbrev pub invariant-loop-piece : goal.invariant-loop-piece
 invariant-loop-piece g l = record {
   done : g.S.Sink.written l.sink ≡ written_with (joined (take l.piece-index l.pieces)) (g.S.Sink.written l.fn.sink);
-  later : g.S.Sink.faults l.fn.sink ≤ g.S.Sink.faults l.sink;
+  quiet : g.S.Sink.faults l.sink ≡ g.S.Sink.faults l.fn.sink;
 }

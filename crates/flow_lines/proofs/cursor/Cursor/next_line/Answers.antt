@@ -1,7 +1,7 @@
 use Rattle.std.proofs.Common.{rules, ap, Ok, Err, sym, ◌∙◌, arith}
 use Rattle.flow_lines.specs.Lines.{is_blank}
-use Rattle.flow_lines.specs.LinesSteps.{lines_state}
-use Rattle.flow_lines.proofs.Accounts.{accounts-then, accounts-emptied, loses-passed_on}
+use Rattle.flow_lines.specs.inner.Reading.{lines_state}
+use Rattle.flow_lines.proofs.AccountsForLemmas.{accounts-then, accounts-emptied, loses-passed_on}
 use Rattle.flow_lines.proofs.cursor.Cursor.next_line.Goals as goal
 
 pub returns-in_err-read_next-clause-accounted : goal.returns-in_err-read_next-clause-accounted
@@ -33,5 +33,5 @@ lines-preserved g c =
         c.in_ok-read_next.ensures.held c.if-not-branch.false (c.lines.invariant.held holds).1 (ap is_blank (sym c.deref.ensures.value) ∙ sym c.if-not-is_blank_line.ensures),
       );
       moved = omega (arith, next.moved);
-      later = omega arith;
+      quiet = c.in_ok-read_next.ensures.quiet (λ failed. cc failed) ∙ c.lines.invariant.quiet;
     }

@@ -1,6 +1,6 @@
 use Rattle.std.proofs.Common.{◌≡◌, ◌≤◌, ◌-◌, ◌++◌}
 use Rattle.flow_lines.specs.Lines.{told_ahead, HoldsLine, AccountsFor}
-use Rattle.flow_lines.specs.LinesSteps.{IsBetweenLines, lines_state}
+use Rattle.flow_lines.specs.inner.Reading.{IsBetweenLines, lines_state}
 use Rattle.flow_lines.proofs.cursor.Cursor.next_line.Given as goal
 
 abbrev pub invariant-lines : goal.invariant-lines
@@ -12,7 +12,7 @@ invariant-lines g l = record {
       (g.S.Source.left l.fn.source) (g.S.Source.left l.source);
   held : HoldsLine (l.fn.self.line.items ++ l.fn.self.chunk) → (l.source ≡ l.fn.source) × HoldsLine l.self.chunk;
   moved : l.fn.self.given ≤ l.self.given;
-  later : g.S.Source.faults l.fn.source ≤ g.S.Source.faults l.source;
+  quiet : g.S.Source.faults l.source ≡ g.S.Source.faults l.fn.source;
 }
 
 abbrev pub decreases-lines : goal.decreases-lines

@@ -1,8 +1,8 @@
 use Rattle.std.proofs.Common.{◌≡◌, ◌+◌, arith}
 use Rattle.flow_lines.specs.Lines.{width}
-use Rattle.flow_lines.proofs.Ahead.{reads-next}
-use Rattle.flow_lines.proofs.Accounts.{accounts-read}
-use Rattle.flow_lines.proofs.Held.{holds_line-feed, holds_line-later, reads-plain}
+use Rattle.flow_lines.proofs.LinesAheadLemmas.{reads-next}
+use Rattle.flow_lines.proofs.AccountsForLemmas.{accounts-read}
+use Rattle.flow_lines.proofs.HoldsLineLemmas.{holds_line-feed, holds_line-later, reads-plain}
 use Rattle.flow_lines.proofs.cursor.Cursor.read_next.Goals as goal
 
 pub returns-clause-next : goal.returns-clause-next

@@ -1,7 +1,7 @@
 use Rattle.std.proofs.Common.{◌≡◌, ◌∙◌, sym, ap, arith, length}
 use Rattle.flow_lines.specs.Lines.{length_refusal}
-use Rattle.flow_lines.proofs.Cutting.{refused-step}
-use Rattle.flow_lines.proofs.whole.read_line.Goals as goal
+use Rattle.flow_lines.proofs.RawLinesLemmas.{refused-step}
+use Rattle.flow_lines.proofs.raw_line.read_line.Goals as goal
 
 pub returns-in-Some-clause-refused : goal.returns-in-Some-clause-refused
 returns-in-Some-clause-refused g c for_length =

@@ -6,8 +6,8 @@ use Rattle.flow_lines.specs.declared.refusal.TheConstants.{MAX_INPUT}
 use Rattle.flow_lines.specs.declared.refusal.LineRefusal.{LineRefusal}
 use Rattle.flow_edges.specs.Flow.{IsAtEnd}
 use Rattle.flow_lines.specs.Lines.{RawLine, raw_lines, length_refusal, refusal_of, width, content, is_blank, Lined, ended, refused, line_then, unless_refused, unless_blank, lines_from, told_ahead}
-use Rattle.flow_lines.specs.LinesSteps.{told_bytes, ReadsToLineFeed, ReadsLast, ReadsPart, IsFirstRefused, ReadsNext, lines_state}
-use Rattle.flow_lines.proofs.Cutting.{raw_lines-fed, raw_lines-last}
+use Rattle.flow_lines.specs.inner.Reading.{told_bytes, ReadsToLineFeed, ReadsLast, ReadsPart, IsFirstRefused, ReadsNext, lines_state}
+use Rattle.flow_lines.proofs.RawLinesLemmas.{raw_lines-fed, raw_lines-last}
 
 pub option_map-map : {A B C : Type 0} (f : B → C) (g : A → B) (o : Option A) → option_map f (option_map g o) ≡ option_map (λ a. f (g a)) o
 option_map-map f g None = refl

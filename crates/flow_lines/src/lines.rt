@@ -1,4 +1,4 @@
-ghost use Rattle.std.specs.Prelude.{◌≡◌, ℕ, ◌≤◌, [], None, Some, Err, IfOk, IfSome};
+ghost use Rattle.std.specs.Prelude.{◌≡◌, ◌≢◌, ℕ, ◌≤◌, [], None, Some, Err, IfOk, IfSome};
 ghost use Rattle.std.specs.Result.{result_err};
 ghost use Rattle.flow_edges.specs.Faults.{Rose};
 
@@ -22,7 +22,7 @@ pub struct Lines {
 impl Model for Lines {
     ghost use Rattle.std.specs.Prelude.{◌≡◌, ◌++◌, ◌≤◌, None};
     ghost use Rattle.flow_lines.specs.Lines.{LinesState, GivesLine};
-    ghost use Rattle.flow_lines.specs.LinesSteps.{IsBetweenLines};
+    ghost use Rattle.flow_lines.specs.inner.Reading.{IsBetweenLines};
 
     ghost Value = { LinesState };
 
@@ -70,6 +70,7 @@ impl Lines {
             (result ≡ Err refusal) × (self.new ≡ self.old) × (source.new ≡ source.old)) }
         ensures failed { result ≡ Err LineRefusal.Fault → self.old.refusal ≡ None
             → Rose (S.faults source.old) (S.faults source.new) }
+        ensures quiet { result ≢ Err LineRefusal.Fault → S.faults source.new ≡ S.faults source.old }
         ensures later { S.faults source.old ≤ S.faults source.new }
     {
         if let Some(refusal) = self.refusal {

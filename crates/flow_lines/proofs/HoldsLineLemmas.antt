@@ -3,8 +3,8 @@ use Rattle.std.proofs.Common.{◌≡◌, ℕ, Option, MatchBool, Bool, true, fal
 use Rattle.std.proofs.lemmas.List.Splits.{slice_split_none}
 use Rattle.std.specs.List.{list_any}
 use Rattle.flow_lines.specs.Lines.{is_line_feed, NoLineFeed, raw_lines, raw_lines_of, content, is_blank, is_whole, HoldsLine}
-use Rattle.flow_lines.specs.LinesSteps.{ReadsToLineFeed, ReadsLast, IsHeld}
-use Rattle.flow_lines.proofs.Cutting.{raw_lines-fed}
+use Rattle.flow_lines.specs.inner.Reading.{ReadsToLineFeed, ReadsLast, IsHeld}
+use Rattle.flow_lines.proofs.RawLinesLemmas.{raw_lines-fed}
 
 -- the last line, which has no line feed, isn't whole
 last-unwhole : (part : List ℕ) (none : Bool) → list_any is_whole (if none then [] else record { bytes = part; closed = false } ∷ []) ≡ false

@@ -1,7 +1,7 @@
-ghost use Rattle.std.specs.Prelude.{◌≡◌, ℕ, ◌≤◌, [], ◌⊎◌, Some, None, Ok, Err, length, IfOk, IfErr, IfSome, MatchBool};
+ghost use Rattle.std.specs.Prelude.{◌≡◌, ◌≢◌, ℕ, ◌≤◌, [], ◌⊎◌, Some, None, Ok, Err, length, IfOk, IfErr, IfSome, MatchBool};
 ghost use Rattle.flow_edges.specs.Faults.{Rose, Causes};
 ghost use Rattle.flow_lines.specs.Lines.{NoLineFeed, length_refusal};
-ghost use Rattle.flow_lines.specs.LinesSteps.{told_bytes, ReadsToLineFeed, ReadsLast, ReadsPart, IsHeld, IsFirstRefused, IsForLength};
+ghost use Rattle.flow_lines.specs.inner.Reading.{told_bytes, ReadsToLineFeed, ReadsLast, ReadsPart, IsHeld, IsFirstRefused, IsForLength};
 
 use flow_edges::Source;
 use crate::chunk::Chunk;
@@ -52,6 +52,7 @@ pub fn read_line<S: Source>(
     ensures fault { result ≡ Err LineRefusal.Fault
         → ReadsPart (told_bytes [] chunk.old (S.left source.old)) (S.left source.new) line.new.items chunk.new }
     ensures failed { result ≡ Err LineRefusal.Fault → Rose (S.faults source.old) (S.faults source.new) }
+    ensures quiet { result ≢ Err LineRefusal.Fault → S.faults source.new ≡ S.faults source.old }
     ensures later { S.faults source.old ≤ S.faults source.new }
     ensures small { length chunk.new ≤ 65536 }
     ensures unread { ¬ (NoLineFeed chunk.old) → source.new ≡ source.old }

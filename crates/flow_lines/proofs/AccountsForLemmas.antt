@@ -4,8 +4,8 @@ use Rattle.flow_lines.specs.Lines.{LinesState, width, AccountsFor, LosesNone}
 use Rattle.flow_lines.specs.declared.refusal.LineRefusal.{LineRefusal}
 use Rattle.flow_lines.specs.declared.line.Line.{Line}
 use Rattle.flow_lines.specs.declared.refusal.LineRefusal.TheVariants.{Fault, LineTooLong, InputTooLong, NoMemory}
-use Rattle.flow_lines.specs.LinesSteps.{told_bytes, ReadsToLineFeed, ReadsLast, ReadsPart}
-use Rattle.flow_lines.proofs.Ahead.{option_map-map, option_map-same}
+use Rattle.flow_lines.specs.inner.Reading.{told_bytes, ReadsToLineFeed, ReadsLast, ReadsPart}
+use Rattle.flow_lines.proofs.LinesAheadLemmas.{option_map-map, option_map-same}
 
 -- nothing went by yet
 pub accounts-start : (held : List ℕ) (given : ℕ) (left : Option (List ℕ)) → AccountsFor held held given given left left

@@ -10,7 +10,7 @@ use Rattle.flow_lines.specs.declared.refusal.TheConstants.{MAX_INPUT}
 use Rattle.flow_lines.specs.declared.refusal.LineRefusal.{LineRefusal}
 use Rattle.flow_edges.specs.Flow.{left_after, IsNextOf}
 use Rattle.flow_lines.specs.Lines.{is_line_feed, IsNoLineFeed, NoLineFeed, raw_lines, raw_lines_of, length_refusal}
-use Rattle.flow_lines.specs.LinesSteps.{told_bytes, TakesToLineFeed, TakesAll, IsFirstRefused}
+use Rattle.flow_lines.specs.inner.Reading.{told_bytes, TakesToLineFeed, TakesAll, IsFirstRefused}
 
 -- ---- the bytes that a source tells
 

@@ -1,8 +1,8 @@
 use Rattle.std.proofs.Common.{◌≡◌, ◌≤◌, ◌+◌, ◌-◌, [], length}
 use Rattle.flow_lines.specs.declared.refusal.TheConstants.{MAX_INPUT}
-use Rattle.flow_lines.specs.LinesSteps.{told_bytes}
+use Rattle.flow_lines.specs.inner.Reading.{told_bytes}
 use Rattle.flow_lines.specs.Lines.{NoLineFeed}
-use Rattle.flow_lines.proofs.whole.read_line.Given as goal
+use Rattle.flow_lines.proofs.raw_line.read_line.Given as goal
 
 abbrev pub invariant-reads : goal.invariant-reads
 invariant-reads g l = record {
@@ -11,7 +11,7 @@ invariant-reads g l = record {
   within : l.start.place + length l.line.items ≤ MAX_INPUT;
   room : length l.chunk ≤ 65536;
   held : ¬ (NoLineFeed l.fn.chunk) → (l.source ≡ l.fn.source) × (l.chunk ≡ l.fn.chunk) × (l.line.items ≡ []);
-  later : g.S.Source.faults l.fn.source ≤ g.S.Source.faults l.source;
+  quiet : g.S.Source.faults l.source ≡ g.S.Source.faults l.fn.source;
 }
 
 abbrev pub decreases-reads : goal.decreases-reads

@@ -1,0 +1,71 @@
+ghost use Rattle.std.specs.Prelude.{◌≡◌, ◌≢◌, ◌≤◌, Err, IfOk};
+ghost use Rattle.flow_edges.specs.Faults.{Rose};
+ghost use Rattle.flow_lines.specs.WholeInput.{IsWhole, IsTooLong};
+
+use crate::chunk::Chunk;
+use flow_edges::Source;
+use flow_values::{Items, NoMemory};
+use std::alloc::Global;
+use std::error::Error;
+use std::fmt;
+
+/// The most bytes that an input may have that is read whole.
+pub const MAX_WHOLE_INPUT: usize = 67_108_864;
+
+/// Why an input was not read whole.
+#[derive(Clone, Copy, Debug, PartialEq, Eq)]
+pub enum InputRefusal {
+    /// The input failed, and counted it.
+    Fault,
+    /// There are more than `MAX_WHOLE_INPUT` bytes.
+    TooLong,
+    /// Memory ran out.
+    NoMemory,
+}
+
+impl fmt::Display for InputRefusal {
+    fn fmt<W: fmt::Write>(&self, f: &mut fmt::Formatter<W>) -> fmt::Result {
+        match self {
+            InputRefusal::Fault => write!(f, "the input failed"),
+            InputRefusal::TooLong => write!(f, "the input has more than 67,108,864 bytes"),
+            InputRefusal::NoMemory => write!(f, "out of memory"),
+        }
+    }
+}
+
+impl Error for InputRefusal {}
+
+impl From<NoMemory> for InputRefusal {
+    ghost use Rattle.flow_lines.specs.declared.whole_input.InputRefusal.TheVariants as InputRefusal;
+
+    ghost from_gives = { λ _ refusal. refusal ≡ InputRefusal.NoMemory };
+
+    fn from(_error: NoMemory) -> InputRefusal {
+        InputRefusal::NoMemory
+    }
+}
+
+/// All bytes of an input that has at most `MAX_WHOLE_INPUT` of them.
+pub fn read_whole<S: Source>(alloc: Global, source: &mut S) -> Result<Items<u8>, InputRefusal>
+    ensures whole { IfOk result (λ bytes. IsWhole bytes (S.left source.old) (S.left source.new)) }
+    ensures too_long { result ≡ Err InputRefusal.TooLong → IsTooLong (S.left source.old) }
+    ensures failed { result ≡ Err InputRefusal.Fault → Rose (S.faults source.old) (S.faults source.new) }
+    ensures quiet { result ≢ Err InputRefusal.Fault → S.faults source.new ≡ S.faults source.old }
+    ensures later { S.faults source.old ≤ S.faults source.new }
+{
+    let mut chunk = Chunk::new(alloc)?;
+    let mut bytes = Vec::new(alloc);
+    // Each turn takes a byte at least.
+    for _turn in 0..=MAX_WHOLE_INPUT {
+        let count = match chunk.fill(source) {
+            Ok(0) => return Ok(Items::from_vec(bytes)),
+            Ok(count) => count,
+            Err(_) => return Err(InputRefusal::Fault),
+        };
+        if count > MAX_WHOLE_INPUT - bytes.len() {
+            return Err(InputRefusal::TooLong);
+        }
+        chunk.take_all(&mut bytes)?;
+    }
+    unreachable!()
+}
