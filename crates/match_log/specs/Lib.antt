@@ -6,5 +6,3 @@ pub mod Matching
 pub mod TallyOf
 pub mod Texts
 pub mod Said
-pub mod Whole
-pub mod WholeSteps

@@ -36,6 +36,11 @@ AnswersMatch form left left_after written written_after ReadFault = ⊤
 AnswersMatch form left left_after written written_after WriteFault = ⊤
 AnswersMatch form left left_after written written_after NoMemory = ⊤
 
+-- so far each line that is refused is so for the one rule of what isn't read yet
+abbrev pub IsNotYet : MatchEnd → Type 0
+IsNotYet (Input line rule) = rule ≡ NotYet
+IsNotYet _ = ⊤
+
 -- the end for a refusal of the lines
 abbrev pub end_of : LineRefusal → MatchEnd
 end_of refusal.Fault = ReadFault

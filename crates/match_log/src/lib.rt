@@ -15,13 +15,11 @@ mod rows;
 mod said;
 mod stream;
 mod tally;
-mod whole;
 
 pub use comparison::is_built;
 pub use end::{InputRule, MatchEnd, Mode};
 pub use refusal_text::write_input_refusal;
 pub use stream::match_stream;
-pub use whole::{WholeRefusal, read_whole};
 
 #[cfg(test)]
 mod tests;

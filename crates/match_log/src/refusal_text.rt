@@ -1,6 +1,6 @@
-ghost use Rattle.std.specs.Prelude.{◌≡◌, ◌++◌, OnOk, OnErr};
+ghost use Rattle.std.specs.Prelude.{◌≡◌, ◌++◌};
 ghost use Rattle.flow_edges.specs.Faults.{Causes};
-ghost use Rattle.flow_edges.specs.Flow.{written_with, WritesPrefix};
+ghost use Rattle.flow_edges.specs.Flow.{WritesWhole};
 ghost use Rattle.match_log.specs.Said.{broken_words, said_text, path_lead};
 ghost use Rattle.match_log.specs.Texts.{at_path, line_text, line_of_text, input_refusal_text};
 
@@ -13,16 +13,14 @@ use itoa::Buffer;
 /// Writes why a line is refused, as `line 2 refused: NotYet` and a line feed. After a `Fault` a prefix
 /// of the text was written. Takes no memory.
 pub fn write_input_refusal<S: Sink>(line: u64, rule: &InputRule, sink: &mut S) -> Result<(), Fault>
-    ensures whole { OnOk result (S.written sink.new ≡ written_with (input_refusal_text line rule.now) (S.written sink.old)) }
-    ensures part { OnErr result (WritesPrefix (input_refusal_text line rule.now) (S.written sink.old) (S.written sink.new)) }
+    ensures text { WritesWhole (input_refusal_text line rule.now) (S.written sink.old) (S.written sink.new) result }
     ensures causes { Causes (S.faults sink.old) (S.faults sink.new) result }
 {
     write_said(line, Said::of(rule), sink)
 }
 
 fn write_said<S: Sink>(line: u64, said: Said<'_>, sink: &mut S) -> Result<(), Fault>
-    ensures whole { OnOk result (S.written sink.new ≡ written_with (line_text line (said_text said.entry)) (S.written sink.old)) }
-    ensures part { OnErr result (WritesPrefix (line_text line (said_text said.entry)) (S.written sink.old) (S.written sink.new)) }
+    ensures text { WritesWhole (line_text line (said_text said.entry)) (S.written sink.old) (S.written sink.new) result }
     ensures causes { Causes (S.faults sink.old) (S.faults sink.new) result }
 {
     let mut buffer = Buffer::new();
@@ -44,8 +42,7 @@ fn write_at<'a, S: Sink>(
     path: &'a str,
     sink: &mut S,
 ) -> Result<(), Fault>
-    ensures whole { OnOk result (S.written sink.new ≡ written_with (line_of_text line.now (at_path name.now path.now)) (S.written sink.old)) }
-    ensures part { OnErr result (WritesPrefix (line_of_text line.now (at_path name.now path.now)) (S.written sink.old) (S.written sink.new)) }
+    ensures text { WritesWhole (line_of_text line.now (at_path name.now path.now)) (S.written sink.old) (S.written sink.new) result }
     ensures causes { Causes (S.faults sink.old) (S.faults sink.new) result }
 {
     let at = lead_of(path);
@@ -72,8 +69,7 @@ fn write_broken<'a, S: Sink>(
     path: &'a str,
     sink: &mut S,
 ) -> Result<(), Fault>
-    ensures whole { OnOk result (S.written sink.new ≡ written_with (line_of_text line.now (at_path (name.now ++ broken_words object.now rule.now) path.now)) (S.written sink.old)) }
-    ensures part { OnErr result (WritesPrefix (line_of_text line.now (at_path (name.now ++ broken_words object.now rule.now) path.now)) (S.written sink.old) (S.written sink.new)) }
+    ensures text { WritesWhole (line_of_text line.now (at_path (name.now ++ broken_words object.now rule.now) path.now)) (S.written sink.old) (S.written sink.new) result }
     ensures causes { Causes (S.faults sink.old) (S.faults sink.new) result }
 {
     let at = lead_of(path);

@@ -1,7 +1,7 @@
-ghost use Rattle.std.specs.Prelude.{◌≡◌, ◌+◌, ◌≤◌, ◌<◌, ◌^◌, ℕ, Option, Err, IfOk, IfErr, OnOk};
+ghost use Rattle.std.specs.Prelude.{◌≡◌, ◌≢◌, ◌+◌, ◌≤◌, ◌<◌, ◌^◌, ℕ, Option, Err, IfOk, IfErr, OnOk};
 ghost use Rattle.flow_edges.specs.Faults.{Rose};
 ghost use Rattle.match_log.specs.FirstForm.{FirstForm, form_of, pattern_of, IsBuilt};
-ghost use Rattle.match_log.specs.Matching.{AnswersMatch, ListsWhole};
+ghost use Rattle.match_log.specs.Matching.{AnswersMatch, ListsWhole, IsNotYet};
 ghost use Rattle.match_log.specs.TallyOf.{AddsRow, EndsInLine};
 
 use crate::comparison::{Comparison, first_form};
@@ -28,9 +28,10 @@ fn take_line<O: Sink>(
     ensures row { OnOk result (AddsRow (form_of comparison.entry) tally.old tally.new line.now.bytes (O.written output.old) (O.written output.new)) }
     ensures counted { OnOk result (tally.new.observations ≡ tally.old.observations + 1) }
     ensures bound { OnOk result (tally.new.bindings ≤ tally.old.bindings + 1) }
+    ensures rule { IfErr result IsNotYet }
     ensures end { IfErr result (EndsInLine tally.old.last_time line.now.number line.now.bytes (O.written output.old) (O.written output.new)) }
     ensures failed { result ≡ Err MatchEnd.WriteFault → Rose (O.faults output.old) (O.faults output.new) }
-    ensures later { O.faults output.old ≤ O.faults output.new }
+    ensures quiet { result ≢ Err MatchEnd.WriteFault → O.faults output.new ≡ O.faults output.old }
 {
     let seen = match read_row(alloc, comparison, tally.last_time, line.bytes.as_slice()) {
         Ok(Some(seen)) => seen,
@@ -58,11 +59,13 @@ fn list_lines<I: Source, O: Sink>(
 ) -> Result<Tally, MatchEnd>
     ensures whole { IfOk result (λ tally. ListsWhole (form_of comparison.entry) (I.left input.old) (I.left input.new)
         (O.written output.old) (O.written output.new) tally.observations tally.bindings tally.last) }
+    ensures rule { IfErr result IsNotYet }
     ensures end { IfErr result (AnswersMatch (form_of comparison.entry) (I.left input.old) (I.left input.new)
         (O.written output.old) (O.written output.new)) }
     ensures read_failed { result ≡ Err MatchEnd.ReadFault → Rose (I.faults input.old) (I.faults input.new) }
+    ensures read_quiet { result ≢ Err MatchEnd.ReadFault → I.faults input.new ≡ I.faults input.old }
     ensures write_failed { result ≡ Err MatchEnd.WriteFault → Rose (O.faults output.old) (O.faults output.new) }
-    ensures later { (I.faults input.old ≤ I.faults input.new) × (O.faults output.old ≤ O.faults output.new) }
+    ensures write_quiet { result ≢ Err MatchEnd.WriteFault → O.faults output.new ≡ O.faults output.old }
 {
     let mut lines = match Lines::new(alloc) {
         Ok(lines) => lines,
@@ -95,9 +98,11 @@ pub fn match_stream<I: Source, O: Sink>(
 
     ensures end { (form : FirstForm) → pattern.now ≡ pattern_of form
         → AnswersMatch form (I.left input.old) (I.left input.new) (O.written output.old) (O.written output.new) result }
+    ensures rule { IsNotYet result }
     ensures read_failed { result ≡ MatchEnd.ReadFault → Rose (I.faults input.old) (I.faults input.new) }
+    ensures read_quiet { result ≢ MatchEnd.ReadFault → I.faults input.new ≡ I.faults input.old }
     ensures write_failed { result ≡ MatchEnd.WriteFault → Rose (O.faults output.old) (O.faults output.new) }
-    ensures later { (I.faults input.old ≤ I.faults input.new) × (O.faults output.old ≤ O.faults output.new) }
+    ensures write_quiet { result ≢ MatchEnd.WriteFault → O.faults output.new ≡ O.faults output.old }
 {
     let Some(comparison) = first_form(pattern) else {
         unreachable!()

@@ -1,4 +1,4 @@
-use Rattle.std.proofs.Common.{arith}
+use Rattle.std.proofs.Common.{arith, ◌∙◌}
 use Rattle.match_log.proofs.Following.{ends-whole, ends-refused, ends-in_line, so_far-line, moved-line, within-line}
 use Rattle.match_log.proofs.stream.list_lines.Goals as goal
 
@@ -20,6 +20,6 @@ lines-preserved g c =
       numbered = omega (arith, moved, c.in-Ok-take_line.ensures.counted, c.lines.invariant.numbered);
       counted = omega (arith, moved, c.in-Ok-take_line.ensures.bound, c.lines.invariant.counted);
       within = within-line _ _ _ _ _ _ _ _ _ c.lines.invariant.so_far c.in-Ok-Some.field-0 c.in-Ok-Some.line c.in-Ok-Some.field-0-is (c.in-Ok-Some.ensures.lines c.lines.invariant.unrefused);
-      read_later = omega (arith, c.next_line.ensures.later);
-      write_later = omega (arith, c.take_line.ensures.later);
+      read_quiet = c.in-Ok-Some.ensures.quiet (λ failed. cc failed) ∙ c.lines.invariant.read_quiet;
+      write_quiet = c.in-Ok-take_line.ensures.quiet (λ failed. cc failed) ∙ c.lines.invariant.write_quiet;
     }

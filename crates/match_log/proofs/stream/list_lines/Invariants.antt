@@ -11,8 +11,8 @@ invariant-lines g l = record {
   numbered : l.tally.observations ≤ l.lines.given;
   counted : l.tally.bindings ≤ l.lines.given;
   within : l.lines.given ≤ 1099511627776;
-  read_later : g.I.Source.faults l.fn.input ≤ g.I.Source.faults l.input;
-  write_later : g.O.Sink.faults l.fn.output ≤ g.O.Sink.faults l.output;
+  read_quiet : g.I.Source.faults l.input ≡ g.I.Source.faults l.fn.input;
+  write_quiet : g.O.Sink.faults l.output ≡ g.O.Sink.faults l.fn.output;
 }
 
 abbrev pub decreases-lines : goal.decreases-lines
