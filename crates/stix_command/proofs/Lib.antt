@@ -1,5 +1,5 @@
-pub mod Prefixes
-pub mod TwoWords
-pub mod Endings
-pub mod CheckEnds
-pub mod Verdicts
+pub mod VerdictsLemmas
+pub mod WritesWholeLemmas
+pub mod CommandLineLemmas
+pub mod MatchEndingsLemmas
+pub mod RunEndingsLemmas

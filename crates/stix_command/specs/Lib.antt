@@ -1,7 +1,7 @@
 pub mod CommandLine
-pub mod Ends
-pub mod Matches
-pub mod Shows
-pub mod Judged
-pub mod Checks
-pub mod Runs
+pub mod Streams
+pub mod Verdicts
+pub mod MatchEndings
+pub mod CheckEndings
+pub mod ShowEndings
+pub mod RunEndings

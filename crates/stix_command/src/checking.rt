@@ -1,186 +1,102 @@
-ghost use Rattle.std.specs.Prelude.{◌≡◌, ◌++◌, IfOk, codes, decimal};
-ghost use Rattle.std.specs.List.{flat_map};
-ghost use Rattle.flow_edges.specs.Faults.{Rose};
-ghost use Rattle.stix_command.specs.Checks.{break_line, version_line, marking_line, verdict_text as told_text, verdict_ending, EndsCheck, EndsTelling, TellsVerdict};
-ghost use Rattle.stix_command.specs.Judged.{IsJudged};
+ghost use Rattle.std.specs.Prelude.{◌≡◌, ◌≢◌};
+ghost use Rattle.flow_edges.specs.Faults.{Rose, Causes};
+ghost use Rattle.flow_edges.specs.Flow.{WritesWhole};
+ghost use Rattle.stix_command.specs.Streams.{streams};
+ghost use Rattle.stix_command.specs.CheckEndings.{EndsCheck, EndsJudging};
 
-use crate::ending::Ending;
 use crate::judging::judge;
+use crate::reasons::{write_no_memory, write_read_fault, write_write_fault};
 use crate::verdict::Verdict;
-use stix_bundles::ObjectBreak;
+use crate::verdict_text::verdict_text;
 use flow_edges::{Sink, Source, write_whole};
-use flow_values::{NoMemory, Text};
-use match_log::{InputRule, WholeRefusal, read_whole};
+use flow_lines::{InputRefusal, read_whole};
+use flow_values::Fault;
+use match_log::{InputRule, write_input_refusal};
 use std::alloc::Global;
-use stix_versions::{MarkingBreak, VersionBreak};
+
+/// How `check` ends.
+#[derive(Debug, Drop)]
+pub enum CheckEnding {
+    /// The input was read whole, and the verdict on it was written.
+    Judged(Verdict),
+    /// The input has more bytes than it may have.
+    TooLong,
+    /// The input failed.
+    ReadFault,
+    /// The output failed.
+    WriteFault,
+    /// Memory ran out.
+    NoMemory,
+}
+
+impl CheckEnding {
+    ghost use Rattle.stix_command.specs.CheckEndings.{check_status, check_reason};
+
+    /// The status of the program.
+    pub fn status(&self) -> u8
+        ensures { result ≡ check_status self.now }
+    {
+        match self {
+            CheckEnding::Judged(Verdict::Sound { .. }) => 0,
+            CheckEnding::NoMemory => 1,
+            CheckEnding::Judged(
+                Verdict::Broken(_) | Verdict::Unfit { .. } | Verdict::Refused(_),
+            )
+            | CheckEnding::TooLong => 4,
+            CheckEnding::ReadFault => 5,
+            CheckEnding::WriteFault => 6,
+        }
+    }
+
+    /// Writes why it ends so; an input that is refused is line 1. Takes no memory.
+    pub fn write_reason<S: Sink>(&self, reasons: &mut S) -> Result<(), Fault>
+        ensures text { WritesWhole (check_reason self.now) (S.written reasons.old) (S.written reasons.new) result }
+        ensures causes { Causes (S.faults reasons.old) (S.faults reasons.new) result }
+    {
+        match self {
+            CheckEnding::Judged(Verdict::Refused(rule)) => write_input_refusal(1, rule, reasons),
+            CheckEnding::Judged(
+                Verdict::Sound { .. } | Verdict::Broken(_) | Verdict::Unfit { .. },
+            ) => write_whole(reasons, b""),
+            CheckEnding::TooLong => write_input_refusal(1, &InputRule::InputTooLong, reasons),
+            CheckEnding::ReadFault => write_read_fault(reasons),
+            CheckEnding::WriteFault => write_write_fault(reasons),
+            CheckEnding::NoMemory => write_no_memory(reasons),
+        }
+    }
+}
 
 /// The command `check`: writes the breaks of a bundle's objects, else those of their versions and
 /// granular markings, else how many objects are sound.
-pub fn check<I: Source, O: Sink>(alloc: Global, input: &mut I, output: &mut O) -> Ending
-    ensures end { EndsCheck (I.left input.old) (I.left input.new) (O.written output.old) (O.written output.new) result }
-    ensures read_failed { result ≡ Ending.ReadFault → Rose (I.faults input.old) (I.faults input.new) }
-    ensures write_failed { result ≡ Ending.WriteFault → Rose (O.faults output.old) (O.faults output.new) }
+pub fn check<I: Source, O: Sink>(alloc: Global, input: &mut I, output: &mut O) -> CheckEnding
+    ensures end { EndsCheck (streams (I.left input.old) (O.written output.old)) (streams (I.left input.new) (O.written output.new)) result }
+    ensures read_failed { result ≡ CheckEnding.ReadFault → Rose (I.faults input.old) (I.faults input.new) }
+    ensures read_quiet { result ≢ CheckEnding.ReadFault → I.faults input.new ≡ I.faults input.old }
+    ensures write_failed { result ≡ CheckEnding.WriteFault → Rose (O.faults output.old) (O.faults output.new) }
+    ensures write_quiet { result ≢ CheckEnding.WriteFault → O.faults output.new ≡ O.faults output.old }
 {
     match read_whole(alloc, input) {
         Ok(bytes) => check_bytes(alloc, bytes.as_slice(), output),
-        Err(WholeRefusal::Fault) => Ending::ReadFault,
-        Err(WholeRefusal::TooLong) => Ending::InputRefused {
-            line: 1,
-            rule: InputRule::InputTooLong,
-        },
-        Err(WholeRefusal::NoMemory) => Ending::NoMemory,
+        Err(InputRefusal::Fault) => CheckEnding::ReadFault,
+        Err(InputRefusal::TooLong) => CheckEnding::TooLong,
+        Err(InputRefusal::NoMemory) => CheckEnding::NoMemory,
     }
 }
 
-/// Checks bytes, and writes what they are.
-fn check_bytes<O: Sink>(alloc: Global, bytes: &[u8], output: &mut O) -> Ending
-    ensures end { EndsTelling bytes.now (O.written output.old) (O.written output.new) result }
-    ensures write_failed { result ≡ Ending.WriteFault → Rose (O.faults output.old) (O.faults output.new) }
+/// Judges bytes, and writes the verdict.
+fn check_bytes<O: Sink>(alloc: Global, bytes: &[u8], output: &mut O) -> CheckEnding
+    ensures end { EndsJudging bytes.now (O.written output.old) (O.written output.new) result }
+    ensures write_failed { result ≡ CheckEnding.WriteFault → Rose (O.faults output.old) (O.faults output.new) }
+    ensures write_quiet { result ≢ CheckEnding.WriteFault → O.faults output.new ≡ O.faults output.old }
 {
-    match judge(alloc, bytes) {
-        Ok(verdict) => tell(alloc, verdict, output),
-        Err(NoMemory) => Ending::NoMemory,
-    }
-}
-
-/// Writes a verdict.
-fn tell<O: Sink>(alloc: Global, verdict: Verdict, output: &mut O) -> Ending
-    ensures end { TellsVerdict verdict (O.written output.old) (O.written output.new) result }
-    ensures write_failed { result ≡ Ending.WriteFault → Rose (O.faults output.old) (O.faults output.new) }
-{
+    let Ok(verdict) = judge(alloc, bytes) else {
+        return CheckEnding::NoMemory;
+    };
     let Ok(text) = verdict_text(alloc, &verdict) else {
-        return Ending::NoMemory;
+        return CheckEnding::NoMemory;
     };
     match write_whole(output, text.as_str().as_bytes()) {
-        Ok(()) => ending_of(verdict),
-        Err(_) => Ending::WriteFault,
+        Ok(()) => CheckEnding::Judged(verdict),
+        Err(_) => CheckEnding::WriteFault,
     }
-}
-
-/// How a check ends that has written its verdict.
-fn ending_of(verdict: Verdict) -> Ending
-    ensures { result ≡ verdict_ending verdict }
-{
-    match verdict {
-        Verdict::Sound { .. } => Ending::Done,
-        Verdict::Broken(_) | Verdict::Unfit { .. } => Ending::Broken,
-        Verdict::Refused(rule) => Ending::InputRefused { line: 1, rule },
-    }
-}
-
-/// What is written of a verdict.
-fn verdict_text(alloc: Global, verdict: &Verdict) -> Result<Text, NoMemory>
-    ensures { IfOk result (λ text. text ≡ told_text verdict.now) }
-{
-    match verdict {
-        Verdict::Sound { objects } => sound_text(alloc, *objects),
-        Verdict::Broken(breaks) => breaks_text(alloc, breaks.as_slice()),
-        Verdict::Unfit { versions, markings } => {
-            unfit_text(alloc, versions.as_slice(), markings.as_slice())
-        }
-        Verdict::Refused(_) => Ok(Text::new(alloc)),
-    }
-}
-
-fn sound_text(alloc: Global, objects: usize) -> Result<Text, NoMemory>
-    ensures { IfOk result (λ text. text ≡ told_text (Verdict.Sound objects)) }
-{
-    let text = format!(in alloc; "ok {objects} objects\n")?;
-    Ok(Text::from_string(text))
-}
-
-fn breaks_text(alloc: Global, breaks: &[ObjectBreak]) -> Result<Text, NoMemory>
-    ensures { IfOk result (λ text. text ≡ flat_map break_line breaks.now) }
-{
-    let mut text = Text::new(alloc);
-    for broken in breaks {
-        let line = break_text(alloc, broken)?;
-        text.push(line.as_str())?;
-    }
-    Ok(text)
-}
-
-/// The line of a break.
-fn break_text(alloc: Global, broken: &ObjectBreak) -> Result<Text, NoMemory>
-    ensures { IfOk result (λ text. text ≡ break_line broken.now) }
-{
-    let object = broken.object;
-    let rule = broken.found.rule.name();
-    let path = broken.found.path.as_str();
-    if path.is_empty() {
-        return plain_line(alloc, object, rule);
-    }
-    placed_line(alloc, object, rule, path)
-}
-
-/// The line of a break of the whole object.
-fn plain_line(alloc: Global, object: u32, rule: &str) -> Result<Text, NoMemory>
-    ensures { IfOk result (λ text. text ≡ codes "object " ++ (decimal object ++ (codes ": " ++ (rule.now ++ codes "\n")))) }
-{
-    let text = format!(in alloc; "object {object}: {rule}\n")?;
-    Ok(Text::from_string(text))
-}
-
-/// The line of a break at a path.
-fn placed_line(alloc: Global, object: u32, rule: &str, path: &str) -> Result<Text, NoMemory>
-    ensures { IfOk result (λ text. text ≡ codes "object " ++ (decimal object ++ (codes ": " ++ (rule.now ++ (codes " at " ++ (path.now ++ codes "\n")))))) }
-{
-    let text = format!(in alloc; "object {object}: {rule} at {path}\n")?;
-    Ok(Text::from_string(text))
-}
-
-fn unfit_text(
-    alloc: Global,
-    versions: &[VersionBreak],
-    markings: &[MarkingBreak],
-) -> Result<Text, NoMemory>
-    ensures { IfOk result (λ text. text ≡ flat_map version_line versions.now ++ flat_map marking_line markings.now) }
-{
-    let mut text = versions_text(alloc, versions)?;
-    let rest = markings_text(alloc, markings)?;
-    text.push(rest.as_str())?;
-    Ok(text)
-}
-
-fn versions_text(alloc: Global, versions: &[VersionBreak]) -> Result<Text, NoMemory>
-    ensures { IfOk result (λ text. text ≡ flat_map version_line versions.now) }
-{
-    let mut text = Text::new(alloc);
-    for broken in versions {
-        let line = version_text(alloc, *broken)?;
-        text.push(line.as_str())?;
-    }
-    Ok(text)
-}
-
-fn markings_text(alloc: Global, markings: &[MarkingBreak]) -> Result<Text, NoMemory>
-    ensures { IfOk result (λ text. text ≡ flat_map marking_line markings.now) }
-{
-    let mut text = Text::new(alloc);
-    for broken in markings {
-        let line = marking_text(alloc, *broken)?;
-        text.push(line.as_str())?;
-    }
-    Ok(text)
-}
-
-/// The line of a break of a rule of versions.
-fn version_text(alloc: Global, broken: VersionBreak) -> Result<Text, NoMemory>
-    ensures { IfOk result (λ text. text ≡ version_line broken) }
-{
-    let object = broken.object;
-    let rule = broken.rule.name();
-    let text = format!(in alloc; "object {object}: {rule}\n")?;
-    Ok(Text::from_string(text))
-}
-
-/// The line of a break of a rule of markings.
-fn marking_text(alloc: Global, broken: MarkingBreak) -> Result<Text, NoMemory>
-    ensures { IfOk result (λ text. text ≡ marking_line broken) }
-{
-    let object = broken.object;
-    let marking = broken.marking;
-    let rule = broken.rule.name();
-    let text = format!(in alloc; "object {object}: marking {marking}: {rule}\n")?;
-    Ok(Text::from_string(text))
 }

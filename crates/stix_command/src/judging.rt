@@ -3,7 +3,7 @@ ghost use Rattle.stix_json.specs.declared.refusal.JsonRefusal.TheVariants as tre
 ghost use Rattle.stix_bundles.specs.Objects.{data_in};
 ghost use Rattle.stix_json.specs.DataOf.{data_of};
 ghost use Rattle.stix_json.specs.Reading.{IsRefusedAs};
-ghost use Rattle.stix_command.specs.Judged.{IsJudged, IsBundleJudged, AreJudged};
+ghost use Rattle.stix_command.specs.Verdicts.{IsJudged, IsBundleJudged, AreJudged};
 
 use crate::verdict::Verdict;
 use stix_bundles::{Bundle, BundleRefusal, read_bundle};

@@ -2,7 +2,7 @@
 
 ghost use Rattle.std.specs.Prelude.{◌≡◌, ℕ, List};
 ghost use Rattle.stix_command.specs.declared.verdict.Verdict.{Verdict};
-ghost use Rattle.stix_command.specs.Judged.{IsJudged};
+ghost use Rattle.stix_command.specs.Verdicts.{IsJudged};
 
 use stix_objects::laws::one_list;
 

@@ -7,16 +7,18 @@ mod ending;
 mod judging;
 mod laws;
 mod matching;
-#[cfg(test)]
-mod pattern_tests;
+mod reasons;
 mod run;
 mod showing;
 #[cfg(test)]
 mod tests;
 mod verdict;
+mod verdict_text;
 
+use crate::reasons::write_no_memory;
 use flow_edges::{ReadSource, WriteSink};
 use std::alloc::Global;
+use std::io::ErrorKind;
 use std::process::ExitCode;
 use std::{env, io};
 
@@ -32,9 +34,16 @@ fn words(rt: &HostRuntime) -> io::Result<Vec<String>> {
 fn main(rt: HostRuntime) -> ExitCode {
     let mut input = ReadSource::new(rt.stdin());
     let mut output = WriteSink::new(rt.stdout());
-    let mut faults = WriteSink::new(rt.stderr());
-    // A word that isn't UTF-8 is no command line, as no words are.
-    let words = words(&rt).unwrap_or(Vec::new(rt.alloc()));
-    let status = run::run(rt.alloc(), &words, &mut input, &mut output, &mut faults);
+    let mut reasons = WriteSink::new(rt.stderr());
+    let words = match words(&rt) {
+        Ok(words) => words,
+        Err(error) if error.kind() == ErrorKind::OutOfMemory => {
+            let _ = write_no_memory(&mut reasons);
+            return ExitCode::from(1);
+        }
+        // A word that isn't UTF-8 is no command line, as no words are.
+        Err(_) => Vec::new(rt.alloc()),
+    };
+    let status = run::run(rt.alloc(), &words, &mut input, &mut output, &mut reasons);
     ExitCode::from(status)
 }

@@ -1,8 +1,8 @@
-ghost use Rattle.std.specs.Prelude.{◌≡◌, ◌⊎◌, ◌↔◌};
+ghost use Rattle.std.specs.Prelude.{◌≡◌, ◌≢◌, ◌⊎◌, ◌↔◌, ℕ, List};
 ghost use Rattle.flow_edges.specs.Faults.{Rose};
-ghost use Rattle.stix_command.specs.CommandLine.{texts};
-ghost use Rattle.stix_command.specs.Ends.{status_of, ending_text};
-ghost use Rattle.stix_command.specs.Runs.{IsNoCommand, RefusesPattern, EndsRun, Tells, Ends};
+ghost use Rattle.stix_command.specs.CommandLine.{texts, IsShowLine};
+ghost use Rattle.stix_command.specs.Streams.{streams};
+ghost use Rattle.stix_command.specs.RunEndings.{status_of, reason_of, IsNoCommand, RefusesPattern, EndsRun, IsReadFault, IsWriteFault, WritesReason, Ends};
 
 use crate::checking::check;
 use crate::command::{is_check, pattern_after};
@@ -19,18 +19,23 @@ fn obey<I: Source, O: Sink>(
     input: &mut I,
     output: &mut O,
 ) -> Ending
-    ensures end { EndsRun (texts words.now) (I.left input.old) (I.left input.new) (O.written output.old) (O.written output.new) result }
-    ensures read_failed { result ≡ Ending.ReadFault → Rose (I.faults input.old) (I.faults input.new) }
-    ensures write_failed { result ≡ Ending.WriteFault → Rose (O.faults output.old) (O.faults output.new) }
+    ensures end { EndsRun (texts words.now) (streams (I.left input.old) (O.written output.old))
+        (streams (I.left input.new) (O.written output.new)) result }
+    ensures untouched { (status_of result ≡ 2) ⊎ (status_of result ≡ 3) → (input.new ≡ input.old) × (output.new ≡ output.old) }
+    ensures unread { (pattern : List ℕ) → IsShowLine (texts words.now) pattern → input.new ≡ input.old }
+    ensures read_failed { IsReadFault result → Rose (I.faults input.old) (I.faults input.new) }
+    ensures read_quiet { ¬ IsReadFault result → I.faults input.new ≡ I.faults input.old }
+    ensures write_failed { IsWriteFault result → Rose (O.faults output.old) (O.faults output.new) }
+    ensures write_quiet { ¬ IsWriteFault result → O.faults output.new ≡ O.faults output.old }
 {
     if is_check(words) {
-        return check(alloc, input, output);
+        return Ending::Check(check(alloc, input, output));
     }
     if let Some(pattern) = pattern_after(words, "show") {
-        return show(alloc, pattern, output);
+        return Ending::Show(show(alloc, pattern, output));
     }
     match pattern_after(words, "match") {
-        Some(pattern) => match_lines(alloc, pattern, input, output),
+        Some(pattern) => Ending::Match(match_lines(alloc, pattern, input, output)),
         None => Ending::Usage,
     }
 }
@@ -44,33 +49,38 @@ fn obey<I: Source, O: Sink>(
 /// | 2 | exactly where the words are no command line |
 /// | 3 | exactly where the pattern is refused, or `match` is given one that isn't matched yet |
 /// | 4 | where a line is refused, the first such one; and where a bundle that is checked has breaks |
-/// | 5, 6 | only where the input, the output counted a fault |
+/// | 5, 6 | only where the input, the output counted a fault, and at each fault of theirs |
 ///
-/// `faults` is told the reason in one line. A failing write there changes nothing else.
+/// On `reasons` the reason is told in one line. A failing write there changes nothing else.
 pub fn run<I: Source, O: Sink, E: Sink>(
     alloc: Global,
     words: &[String],
     input: &mut I,
     output: &mut O,
-    faults: &mut E,
+    reasons: &mut E,
 ) -> u8
-    ensures ends { Ends (texts words.now) (I.left input.old) (I.left input.new) (O.written output.old) (O.written output.new)
-        (E.written faults.old) (E.written faults.new) (E.faults faults.old) (E.faults faults.new) result }
+    ensures ends { Ends (texts words.now) (streams (I.left input.old) (O.written output.old))
+        (streams (I.left input.new) (O.written output.new)) result
+        (λ reason. WritesReason reason (E.written reasons.old) (E.written reasons.new) (E.faults reasons.old) (E.faults reasons.new)) }
     ensures usage { (result ≡ 2) ↔ IsNoCommand (texts words.now) }
     ensures pattern { result ≡ 3 → RefusesPattern (texts words.now) }
     ensures refused { RefusesPattern (texts words.now) → (result ≡ 3) ⊎ (result ≡ 1) }
+    ensures untouched { (result ≡ 2) ⊎ (result ≡ 3) → (input.new ≡ input.old) × (output.new ≡ output.old) }
+    ensures unread { (pattern : List ℕ) → IsShowLine (texts words.now) pattern → input.new ≡ input.old }
     ensures read_fault { result ≡ 5 → Rose (I.faults input.old) (I.faults input.new) }
+    ensures read_quiet { result ≢ 5 → I.faults input.new ≡ I.faults input.old }
     ensures write_fault { result ≡ 6 → Rose (O.faults output.old) (O.faults output.new) }
+    ensures write_quiet { result ≢ 6 → O.faults output.new ≡ O.faults output.old }
 {
     let ending = obey(alloc, words, input, output);
-    finish(&ending, faults)
+    finish(&ending, reasons)
 }
 
-/// Tells how the program ends, and answers its status.
-fn finish<E: Sink>(ending: &Ending, faults: &mut E) -> u8
+/// Tells why the program ends so, and answers its status.
+fn finish<E: Sink>(ending: &Ending, reasons: &mut E) -> u8
     ensures status { result ≡ status_of ending.now }
-    ensures tells { Tells (ending_text ending.now) (E.written faults.old) (E.written faults.new) (E.faults faults.old) (E.faults faults.new) }
+    ensures reason { WritesReason (reason_of ending.now) (E.written reasons.old) (E.written reasons.new) (E.faults reasons.old) (E.faults reasons.new) }
 {
-    let _ = ending.write_text(faults);
+    let _ = ending.write_reason(reasons);
     ending.status()
 }

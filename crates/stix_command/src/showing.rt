@@ -1,36 +1,75 @@
-ghost use Rattle.std.specs.Prelude.{◌≡◌, ◌≢◌, IfOk, IfErr};
-ghost use Rattle.flow_edges.specs.Faults.{Rose};
+ghost use Rattle.std.specs.Prelude.{◌≡◌, ◌≢◌, ℕ, List, Option, IfOk, IfErr};
+ghost use Rattle.flow_edges.specs.Faults.{Rose, Causes};
+ghost use Rattle.flow_edges.specs.Flow.{WritesWhole};
 ghost use Rattle.pattern_tokens.specs.declared.refusal.PatternRefusal.TheVariants as PatternRefusal;
-ghost use Rattle.stix_command.specs.Matches.{IsRefusedPattern};
-ghost use Rattle.stix_command.specs.Shows.{IsLineOf, EndsShow, EndsLine};
+ghost use Rattle.stix_command.specs.Streams.{streams};
+ghost use Rattle.stix_command.specs.MatchEndings.{IsRefusedPattern};
+ghost use Rattle.stix_command.specs.ShowEndings.{IsLineOf, EndsShow};
 
-use crate::ending::Ending;
+use crate::reasons::{write_no_memory, write_pattern_reason, write_write_fault};
 use flow_edges::{Sink, write_whole};
-use flow_values::Text;
+use flow_values::{Fault, Text};
 use pattern_reader::{PatternRefusal, read_pattern};
 use pattern_writer::write_pattern;
 use std::alloc::Global;
 
-/// The command `show`: writes the canonical text of a pattern and a line feed.
-pub fn show<O: Sink>(alloc: Global, pattern: &str, output: &mut O) -> Ending
-    ensures end { EndsShow pattern.now (O.written output.old) (O.written output.new) result }
-    ensures write_failed { result ≡ Ending.WriteFault → Rose (O.faults output.old) (O.faults output.new) }
-{
-    match canonical_line(alloc, pattern) {
-        Ok(line) => write_line(&line, output),
-        Err(PatternRefusal::NoMemory) => Ending::NoMemory,
-        Err(refusal) => Ending::PatternRefused(refusal),
+/// How `show` ends.
+#[derive(Debug, Drop)]
+pub enum ShowEnding {
+    /// The canonical text was written.
+    Shown,
+    /// The pattern is refused.
+    PatternRefused(PatternRefusal),
+    /// The output failed.
+    WriteFault,
+    /// Memory ran out.
+    NoMemory,
+}
+
+impl ShowEnding {
+    ghost use Rattle.stix_command.specs.ShowEndings.{show_status, show_reason};
+
+    /// The status of the program.
+    pub fn status(&self) -> u8
+        ensures { result ≡ show_status self.now }
+    {
+        match self {
+            ShowEnding::Shown => 0,
+            ShowEnding::NoMemory => 1,
+            ShowEnding::PatternRefused(_) => 3,
+            ShowEnding::WriteFault => 6,
+        }
+    }
+
+    /// Writes why it ends so. Takes no memory.
+    pub fn write_reason<S: Sink>(&self, reasons: &mut S) -> Result<(), Fault>
+        ensures text { WritesWhole (show_reason self.now) (S.written reasons.old) (S.written reasons.new) result }
+        ensures causes { Causes (S.faults reasons.old) (S.faults reasons.new) result }
+    {
+        match self {
+            ShowEnding::Shown => write_whole(reasons, b""),
+            ShowEnding::NoMemory => write_no_memory(reasons),
+            ShowEnding::PatternRefused(refusal) => write_pattern_reason(refusal, reasons),
+            ShowEnding::WriteFault => write_write_fault(reasons),
+        }
     }
 }
 
-/// Writes a line.
-fn write_line<O: Sink>(line: &Text, output: &mut O) -> Ending
-    ensures end { EndsLine line.now (O.written output.old) (O.written output.new) result }
-    ensures write_failed { result ≡ Ending.WriteFault → Rose (O.faults output.old) (O.faults output.new) }
+/// The command `show`: writes the canonical text of a pattern and a line feed.
+pub fn show<O: Sink>(alloc: Global, pattern: &str, output: &mut O) -> ShowEnding
+    ensures end { (left : Option (List ℕ)) → EndsShow pattern.now (streams left (O.written output.old)) (streams left (O.written output.new)) result }
+    ensures untouched { (refusal : PatternRefusal) → result ≡ ShowEnding.PatternRefused refusal → output.new ≡ output.old }
+    ensures write_failed { result ≡ ShowEnding.WriteFault → Rose (O.faults output.old) (O.faults output.new) }
+    ensures write_quiet { result ≢ ShowEnding.WriteFault → O.faults output.new ≡ O.faults output.old }
 {
+    let line = match canonical_line(alloc, pattern) {
+        Ok(line) => line,
+        Err(PatternRefusal::NoMemory) => return ShowEnding::NoMemory,
+        Err(refusal) => return ShowEnding::PatternRefused(refusal),
+    };
     match write_whole(output, line.as_str().as_bytes()) {
-        Ok(()) => Ending::Done,
-        Err(_) => Ending::WriteFault,
+        Ok(()) => ShowEnding::Shown,
+        Err(_) => ShowEnding::WriteFault,
     }
 }
 

@@ -1,4 +1,4 @@
-ghost use Rattle.std.specs.Prelude.{◌≡◌, ◌<◌, ◌≤◌, ◌≤ℤ◌, ◌+ℤ◌, ◌*ℤ◌, pos, [], ◌++◌, length, take};
+ghost use Rattle.std.specs.Prelude.{◌≡◌, ◌<◌, ◌≤◌, ◌≤ℤ◌, ◌+ℤ◌, ◌*ℤ◌, pos, [], ◌++◌, length, take, drop};
 ghost use Rattle.jiff_core.specs.Date.{epoch_day};
 ghost use Rattle.stix_times.specs.Timestamp.{IsShaped, date_text, time_text, text_of};
 ghost use Rattle.stix_times.specs.Civil.{IsCivilOf, timestamp_with, digits_of_fraction};
@@ -64,6 +64,7 @@ impl Civil {
         ensures text { take result out.new
             ≡ text_of (timestamp_with self.now (digits_of_fraction fraction)) }
         ensures length { result ≡ length (take result out.new) }
+        ensures behind { drop result out.new ≡ drop result out.old }
     {
         let mut line = Line::new();
         self.push_date(&mut line);

@@ -1,4 +1,4 @@
-ghost use Rattle.std.specs.Prelude.{◌≡◌, ◌+◌, ◌<◌, ◌≤◌, [], ◌∷◌, ◌++◌, length, take};
+ghost use Rattle.std.specs.Prelude.{◌≡◌, ◌+◌, ◌<◌, ◌≤◌, [], ◌∷◌, ◌++◌, length, take, drop};
 ghost use Rattle.stix_times.specs.Timestamp.{two_digits, fraction_text};
 ghost use Rattle.stix_times.specs.Civil.{digits_of_fraction};
 
@@ -78,13 +78,15 @@ impl Line {
         }
     }
 
-    /// Copies the text to the start of `out`, and answers its length.
+    /// Copies the text to the start of `out`, and answers its length. The rest stays as it was.
     pub(crate) fn copy_to(self, out: &mut [u8; 32]) -> usize
         ensures text { take result out.new ≡ self }
         ensures length { result ≡ length self }
+        ensures behind { drop result out.new ≡ drop result out.old }
     {
+        let end = self.end;
         let bytes = self.bytes;
-        *out = bytes;
-        self.end
+        out[..end].copy_from_slice(&bytes[..end]);
+        end
     }
 }

@@ -1,4 +1,4 @@
-ghost use Rattle.std.specs.Prelude.{◌≡◌, take};
+ghost use Rattle.std.specs.Prelude.{◌≡◌, take, drop};
 ghost use Rattle.std.specs.Int.{IsInRange};
 ghost use Rattle.stix_times.specs.Writing.{IsCanonicalTextOf, IsTextOfDigits, IsWhole};
 
@@ -11,6 +11,7 @@ use crate::fraction::Fraction;
 pub fn write(instant: Instant, out: &mut [u8; 32]) -> usize
     ensures text { IsCanonicalTextOf (take result out.new) instant }
     ensures length { IsInRange 20 30 result }
+    ensures behind { drop result out.new ≡ drop result out.old }
 {
     let civil = Civil::of(instant);
     civil.write(Fraction::shortest(civil.nanosecond), out)
@@ -21,6 +22,7 @@ pub fn write_millis(instant: Instant, out: &mut [u8; 32]) -> usize
     requires { IsWhole 1_000_000 instant }
     ensures text { IsTextOfDigits 3 (take result out.new) instant }
     ensures length { result ≡ 24 }
+    ensures behind { drop result out.new ≡ drop result out.old }
 {
     let civil = Civil::of(instant);
     civil.write(Fraction::new(civil.nanosecond / 1_000_000, 3), out)
@@ -31,6 +33,7 @@ pub fn write_micros(instant: Instant, out: &mut [u8; 32]) -> usize
     requires { IsWhole 1000 instant }
     ensures text { IsTextOfDigits 6 (take result out.new) instant }
     ensures length { result ≡ 27 }
+    ensures behind { drop result out.new ≡ drop result out.old }
 {
     let civil = Civil::of(instant);
     civil.write(Fraction::new(civil.nanosecond / 1000, 6), out)

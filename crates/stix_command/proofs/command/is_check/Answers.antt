@@ -1,7 +1,7 @@
 use Rattle.std.proofs.Common.{◌≡◌, ℕ, List, [], ◌∷◌, codes, length, string_bytes, slice_index_or, sym, ap, ◌∙◌, arith}
 use Rattle.std.proofs.lemmas.Slice.Eq.{bytes_eq-Decides}
 use Rattle.stix_command.specs.CommandLine.{texts}
-use Rattle.stix_command.proofs.TwoWords.{one_text}
+use Rattle.stix_command.proofs.CommandLineLemmas.{one_text}
 use Rattle.stix_command.proofs.command.is_check.Goals as goal
 
 pub returns-then-words-eq1 : goal.returns-then-words-eq1

@@ -1,7 +1,7 @@
 use Rattle.std.proofs.Common.{rules, ◌≡◌, ◌∙◌, ℕ, List, [], ◌∷◌, ap, sym, subst, arith, length, string_bytes, slice_index_or}
 use Rattle.std.proofs.lemmas.Slice.Eq.{bytes_eq-Decides}
 use Rattle.stix_command.specs.CommandLine.{IsPosition}
-use Rattle.stix_command.proofs.TwoWords.{two_texts, clash, clash_not}
+use Rattle.stix_command.proofs.CommandLineLemmas.{two_texts, clash, clash_not}
 use Rattle.stix_command.proofs.command.pattern_after.Goals.{then-ne-via-then-ne, then-ne-via-else-ne+then-not-is_position}
 use Rattle.stix_command.proofs.command.pattern_after.Goals as goal
 

@@ -1,4 +1,4 @@
-use Rattle.stix_command.proofs.Verdicts.{one_verdict}
+use Rattle.stix_command.proofs.VerdictsLemmas.{one_verdict}
 use Rattle.stix_command.proofs.laws.one_verdict.Goals as goal
 
 pub returns : goal.returns

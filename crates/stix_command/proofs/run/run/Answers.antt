@@ -1,7 +1,7 @@
 use Rattle.std.proofs.Common.{◌≡◌, ◌⊎◌, ◌↔◌, ℕ, subst, sym, ◌∙◌}
 use Rattle.stix_command.specs.CommandLine.{texts}
-use Rattle.stix_command.specs.Runs.{IsNoCommand}
-use Rattle.stix_command.proofs.Endings.{usage-run, pattern-run, refused-run}
+use Rattle.stix_command.specs.RunEndings.{IsNoCommand}
+use Rattle.stix_command.proofs.RunEndingsLemmas.{usage-run, pattern-run, refused-run, read_fault-status, write_fault-status}
 use Rattle.stix_command.proofs.run.run.Goals as goal
 
 pub returns-clause-ends : goal.returns-clause-ends
@@ -9,16 +9,28 @@ returns-clause-ends g c = record {
   ending = c.obey-ending.result;
   status_is = c.finish.ensures.status;
   stands = c.obey-ending.ensures.end;
-  tells = c.finish.ensures.tells;
+  reason = c.finish.ensures.reason;
 }
 
 pub returns-clause-usage : goal.returns-clause-usage
 returns-clause-usage g c =
-    subst (λ (n : ℕ). (n ≡ 2) ↔ IsNoCommand (texts c.args.words.now)) (sym c.finish.ensures.status) (usage-run _ _ _ _ _ _ c.obey-ending.ensures.end)
+    subst (λ (n : ℕ). (n ≡ 2) ↔ IsNoCommand (texts c.args.words.now)) (sym c.finish.ensures.status) (usage-run _ _ _ _ c.obey-ending.ensures.end)
 
 pub returns-clause-pattern : goal.returns-clause-pattern
-returns-clause-pattern g c = λ is. pattern-run _ _ _ _ _ _ c.obey-ending.ensures.end (sym c.finish.ensures.status ∙ is)
+returns-clause-pattern g c = λ is. pattern-run _ _ _ _ c.obey-ending.ensures.end (sym c.finish.ensures.status ∙ is)
 
 pub returns-clause-refused : goal.returns-clause-refused
 returns-clause-refused g c = λ refuses.
-    subst (λ (n : ℕ). (n ≡ 3) ⊎ (n ≡ 1)) (sym c.finish.ensures.status) (refused-run _ _ _ _ _ _ c.obey-ending.ensures.end refuses)
+    subst (λ (n : ℕ). (n ≡ 3) ⊎ (n ≡ 1)) (sym c.finish.ensures.status) (refused-run _ _ _ _ c.obey-ending.ensures.end refuses)
+
+pub returns-clause-read_fault : goal.returns-clause-read_fault
+returns-clause-read_fault g c = λ is. c.obey-ending.ensures.read_failed ((read_fault-status _).0 (sym c.finish.ensures.status ∙ is))
+
+pub returns-clause-read_quiet : goal.returns-clause-read_quiet
+returns-clause-read_quiet g c = λ isn't. c.obey-ending.ensures.read_quiet (λ fault. isn't (c.finish.ensures.status ∙ (read_fault-status _).1 fault))
+
+pub returns-clause-write_fault : goal.returns-clause-write_fault
+returns-clause-write_fault g c = λ is. c.obey-ending.ensures.write_failed ((write_fault-status _).0 (sym c.finish.ensures.status ∙ is))
+
+pub returns-clause-write_quiet : goal.returns-clause-write_quiet
+returns-clause-write_quiet g c = λ isn't. c.obey-ending.ensures.write_quiet (λ fault. isn't (c.finish.ensures.status ∙ (write_fault-status _).1 fault))

@@ -1,0 +1,97 @@
+-- What stands when the program ended, by the command that it ran and how that ended.
+use Rattle.std.specs.Prelude.{◌≡◌, ◌⊎◌, ℕ, List, [], ◌++◌, Option, codes}
+use Rattle.flow_edges.specs.Faults.{Rose}
+use Rattle.flow_edges.specs.Flow.{written_with, WritesPrefix}
+use Rattle.match_log.specs.declared.end.MatchEnd.TheVariants as match_end
+use Rattle.stix_command.specs.declared.matching.MatchEnding.{MatchEnding}
+use Rattle.stix_command.specs.declared.matching.MatchEnding.TheVariants as matching
+use Rattle.stix_command.specs.declared.checking.CheckEnding.{CheckEnding}
+use Rattle.stix_command.specs.declared.checking.CheckEnding.TheVariants as checking
+use Rattle.stix_command.specs.declared.showing.ShowEnding.{ShowEnding}
+use Rattle.stix_command.specs.declared.showing.ShowEnding.TheVariants as showing
+use Rattle.stix_command.specs.declared.ending.Ending.{Ending}
+use Rattle.stix_command.specs.declared.ending.Ending.TheVariants.{Match, Check, Show, Usage}
+use Rattle.stix_command.specs.CommandLine.{IsMatchLine, IsShowLine, IsCheckLine}
+use Rattle.stix_command.specs.Streams.{Streams, AreUntouched}
+use Rattle.stix_command.specs.MatchEndings.{HasForm, IsUnread, EndsMatch, match_status, match_reason}
+use Rattle.stix_command.specs.CheckEndings.{EndsCheck, check_status, check_reason}
+use Rattle.stix_command.specs.ShowEndings.{EndsShow, show_status, show_reason}
+
+-- the words are no command line
+pub record IsNoCommand (words : List (List ℕ)) : Type 0 where
+  pub no_match : (pattern : List ℕ) → ¬ IsMatchLine words pattern
+  pub no_check : ¬ IsCheckLine words
+  pub no_show : (pattern : List ℕ) → ¬ IsShowLine words pattern
+
+-- the words are `match` with a pattern, which ended so
+pub record RunsMatch (words : List (List ℕ)) (before after : Streams) (ending : MatchEnding) : Type 0 where
+  pub pattern : List ℕ
+  pub command : IsMatchLine words pattern
+  pub match_ends : EndsMatch pattern before after ending
+
+-- the words are `check`, which ended so
+pub record RunsCheck (words : List (List ℕ)) (before after : Streams) (ending : CheckEnding) : Type 0 where
+  pub command : IsCheckLine words
+  pub check_ends : EndsCheck before after ending
+
+-- the words are `show` with a pattern, which ended so; nothing was read
+pub record RunsShow (words : List (List ℕ)) (before after : Streams) (ending : ShowEnding) : Type 0 where
+  pub pattern : List ℕ
+  pub command : IsShowLine words pattern
+  pub show_ends : EndsShow pattern before after ending
+  pub unread : after.left ≡ before.left
+
+-- what an ending says of the words and the streams
+abbrev pub EndsRun : List (List ℕ) → Streams → Streams → Ending → Type 0
+EndsRun words before after (Match ending) = RunsMatch words before after ending
+EndsRun words before after (Check ending) = RunsCheck words before after ending
+EndsRun words before after (Show ending) = RunsShow words before after ending
+EndsRun words before after Usage = IsNoCommand words × AreUntouched before after
+
+abbrev pub status_of : Ending → ℕ
+status_of (Match ending) = match_status ending
+status_of (Check ending) = check_status ending
+status_of (Show ending) = show_status ending
+status_of Usage = 2
+
+-- what is written on the sink for reasons
+abbrev pub reason_of : Ending → List ℕ
+reason_of (Match ending) = match_reason ending
+reason_of (Check ending) = check_reason ending
+reason_of (Show ending) = show_reason ending
+reason_of Usage = codes "usage: stix_command (match | check | show) WORDS\n"
+
+-- the run ended by a fault of the input, and of the output
+abbrev pub IsReadFault : Ending → Type 0
+IsReadFault ending = (ending ≡ Match (matching.Ended match_end.ReadFault)) ⊎ (ending ≡ Check checking.ReadFault)
+
+abbrev pub IsWriteFault : Ending → Type 0
+IsWriteFault ending = (ending ≡ Match (matching.Ended match_end.WriteFault)) ⊎ (ending ≡ Check checking.WriteFault) ⊎ (ending ≡ Show showing.WriteFault)
+
+-- the words are `match` with a text that is read as no pattern, or as none that is matched so far
+pub record RefusesMatch (words : List (List ℕ)) : Type 0 where
+  pub pattern : List ℕ
+  pub command : IsMatchLine words pattern
+  pub none : ¬ HasForm pattern
+
+-- the words are `show` with a text that is read as no pattern
+pub record RefusesShow (words : List (List ℕ)) : Type 0 where
+  pub pattern : List ℕ
+  pub command : IsShowLine words pattern
+  pub none : IsUnread pattern
+
+-- the words are a command, and its pattern is refused
+abbrev pub RefusesPattern : List (List ℕ) → Type 0
+RefusesPattern words = RefusesMatch words ⊎ RefusesShow words
+
+-- the text was written, or a prefix of it where the sink's count of faults rose
+abbrev pub WritesReason : List ℕ → Option (List ℕ) → Option (List ℕ) → ℕ → ℕ → Type 0
+WritesReason text written written_after faults faults_after =
+    (written_after ≡ written_with text written) ⊎ (WritesPrefix text written written_after × Rose faults faults_after)
+
+-- the program ended in one of its ways, with that status
+pub record Ends (words : List (List ℕ)) (before after : Streams) (status : ℕ) (Writes : List ℕ → Type 0) : Type 0 where
+  pub ending : Ending
+  pub status_is : status ≡ status_of ending
+  pub stands : EndsRun words before after ending
+  pub reason : Writes (reason_of ending)
