@@ -1,5 +1,5 @@
 -- How a pattern that was read ends a match.
-use Rattle.std.proofs.Common.{◌≡◌, List, ℕ, subst, absurd}
+use Rattle.std.proofs.Common.{◌≡◌, List, ℕ, subst}
 use Rattle.pattern_types.specs.declared.pattern.Pattern.{Pattern, Leaf, Both', Either', Then', Within', Between', Repeats'}
 use Rattle.pattern_types.specs.declared.leaf.Leaf.{Test, All', Any'}
 use Rattle.pattern_meaning.specs.Meant.{meant}

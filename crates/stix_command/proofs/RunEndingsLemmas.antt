@@ -1,5 +1,5 @@
 -- What the status of a run says of its words and its streams.
-use Rattle.std.proofs.Common.{◌≡◌, ◌↔◌, ◌⊎◌, ℕ, List, inl, inr, refl, sym, ap, subst, ◌∙◌, arith, codes, absurd}
+use Rattle.std.proofs.Common.{◌≡◌, ◌↔◌, ◌⊎◌, ℕ, List, inl, inr, refl, sym, ap, subst, ◌∙◌, arith, codes}
 use Rattle.match_log.specs.declared.end.MatchEnd.TheVariants as end
 use Rattle.stix_command.specs.declared.verdict.Verdict.TheVariants as verdict
 use Rattle.stix_command.specs.declared.matching.MatchEnding.{MatchEnding}
