@@ -1,15 +1,45 @@
 -- The bytes that go by as lines, and those that are held and left: together they stay the same.
-use Rattle.std.proofs.Common.{◌≡◌, ℕ, ◌+◌, Bool, true, false, List, [], ◌∷◌, ◌++◌, Option, option_map, Result, Ok, Err, IsErrAnd, subst, refl, sym, ap, ◌∙◌, arith, append_assoc, length-append, MatchBool}
-use Rattle.flow_lines.specs.Lines.{LinesState, width, AccountsFor, LosesNone}
+use Rattle.std.proofs.Common.{◌≡◌, ℕ, ◌+◌, Bool, true, false, List, [], ◌∷◌, ◌++◌, Option, Some, None, unwrap_or, ◌⊎◌, inl, inr, option_map, Result, Ok, Err, IsErrAnd, subst, refl, sym, ap, ◌∙◌, arith, append_assoc, length-append, MatchBool}
+use Rattle.flow_lines.specs.Lines.{LinesState, width, NothingAhead, AreWholeLines, AccountsFor, LosesNone}
+use Rattle.flow_edges.specs.Flow.{IsAtEnd}
+use Rattle.std.proofs.lemmas.List.{append-nil}
 use Rattle.flow_lines.specs.declared.refusal.LineRefusal.{LineRefusal}
 use Rattle.flow_lines.specs.declared.line.Line.{Line}
 use Rattle.flow_lines.specs.declared.refusal.LineRefusal.TheVariants.{Fault, LineTooLong, InputTooLong, NoMemory}
 use Rattle.flow_lines.specs.inner.Reading.{told_bytes, ReadsToLineFeed, ReadsLast, ReadsPart}
 use Rattle.flow_lines.proofs.LinesAheadLemmas.{option_map-map, option_map-same}
 
+-- two lists that make none are both none
+append-nil-back : (xs ys : List ℕ) → xs ++ ys ≡ [] → ys ≡ []
+append-nil-back [] ys is = is
+append-nil-back (x ∷ xs) ys is = absurd (cc)
+
 -- nothing went by yet
 pub accounts-start : (held : List ℕ) (given : ℕ) (left : Option (List ℕ)) → AccountsFor held held given given left left
-accounts-start held given left = record { gone = []; bytes = refl; counted = omega arith }
+accounts-start held given left = record { gone = []; bytes = refl; counted = omega arith; lines = inl refl }
+
+-- where nothing is ahead, no more goes by and nothing is ahead still
+nothing-then : (held gone held_last : List ℕ) (left left_last : Option (List ℕ)) → NothingAhead held left
+    → option_map (λ bytes. held ++ bytes) left ≡ option_map (λ bytes. gone ++ (held_last ++ bytes)) left_last → NothingAhead held_last left_last
+nothing-then held gone held_last left None none same = tt
+nothing-then held gone held_last None (Some last) none same = absurd (cc)
+nothing-then held gone held_last (Some bytes) (Some last) none same =
+    let empty : gone ++ (held_last ++ last) ≡ [] = ap (λ (o : Option (List ℕ)). unwrap_or o []) (sym same) ∙ none in append-nil-back gone (held_last ++ last) empty
+
+-- whole lines, and then some more
+lines-then : (gone held more held_last : List ℕ) (left left_last : Option (List ℕ)) → AreWholeLines gone held left → AreWholeLines more held_last left_last
+    → option_map (λ bytes. held ++ bytes) left ≡ option_map (λ bytes. more ++ (held_last ++ bytes)) left_last → AreWholeLines (gone ++ more) held_last left_last
+lines-then gone held more held_last left left_last first (inr (inl (front, is))) same = inr (inl (gone ++ front, ap (λ (xs : List ℕ). gone ++ xs) is ∙ sym (append_assoc gone front (10 ∷ []))))
+lines-then gone held more held_last left left_last first (inr (inr none)) same = inr (inr none)
+lines-then gone held more held_last left left_last (inl is) (inl none) same = inl (ap (λ (xs : List ℕ). xs ++ more) is ∙ none)
+lines-then gone held more held_last left left_last (inr (inl (front, is))) (inl none) same =
+    inr (inl (front, ap (λ (xs : List ℕ). gone ++ xs) none ∙ append-nil gone ∙ is))
+lines-then gone held more held_last left left_last (inr (inr nothing)) (inl none) same = inr (inr (nothing-then held more held_last left left_last nothing same))
+
+-- nothing is held, and the source is at its end
+nothing-ahead : (held : List ℕ) (left : Option (List ℕ)) → held ≡ [] → IsAtEnd left → NothingAhead held left
+nothing-ahead held None empty ended = tt
+nothing-ahead held (Some bytes) empty ended = ap (λ (xs : List ℕ). xs ++ bytes) empty ∙ ended
 
 -- some lines went by, and then some more
 pub accounts-then : (held held_new held_last : List ℕ) (given given_new given_last : ℕ) (left left_new left_last : Option (List ℕ))
@@ -22,6 +52,7 @@ accounts-then held held_new held_last given given_new given_last left left_new l
       ∙ option_map-map (λ bytes. first.gone ++ bytes) (λ bytes. then.gone ++ (held_last ++ bytes)) left_last
       ∙ option_map-same _ _ left_last (λ bytes. sym (append_assoc first.gone then.gone (held_last ++ bytes)));
   counted = omega (arith, first.counted, then.counted, length-append first.gone then.gone);
+  lines = lines-then _ _ _ _ _ _ first.lines then.lines then.bytes;
 }
 
 -- a line went by
@@ -33,11 +64,13 @@ accounts-read number place wide given chunk line chunk_new left left_new true re
   gone = line ++ 10 ∷ [];
   bytes = reads.bytes ∙ option_map-same _ _ left_new (λ bytes. sym (append_assoc line (10 ∷ []) (chunk_new ++ bytes)));
   counted = omega (arith, is, length-append line (10 ∷ []));
+  lines = inr (inl (line, refl));
 }
 accounts-read number place wide given chunk line chunk_new left left_new false reads is = record {
   gone = line;
   bytes = reads.bytes ∙ ap (λ chunk. option_map (λ bytes. line ++ (chunk ++ bytes)) left_new) (sym reads.drained);
   counted = omega (arith, is);
+  lines = inr (inr (nothing-ahead _ _ reads.drained reads.ended));
 }
 
 -- the source failed in a line
@@ -47,6 +80,7 @@ accounts-part given chunk line chunk_new left left_new reads = record {
   gone = [];
   bytes = reads.bytes ∙ option_map-same _ _ left_new (λ bytes. sym (append_assoc line [] bytes)) ∙ ap (λ chunk. option_map (λ bytes. (line ++ chunk) ++ bytes) left_new) (sym reads.drained);
   counted = omega arith;
+  lines = inl refl;
 }
 
 -- the same after a line is put away

@@ -1,5 +1,5 @@
 -- How the bytes of an input are cut into lines, from what a reader has of them.
-use Rattle.std.proofs.Common.{◌≡◌, ℕ, ◌<◌, ◌≤◌, Bool, true, false, List, [], ◌∷◌, ◌++◌, length, drop, Option, Some, None, option_map, IfSome, MatchBool, refl, sym, ap, ◌∙◌, arith, append_assoc, length-append, cond, eqb, ◌⊎◌, inl, inr}
+use Rattle.std.proofs.Common.{◌≡◌, ℕ, ◌<◌, ◌≤◌, Bool, true, false, List, [], ◌∷◌, ◌++◌, length, drop, Option, Some, None, option_map, IfSome, MatchBool, MatchOption, is_some, not, refl, sym, ap, ◌∙◌, arith, append_assoc, length-append, cond, eqb, ◌⊎◌, inl, inr}
 use Rattle.std.proofs.lemmas.List.{take-append-drop}
 use Rattle.std.proofs.lemmas.List.Elements.{All-append, All-cons, All-nil}
 use Rattle.std.proofs.lemmas.List.Splits.{slice_split_at, slice_split_none}
@@ -110,6 +110,14 @@ plain-to_feed line chunk line_new chunk_new plain takes = rw takes.line (All-app
 
 pub plain-all : (line chunk line_new chunk_new : List ℕ) → NoLineFeed line → TakesAll chunk chunk_new line line_new → NoLineFeed line_new
 plain-all line chunk line_new chunk_new plain takes = rw takes.line (All-append IsNoLineFeed line chunk plain takes.plain)
+
+-- a line was taken up to its line feed where no read is due
+pub taken-closed : {Due : Type 0} (due : Option Due) (closed : Bool) (ToLineFeed All : Type 0) → is_some due ≡ not closed
+    → MatchOption due ToLineFeed (λ _. All) → MatchBool closed ToLineFeed All
+taken-closed None true ToLineFeed All is taken = taken
+taken-closed None false ToLineFeed All is taken = absurd (cc)
+taken-closed (Some due) true ToLineFeed All is taken = absurd (cc)
+taken-closed (Some due) false ToLineFeed All is taken = taken
 
 pub refused-step : (number place : ℕ) (all left : Option (List ℕ)) (line chunk line_new chunk_new : List ℕ) (closed : Bool) (refusal : LineRefusal) → place ≤ MAX_INPUT → NoLineFeed line → all ≡ told_bytes line chunk left
     → MatchBool closed (TakesToLineFeed chunk chunk_new line line_new) (TakesAll chunk chunk_new line line_new)

@@ -1,6 +1,6 @@
 -- The lines of an input. A line ends with a line feed, which isn't part of it, and one carriage return before
 -- the line feed isn't part of it either. Bytes after the last line feed are a last line, where there are any.
-use Rattle.std.specs.Prelude.{◌≡◌, ⊤, ◌<◌, ◌≤◌, All, IfSome, Result, Ok, Err, ℕ, ◌+◌, ◌==◌, ◌||◌, ◌&&◌, List, [], ◌∷◌, ◌++◌, length, not, Bool, true, false, nat_lt, nat_le, if◌then◌else◌, Option, Some, None, option_map}
+use Rattle.std.specs.Prelude.{◌≡◌, ◌⊎◌, ⊤, ◌<◌, ◌≤◌, All, IfSome, Result, Ok, Err, ℕ, ◌+◌, ◌==◌, ◌||◌, ◌&&◌, List, [], ◌∷◌, ◌++◌, length, not, Bool, true, false, nat_lt, nat_le, if◌then◌else◌, Option, Some, None, option_map}
 use Rattle.std.specs.List.{slice_split, list_all, list_any}
 use Rattle.std.specs.Str.Lines.{strip_carriage_return}
 use Rattle.flow_lines.specs.declared.refusal.TheConstants.{MAX_LINE, MAX_INPUT}
@@ -113,11 +113,20 @@ is_whole line = line.closed && not (is_blank (content line))
 abbrev pub HoldsLine : List ℕ → Type 0
 HoldsLine bytes = list_any is_whole (raw_lines bytes) ≡ true
 
+-- nothing is held or left, as far as the source tells
+abbrev pub NothingAhead : List ℕ → Option (List ℕ) → Type 0
+NothingAhead held left = IfSome left (λ bytes. held ++ bytes ≡ [])
+
+-- what went by are whole lines: none, or the last of them with its line feed, or all that there was
+abbrev pub AreWholeLines : List ℕ → List ℕ → Option (List ℕ) → Type 0
+AreWholeLines gone held left = (gone ≡ []) ⊎ ((front : List ℕ) × (gone ≡ front ++ 10 ∷ [])) ⊎ NothingAhead held left
+
 -- of the bytes held and left, some went by as lines, and the others are held or left still
 pub record AccountsFor (held held_after : List ℕ) (given given_after : ℕ) (left left_after : Option (List ℕ)) : Type 0 where
   pub gone : List ℕ
   pub bytes : option_map (λ bytes. held ++ bytes) left ≡ option_map (λ bytes. gone ++ (held_after ++ bytes)) left_after
   pub counted : given_after ≡ given + length gone
+  pub lines : AreWholeLines gone held_after left_after
 
 -- the first of the lines that came yet was given, and the others come yet
 pub record GivesLine (before after : LinesState) (left left_after : Option (List ℕ)) (number : ℕ) (bytes : List ℕ) : Type 0 where

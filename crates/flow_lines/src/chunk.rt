@@ -1,4 +1,4 @@
-ghost use Rattle.std.specs.Prelude.{◌≡◌, ℕ, ◌≤◌, ◌++◌, [], Ok, length, IfOk, OnOk, OnErr, MatchBool};
+ghost use Rattle.std.specs.Prelude.{◌≡◌, ℕ, ◌≤◌, ◌++◌, [], Ok, length, IfOk, OnOk, OnErr, MatchOption};
 ghost use Rattle.flow_edges.specs.Faults.{Causes};
 ghost use Rattle.flow_edges.specs.Flow.{left_after, IsNextOf, IsAtEnd};
 ghost use Rattle.flow_lines.specs.inner.Reading.{TakesToLineFeed, TakesAll};
@@ -11,6 +11,13 @@ use std::marker::Model;
 
 /// How many bytes a read asks for.
 const CHUNK: usize = 65_536;
+
+/// Says that the bytes taken so far hold no whole line, so that a read is due. Only taking them all
+/// gives it, and each read takes one, so that no read is made where it isn't needed.
+#[derive(Drop)]
+pub struct ReadDue {
+    _private: (),
+}
 
 /// The bytes of the last read that aren't used yet.
 #[derive(Drop)]
@@ -44,7 +51,7 @@ impl Chunk {
     }
 
     /// Reads the next bytes in the place of those before, and answers how many.
-    pub fn fill<S: Source>(&mut self, source: &mut S) -> Result<usize, Fault>
+    pub fn fill<S: Source>(&mut self, _due: ReadDue, source: &mut S) -> Result<usize, Fault>
         ensures count { IfOk result (λ n. n ≡ length self.new) }
         ensures given { IfOk result (λ n. IsNextOf self.new (S.left source.old)) }
         ensures rest { IfOk result (λ n. S.left source.new ≡ left_after n (S.left source.old)) }
@@ -62,11 +69,11 @@ impl Chunk {
     }
 
     /// Moves the bytes before the next line feed to the line, and drops the line feed. Where there is
-    /// none, all bytes go, and the answer is false.
-    pub fn take_line(&mut self, line: &mut Vec<u8>) -> Result<bool, NoMemory>
-        ensures taken { IfOk result (λ found. MatchBool found
+    /// none, all bytes go, and a read is due.
+    pub fn take_line(&mut self, line: &mut Vec<u8>) -> Result<Option<ReadDue>, NoMemory>
+        ensures taken { IfOk result (λ due. MatchOption due
             (TakesToLineFeed self.old self.new line.old.items line.new.items)
-            (TakesAll self.old self.new line.old.items line.new.items)) }
+            (λ _. TakesAll self.old self.new line.old.items line.new.items)) }
         ensures err { OnErr result ((self.new ≡ self.old) × (line.new.items ≡ line.old.items)) }
         ensures room { length self.new ≤ 65536 }
     {
@@ -75,22 +82,22 @@ impl Chunk {
             Some(at) => {
                 line.extend_from_slice(&rest[..at])?;
                 self.from += at + 1;
-                Ok(true)
+                Ok(None)
             }
             None => {
                 line.extend_from_slice(rest)?;
                 self.from = self.to;
-                Ok(false)
+                Ok(Some(ReadDue { _private: () }))
             }
         }
     }
 
-    /// Moves all bytes to others, at their end.
-    pub fn take_all(&mut self, bytes: &mut Vec<u8>) -> Result<(), NoMemory>
+    /// Moves all bytes to others, at their end, after which a read is due.
+    pub fn take_all(&mut self, bytes: &mut Vec<u8>) -> Result<ReadDue, NoMemory>
         ensures ok { OnOk result ((self.new ≡ []) × (bytes.new.items ≡ bytes.old.items ++ self.old)) }
     {
         bytes.extend_from_slice(&self.bytes[self.from..self.to])?;
         self.from = self.to;
-        Ok(())
+        Ok(ReadDue { _private: () })
     }
 }

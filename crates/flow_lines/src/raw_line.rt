@@ -59,14 +59,15 @@ pub fn read_line<S: Source>(
     ensures held { IfOk result (λ closed. ¬ (NoLineFeed chunk.old) → IsHeld chunk.old chunk.new line.new.items closed) }
 {
     'reads: loop {
-        let closed = chunk.take_line(line)?;
+        let due = chunk.take_line(line)?;
+        let closed = due.is_none();
         if let Some(refusal) = refusal_for_length(start, line.len() as u64, closed) {
             return Err(refusal);
         }
-        if closed {
+        let Some(due) = due else {
             return Ok(true);
-        }
-        match chunk.fill(source) {
+        };
+        match chunk.fill(due, source) {
             Ok(0) => return Ok(false),
             Ok(_) => {}
             Err(_) => return Err(LineRefusal::Fault),

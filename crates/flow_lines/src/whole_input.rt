@@ -57,7 +57,8 @@ pub fn read_whole<S: Source>(alloc: Global, source: &mut S) -> Result<Items<u8>,
     let mut bytes = Vec::new(alloc);
     // Each turn takes a byte at least.
     for _turn in 0..=MAX_WHOLE_INPUT {
-        let count = match chunk.fill(source) {
+        let due = chunk.take_all(&mut bytes)?;
+        let count = match chunk.fill(due, source) {
             Ok(0) => return Ok(Items::from_vec(bytes)),
             Ok(count) => count,
             Err(_) => return Err(InputRefusal::Fault),
@@ -65,7 +66,6 @@ pub fn read_whole<S: Source>(alloc: Global, source: &mut S) -> Result<Items<u8>,
         if count > MAX_WHOLE_INPUT - bytes.len() {
             return Err(InputRefusal::TooLong);
         }
-        chunk.take_all(&mut bytes)?;
     }
     unreachable!()
 }

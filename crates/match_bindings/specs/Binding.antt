@@ -1,19 +1,19 @@
 -- When the observations of a tree match a pattern: STIX 2.1, sections 9.3 to 9.5, of pattern expressions and of observation
 -- expressions with their operators and qualifiers. A tree that fits no line here is no binding.
 use Rattle.std.specs.Prelude.{◌≡◌, ℕ, zero, suc, ◌<◌, ◌≤ℤ◌, ◌<ℤ◌, true}
-use Rattle.match_bindings.specs.Formula.{Formula, Leaf, Both, Then, Either, Within, Between, Repeats}
-use Rattle.match_bindings.specs.Tree.{Tree, One, Pair, First, Second, Single, More, AreApart, greatest}
+use Rattle.match_bindings.specs.NumberedPattern.{NumberedPattern, Leaf, Both, Then, Either, Within, Between, Repeats}
+use Rattle.match_bindings.specs.BindTree.{BindTree, One, Pair, First, Second, Single, More, AreApart, greatest}
 use Rattle.match_bindings.specs.Span.{earliest, latest, later_by}
 use Rattle.match_bindings.specs.Log.{Observed}
 
 -- a chain of so many parts, at least one: each binds, no observation is in two of them, and their greatest numbers rise, so
 -- that no set of parts stands twice in another order
-abbrev pub AreRepeats : (Tree → Type 0) → ℕ → Tree → Type 0
+abbrev pub AreRepeats : (BindTree → Type 0) → ℕ → BindTree → Type 0
 AreRepeats Binds (suc zero) (Single a) = Binds a
 AreRepeats Binds (suc (suc j)) (More m a) = AreRepeats Binds (suc j) m × Binds a × AreApart m a × (greatest m < greatest a)
 AreRepeats Binds _ _ = ⊥
 
-abbrev pub IsBinding : Observed → Formula → Tree → Type 0
+abbrev pub IsBinding : Observed → NumberedPattern → BindTree → Type 0
 -- [ .. ]: one observation, which the comparison expression matches
 IsBinding o (Leaf k) (One i) = o.holds k i ≡ true
 -- AND: both sides match, on different observations

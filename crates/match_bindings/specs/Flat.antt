@@ -2,10 +2,10 @@
 use Rattle.std.specs.Prelude.{◌≡◌, ℕ, ⊤, Bool, true, List, [], ◌∷◌, ◌++◌}
 use Rattle.std.specs.Ordering.{nat_cmp, is_lt}
 use Rattle.std.specs.Cmp.Lexicographic.{slice_cmp}
-use Rattle.match_bindings.specs.Tree.{Tree, One, Pair, First, Second, Empty, Single, More, greatest}
+use Rattle.match_bindings.specs.BindTree.{BindTree, One, Pair, First, Second, Empty, Single, More, greatest}
 
 -- the numbers from left to right, with 0 before the part of a First and 2 ^ 64 - 1 before that of a Second
-abbrev pub flat : Tree → List ℕ
+abbrev pub flat : BindTree → List ℕ
 flat (One n) = n ∷ []
 flat (Pair a b) = flat a ++ flat b
 flat (First a) = 0 ∷ flat a
@@ -15,14 +15,14 @@ flat (Single a) = flat a
 flat (More m a) = flat m ++ flat a
 
 -- what trees are ordered by: the greatest number, and then the flat list
-abbrev pub rank : Tree → List ℕ
+abbrev pub rank : BindTree → List ℕ
 rank x = greatest x ∷ flat x
 
-abbrev pub comes_before : Tree → Tree → Bool
+abbrev pub comes_before : BindTree → BindTree → Bool
 comes_before x y = is_lt (slice_cmp nat_cmp (rank x) (rank y))
 
 -- each tree comes before the next
-abbrev pub Rises : List Tree → Type 0
+abbrev pub Rises : List BindTree → Type 0
 Rises [] = ⊤
 Rises (x ∷ []) = ⊤
 Rises (x ∷ y ∷ xs) = (comes_before x y ≡ true) × Rises (y ∷ xs)

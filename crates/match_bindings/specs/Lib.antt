@@ -1,5 +1,5 @@
-pub mod Formula
-pub mod Tree
+pub mod NumberedPattern
+pub mod BindTree
 pub mod Log
 pub mod Span
 pub mod Binding
@@ -8,6 +8,5 @@ pub mod Once
 pub mod Flat
 pub mod Listing
 pub mod Line
-pub mod Found
 pub mod Ranks
-pub mod Kinds
+pub mod inner

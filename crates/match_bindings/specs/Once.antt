@@ -1,13 +1,13 @@
 -- How often a tree stands in a list.
 use Rattle.std.specs.Prelude.{◌≡◌, ℕ, ◌+◌, Bool, true, false, ◌&&◌, nat_eq, List, [], ◌∷◌}
-use Rattle.match_bindings.specs.Tree.{Tree, One, Pair, First, Second, Empty, Single, More}
+use Rattle.match_bindings.specs.BindTree.{BindTree, One, Pair, First, Second, Empty, Single, More}
 
 abbrev pub bit : Bool → ℕ
 bit true = 1
 bit false = 0
 
 -- whether two trees are one
-abbrev pub same : Tree → Tree → Bool
+abbrev pub same : BindTree → BindTree → Bool
 same (One m) (One n) = nat_eq m n
 same (Pair a b) (Pair c d) = same a c && same b d
 same (First a) (First b) = same a b
@@ -17,10 +17,10 @@ same (Single a) (Single b) = same a b
 same (More m a) (More n b) = same m n && same a b
 same _ _ = false
 
-abbrev pub count : Tree → List Tree → ℕ
+abbrev pub count : BindTree → List BindTree → ℕ
 count x [] = 0
 count x (y ∷ ys) = bit (same x y) + count x ys
 
 -- each tree that passes stands in the list once, and no other
-abbrev pub Exactly : (Tree → Bool) → List Tree → Type 0
-Exactly f xs = (x : Tree) → count x xs ≡ bit (f x)
+abbrev pub Exactly : (BindTree → Bool) → List BindTree → Type 0
+Exactly f xs = (x : BindTree) → count x xs ≡ bit (f x)

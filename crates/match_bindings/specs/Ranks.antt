@@ -1,7 +1,7 @@
 -- For private clauses: binds beside their ranks.
 use Rattle.std.specs.Prelude.{List, map}
 use Rattle.match_bindings.specs.declared.ranked.Ranked.{Ranked}
-use Rattle.match_bindings.specs.Tree.{Tree, tree_of}
+use Rattle.match_bindings.specs.BindTree.{BindTree, tree_of}
 
-abbrev pub ranked_trees : List Ranked → List Tree
+abbrev pub ranked_trees : List Ranked → List BindTree
 ranked_trees rs = map (λ r. tree_of r.bind) rs

@@ -1,10 +1,10 @@
 -- The time that the observations of a tree cover together.
 use Rattle.std.specs.Prelude.{ℕ, ◌*◌, ℤ, pos, ◌+ℤ◌}
 use Rattle.std.specs.Int.{int_min, int_max}
-use Rattle.match_bindings.specs.Tree.{Tree, One, Pair, First, Second, Empty, Single, More}
+use Rattle.match_bindings.specs.BindTree.{BindTree, One, Pair, First, Second, Empty, Single, More}
 
 -- the least of the first times
-abbrev pub earliest : (ℕ → ℤ) → Tree → ℤ
+abbrev pub earliest : (ℕ → ℤ) → BindTree → ℤ
 earliest first (One n) = first n
 earliest first (Pair a b) = int_min (earliest first a) (earliest first b)
 earliest first (First a) = earliest first a
@@ -14,7 +14,7 @@ earliest first (Single a) = earliest first a
 earliest first (More m a) = int_min (earliest first m) (earliest first a)
 
 -- the greatest of the last times
-abbrev pub latest : (ℕ → ℤ) → Tree → ℤ
+abbrev pub latest : (ℕ → ℤ) → BindTree → ℤ
 latest last (One n) = last n
 latest last (Pair a b) = int_max (latest last a) (latest last b)
 latest last (First a) = latest last a

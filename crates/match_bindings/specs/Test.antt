@@ -1,17 +1,17 @@
 -- Bindings as a test, which the laws say is the relation of Binding.antt.
 use Rattle.std.specs.Prelude.{ℕ, zero, suc, nat_lt, int_le, int_lt, Bool, false, ◌&&◌}
-use Rattle.match_bindings.specs.Formula.{Formula, Leaf, Both, Then, Either, Within, Between, Repeats}
-use Rattle.match_bindings.specs.Tree.{Tree, One, Pair, First, Second, Single, More, disjoint, greatest}
+use Rattle.match_bindings.specs.NumberedPattern.{NumberedPattern, Leaf, Both, Then, Either, Within, Between, Repeats}
+use Rattle.match_bindings.specs.BindTree.{BindTree, One, Pair, First, Second, Single, More, disjoint, greatest}
 use Rattle.match_bindings.specs.Span.{earliest, latest, later_by}
 use Rattle.match_bindings.specs.Log.{Observed}
 
 -- a chain of so many parts, at least one: each passes, no number is in two of them, and their greatest numbers rise
-abbrev pub are_repeats : (Tree → Bool) → ℕ → Tree → Bool
+abbrev pub are_repeats : (BindTree → Bool) → ℕ → BindTree → Bool
 are_repeats f (suc zero) (Single a) = f a
 are_repeats f (suc (suc j)) (More m a) = are_repeats f (suc j) m && f a && (nat_lt (greatest m) (greatest a) && disjoint m a)
 are_repeats f _ _ = false
 
-abbrev pub is_binding : Observed → Formula → Tree → Bool
+abbrev pub is_binding : Observed → NumberedPattern → BindTree → Bool
 is_binding o (Leaf k) (One i) = o.holds k i
 is_binding o (Both p q) (Pair a b) = is_binding o p a && is_binding o q b && disjoint a b
 is_binding o (Then p q) (Pair a b) = is_binding o p a && is_binding o q b && (int_le (latest o.last a) (earliest o.first b) && disjoint a b)

@@ -1,6 +1,6 @@
 ghost use Rattle.std.specs.Prelude.{◌≡◌, false, IfSome, IfNone, map};
-ghost use Rattle.match_bindings.specs.Tree.{tree_of, many_of, One, Pair};
-ghost use Rattle.match_bindings.specs.Kinds.{is_one, is_pair, is_chain};
+ghost use Rattle.match_bindings.specs.BindTree.{tree_of, many_of, One, Pair};
+ghost use Rattle.match_bindings.specs.inner.Kinds.{is_one, is_pair, is_chain};
 
 use flow_values::Items;
 

@@ -1,13 +1,13 @@
 ghost use Rattle.std.specs.Prelude.{◌≡◌, ◌<◌, ◌^◌, IfOk, map};
 ghost use Rattle.pattern_types.specs.Leaves.{leaves};
-ghost use Rattle.match_bindings.specs.Formula.{formula_of};
-ghost use Rattle.match_bindings.specs.Tree.{tree_of};
+ghost use Rattle.match_bindings.specs.NumberedPattern.{numbered_pattern};
+ghost use Rattle.match_bindings.specs.BindTree.{tree_of};
 ghost use Rattle.match_bindings.specs.Log.{observed_in};
 ghost use Rattle.match_bindings.specs.Listing.{IsListing};
-ghost use Rattle.match_bindings.specs.Found.{things, trees_of};
+ghost use Rattle.match_bindings.specs.inner.Candidates.{spanned_trees, trees_of};
 
-use crate::found::found;
-use crate::held::Held;
+use crate::candidates::candidates;
+use crate::spanned_bind::SpannedBind;
 use crate::order::in_order;
 use crate::window::Window;
 use crate::{Bind, Log};
@@ -18,17 +18,17 @@ use std::alloc::Global;
 /// Every binding of a pattern over a log, each once, by greatest number and then by flat list.
 pub fn listing(alloc: Global, pattern: &Pattern, log: &Log) -> Result<Items<Bind>, NoMemory>
     requires { leaves pattern.now < 2 ^ 32 }
-    ensures { IfOk result (λ binds. IsListing (observed_in log.now) (formula_of pattern.now) (map tree_of binds)) }
+    ensures { IfOk result (λ binds. IsListing (observed_in log.now) (numbered_pattern pattern.now) (map tree_of binds)) }
 {
-    let held = found(alloc, pattern, 0, log, &Window::open())?;
+    let held = candidates(alloc, pattern, 0, log, &Window::open())?;
     let binds = binds_of(alloc, held)?;
     let sorted = in_order(alloc, binds)?;
     Ok(Items::from_vec(sorted))
 }
 
 /// The binds alone.
-fn binds_of(alloc: Global, held: Vec<Held>) -> Result<Vec<Bind>, NoMemory>
-    ensures { IfOk result (λ binds. map tree_of binds.items ≡ trees_of (things held.items)) }
+fn binds_of(alloc: Global, held: Vec<SpannedBind>) -> Result<Vec<Bind>, NoMemory>
+    ensures { IfOk result (λ binds. map tree_of binds.items ≡ trees_of (spanned_trees held.items)) }
 {
     let mut binds = Vec::new(alloc);
     for one in held {

@@ -1,11 +1,11 @@
 ghost use Rattle.std.specs.Prelude.{◌≡◌, ◌↔◌, ◌+◌, ◌<◌, ◌^◌, ◌&&◌, IsTrue, map};
 ghost use Rattle.pattern_types.specs.Leaves.{leaves};
-ghost use Rattle.match_bindings.specs.Formula.{formula_of, formula_from};
-ghost use Rattle.match_bindings.specs.Tree.{tree_of, many_of};
+ghost use Rattle.match_bindings.specs.NumberedPattern.{numbered_pattern, numbered_from};
+ghost use Rattle.match_bindings.specs.BindTree.{tree_of, many_of};
 ghost use Rattle.match_bindings.specs.Log.{observed_in};
 ghost use Rattle.match_bindings.specs.Binding.{IsBinding};
 ghost use Rattle.match_bindings.specs.Test.{is_binding, are_repeats};
-ghost use Rattle.match_bindings.specs.Found.{judged, span_if, span_of, joined_span, admits};
+ghost use Rattle.match_bindings.specs.inner.Candidates.{judged, span_if, span_of, joined_span, admits};
 
 use crate::join::Join;
 use crate::numbers::{all_disjoint, are_disjoint};
@@ -17,7 +17,7 @@ use pattern_types::{Pattern, leaf_count};
 /// leaf is none for which the leaf holds.
 pub fn check_binding(pattern: &Pattern, log: &Log, bind: &Bind) -> bool
     requires { leaves pattern.now < 2 ^ 32 }
-    ensures { IsTrue result ↔ IsBinding (observed_in log.now) (formula_of pattern.now) (tree_of bind.now) }
+    ensures { IsTrue result ↔ IsBinding (observed_in log.now) (numbered_pattern pattern.now) (tree_of bind.now) }
 {
     judge(pattern, 0, log, bind).is_some()
 }
@@ -26,7 +26,7 @@ pub fn check_binding(pattern: &Pattern, log: &Log, bind: &Bind) -> bool
 #[cycle(judge)]
 fn judge(pattern: &Pattern, leaf: u32, log: &Log, bind: &Bind) -> Option<Span>
     requires { leaf + leaves pattern.now < 2 ^ 32 }
-    ensures { result ≡ judged (observed_in log.now) (formula_from leaf pattern.now) (tree_of bind.now) }
+    ensures { result ≡ judged (observed_in log.now) (numbered_from leaf pattern.now) (tree_of bind.now) }
 {
     match pattern {
         Pattern::Leaf(_) => log.span_of(leaf, bind.number()?),
@@ -75,7 +75,7 @@ fn judge_repeats(
     count: u32,
 ) -> Option<Span>
     requires { leaf + leaves pattern.now < 2 ^ 32 }
-    ensures { result ≡ span_if (are_repeats (is_binding (observed_in log.now) (formula_from leaf pattern.now)) count
+    ensures { result ≡ span_if (are_repeats (is_binding (observed_in log.now) (numbered_from leaf pattern.now)) count
         (many_of (map tree_of parts.now))) (span_of (observed_in log.now) (many_of (map tree_of parts.now))) }
 {
     if parts.len() != count as usize {

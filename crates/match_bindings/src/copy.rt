@@ -1,5 +1,5 @@
 ghost use Rattle.std.specs.Prelude.{◌≡◌, IfOk, map};
-ghost use Rattle.match_bindings.specs.Tree.{tree_of};
+ghost use Rattle.match_bindings.specs.BindTree.{tree_of};
 
 use crate::Bind;
 use flow_values::{Items, NoMemory};

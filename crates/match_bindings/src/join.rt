@@ -1,11 +1,11 @@
 ghost use Rattle.std.specs.Prelude.{◌≡◌, ◌++◌, IfOk, OnOk, map};
-ghost use Rattle.match_bindings.specs.Tree.{tree_of, many_of};
-ghost use Rattle.match_bindings.specs.Found.{thing_of, things, joined_tree, admits, may_join, join_row, joins, add_part};
-ghost use Rattle.match_bindings.specs.Kinds.{chain_of};
+ghost use Rattle.match_bindings.specs.BindTree.{tree_of, many_of};
+ghost use Rattle.match_bindings.specs.inner.Candidates.{spanned_tree, spanned_trees, joined_tree, admits, may_join, join_row, joins, add_part};
+ghost use Rattle.match_bindings.specs.inner.Kinds.{chain_of};
 
 use crate::Bind;
 use crate::copy::{copy_bind, copy_binds};
-use crate::held::Held;
+use crate::spanned_bind::SpannedBind;
 use crate::numbers::are_disjoint;
 use crate::span::Span;
 use crate::window::Window;
@@ -50,8 +50,8 @@ impl Join {
     }
 
     /// Whether two binds are joined.
-    fn may_join(self, window: &Window, first: &Held, second: &Held) -> bool
-        ensures { result ≡ may_join self window.now (thing_of first.now) (thing_of second.now) }
+    fn may_join(self, window: &Window, first: &SpannedBind, second: &SpannedBind) -> bool
+        ensures { result ≡ may_join self window.now (spanned_tree first.now) (spanned_tree second.now) }
     {
         self.admits(&first.span, &second.span)
             && window.fits(&first.span.joined(&second.span))
@@ -63,17 +63,17 @@ impl Join {
         self,
         alloc: Global,
         window: &Window,
-        first: &Held,
-        seconds: &[Held],
-        out: &mut Vec<Held>,
+        first: &SpannedBind,
+        seconds: &[SpannedBind],
+        out: &mut Vec<SpannedBind>,
     ) -> Result<(), NoMemory>
-        ensures { OnOk result (things out.new.items ≡ things out.old.items ++ join_row self window.now (thing_of first.now) (things seconds.now)) }
+        ensures { OnOk result (spanned_trees out.new.items ≡ spanned_trees out.old.items ++ join_row self window.now (spanned_tree first.now) (spanned_trees seconds.now)) }
     {
         for second in seconds {
             if self.may_join(window, first, second) {
                 let bind = self.bind(alloc, &first.bind, &second.bind)?;
                 let span = first.span.joined(&second.span);
-                out.push(Held { bind, span })?;
+                out.push(SpannedBind { bind, span })?;
             }
         }
         Ok(())
@@ -84,10 +84,10 @@ impl Join {
         self,
         alloc: Global,
         window: &Window,
-        firsts: &[Held],
-        seconds: &[Held],
-    ) -> Result<Vec<Held>, NoMemory>
-        ensures { IfOk result (λ out. things out.items ≡ joins self window.now (things firsts.now) (things seconds.now)) }
+        firsts: &[SpannedBind],
+        seconds: &[SpannedBind],
+    ) -> Result<Vec<SpannedBind>, NoMemory>
+        ensures { IfOk result (λ out. spanned_trees out.items ≡ joins self window.now (spanned_trees firsts.now) (spanned_trees seconds.now)) }
     {
         let mut out = Vec::new(alloc);
         for first in firsts {

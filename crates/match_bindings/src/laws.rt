@@ -1,9 +1,9 @@
 //! What follows from the definitions: the contracts are the laws, and the functions do nothing.
 
 ghost use Rattle.std.specs.Prelude.{◌≡◌, ◌↔◌, ◌++◌, true, List};
-ghost use Rattle.match_bindings.specs.declared.row.Row.{Row};
-ghost use Rattle.match_bindings.specs.Formula.{Formula};
-ghost use Rattle.match_bindings.specs.Tree.{Tree};
+ghost use Rattle.match_bindings.specs.declared.log_entry.LogEntry.{LogEntry};
+ghost use Rattle.match_bindings.specs.NumberedPattern.{NumberedPattern};
+ghost use Rattle.match_bindings.specs.BindTree.{BindTree};
 ghost use Rattle.match_bindings.specs.Log.{Observed, observed_in};
 ghost use Rattle.match_bindings.specs.Binding.{IsBinding};
 ghost use Rattle.match_bindings.specs.Test.{is_binding};
@@ -13,26 +13,26 @@ ghost use Rattle.match_bindings.specs.Listing.{IsListing};
 
 /// The test of a binding is the rule.
 pub fn test_is_the_rule()
-    ensures { (o : Observed) (p : Formula) (x : Tree) → (is_binding o p x ≡ true) ↔ IsBinding o p x }
+    ensures { (o : Observed) (p : NumberedPattern) (x : BindTree) → (is_binding o p x ≡ true) ↔ IsBinding o p x }
 {}
 
 /// A listing is what the test lets through, each once, in order.
 pub fn listing_is_by_the_test()
-    ensures { (o : Observed) (p : Formula) (xs : List Tree) → IsListing o p xs ↔ (Exactly (is_binding o p) xs × Rises xs) }
+    ensures { (o : Observed) (p : NumberedPattern) (xs : List BindTree) → IsListing o p xs ↔ (Exactly (is_binding o p) xs × Rises xs) }
 {}
 
 /// There is one listing.
 pub fn one_listing()
-    ensures { (o : Observed) (p : Formula) (xs ys : List Tree) → IsListing o p xs → IsListing o p ys → xs ≡ ys }
+    ensures { (o : Observed) (p : NumberedPattern) (xs ys : List BindTree) → IsListing o p xs → IsListing o p ys → xs ≡ ys }
 {}
 
 /// Different bindings of a pattern have different flat lists.
 pub fn flat_lists_tell()
-    ensures { (o : Observed) (p : Formula) (x y : Tree) → IsBinding o p x → IsBinding o p y → flat x ≡ flat y → x ≡ y }
+    ensures { (o : Observed) (p : NumberedPattern) (x y : BindTree) → IsBinding o p x → IsBinding o p y → flat x ≡ flat y → x ≡ y }
 {}
 
 /// A binding over a log is one over every longer log.
 pub fn bindings_last()
-    ensures { (log more : List Row) (p : Formula) (x : Tree) → IsBinding (observed_in log) p x
+    ensures { (log more : List LogEntry) (p : NumberedPattern) (x : BindTree) → IsBinding (observed_in log) p x
         → IsBinding (observed_in (log ++ more)) p x }
 {}

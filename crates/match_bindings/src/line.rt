@@ -1,5 +1,5 @@
 ghost use Rattle.std.specs.Prelude.{◌≡◌, ◌++◌, IfOk, OnOk, map, string_bytes, decimal};
-ghost use Rattle.match_bindings.specs.Tree.{tree_of, many_of};
+ghost use Rattle.match_bindings.specs.BindTree.{tree_of, many_of};
 ghost use Rattle.match_bindings.specs.Line.{entries_text, line_text};
 
 use crate::Bind;

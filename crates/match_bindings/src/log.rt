@@ -1,9 +1,9 @@
 ghost use Rattle.std.specs.Prelude.{◌≡◌, [], ◌∷◌, ◌++◌, ◌≤ℤ◌, OnOk, OnErr, length};
 ghost use Rattle.match_bindings.specs.Log.{LastIsBy, observed_in};
-ghost use Rattle.match_bindings.specs.Tree.{One};
-ghost use Rattle.match_bindings.specs.Found.{span_if, span_of};
+ghost use Rattle.match_bindings.specs.BindTree.{One};
+ghost use Rattle.match_bindings.specs.inner.Candidates.{span_if, span_of};
 
-use crate::row::Row;
+use crate::log_entry::LogEntry;
 use crate::span::Span;
 use flow_values::{Items, NoMemory};
 use std::alloc::Global;
@@ -13,15 +13,15 @@ use stix_times::Instant;
 /// Observations in the order of their last times. Contracts see the list of its rows.
 #[derive(Drop)]
 pub struct Log {
-    rows: Vec<Row>,
+    rows: Vec<LogEntry>,
 }
 
 impl Model for Log {
     ghost use Rattle.std.specs.Prelude.{List};
-    ghost use Rattle.match_bindings.specs.declared.row.Row.{Row};
+    ghost use Rattle.match_bindings.specs.declared.log_entry.LogEntry.{LogEntry};
     ghost use Rattle.match_bindings.specs.Log.{IsInOrder};
 
-    ghost Value = { List Row };
+    ghost Value = { List LogEntry };
 
     ghost view = { λ log. log.rows.items };
 
@@ -50,7 +50,7 @@ impl Log {
         ensures ok { OnOk result (self.new ≡ self.old ++ record { first = first; last = last; truths = truths } ∷ []) }
         ensures err { OnErr result (self.new ≡ self.old) }
     {
-        self.rows.push(Row {
+        self.rows.push(LogEntry {
             first,
             last,
             truths,

@@ -1,5 +1,5 @@
 ghost use Rattle.std.specs.Prelude.{◌≡◌, map};
-ghost use Rattle.match_bindings.specs.Tree.{tree_of, many_of, has, disjoint, greatest};
+ghost use Rattle.match_bindings.specs.BindTree.{tree_of, many_of, has, disjoint, greatest};
 
 use crate::Bind;
 

@@ -1,6 +1,6 @@
 ghost use Rattle.std.specs.Prelude.{◌≡◌, IfOk, map};
 ghost use Rattle.std.specs.List.Sorted.{IsSortedBy};
-ghost use Rattle.match_bindings.specs.Tree.{Tree, tree_of};
+ghost use Rattle.match_bindings.specs.BindTree.{BindTree, tree_of};
 ghost use Rattle.match_bindings.specs.Once.{count};
 ghost use Rattle.match_bindings.specs.Flat.{comes_before};
 ghost use Rattle.match_bindings.specs.Ranks.{ranked_trees};
@@ -14,7 +14,7 @@ use std::alloc::Global;
 
 /// Binds by greatest number and then by flat list.
 pub(crate) fn in_order(alloc: Global, binds: Vec<Bind>) -> Result<Vec<Bind>, NoMemory>
-    ensures counts { IfOk result (λ sorted. (x : Tree) → count x (map tree_of sorted.items) ≡ count x (map tree_of binds.items)) }
+    ensures counts { IfOk result (λ sorted. (x : BindTree) → count x (map tree_of sorted.items) ≡ count x (map tree_of binds.items)) }
     ensures rises { IfOk result (λ sorted. IsSortedBy comes_before (map tree_of sorted.items)) }
 {
     let mut all = ranked(alloc, binds)?;

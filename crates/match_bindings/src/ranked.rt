@@ -1,5 +1,5 @@
 ghost use Rattle.std.specs.Prelude.{◌≡◌};
-ghost use Rattle.match_bindings.specs.Tree.{tree_of};
+ghost use Rattle.match_bindings.specs.BindTree.{tree_of};
 ghost use Rattle.match_bindings.specs.Flat.{rank};
 
 use crate::Bind;

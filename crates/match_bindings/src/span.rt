@@ -1,5 +1,5 @@
 ghost use Rattle.std.specs.Prelude.{◌≡◌};
-ghost use Rattle.match_bindings.specs.Found.{joined_span, lies_within, lies_between};
+ghost use Rattle.match_bindings.specs.inner.Candidates.{joined_span, lies_within, lies_between};
 
 use stix_times::{Instant, nanos};
 

@@ -1,5 +1,5 @@
 ghost use Rattle.std.specs.Prelude.{◌≡◌, None};
-ghost use Rattle.match_bindings.specs.Found.{fits, within, between};
+ghost use Rattle.match_bindings.specs.inner.Candidates.{fits, within, between};
 
 use crate::span::Span;
 use stix_times::Instant;

@@ -1,6 +1,6 @@
-pub mod Intervals
-pub mod Dotted
-pub mod Groups
-pub mod Slashes
-pub mod Decimals
-pub mod Spelled
+pub mod IsWithinLemmas
+pub mod Ipv4Lemmas
+pub mod Ipv6Lemmas
+pub mod SlashLemmas
+pub mod PrefixLengthLemmas
+pub mod BlockTextLemmas

@@ -1,3 +1,3 @@
-pub mod Texts
-pub mod Cuts
-pub mod Fronts
+pub mod CharactersLemmas
+pub mod IsLikeLemmas
+pub mod AttemptLemmas

@@ -1,6 +1,6 @@
-pub mod Counts
-pub mod Observations
-pub mod RowLemmas
-pub mod Following
-pub mod Unique
-pub mod Lines
+pub mod JsonListLemmas
+pub mod IsFirstLineLemmas
+pub mod ListingLemmas
+pub mod ReadsSoFarLemmas
+pub mod ReadingLemmas
+pub mod InputRefusalTextLemmas

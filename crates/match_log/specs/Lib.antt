@@ -3,6 +3,6 @@ pub mod Line
 pub mod Reading
 pub mod Listing
 pub mod Matching
-pub mod TallyOf
 pub mod Texts
-pub mod Said
+pub mod Reason
+pub mod inner

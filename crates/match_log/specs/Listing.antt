@@ -3,24 +3,24 @@ use Rattle.std.specs.Prelude.{ℕ, ◌+◌, ℤ, List, [], ◌∷◌, ◌++◌, 
 use Rattle.std.specs.List.{flat_map}
 
 -- an observation of a log: its time, and whether the bracket holds
-pub record Row : Type 0 where
+pub record FirstEntry : Type 0 where
   pub time : ℤ
   pub holds : Bool
 
 -- the numbers of the rows that hold, where the first row has the number n
-abbrev pub holding_from : ℕ → List Row → List ℕ
+abbrev pub holding_from : ℕ → List FirstEntry → List ℕ
 holding_from n [] = []
 holding_from n (row ∷ rows) = if row.holds then n ∷ holding_from (n + 1) rows else holding_from (n + 1) rows
 
 -- rows are numbered from 1
-abbrev pub holding : List Row → List ℕ
+abbrev pub holding : List FirstEntry → List ℕ
 holding rows = holding_from 1 rows
 
 -- n: n
 abbrev pub line_text : ℕ → List ℕ
 line_text n = decimal n ++ (codes ": " ++ (decimal n ++ codes "\n"))
 
-abbrev pub listing_text : List Row → List ℕ
+abbrev pub listing_text : List FirstEntry → List ℕ
 listing_text rows = flat_map line_text (holding rows)
 
 -- the last of some numbers, or 0

@@ -6,7 +6,7 @@ use Rattle.flow_lines.specs.declared.refusal.LineRefusal.{LineRefusal}
 use Rattle.flow_lines.specs.declared.refusal.LineRefusal.TheVariants as refusal
 use Rattle.match_log.specs.FirstForm.{FirstForm}
 use Rattle.match_log.specs.Line.{Holds}
-use Rattle.match_log.specs.Listing.{Row, holding, listing_text, last_or_zero}
+use Rattle.match_log.specs.Listing.{FirstEntry, holding, listing_text, last_or_zero}
 use Rattle.match_log.specs.Reading.{Whole, Refused, ToldReading, IsNext}
 use Rattle.match_log.specs.declared.end.MatchEnd.{MatchEnd}
 use Rattle.match_log.specs.declared.end.MatchEnd.TheVariants.{Done, Input, ReadFault, WriteFault, NoMemory}
@@ -14,7 +14,7 @@ use Rattle.match_log.specs.declared.end.InputRule.TheVariants.{NotYet}
 
 -- the whole log was read and listed
 pub record ListsWhole (form : FirstForm) (left left_after written written_after : Option (List ℕ)) (observations bindings last : ℕ) : Type 0 where
-  pub rows : List Row
+  pub rows : List FirstEntry
   pub reading : ToldReading form left rows Whole
   pub listing : written_after ≡ written_with (listing_text rows) written
   pub drained : IsAtEnd left_after
@@ -24,7 +24,7 @@ pub record ListsWhole (form : FirstForm) (left left_after written written_after 
 
 -- the log before the first refused line was read and listed
 pub record ListsBefore (form : FirstForm) (left written written_after : Option (List ℕ)) (line : ℕ) : Type 0 where
-  pub rows : List Row
+  pub rows : List FirstEntry
   pub reading : ToldReading form left rows (Refused line)
   pub listing : written_after ≡ written_with (listing_text rows) written
 
@@ -49,7 +49,7 @@ end_of (refusal.InputTooLong number) = Input number NotYet
 end_of refusal.NoMemory = NoMemory
 
 -- the row that a line adds to a log
-pub record IsRowOf (form : FirstForm) (last : Option ℤ) (bytes : List ℕ) (row : Row) : Type 0 where
+pub record IsEntryOf (form : FirstForm) (last : Option ℤ) (bytes : List ℕ) (row : FirstEntry) : Type 0 where
   pub object : Data
   pub next : IsNext last bytes row.time object
   pub truth : IsTrue row.holds ↔ Holds form object

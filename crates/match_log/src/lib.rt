@@ -10,9 +10,9 @@ mod end;
 pub mod laws;
 mod observation;
 mod refusal_text;
-mod refused;
-mod rows;
-mod said;
+mod line_refusal;
+mod entries;
+mod reason;
 mod stream;
 mod tally;
 

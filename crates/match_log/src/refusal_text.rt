@@ -1,11 +1,11 @@
 ghost use Rattle.std.specs.Prelude.{◌≡◌, ◌++◌};
 ghost use Rattle.flow_edges.specs.Faults.{Causes};
 ghost use Rattle.flow_edges.specs.Flow.{WritesWhole};
-ghost use Rattle.match_log.specs.Said.{broken_words, said_text, path_lead};
+ghost use Rattle.match_log.specs.inner.Reason.{broken_words, reason_text, path_lead};
 ghost use Rattle.match_log.specs.Texts.{at_path, line_text, line_of_text, input_refusal_text};
 
 use crate::InputRule;
-use crate::said::Said;
+use crate::reason::Reason;
 use flow_edges::{Sink, write_pieces};
 use flow_values::Fault;
 use itoa::Buffer;
@@ -16,11 +16,11 @@ pub fn write_input_refusal<S: Sink>(line: u64, rule: &InputRule, sink: &mut S) -
     ensures text { WritesWhole (input_refusal_text line rule.now) (S.written sink.old) (S.written sink.new) result }
     ensures causes { Causes (S.faults sink.old) (S.faults sink.new) result }
 {
-    write_said(line, Said::of(rule), sink)
+    write_reason(line, Reason::of(rule), sink)
 }
 
-fn write_said<S: Sink>(line: u64, said: Said<'_>, sink: &mut S) -> Result<(), Fault>
-    ensures text { WritesWhole (line_text line (said_text said.entry)) (S.written sink.old) (S.written sink.new) result }
+fn write_reason<S: Sink>(line: u64, said: Reason<'_>, sink: &mut S) -> Result<(), Fault>
+    ensures text { WritesWhole (line_text line (reason_text said.entry)) (S.written sink.old) (S.written sink.new) result }
     ensures causes { Causes (S.faults sink.old) (S.faults sink.new) result }
 {
     let mut buffer = Buffer::new();

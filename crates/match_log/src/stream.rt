@@ -2,10 +2,10 @@ ghost use Rattle.std.specs.Prelude.{◌≡◌, ◌≢◌, ◌+◌, ◌≤◌, �
 ghost use Rattle.flow_edges.specs.Faults.{Rose};
 ghost use Rattle.match_log.specs.FirstForm.{FirstForm, form_of, pattern_of, IsBuilt};
 ghost use Rattle.match_log.specs.Matching.{AnswersMatch, ListsWhole, IsNotYet};
-ghost use Rattle.match_log.specs.TallyOf.{AddsRow, EndsInLine};
+ghost use Rattle.match_log.specs.inner.Tally.{AddsEntry, EndsInLine};
 
 use crate::comparison::{Comparison, first_form};
-use crate::rows::{read_row, write_binding};
+use crate::entries::{read_entry, write_binding};
 use crate::tally::Tally;
 use crate::{InputRule, MatchEnd, Mode};
 use flow_edges::{Sink, Source};
@@ -25,7 +25,7 @@ fn take_line<O: Sink>(
     requires observations { tally.old.observations < 2 ^ 63 }
     requires bindings { tally.old.bindings < 2 ^ 63 }
 
-    ensures row { OnOk result (AddsRow (form_of comparison.entry) tally.old tally.new line.now.bytes (O.written output.old) (O.written output.new)) }
+    ensures row { OnOk result (AddsEntry (form_of comparison.entry) tally.old tally.new line.now.bytes (O.written output.old) (O.written output.new)) }
     ensures counted { OnOk result (tally.new.observations ≡ tally.old.observations + 1) }
     ensures bound { OnOk result (tally.new.bindings ≤ tally.old.bindings + 1) }
     ensures rule { IfErr result IsNotYet }
@@ -33,7 +33,7 @@ fn take_line<O: Sink>(
     ensures failed { result ≡ Err MatchEnd.WriteFault → Rose (O.faults output.old) (O.faults output.new) }
     ensures quiet { result ≢ Err MatchEnd.WriteFault → O.faults output.new ≡ O.faults output.old }
 {
-    let seen = match read_row(alloc, comparison, tally.last_time, line.bytes.as_slice()) {
+    let seen = match read_entry(alloc, comparison, tally.last_time, line.bytes.as_slice()) {
         Ok(Some(seen)) => seen,
         Ok(None) => {
             return Err(MatchEnd::Input {

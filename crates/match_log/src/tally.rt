@@ -17,8 +17,8 @@ pub(crate) struct Tally {
 }
 
 impl Tally {
-    ghost use Rattle.match_log.specs.Listing.{Row};
-    ghost use Rattle.match_log.specs.TallyOf.{IsTally};
+    ghost use Rattle.match_log.specs.Listing.{FirstEntry};
+    ghost use Rattle.match_log.specs.inner.Tally.{IsTally};
 
     /// The tally of no rows.
     pub fn new() -> Tally
@@ -38,7 +38,7 @@ impl Tally {
         requires bindings { self.old.bindings < 2 ^ 63 }
         ensures observations { self.new.observations ≡ self.old.observations + 1 }
         ensures bindings { self.new.bindings ≤ self.old.bindings + 1 }
-        ensures rows { (rows : List Row) → IsTally self.old rows
+        ensures rows { (rows : List FirstEntry) → IsTally self.old rows
             → IsTally self.new (rows ++ record { time = seen.now.time; holds = seen.now.holds } ∷ []) }
     {
         self.last_time = Some(seen.time);

@@ -1,24 +1,24 @@
--- What is found and sorted is the listing.
+-- What is candidates and sorted is the listing.
 use Rattle.std.proofs.Common.{◌≡◌, List, [], ◌∷◌, length, refl, sym, ◌∙◌, ap, subst}
 use Rattle.std.specs.Prelude.{Bool, true, false, ◌&&◌, map, None}
 use Rattle.std.specs.List.Sorted.{IsSortedBy}
 use Rattle.match_bindings.specs.declared.bind.Bind.{Bind}
-use Rattle.match_bindings.specs.declared.row.Row.{Row}
+use Rattle.match_bindings.specs.declared.log_entry.LogEntry.{LogEntry}
 use Rattle.match_bindings.specs.declared.window.Window.{Window}
-use Rattle.match_bindings.specs.Formula.{Formula, formula_of}
-use Rattle.match_bindings.specs.Tree.{Tree, tree_of}
+use Rattle.match_bindings.specs.NumberedPattern.{NumberedPattern, numbered_pattern}
+use Rattle.match_bindings.specs.BindTree.{BindTree, tree_of}
 use Rattle.match_bindings.specs.Log.{Observed, observed_in}
 use Rattle.match_bindings.specs.Test.{is_binding}
 use Rattle.match_bindings.specs.Once.{count, Exactly}
 use Rattle.match_bindings.specs.Flat.{comes_before}
 use Rattle.match_bindings.specs.Listing.{IsListing}
-use Rattle.match_bindings.specs.Found.{Thing, hold, things, trees_of, span_of, fits, found}
-use Rattle.match_bindings.proofs.Finding.{exactly_same, all_found}
-use Rattle.match_bindings.proofs.Lasting.{rows_of}
-use Rattle.match_bindings.proofs.Ranking.{listing_from}
+use Rattle.match_bindings.specs.inner.Candidates.{SpannedTree, hold, spanned_trees, trees_of, span_of, fits, candidates}
+use Rattle.match_bindings.proofs.CandidatesLemmas.{exactly_same, all_found}
+use Rattle.match_bindings.proofs.LongerLogLemmas.{rows_of}
+use Rattle.match_bindings.proofs.FlatLemmas.{listing_from}
 use Rattle.match_bindings.proofs.bindings.listing.Goals as goal
 
-trees_held : (o : Observed) (xs : List Tree) → trees_of (map (hold o) xs) ≡ xs
+trees_held : (o : Observed) (xs : List BindTree) → trees_of (map (hold o) xs) ≡ xs
 trees_held o [] = refl
 trees_held o (x ∷ xs) = ap (λ ys. x ∷ ys) (trees_held o xs)
 
@@ -29,16 +29,16 @@ and_yes false = refl
 abbrev open_window : Window
 open_window = record { seconds = None; start = None; stop = None }
 
--- the trees of what is found without qualifiers are the bindings, each once
-all_bindings : (log : List Row) (p : Formula) → Exactly (is_binding (observed_in log) p) (trees_of (found (observed_in log) (length log) open_window p))
+-- the trees of what is candidates without qualifiers are the bindings, each once
+all_bindings : (log : List LogEntry) (p : NumberedPattern) → Exactly (is_binding (observed_in log) p) (trees_of (candidates (observed_in log) (length log) open_window p))
 all_bindings log p =
     let o = observed_in log in
     let all = all_found o (length log) (rows_of log) open_window p in
-    subst (λ (xs : List Tree). Exactly (is_binding o p) xs) (sym (ap trees_of all.1 ∙ trees_held o all.0))
+    subst (λ (xs : List BindTree). Exactly (is_binding o p) xs) (sym (ap trees_of all.1 ∙ trees_held o all.0))
     (exactly_same (λ x. is_binding o p x && fits open_window (span_of o x)) (is_binding o p) all.0 (λ x. and_yes (is_binding o p x)) all.2)
 
-sorted_bindings : (log : List Row) (p : Formula) (held : List Thing) (binds sorted : List Tree) →
-    held ≡ found (observed_in log) (length log) open_window p → binds ≡ trees_of held → ((x : Tree) → count x sorted ≡ count x binds) →
+sorted_bindings : (log : List LogEntry) (p : NumberedPattern) (held : List SpannedTree) (binds sorted : List BindTree) →
+    held ≡ candidates (observed_in log) (length log) open_window p → binds ≡ trees_of held → ((x : BindTree) → count x sorted ≡ count x binds) →
     IsSortedBy comes_before sorted → IsListing (observed_in log) p sorted
 sorted_bindings log p held binds sorted e f counts up =
     listing_from (observed_in log) p sorted (λ x. counts x ∙ ap (count x) (f ∙ ap trees_of e) ∙ all_bindings log p x) up
@@ -46,8 +46,8 @@ sorted_bindings log p held binds sorted e f counts up =
 pub returns : goal.returns
 returns c =
     let log = c.args.log.now in
-    let p = formula_of c.args.pattern.now in
+    let p = numbered_pattern c.args.pattern.now in
     subst (λ (binds : List Bind). IsListing (observed_in log) p (map tree_of binds)) (sym c.from_vec.ensures)
-    (sorted_bindings log p (things c.in_ok-held.held.items) (map tree_of c.in_ok-binds.binds.items) (map tree_of c.in_ok-sorted.sorted.items)
-    (c.in_ok-held.ensures ∙ ap (λ (w : Window). found (observed_in log) (length log) w p) c.open.ensures) c.in_ok-binds.ensures
+    (sorted_bindings log p (spanned_trees c.in_ok-held.held.items) (map tree_of c.in_ok-binds.binds.items) (map tree_of c.in_ok-sorted.sorted.items)
+    (c.in_ok-held.ensures ∙ ap (λ (w : Window). candidates (observed_in log) (length log) w p) c.open.ensures) c.in_ok-binds.ensures
     c.in_ok-sorted.ensures.counts c.in_ok-sorted.ensures.rises)

@@ -2,14 +2,14 @@
 use Rattle.std.proofs.Common.{rules, ◌≡◌, ◌∙◌, refl, sym, ap, length, map, ◌≤◌, ◌<◌, get_or, take, Some, None}
 use Rattle.std.specs.Prelude.{slice_get, true, ◌&&◌, nat_lt}
 use Rattle.std.proofs.lemmas.List.{length-map}
-use Rattle.match_bindings.specs.Formula.{formula_from, Between}
-use Rattle.match_bindings.specs.Tree.{tree_of, many_of, disjoint, greatest}
+use Rattle.match_bindings.specs.NumberedPattern.{numbered_from, Between}
+use Rattle.match_bindings.specs.BindTree.{tree_of, many_of, disjoint, greatest}
 use Rattle.match_bindings.specs.Log.{observed_in}
 use Rattle.match_bindings.specs.Test.{is_binding, are_repeats}
 use Rattle.match_bindings.specs.declared.span.Span.{Span}
-use Rattle.match_bindings.specs.Found.{judged, span_if, span_of, joined_span, lies_between}
-use Rattle.match_bindings.proofs.Binds.{tree_many}
-use Rattle.match_bindings.proofs.Judging.{either_many, judged_between, wrong_count, starts_well, starts_badly, first_span, next_chain, goes_well, passed, failed}
+use Rattle.match_bindings.specs.inner.Candidates.{judged, span_if, span_of, joined_span, lies_between}
+use Rattle.match_bindings.proofs.BindTreeLemmas.{tree_many}
+use Rattle.match_bindings.proofs.IsBindingTestLemmas.{either_many, judged_between, wrong_count, starts_well, starts_badly, first_span, next_chain, goes_well, passed, failed}
 use Rattle.match_bindings.proofs.check.+judge.Goals as goal
 
 pub judge-returns-in-Many : goal.judge-returns-in-Many
@@ -21,25 +21,25 @@ judge-returns-in-Many t c =
 pub judge-returns-in_ok-span-in-Between : goal.judge-returns-in_ok-span-in-Between
 judge-returns-in_ok-span-in-Between t c =
     let o = observed_in c.args.log.now in
-    let p = formula_from c.args.leaf c.deref-in-Between.result.now in
+    let p = numbered_from c.args.leaf c.deref-in-Between.result.now in
     let x = tree_of c.args.bind.now in
     let span = c.in_ok-span-in-Between.span in
     let got : judged o p x ≡ Some span = search rules in
     let test : c.is_between-is_between.result ≡ lies_between c.in-Between.start c.in-Between.stop span = search rules in
-    let whole : judged o (Between p c.in-Between.start c.in-Between.stop) x ≡ judged o (formula_from c.args.leaf c.args.pattern.now) x = search rules in
+    let whole : judged o (Between p c.in-Between.start c.in-Between.stop) x ≡ judged o (numbered_from c.args.leaf c.args.pattern.now) x = search rules in
     c.span_if-in-Between.ensures ∙ ap (λ b. span_if b span) test ∙ judged_between o p x c.in-Between.start c.in-Between.stop span got ∙ whole
 
 pub judge_repeats-returns-then-parts-count : goal.judge_repeats-returns-then-parts-count
 judge_repeats-returns-then-parts-count t c =
     let xs = map tree_of c.args.parts.now in
     let long : length xs ≡ length c.args.parts.now = length-map c.args.parts.now tree_of in
-    let f = is_binding (observed_in c.args.log.now) (formula_from c.args.leaf c.args.pattern.now) in
+    let f = is_binding (observed_in c.args.log.now) (numbered_from c.args.leaf c.args.pattern.now) in
     sym (ap (λ b. span_if b (span_of (observed_in c.args.log.now) (many_of xs))) (wrong_count f c.args.count xs (λ e. c.if-parts-count.true (sym long ∙ e))))
 
 pub judge_repeats-returns-in_err-span : goal.judge_repeats-returns-in_err-span
 judge_repeats-returns-in_err-span t c =
     let o = observed_in c.args.log.now in
-    let f = is_binding o (formula_from c.args.leaf c.args.pattern.now) in
+    let f = is_binding o (numbered_from c.args.leaf c.args.pattern.now) in
     let x = c.in_ok-first.field-0.now in
     let got : slice_get c.args.parts.now 0 ≡ Some x = search rules in
     let long : length c.args.parts.now ≡ c.args.count = search rules in
@@ -51,7 +51,7 @@ judge_repeats-returns-in_err-span t c =
 pub judge_repeats-loop-at-init : goal.judge_repeats-loop-at-init
 judge_repeats-loop-at-init t c =
     let o = observed_in c.args.log.now in
-    let f = is_binding o (formula_from c.args.leaf c.args.pattern.now) in
+    let f = is_binding o (numbered_from c.args.leaf c.args.pattern.now) in
     let x = c.in_ok-first.field-0.now in
     let got : slice_get c.args.parts.now 0 ≡ Some x = search rules in
     let long : length c.args.parts.now ≡ c.args.count = search rules in
@@ -65,7 +65,7 @@ judge_repeats-loop-at-init t c =
 pub judge_repeats-loop-at-preserved : goal.judge_repeats-loop-at-preserved
 judge_repeats-loop-at-preserved t c =
     let o = observed_in c.args.log.now in
-    let f = is_binding o (formula_from c.args.leaf c.args.pattern.now) in
+    let f = is_binding o (numbered_from c.args.leaf c.args.pattern.now) in
     let parts = c.args.parts.now in
     let at = c.loop-at.at in
     let x = c.index-parts-at.result in

@@ -1,16 +1,16 @@
 use Rattle.std.proofs.Common.{◌≡◌}
 use Rattle.std.specs.Prelude.{take, drop, map}
-use Rattle.match_bindings.specs.Formula.{formula_from}
-use Rattle.match_bindings.specs.Tree.{tree_of, many_of}
+use Rattle.match_bindings.specs.NumberedPattern.{numbered_from}
+use Rattle.match_bindings.specs.BindTree.{tree_of, many_of}
 use Rattle.match_bindings.specs.Log.{observed_in}
 use Rattle.match_bindings.specs.Test.{is_binding, are_repeats}
-use Rattle.match_bindings.proofs.Parts.{go_on}
-use Rattle.match_bindings.specs.Found.{span_of}
+use Rattle.match_bindings.proofs.PartsLemmas.{go_on}
+use Rattle.match_bindings.specs.inner.Candidates.{span_of}
 use Rattle.match_bindings.proofs.check.+judge.Given as goal
 
 abbrev pub invariant-judge_repeats-loop-at : goal.invariant-judge_repeats-loop-at
 invariant-judge_repeats-loop-at l = record {
-  rest : are_repeats (is_binding (observed_in l.log) (formula_from l.leaf l.pattern)) l.count (many_of (map tree_of l.parts))
-      ≡ go_on (is_binding (observed_in l.log) (formula_from l.leaf l.pattern)) (many_of (map tree_of (take l.at l.parts))) (map tree_of (drop l.at l.parts));
+  rest : are_repeats (is_binding (observed_in l.log) (numbered_from l.leaf l.pattern)) l.count (many_of (map tree_of l.parts))
+      ≡ go_on (is_binding (observed_in l.log) (numbered_from l.leaf l.pattern)) (many_of (map tree_of (take l.at l.parts))) (map tree_of (drop l.at l.parts));
   span : l.span ≡ span_of (observed_in l.log) (many_of (map tree_of (take l.at l.parts)));
 }

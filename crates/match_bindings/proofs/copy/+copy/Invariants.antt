@@ -1,6 +1,6 @@
 use Rattle.std.proofs.Common.{◌≡◌}
 use Rattle.std.specs.Prelude.{take, map}
-use Rattle.match_bindings.specs.Tree.{tree_of}
+use Rattle.match_bindings.specs.BindTree.{tree_of}
 use Rattle.match_bindings.proofs.copy.+copy.Given as goal
 
 abbrev pub invariant-copy_binds-loop-bind : goal.invariant-copy_binds-loop-bind

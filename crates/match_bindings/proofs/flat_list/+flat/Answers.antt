@@ -1,7 +1,7 @@
 -- All binds are added.
 use Rattle.std.proofs.Common.{arith}
 use Rattle.match_bindings.specs.Flat.{flat}
-use Rattle.match_bindings.proofs.Many.{push_all, many_flats}
+use Rattle.match_bindings.proofs.ManyLemmas.{push_all, many_flats}
 use Rattle.match_bindings.proofs.flat_list.+flat.Goals as goal
 
 pub push_flats-returns : goal.push_flats-returns

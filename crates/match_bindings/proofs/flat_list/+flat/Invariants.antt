@@ -1,7 +1,7 @@
 use Rattle.std.proofs.Common.{◌≡◌, ◌++◌}
 use Rattle.std.specs.Prelude.{take, map}
 use Rattle.std.specs.List.{flat_map}
-use Rattle.match_bindings.specs.Tree.{tree_of}
+use Rattle.match_bindings.specs.BindTree.{tree_of}
 use Rattle.match_bindings.specs.Flat.{flat}
 use Rattle.match_bindings.proofs.flat_list.+flat.Given as goal
 

@@ -2,15 +2,15 @@
 use Rattle.std.proofs.Common.{◌≡◌, ◌++◌, ◌∷◌, [], List, ◌∙◌, ap}
 use Rattle.std.specs.Prelude.{map}
 use Rattle.match_bindings.specs.declared.bind.Bind.{Bind}
-use Rattle.match_bindings.specs.Tree.{tree_of, Tree, many_of}
-use Rattle.match_bindings.specs.Found.{add_part}
-use Rattle.match_bindings.specs.Kinds.{chain_of}
-use Rattle.match_bindings.proofs.Many.{many_add, add_chain}
-use Rattle.match_bindings.proofs.Lists.{map_append}
-use Rattle.match_bindings.proofs.Binds.{tree_many}
+use Rattle.match_bindings.specs.BindTree.{tree_of, BindTree, many_of}
+use Rattle.match_bindings.specs.inner.Candidates.{add_part}
+use Rattle.match_bindings.specs.inner.Kinds.{chain_of}
+use Rattle.match_bindings.proofs.ManyLemmas.{many_add, add_chain}
+use Rattle.match_bindings.proofs.ListLemmas.{map_append}
+use Rattle.match_bindings.proofs.BindTreeLemmas.{tree_many}
 use Rattle.match_bindings.proofs.join.with_part.Goals as goal
 
-chain : (all parts : List Bind) (last : Bind) (t a : Tree) → all ≡ parts ++ last ∷ [] → many_of (map tree_of parts) ≡ chain_of t → tree_of last ≡ a →
+chain : (all parts : List Bind) (last : Bind) (t a : BindTree) → all ≡ parts ++ last ∷ [] → many_of (map tree_of parts) ≡ chain_of t → tree_of last ≡ a →
     many_of (map tree_of all) ≡ add_part t a
 chain all parts last t a e f g =
     ap (λ xs. many_of (map tree_of xs)) e

@@ -1,4 +1,4 @@
-use Rattle.match_bindings.proofs.Ranking.{flats_tell}
+use Rattle.match_bindings.proofs.FlatLemmas.{flats_tell}
 use Rattle.match_bindings.proofs.laws.flat_lists_tell.Goals as goal
 
 pub returns : goal.returns

@@ -1,4 +1,4 @@
-use Rattle.match_bindings.proofs.Ranking.{listed_exactly, exactly_listed}
+use Rattle.match_bindings.proofs.FlatLemmas.{listed_exactly, exactly_listed}
 use Rattle.match_bindings.proofs.laws.listing_is_by_the_test.Goals as goal
 
 pub returns : goal.returns

@@ -1,4 +1,4 @@
-use Rattle.match_bindings.proofs.Ranking.{one_listing}
+use Rattle.match_bindings.proofs.FlatLemmas.{one_listing}
 use Rattle.match_bindings.proofs.laws.one_listing.Goals as goal
 
 pub returns : goal.returns

@@ -1,4 +1,4 @@
-use Rattle.match_bindings.proofs.Rules.{binding_to, binding_from}
+use Rattle.match_bindings.proofs.IsBindingLemmas.{binding_to, binding_from}
 use Rattle.match_bindings.proofs.laws.test_is_the_rule.Goals as goal
 
 pub returns : goal.returns

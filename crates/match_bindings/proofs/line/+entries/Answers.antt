@@ -2,7 +2,7 @@
 use Rattle.std.proofs.Common.{arith}
 use Rattle.std.specs.Prelude.{string_bytes}
 use Rattle.match_bindings.specs.Line.{entries_text}
-use Rattle.match_bindings.proofs.Many.{push_all, many_entries}
+use Rattle.match_bindings.proofs.ManyLemmas.{push_all, many_entries}
 use Rattle.match_bindings.proofs.line.+entries.Goals as goal
 
 pub push_all_entries-returns : goal.push_all_entries-returns

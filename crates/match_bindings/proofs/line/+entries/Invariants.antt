@@ -1,7 +1,7 @@
 use Rattle.std.proofs.Common.{◌≡◌, ◌++◌}
 use Rattle.std.specs.Prelude.{take, map, string_bytes}
 use Rattle.std.specs.List.{flat_map}
-use Rattle.match_bindings.specs.Tree.{tree_of}
+use Rattle.match_bindings.specs.BindTree.{tree_of}
 use Rattle.match_bindings.specs.Line.{entries_text}
 use Rattle.match_bindings.proofs.line.+entries.Given as goal
 

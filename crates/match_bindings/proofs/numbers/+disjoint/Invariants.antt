@@ -1,7 +1,7 @@
 use Rattle.std.proofs.Common.{◌≡◌}
 use Rattle.std.specs.Prelude.{drop, map}
-use Rattle.match_bindings.specs.Tree.{tree_of, disjoint, many_of}
-use Rattle.match_bindings.proofs.Parts.{all_apart}
+use Rattle.match_bindings.specs.BindTree.{tree_of, disjoint, many_of}
+use Rattle.match_bindings.proofs.PartsLemmas.{all_apart}
 use Rattle.match_bindings.proofs.numbers.+disjoint.Given as goal
 
 abbrev pub invariant-all_disjoint-loop-bind : goal.invariant-all_disjoint-loop-bind

@@ -1,7 +1,7 @@
 use Rattle.std.proofs.Common.{◌≡◌}
 use Rattle.std.specs.Prelude.{drop, map}
-use Rattle.match_bindings.specs.Tree.{tree_of, has, many_of}
-use Rattle.match_bindings.proofs.Parts.{any_has}
+use Rattle.match_bindings.specs.BindTree.{tree_of, has, many_of}
+use Rattle.match_bindings.proofs.PartsLemmas.{any_has}
 use Rattle.match_bindings.proofs.numbers.+has.Given as goal
 
 abbrev pub invariant-any_has_number-loop-bind : goal.invariant-any_has_number-loop-bind

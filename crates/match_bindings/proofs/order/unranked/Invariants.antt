@@ -1,6 +1,6 @@
 use Rattle.std.proofs.Common.{◌≡◌}
 use Rattle.std.specs.Prelude.{map}
-use Rattle.match_bindings.specs.Tree.{tree_of}
+use Rattle.match_bindings.specs.BindTree.{tree_of}
 use Rattle.match_bindings.specs.Ranks.{ranked_trees}
 use Rattle.match_bindings.proofs.order.unranked.Given as goal
 

@@ -1,8 +1,8 @@
 -- The latest time goes on.
 use Rattle.std.proofs.Common.{rules, ◌≡◌, ◌∷◌, ◌++◌, [], List, ◌≤ℤ◌, sym, subst}
-use Rattle.match_bindings.specs.declared.row.Row.{Row}
+use Rattle.match_bindings.specs.declared.log_entry.LogEntry.{LogEntry}
 use Rattle.match_bindings.specs.Log.{LastIsBy}
-use Rattle.match_bindings.proofs.Logs.{by_later, by_itself}
+use Rattle.match_bindings.proofs.LogLemmas.{by_later, by_itself}
 use Rattle.match_bindings.proofs.tests.log_of.Goals as goal
 
 pub push-requires-clause-order : goal.push-requires-clause-order
@@ -12,6 +12,6 @@ push-requires-clause-order g c =
 
 pub loop-first-preserved : goal.loop-first-preserved
 loop-first-preserved g c =
-    let row : Row = record { first = c.at-first.result; last = c.at-last.result; truths = c.in_ok-truths.field-0 } in
+    let row : LogEntry = record { first = c.at-first.result; last = c.at-last.result; truths = c.in_ok-truths.field-0 } in
     let is : c.push.new.self ≡ c.loop-first.log ++ row ∷ [] = search rules in
-    subst (λ (log : List Row). LastIsBy log row.last) (sym is) (by_itself c.loop-first.log row)
+    subst (λ (log : List LogEntry). LastIsBy log row.last) (sym is) (by_itself c.loop-first.log row)

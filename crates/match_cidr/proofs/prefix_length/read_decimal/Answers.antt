@@ -1,6 +1,6 @@
 use Rattle.std.proofs.Common.{◌≡◌, refl, ap, ◌∙◌, subst, arith, Ok}
 use Rattle.match_cidr.specs.PrefixLength.{BeginsAsDecimal}
-use Rattle.match_cidr.proofs.Decimals.{begins_from_decimal, spelled_from_parse, parse_from_spelled}
+use Rattle.match_cidr.proofs.PrefixLengthLemmas.{begins_from_decimal, spelled_from_parse, parse_from_spelled}
 use Rattle.match_cidr.proofs.prefix_length.read_decimal.Goals as goal
 
 pub returns-then-not-begins_as_decimal-clause-exact : goal.returns-then-not-begins_as_decimal-clause-exact

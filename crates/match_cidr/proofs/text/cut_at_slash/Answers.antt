@@ -1,6 +1,6 @@
 use Rattle.std.proofs.Common.{Some, None, refl, arith}
 use Rattle.std.proofs.lemmas.Str.Pattern.{split_parts}
-use Rattle.match_cidr.proofs.Slashes.{no_slash_from_reads}
+use Rattle.match_cidr.proofs.SlashLemmas.{no_slash_from_reads}
 use Rattle.match_cidr.proofs.text.cut_at_slash.Goals as goal
 
 pub returns-in-Some : goal.returns-in-Some

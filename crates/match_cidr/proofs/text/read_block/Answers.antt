@@ -2,7 +2,7 @@ use Rattle.std.proofs.Common.{Some, sym, ap, ◌∙◌, subst}
 use Rattle.std.specs.Option.{option_map}
 use Rattle.std.specs.declared.net.ip_addr.IpAddr.TheVariants as Ip
 use Rattle.match_cidr.specs.Block.{IsValid}
-use Rattle.match_cidr.proofs.Spelled.{block_of, block_of-valid, spells_exactly, spells_nothing, parsed_some, parsed_none}
+use Rattle.match_cidr.proofs.BlockTextLemmas.{block_of, block_of-valid, spells_exactly, spells_nothing, parsed_some, parsed_none}
 use Rattle.match_cidr.proofs.text.read_block.Goals as goal
 
 pub returns-in_err-address-clause-exact : goal.returns-in_err-address-clause-exact

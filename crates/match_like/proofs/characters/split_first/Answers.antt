@@ -1,6 +1,6 @@
 use Rattle.std.proofs.Common.{◌≡◌, ◌++◌}
 use Rattle.std.specs.Prelude.{encode_utf8}
-use Rattle.match_like.proofs.Texts.{chars-first}
+use Rattle.match_like.proofs.CharactersLemmas.{chars-first}
 use Rattle.match_like.proofs.characters.split_first.Goals as goal
 
 pub returns : goal.returns

@@ -1,6 +1,6 @@
 use Rattle.std.proofs.Common.{refl, rules}
 use Rattle.std.specs.Str.{chars}
-use Rattle.match_like.proofs.Cuts.{run_takes_none, run_takes_first, run_at_end}
+use Rattle.match_like.proofs.IsLikeLemmas.{run_takes_none, run_takes_first, run_at_end}
 use Rattle.match_like.proofs.matching.has_like_end.Goals as goal
 
 pub returns-in-Fits : goal.returns-in-Fits

@@ -1,6 +1,6 @@
 use Rattle.std.proofs.Common.{None}
 use Rattle.flow_lines.specs.Lines.{lines_of}
-use Rattle.match_log.proofs.Unique.{one_reads}
+use Rattle.match_log.proofs.ReadingLemmas.{one_reads}
 use Rattle.match_log.proofs.laws.one_reading.Goals as goal
 
 pub returns : goal.returns

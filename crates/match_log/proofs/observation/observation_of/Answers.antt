@@ -1,4 +1,4 @@
-use Rattle.match_log.proofs.Observations.{no_time, one_time, if_none_always}
+use Rattle.match_log.proofs.IsFirstLineLemmas.{no_time, one_time, if_none_always}
 use Rattle.match_log.proofs.observation.observation_of.Goals as goal
 
 pub returns-in_err-time-clause-none : goal.returns-in_err-time-clause-none

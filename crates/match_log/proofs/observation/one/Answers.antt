@@ -1,4 +1,4 @@
-use Rattle.match_log.proofs.Counts.{one-length}
+use Rattle.match_log.proofs.JsonListLemmas.{one-length}
 use Rattle.match_log.proofs.observation.one.Goals as goal
 
 pub returns-else-items-eq1-clause-none : goal.returns-else-items-eq1-clause-none

@@ -1,4 +1,4 @@
-use Rattle.match_log.proofs.Counts.{two-length}
+use Rattle.match_log.proofs.JsonListLemmas.{two-length}
 use Rattle.match_log.proofs.observation.two.Goals as goal
 
 pub returns-else-items-eq2-clause-none : goal.returns-else-items-eq2-clause-none

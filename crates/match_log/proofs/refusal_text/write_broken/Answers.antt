@@ -1,5 +1,5 @@
 use Rattle.std.proofs.Common.{rules}
-use Rattle.match_log.proofs.Lines.{broken_line}
+use Rattle.match_log.proofs.InputRefusalTextLemmas.{broken_line}
 use Rattle.match_log.proofs.refusal_text.write_broken.Goals as goal
 
 pub returns-clause-text : goal.returns-clause-text

@@ -1,5 +1,5 @@
 use Rattle.std.proofs.Common.{arith, ◌∙◌}
-use Rattle.match_log.proofs.Following.{ends-whole, ends-refused, ends-in_line, so_far-line, moved-line, within-line}
+use Rattle.match_log.proofs.ReadsSoFarLemmas.{ends-whole, ends-refused, ends-in_line, so_far-line, moved-line, within-line}
 use Rattle.match_log.proofs.stream.list_lines.Goals as goal
 
 pub returns-in-Ok-None-clause-whole : goal.returns-in-Ok-None-clause-whole

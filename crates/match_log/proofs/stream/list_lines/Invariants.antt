@@ -1,7 +1,7 @@
 use Rattle.std.proofs.Common.{◌≡◌, ◌≤◌, ◌-◌, None, option_map}
 use Rattle.flow_lines.specs.Lines.{told_ahead, lines_of}
 use Rattle.match_log.specs.FirstForm.{form_of}
-use Rattle.match_log.specs.TallyOf.{ReadsSoFar}
+use Rattle.match_log.specs.inner.Tally.{ReadsSoFar}
 use Rattle.match_log.proofs.stream.list_lines.Given as goal
 
 abbrev pub invariant-lines : goal.invariant-lines

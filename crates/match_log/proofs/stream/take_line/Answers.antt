@@ -1,7 +1,7 @@
 use Rattle.std.proofs.Common.{refl, subst, List, ℕ, ℤ}
 use Rattle.serde_json.specs.Data.{Data}
 use Rattle.match_log.specs.Reading.{IsNext}
-use Rattle.match_log.proofs.Observations.{if_none_at}
+use Rattle.match_log.proofs.IsFirstLineLemmas.{if_none_at}
 use Rattle.match_log.proofs.stream.take_line.Goals as goal
 
 pub returns-in-Ok-None-clause-end : goal.returns-in-Ok-None-clause-end

@@ -1,9 +1,9 @@
 -- A Many is of another kind.
 use Rattle.std.proofs.Common.{◌∙◌, ap, map}
-use Rattle.match_bindings.specs.Tree.{tree_of}
-use Rattle.match_bindings.specs.Kinds.{is_one}
-use Rattle.match_bindings.proofs.Many.{one_many}
-use Rattle.match_bindings.proofs.Binds.{tree_many}
+use Rattle.match_bindings.specs.BindTree.{tree_of}
+use Rattle.match_bindings.specs.inner.Kinds.{is_one}
+use Rattle.match_bindings.proofs.ManyLemmas.{one_many}
+use Rattle.match_bindings.proofs.BindTreeLemmas.{tree_many}
 use Rattle.match_bindings.proofs.bind.Bind.number.Goals as goal
 
 pub returns-in-Many-clause-none : goal.returns-in-Many-clause-none

@@ -1,5 +1,5 @@
 use Rattle.std.proofs.Common.{sym, ◌∙◌, arith, eqb-true, eq-eqb, leb-true}
-use Rattle.match_cidr.proofs.Intervals.{narrower_from, same_leading, fewer_leading}
+use Rattle.match_cidr.proofs.IsWithinLemmas.{narrower_from, same_leading, fewer_leading}
 use Rattle.match_cidr.proofs.prefix.Prefix.is_narrower.Goals as goal
 
 pub returns-then-outer-self : goal.returns-then-outer-self

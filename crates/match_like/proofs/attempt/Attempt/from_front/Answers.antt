@@ -1,8 +1,8 @@
 use Rattle.std.proofs.Common.{◌∷◌, ap, ◌∙◌, arith, rules, true-eqb, false-eqb}
 use Rattle.std.specs.Str.{chars}
-use Rattle.match_like.proofs.Texts.{chars-none, chars-empty}
-use Rattle.match_like.proofs.Cuts.{Meets}
-use Rattle.match_like.proofs.Fronts.{Follows-reaches, Follows-step, Follows-end, Follows-leftover, Follows-too_short, Follows-differs}
+use Rattle.match_like.proofs.CharactersLemmas.{chars-none, chars-empty}
+use Rattle.match_like.proofs.IsLikeLemmas.{Meets}
+use Rattle.match_like.proofs.AttemptLemmas.{Follows-reaches, Follows-step, Follows-end, Follows-leftover, Follows-too_short, Follows-differs}
 use Rattle.match_like.proofs.attempt.Attempt.from_front.Goals as goal
 use Rattle.match_like.proofs.attempt.Attempt.from_front.Goals.{else-wanted-ne-ANY_ONE-via-then-wanted-ne-ANY_ONE+else-wanted-found, else-wanted-ne-ANY_ONE-via-else-wanted-ne-ANY_ONE}
 

@@ -2,7 +2,7 @@ use Rattle.std.proofs.Common.{length}
 use denote.Text.{Utf8}
 use denote.Shadow.{shadow}
 use Rattle.std.specs.Str.{chars}
-use Rattle.match_like.proofs.Fronts.{Follows}
+use Rattle.match_like.proofs.AttemptLemmas.{Follows}
 use Rattle.match_like.proofs.attempt.Attempt.from_front.Given as goal
 
 -- what is left of text and pattern stands for the whole of both

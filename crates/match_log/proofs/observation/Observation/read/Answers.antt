@@ -1,7 +1,7 @@
 use Rattle.std.proofs.Common.{rules, ◌≡◌, Some}
 use Rattle.serde_json.specs.Read.{read}
 use Rattle.serde_json.specs.View.{view}
-use Rattle.match_log.proofs.Observations.{no_line, one_time-line, if_none_weaker, if_some_weaker}
+use Rattle.match_log.proofs.IsFirstLineLemmas.{no_line, one_time-line, if_none_weaker, if_some_weaker}
 use Rattle.match_log.proofs.observation.Observation.read.Goals as goal
 
 pub returns-in-Ok-from_str-clause-none : goal.returns-in-Ok-from_str-clause-none

@@ -1,0 +1,14 @@
+-- The trees of a One and a Many.
+use Rattle.std.proofs.Common.{◌≡◌, ℕ, List, sym, ◌∙◌, ap}
+use Rattle.std.specs.Prelude.{map}
+use Rattle.match_bindings.specs.declared.bind.Bind.{Bind}
+use Rattle.match_bindings.specs.declared.bind.Bind.TheVariants.{One as Only, rolls-One, Many, rolls-Many}
+use Rattle.match_bindings.specs.declared.bind.Bind.TheOpen as shape
+use Rattle.match_bindings.specs.declared.bind.Bind.TheFolds.{fold-roll-Bind}
+use Rattle.match_bindings.specs.BindTree.{BindTree, One, tree_level, tree_of, many_of}
+
+pub tree_many : (parts : List Bind) → tree_of (Many parts) ≡ many_of (map tree_of parts)
+tree_many parts = ap tree_of (sym (rolls-Many parts)) ∙ fold-roll-Bind BindTree tree_level (shape.Many parts)
+
+pub tree_one : (number : ℕ) → tree_of (Only number) ≡ One number
+tree_one number = ap tree_of (sym (rolls-One number)) ∙ fold-roll-Bind BindTree tree_level (shape.One number)

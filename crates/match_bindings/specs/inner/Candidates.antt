@@ -1,0 +1,151 @@
+-- For private clauses: the plain program as lists. The qualifiers above a part are a window, and what doesn't fit it is left
+-- out at once. The lemmas of proofs/ say that what is candidates for a pattern is its bindings, each once.
+use Rattle.std.specs.Prelude.{ℕ, zero, suc, nat_lt, min, max, ℤ, int_le, int_lt, Bool, true, ◌&&◌, cond, List, [], ◌∷◌, ◌++◌, map, filter, Option, Some, None}
+use Rattle.std.specs.Int.{int_min, int_max}
+use Rattle.std.specs.List.{flat_map}
+use Rattle.match_bindings.specs.declared.span.Span.{Span}
+use Rattle.match_bindings.specs.declared.window.Window.{Window}
+use Rattle.match_bindings.specs.declared.spanned_bind.SpannedBind.{SpannedBind}
+use Rattle.match_bindings.specs.declared.join.Join.{Join}
+use Rattle.match_bindings.specs.declared.join.Join.TheVariants as join
+use Rattle.match_bindings.specs.NumberedPattern.{NumberedPattern, Leaf, Both, Then, Either, Within, Between, Repeats}
+use Rattle.match_bindings.specs.BindTree.{BindTree, One, Pair, First, Second, Single, More, tree_of, disjoint, greatest}
+use Rattle.match_bindings.specs.Log.{Observed}
+use Rattle.match_bindings.specs.Span.{earliest, latest, later_by}
+use Rattle.match_bindings.specs.Test.{is_binding}
+
+-- the earliest and latest time of a tree, and its greatest number
+abbrev pub span_of : Observed → BindTree → Span
+span_of o x = record { earliest = earliest o.first x; latest = latest o.last x; greatest = greatest x }
+
+-- those of two trees together
+abbrev pub joined_span : Span → Span → Span
+joined_span a b = record { earliest = int_min a.earliest b.earliest; latest = int_max a.latest b.latest; greatest = max a.greatest b.greatest }
+
+abbrev pub lies_within : ℕ → Span → Bool
+lies_within x s = int_lt s.latest (later_by x s.earliest)
+
+abbrev pub lies_between : ℤ → ℤ → Span → Bool
+lies_between x y s = int_le x s.earliest && int_lt s.latest y
+
+-- the span of a tree, where the test passes
+abbrev pub span_if : Bool → Span → Option Span
+span_if b s = cond b (Some s) None
+
+abbrev pub in_seconds : Option ℕ → Span → Bool
+in_seconds None s = true
+in_seconds (Some x) s = lies_within x s
+
+abbrev pub from_start : Option ℤ → Span → Bool
+from_start None s = true
+from_start (Some x) s = int_le x s.earliest
+
+abbrev pub before_stop : Option ℤ → Span → Bool
+before_stop None s = true
+before_stop (Some y) s = int_lt s.latest y
+
+-- whether a span meets all qualifiers of a window
+abbrev pub fits : Window → Span → Bool
+fits w s = in_seconds w.seconds s && (from_start w.start s && before_stop w.stop s)
+
+abbrev pub least_seconds : Option ℕ → ℕ → Option ℕ
+least_seconds None x = Some x
+least_seconds (Some y) x = Some (min y x)
+
+abbrev pub latest_start : Option ℤ → ℤ → Option ℤ
+latest_start None x = Some x
+latest_start (Some y) x = Some (int_max y x)
+
+abbrev pub earliest_stop : Option ℤ → ℤ → Option ℤ
+earliest_stop None x = Some x
+earliest_stop (Some y) x = Some (int_min y x)
+
+-- the window of the part of a Within
+abbrev pub within : Window → ℕ → Window
+within w x = record { seconds = least_seconds w.seconds x; start = w.start; stop = w.stop }
+
+-- the window of the part of a Between
+abbrev pub between : Window → ℤ → ℤ → Window
+between w x y = record { seconds = w.seconds; start = latest_start w.start x; stop = earliest_stop w.stop y }
+
+-- a tree with its span
+pub record SpannedTree : Type 0 where
+  pub tree : BindTree
+  pub span : Span
+
+abbrev pub hold : Observed → BindTree → SpannedTree
+hold o x = record { tree = x; span = span_of o x }
+
+abbrev pub spanned_tree : SpannedBind → SpannedTree
+spanned_tree held = record { tree = tree_of held.bind; span = held.span }
+
+abbrev pub spanned_trees : List SpannedBind → List SpannedTree
+spanned_trees helds = map spanned_tree helds
+
+abbrev pub trees_of : List SpannedTree → List BindTree
+trees_of xs = map (λ x. x.tree) xs
+
+-- the same thing under one constructor
+abbrev pub spanned_with : (BindTree → BindTree) → SpannedTree → SpannedTree
+spanned_with f a = record { tree = f a.tree; span = a.span }
+
+-- a chain with one more part at its end; what is no chain has no parts
+abbrev pub add_part : BindTree → BindTree → BindTree
+add_part (Single x) a = More (Single x) a
+add_part (More m x) a = More (More m x) a
+add_part _ a = Single a
+
+abbrev pub joined_tree : Join → BindTree → BindTree → BindTree
+joined_tree join.Both a b = Pair a b
+joined_tree join.Then a b = Pair a b
+joined_tree join.Repeats a b = add_part a b
+
+-- whether two spans stand in the order that a join asks
+abbrev pub admits : Join → Span → Span → Bool
+admits join.Both a b = true
+admits join.Then a b = int_le a.latest b.earliest
+admits join.Repeats a b = nat_lt a.greatest b.greatest
+
+-- whether two spanned_trees are joined
+abbrev pub may_join : Join → Window → SpannedTree → SpannedTree → Bool
+may_join j w a b = (admits j a.span b.span && fits w (joined_span a.span b.span)) && disjoint a.tree b.tree
+
+abbrev pub joined_spanned : Join → SpannedTree → SpannedTree → SpannedTree
+joined_spanned j a b = record { tree = joined_tree j a.tree b.tree; span = joined_span a.span b.span }
+
+-- a thing with each of ys that it is joined with
+abbrev pub join_row : Join → Window → SpannedTree → List SpannedTree → List SpannedTree
+join_row j w x ys = map (joined_spanned j x) (filter (may_join j w x) ys)
+
+-- each of xs with each of ys that it is joined with
+abbrev pub joins : Join → Window → List SpannedTree → List SpannedTree → List SpannedTree
+joins j w xs ys = flat_map (λ x. join_row j w x ys) xs
+
+-- an observation, where the test passes and it fits
+abbrev pub one_if : Bool → Window → SpannedTree → List SpannedTree
+one_if b w x = cond (b && fits w x.span) (x ∷ []) []
+
+-- the first n observations for which leaf k holds
+abbrev pub ones : Observed → Window → ℕ → ℕ → List SpannedTree
+ones o w k zero = []
+ones o w k (suc n) = ones o w k n ++ one_if (o.holds k (suc n)) w (hold o (One (suc n)))
+
+-- the chains of n of the parts
+abbrev pub repeats_of : Window → List SpannedTree → ℕ → List SpannedTree
+repeats_of w parts zero = []
+repeats_of w parts (suc zero) = map (spanned_with Single) parts
+repeats_of w parts (suc (suc n)) = joins join.Repeats w (repeats_of w parts (suc n)) parts
+
+-- what is candidates for a pattern under a window in the first n observations
+abbrev pub candidates : Observed → ℕ → Window → NumberedPattern → List SpannedTree
+candidates o n w (Leaf k) = ones o w k n
+candidates o n w (Both p q) = joins join.Both w (candidates o n w p) (candidates o n w q)
+candidates o n w (Then p q) = joins join.Then w (candidates o n w p) (candidates o n w q)
+candidates o n w (Either p q) = map (spanned_with First) (candidates o n w p) ++ map (spanned_with Second) (candidates o n w q)
+candidates o n w (Within p x) = candidates o n (within w x) p
+candidates o n w (Between p x y) = candidates o n (between w x y) p
+candidates o n w (Repeats p j) = repeats_of w (candidates o n w p) j
+
+-- the span of a binding; none of what is no binding
+abbrev pub judged : Observed → NumberedPattern → BindTree → Option Span
+judged o p x = span_if (is_binding o p x) (span_of o x)

@@ -1,0 +1,151 @@
+ghost use Rattle.std.specs.Prelude.{◌≡◌, ◌++◌, ◌+◌, ◌<◌, ◌^◌, IfOk, OnOk, length, map};
+ghost use Rattle.pattern_types.specs.Leaves.{leaves};
+ghost use Rattle.match_bindings.specs.NumberedPattern.{numbered_from};
+ghost use Rattle.match_bindings.specs.BindTree.{First, Second, Single};
+ghost use Rattle.match_bindings.specs.Log.{observed_in};
+ghost use Rattle.match_bindings.specs.inner.Candidates.{spanned_trees, spanned_with, ones, repeats_of, candidates};
+
+use crate::copy::copy_bind;
+use crate::spanned_bind::SpannedBind;
+use crate::join::Join;
+use crate::window::Window;
+use crate::{Bind, Log};
+use flow_values::{Items, NoMemory};
+use pattern_types::{Pattern, leaf_count};
+use std::alloc::Global;
+
+/// The bindings of a pattern that fit the window, where its leftmost leaf has the number `leaf`.
+pub(crate) fn candidates(
+    alloc: Global,
+    pattern: &Pattern,
+    leaf: u32,
+    log: &Log,
+    window: &Window,
+) -> Result<Vec<SpannedBind>, NoMemory>
+    requires { leaf + leaves pattern.now < 2 ^ 32 }
+    ensures { IfOk result (λ out. spanned_trees out.items
+        ≡ candidates (observed_in log.now) (length log.now) window.now (numbered_from leaf pattern.now)) }
+{
+    match pattern {
+        Pattern::Leaf(_) => found_at_leaf(alloc, leaf, log, window),
+        Pattern::Both(left, right) => {
+            let firsts = candidates(alloc, left, leaf, log, window)?;
+            let seconds = candidates(alloc, right, leaf + leaf_count(left), log, window)?;
+            Join::Both.join(alloc, window, &firsts, &seconds)
+        }
+        Pattern::Then(left, right) => {
+            let firsts = candidates(alloc, left, leaf, log, window)?;
+            let seconds = candidates(alloc, right, leaf + leaf_count(left), log, window)?;
+            Join::Then.join(alloc, window, &firsts, &seconds)
+        }
+        Pattern::Either(left, right) => {
+            let firsts = candidates(alloc, left, leaf, log, window)?;
+            let seconds = candidates(alloc, right, leaf + leaf_count(left), log, window)?;
+            either_of(alloc, firsts, seconds)
+        }
+        Pattern::Within(part, seconds) => {
+            let narrow = window.within(*seconds);
+            candidates(alloc, part, leaf, log, &narrow)
+        }
+        Pattern::Between(part, start, stop) => {
+            let narrow = window.between(*start, *stop);
+            candidates(alloc, part, leaf, log, &narrow)
+        }
+        Pattern::Repeats(part, count) => {
+            let parts = candidates(alloc, part, leaf, log, window)?;
+            repeats_of(alloc, window, &parts, *count)
+        }
+    }
+}
+
+/// The observations that fit the window and for which a leaf holds.
+fn found_at_leaf(
+    alloc: Global,
+    leaf: u32,
+    log: &Log,
+    window: &Window,
+) -> Result<Vec<SpannedBind>, NoMemory>
+    ensures { IfOk result (λ out. spanned_trees out.items ≡ ones (observed_in log.now) window.now leaf (length log.now)) }
+{
+    let mut out = Vec::new(alloc);
+    for at in 0..log.len() {
+        let number = at + 1;
+        if let Some(span) = log.span_of(leaf, number) {
+            if window.fits(&span) {
+                let bind = Bind::One(number);
+                out.push(SpannedBind { bind, span })?;
+            }
+        }
+    }
+    Ok(out)
+}
+
+/// The binds of both sides of an `OR`.
+fn either_of(alloc: Global, firsts: Vec<SpannedBind>, seconds: Vec<SpannedBind>) -> Result<Vec<SpannedBind>, NoMemory>
+    ensures { IfOk result (λ out. spanned_trees out.items
+        ≡ map (spanned_with First) (spanned_trees firsts.items) ++ map (spanned_with Second) (spanned_trees seconds.items)) }
+{
+    let mut out = Vec::new(alloc);
+    push_firsts(alloc, firsts, &mut out)?;
+    push_seconds(alloc, seconds, &mut out)?;
+    Ok(out)
+}
+
+/// Adds the binds of the left side of an `OR`.
+fn push_firsts(alloc: Global, firsts: Vec<SpannedBind>, out: &mut Vec<SpannedBind>) -> Result<(), NoMemory>
+    ensures { OnOk result (spanned_trees out.new.items ≡ spanned_trees out.old.items ++ map (spanned_with First) (spanned_trees firsts.items)) }
+{
+    for first in firsts {
+        let SpannedBind { bind, span } = first;
+        let bind = Bind::First(Box::new(alloc, bind)?);
+        out.push(SpannedBind { bind, span })?;
+    }
+    Ok(())
+}
+
+/// Adds the binds of the right side of an `OR`.
+fn push_seconds(alloc: Global, seconds: Vec<SpannedBind>, out: &mut Vec<SpannedBind>) -> Result<(), NoMemory>
+    ensures { OnOk result (spanned_trees out.new.items ≡ spanned_trees out.old.items ++ map (spanned_with Second) (spanned_trees seconds.items)) }
+{
+    for second in seconds {
+        let SpannedBind { bind, span } = second;
+        let bind = Bind::Second(Box::new(alloc, bind)?);
+        out.push(SpannedBind { bind, span })?;
+    }
+    Ok(())
+}
+
+/// The binds of so many of the parts.
+fn repeats_of(
+    alloc: Global,
+    window: &Window,
+    parts: &[SpannedBind],
+    count: u32,
+) -> Result<Vec<SpannedBind>, NoMemory>
+    ensures { IfOk result (λ out. spanned_trees out.items ≡ repeats_of window.now (spanned_trees parts.now) count) }
+{
+    if count == 0 {
+        return Ok(Vec::new(alloc));
+    }
+    let mut sets = singles(alloc, parts)?;
+    for level in 1..count {
+        let _ = level;
+        sets = Join::Repeats.join(alloc, window, &sets, parts)?;
+    }
+    Ok(sets)
+}
+
+/// Each part alone.
+fn singles(alloc: Global, parts: &[SpannedBind]) -> Result<Vec<SpannedBind>, NoMemory>
+    ensures { IfOk result (λ out. spanned_trees out.items ≡ map (spanned_with Single) (spanned_trees parts.now)) }
+{
+    let mut out = Vec::new(alloc);
+    for part in parts {
+        let mut alone = Items::new(alloc);
+        alone.push(copy_bind(alloc, &part.bind)?)?;
+        let bind = Bind::Many(alone);
+        let span = part.span.copied();
+        out.push(SpannedBind { bind, span })?;
+    }
+    Ok(out)
+}

@@ -1,9 +1,0 @@
-use crate::Bind;
-use crate::span::Span;
-
-/// A bind with its span.
-#[derive(Drop)]
-pub(crate) struct Held {
-    pub bind: Bind,
-    pub span: Span,
-}

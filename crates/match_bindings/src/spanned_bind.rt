@@ -1,0 +1,9 @@
+use crate::Bind;
+use crate::span::Span;
+
+/// A bind with its span.
+#[derive(Drop)]
+pub(crate) struct SpannedBind {
+    pub bind: Bind,
+    pub span: Span,
+}
