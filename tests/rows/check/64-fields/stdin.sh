@@ -1,0 +1,2 @@
+# 64 objects, each in a field of the one before
+awk 'BEGIN { for (n = 1; n < 64; n++) printf "{\"a\":"; printf "{}"; for (n = 1; n < 64; n++) printf "}" }'

@@ -1,0 +1,3 @@
+# 64 lists, each in the one before
+head -c 64 /dev/zero | tr '\0' '['
+head -c 64 /dev/zero | tr '\0' ']'

@@ -1,0 +1,3 @@
+# 65 lists, each in the one before
+head -c 65 /dev/zero | tr '\0' '['
+head -c 65 /dev/zero | tr '\0' ']'

@@ -1,0 +1,1 @@
+cat "$top/examples/broken-bundle.json"

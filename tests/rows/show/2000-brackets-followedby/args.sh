@@ -1,0 +1,2 @@
+# 2,000 brackets joined by FOLLOWEDBY
+awk 'BEGIN { print "show"; for (n = 1; n <= 2000; n++) printf("%s[a:b = %d]", n > 1 ? " FOLLOWEDBY " : "", n); print "" }'

@@ -1,0 +1,2 @@
+# 5,000 tests in one bracket
+awk 'BEGIN { print "show"; printf "[a:b = 1"; for (n = 0; n < 4999; n++) printf " AND a:b = 1"; print "]" }'

@@ -1,0 +1,2 @@
+# 64 qualifiers: as many as there may be
+awk 'BEGIN { print "show"; printf "[a:b = 1]"; for (n = 0; n < 64; n++) printf " WITHIN 5 SECONDS"; print "" }'

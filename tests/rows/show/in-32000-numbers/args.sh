@@ -1,0 +1,2 @@
+# an IN of 32,000 numbers
+awk 'BEGIN { print "show"; printf "[a:b IN (1"; for (n = 1; n < 32000; n++) printf ",1"; print ")]" }'
