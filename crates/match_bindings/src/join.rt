@@ -108,7 +108,7 @@ fn with_part(alloc: Global, parts: &Bind, part: &Bind) -> Result<Bind, NoMemory>
 }
 
 /// Copies of the parts of a `Many`; none of another bind.
-#[tactic(auto, using(crate::proofs::Many::many_chain, crate::proofs::Many::no_chain))]
+#[tactic(auto, using(crate::proofs::ManyLemmas::many_chain, crate::proofs::ManyLemmas::no_chain))]
 fn copy_parts(alloc: Global, bind: &Bind) -> Result<Items<Bind>, NoMemory>
     ensures { IfOk result (λ parts. many_of (map tree_of parts) ≡ chain_of (tree_of bind.now)) }
 {

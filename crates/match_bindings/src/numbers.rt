@@ -18,7 +18,7 @@ pub(crate) fn has_number(number: u64, bind: &Bind) -> bool
 
 /// Whether a number is one of the binds'.
 #[cycle(has)]
-#[tactic(auto, using(crate::proofs::Many::many_has))]
+#[tactic(auto, using(crate::proofs::ManyLemmas::many_has))]
 fn any_has_number(number: u64, binds: &[Bind]) -> bool
     ensures { result ≡ has number (many_of (map tree_of binds.now)) }
 {
@@ -45,7 +45,7 @@ pub(crate) fn are_disjoint(bind: &Bind, other: &Bind) -> bool
 
 /// Whether none of the binds shares a number with the other one.
 #[cycle(disjoint)]
-#[tactic(auto, using(crate::proofs::Many::many_disjoint))]
+#[tactic(auto, using(crate::proofs::ManyLemmas::many_disjoint))]
 pub(crate) fn all_disjoint(binds: &[Bind], other: &Bind) -> bool
     ensures { result ≡ disjoint (many_of (map tree_of binds.now)) (tree_of other.now) }
 {
@@ -72,7 +72,7 @@ pub(crate) fn greatest_number(bind: &Bind) -> u64
 
 /// The greatest number of some binds, or 0.
 #[cycle(greatest)]
-#[tactic(auto, using(crate::proofs::Many::many_greatest))]
+#[tactic(auto, using(crate::proofs::ManyLemmas::many_greatest))]
 fn greatest_of_all(binds: &[Bind]) -> u64
     ensures { result ≡ greatest (many_of (map tree_of binds.now)) }
 {

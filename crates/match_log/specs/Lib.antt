@@ -4,5 +4,4 @@ pub mod Reading
 pub mod Listing
 pub mod Matching
 pub mod Texts
-pub mod Reason
 pub mod inner
