@@ -41,9 +41,9 @@ wide() {
 
 # show NAME: the best of three times that `show` takes for the text in the standard input.
 show() {
-  local best=999999999 start took status run text
+  local best=999999999 start took status text
   text=$(cat)
-  for run in 1 2 3; do
+  for _ in 1 2 3; do
     start=${EPOCHREALTIME/./}
     status=0
     "$program" show "$text" > "$folder/out" 2> "$folder/faults" || status=$?
