@@ -1,6 +1,5 @@
 mod sinks;
 mod sources;
-mod system;
 
 use flow_values::{Items, NoMemory};
 use std::alloc::Global;

@@ -1,5 +1,5 @@
 -- The bytes that go by as lines, and those that are held and left: together they stay the same.
-use Rattle.std.proofs.Common.{◌≡◌, ℕ, ◌+◌, Bool, true, false, List, [], ◌∷◌, ◌++◌, Option, Some, None, unwrap_or, ◌⊎◌, inl, inr, option_map, Result, Ok, Err, IsErrAnd, subst, refl, sym, ap, ◌∙◌, arith, append_assoc, length-append, MatchBool}
+use Rattle.std.proofs.Common.{◌≡◌, ℕ, ◌+◌, Bool, true, false, List, [], ◌∷◌, ◌++◌, Option, Some, None, unwrap_or, inl, inr, option_map, Result, Ok, Err, IsErrAnd, subst, refl, sym, ap, ◌∙◌, arith, append_assoc, length-append, MatchBool}
 use Rattle.flow_lines.specs.Lines.{LinesState, width, NothingAhead, AreWholeLines, AccountsFor, LosesNone}
 use Rattle.flow_edges.specs.Flow.{IsAtEnd}
 use Rattle.std.proofs.lemmas.List.{append-nil}

@@ -5,8 +5,8 @@ ghost use Rattle.flow_lines.specs.inner.Reading.{IsBetweenLines, ReadsNext, line
 
 use crate::chunk::Chunk;
 use crate::line::{Line, is_blank_line, strip_return};
-use crate::refusal::LineRefusal;
 use crate::raw_line::{LineStart, read_line};
+use crate::refusal::LineRefusal;
 use flow_edges::Source;
 use flow_values::{Items, NoMemory};
 use std::alloc::Global;

@@ -3,9 +3,9 @@ ghost use Rattle.flow_edges.specs.Faults.{Rose, Causes};
 ghost use Rattle.flow_lines.specs.Lines.{NoLineFeed, length_refusal};
 ghost use Rattle.flow_lines.specs.inner.Reading.{told_bytes, ReadsToLineFeed, ReadsLast, ReadsPart, IsHeld, IsFirstRefused, IsForLength};
 
-use flow_edges::Source;
 use crate::chunk::Chunk;
 use crate::refusal::{LineRefusal, MAX_INPUT, MAX_LINE};
+use flow_edges::Source;
 
 #[cfg(test)]
 mod tests;

@@ -7,8 +7,8 @@ ghost use Rattle.match_bindings.specs.Listing.{IsListing};
 ghost use Rattle.match_bindings.specs.inner.Candidates.{spanned_trees, trees_of};
 
 use crate::candidates::candidates;
-use crate::spanned_bind::SpannedBind;
 use crate::order::in_order;
+use crate::spanned_bind::SpannedBind;
 use crate::window::Window;
 use crate::{Bind, Log};
 use flow_values::{Items, NoMemory};

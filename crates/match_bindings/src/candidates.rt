@@ -6,8 +6,8 @@ ghost use Rattle.match_bindings.specs.Log.{observed_in};
 ghost use Rattle.match_bindings.specs.inner.Candidates.{spanned_trees, spanned_with, ones, repeats_of, candidates};
 
 use crate::copy::copy_bind;
-use crate::spanned_bind::SpannedBind;
 use crate::join::Join;
+use crate::spanned_bind::SpannedBind;
 use crate::window::Window;
 use crate::{Bind, Log};
 use flow_values::{Items, NoMemory};
@@ -81,7 +81,11 @@ fn found_at_leaf(
 }
 
 /// The binds of both sides of an `OR`.
-fn either_of(alloc: Global, firsts: Vec<SpannedBind>, seconds: Vec<SpannedBind>) -> Result<Vec<SpannedBind>, NoMemory>
+fn either_of(
+    alloc: Global,
+    firsts: Vec<SpannedBind>,
+    seconds: Vec<SpannedBind>,
+) -> Result<Vec<SpannedBind>, NoMemory>
     ensures { IfOk result (λ out. spanned_trees out.items
         ≡ map (spanned_with First) (spanned_trees firsts.items) ++ map (spanned_with Second) (spanned_trees seconds.items)) }
 {
@@ -92,7 +96,11 @@ fn either_of(alloc: Global, firsts: Vec<SpannedBind>, seconds: Vec<SpannedBind>)
 }
 
 /// Adds the binds of the left side of an `OR`.
-fn push_firsts(alloc: Global, firsts: Vec<SpannedBind>, out: &mut Vec<SpannedBind>) -> Result<(), NoMemory>
+fn push_firsts(
+    alloc: Global,
+    firsts: Vec<SpannedBind>,
+    out: &mut Vec<SpannedBind>,
+) -> Result<(), NoMemory>
     ensures { OnOk result (spanned_trees out.new.items ≡ spanned_trees out.old.items ++ map (spanned_with First) (spanned_trees firsts.items)) }
 {
     for first in firsts {
@@ -104,7 +112,11 @@ fn push_firsts(alloc: Global, firsts: Vec<SpannedBind>, out: &mut Vec<SpannedBin
 }
 
 /// Adds the binds of the right side of an `OR`.
-fn push_seconds(alloc: Global, seconds: Vec<SpannedBind>, out: &mut Vec<SpannedBind>) -> Result<(), NoMemory>
+fn push_seconds(
+    alloc: Global,
+    seconds: Vec<SpannedBind>,
+    out: &mut Vec<SpannedBind>,
+) -> Result<(), NoMemory>
     ensures { OnOk result (spanned_trees out.new.items ≡ spanned_trees out.old.items ++ map (spanned_with Second) (spanned_trees seconds.items)) }
 {
     for second in seconds {

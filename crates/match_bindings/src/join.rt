@@ -5,9 +5,9 @@ ghost use Rattle.match_bindings.specs.inner.Kinds.{chain_of};
 
 use crate::Bind;
 use crate::copy::{copy_bind, copy_binds};
-use crate::spanned_bind::SpannedBind;
 use crate::numbers::are_disjoint;
 use crate::span::Span;
+use crate::spanned_bind::SpannedBind;
 use crate::window::Window;
 use flow_values::{Items, NoMemory};
 use std::alloc::Global;

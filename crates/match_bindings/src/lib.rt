@@ -6,20 +6,20 @@
 
 mod bind;
 mod bindings;
+mod candidates;
 mod check;
 mod copy;
 mod flat_list;
-mod candidates;
-mod spanned_bind;
 mod join;
 pub mod laws;
 mod line;
 mod log;
+mod log_entry;
 mod numbers;
 mod order;
 mod ranked;
-mod log_entry;
 mod span;
+mod spanned_bind;
 #[cfg(test)]
 mod tests;
 mod window;

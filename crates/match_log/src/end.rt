@@ -1,8 +1,8 @@
 ghost use Rattle.std.specs.Prelude.{◌≡◌};
 ghost use Rattle.match_log.specs.declared.end.MatchEnd.TheVariants.{NoMemory as OutOfMemory};
 
-use stix_bundles::BundleRefusal;
 use flow_values::NoMemory;
+use stix_bundles::BundleRefusal;
 use stix_json::JsonRefusal;
 
 /// How the input is cut into bundles.

@@ -7,12 +7,12 @@
 
 mod comparison;
 mod end;
-pub mod laws;
-mod observation;
-mod refusal_text;
-mod line_refusal;
 mod entries;
+pub mod laws;
+mod line_refusal;
+mod observation;
 mod reason;
+mod refusal_text;
 mod stream;
 mod tally;
 

@@ -4,8 +4,8 @@ ghost use Rattle.match_log.specs.inner.Reason.{reason_text};
 
 use crate::InputRule;
 use stix_bundles::{BundleRefusal, ObjectBreak};
-use stix_objects::Rule;
 use stix_json::JsonRefusal;
+use stix_objects::Rule;
 
 /// An object of a bundle, and a rule that it breaks.
 #[derive(Clone, Copy, Debug)]

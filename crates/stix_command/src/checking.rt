@@ -39,9 +39,7 @@ impl CheckEnding {
         match self {
             CheckEnding::Judged(Verdict::Sound { .. }) => 0,
             CheckEnding::NoMemory => 1,
-            CheckEnding::Judged(
-                Verdict::Broken(_) | Verdict::Unfit { .. } | Verdict::Refused(_),
-            )
+            CheckEnding::Judged(Verdict::Broken(_) | Verdict::Unfit { .. } | Verdict::Refused(_))
             | CheckEnding::TooLong => 4,
             CheckEnding::ReadFault => 5,
             CheckEnding::WriteFault => 6,

@@ -6,10 +6,10 @@ ghost use Rattle.stix_json.specs.Reading.{IsRefusedAs};
 ghost use Rattle.stix_command.specs.Verdicts.{IsJudged, IsBundleJudged, AreJudged};
 
 use crate::verdict::Verdict;
-use stix_bundles::{Bundle, BundleRefusal, read_bundle};
 use flow_values::NoMemory;
 use match_log::InputRule;
 use std::alloc::Global;
+use stix_bundles::{Bundle, BundleRefusal, read_bundle};
 use stix_json::{Json, JsonRefusal, read_json};
 use stix_versions::{marking_breaks, version_breaks};
 

@@ -6,7 +6,8 @@ use std::alloc::Global;
 use std::test::Fail;
 
 /// A line in which the account `a` is observed.
-const LOGIN: &str = "{\"type\":\"bundle\",\"id\":\"bundle--00000000-0000-4000-8000-000000000001\",\"objects\":[{\"type\":\"observed-data\",\"first_observed\":\"2021-06-10T00:00:00Z\",\"object_refs\":[\"user-account--00000000-0000-4000-8000-000000000001\"]},{\"type\":\"user-account\",\"id\":\"user-account--00000000-0000-4000-8000-000000000001\",\"account_login\":\"a\"}]}\n";
+const LOGIN: &str =
+    "{\"type\":\"bundle\",\"id\":\"bundle--00000000-0000-4000-8000-000000000001\",\"objects\":[{\"type\":\"observed-data\",\"first_observed\":\"2021-06-10T00:00:00Z\",\"object_refs\":[\"user-account--00000000-0000-4000-8000-000000000001\"]},{\"type\":\"user-account\",\"id\":\"user-account--00000000-0000-4000-8000-000000000001\",\"account_login\":\"a\"}]}\n";
 
 /// What a run answered, and what it wrote.
 #[derive(Drop)]
@@ -53,8 +54,16 @@ fn a_fault_in_mid_stream(rt: HostRuntime) -> Result<(), Fail> {
     for (words, read, write, status, output, reason) in rows {
         let outcome = run_with_faults(rt.alloc(), words, read, write)?;
         assert_eq!(rt; outcome.status, status, "{words:?}, {read}, {write}");
-        assert_eq!(rt; outcome.output.bytes(), output.as_bytes(), "{words:?}, {read}, {write}");
-        assert_eq!(rt; outcome.reasons.bytes(), reason.as_bytes(), "{words:?}, {read}, {write}");
+        assert_eq!(rt;
+            outcome.output.bytes(),
+            output.as_bytes(),
+            "{words:?}, {read}, {write}"
+        );
+        assert_eq!(rt;
+            outcome.reasons.bytes(),
+            reason.as_bytes(),
+            "{words:?}, {read}, {write}"
+        );
     }
     one_verdict();
     Ok(())

@@ -1,6 +1,6 @@
-use stix_bundles::ObjectBreak;
 use flow_values::Items;
 use match_log::InputRule;
+use stix_bundles::ObjectBreak;
 use stix_versions::{MarkingBreak, VersionBreak};
 
 /// What a check finds of an input.

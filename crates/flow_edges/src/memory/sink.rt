@@ -3,8 +3,8 @@ ghost use Rattle.flow_edges.specs.Faults.{counted, Causes};
 ghost use Rattle.flow_edges.specs.Flow.{written_with};
 ghost use Rattle.flow_edges.specs.Memory.{is_failing};
 
-use crate::fault::counted_fault;
 use crate::Sink;
+use crate::fault::counted_fault;
 use flow_values::{Fault, Items, NoMemory};
 use std::alloc::Global;
 use std::marker::Model;

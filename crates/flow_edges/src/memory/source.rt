@@ -3,8 +3,8 @@ ghost use Rattle.flow_edges.specs.Faults.{counted, Causes};
 ghost use Rattle.flow_edges.specs.Flow.{left_after, IsNextOf, IsAtEnd};
 ghost use Rattle.flow_edges.specs.Memory.{is_failing};
 
-use crate::fault::counted_fault;
 use crate::Source;
+use crate::fault::counted_fault;
 use flow_values::{Fault, Items};
 use std::marker::Model;
 
