@@ -5,7 +5,7 @@ use Rattle.serde_json.specs.Data.{Data, Items, no_items, item}
 use Rattle.serde_json.specs.Find.{get, as_array, as_object}
 use Rattle.stix_ids.specs.declared.id.Id.{Id}
 use Rattle.stix_json.specs.Walk.{path_text, place_part}
-use Rattle.stix_objects.specs.declared.broken.Break.{Break}
+use Rattle.stix_objects.specs.declared.rule_break.Break.{Break}
 use Rattle.stix_objects.specs.Conditions.{text_at}
 use Rattle.stix_objects.specs.Breaks.{AreBreaksOf}
 use Rattle.stix_bundles.specs.declared.object_break.ObjectBreak.{ObjectBreak}
@@ -72,14 +72,14 @@ abbrev pub IsNoBundle : Data → List ℕ → Type 0
 IsNoBundle d path = (parts : List (List ℕ)) × FailsAt d parts × (path ≡ path_text parts)
 
 -- a break, told of the object at this position
-abbrev pub told_of : ℕ → Break → ObjectBreak
-told_of at found = record { object = at; found = found }
+abbrev pub break_of_object : ℕ → Break → ObjectBreak
+break_of_object at found = record { object = at; found = found }
 
 -- the breaks of the objects from a position on, object by object
 abbrev pub AreAllBreaks : ℕ → List Data → List ObjectBreak → Type 0
 AreAllBreaks at [] breaks = breaks ≡ []
 AreAllBreaks at (d ∷ ds) breaks = (own : List Break) × (rest : List ObjectBreak)
-    × AreBreaksOf d own × AreAllBreaks (at + 1) ds rest × (breaks ≡ map (told_of at) own ++ rest)
+    × AreBreaksOf d own × AreAllBreaks (at + 1) ds rest × (breaks ≡ map (break_of_object at) own ++ rest)
 
 -- the objects of a bundle, which meet their rules
 pub record IsBundle (d : Data) (objects : List Data) : Type 0 where
@@ -87,12 +87,12 @@ pub record IsBundle (d : Data) (objects : List Data) : Type 0 where
   pub unbroken : AreAllBreaks 0 objects []
 
 -- why a value is no bundle
-abbrev pub IsRefused : Data → BundleRefusal → Type 0
-IsRefused d (NotBundle path) = IsNoBundle d path
-IsRefused d (Breaks breaks) = (breaks ≢ []) × ((objects : List Data) × IsOutlined d objects × AreAllBreaks 0 objects breaks)
-IsRefused d NoMemory = ⊥
+abbrev pub IsBundleRefused : Data → BundleRefusal → Type 0
+IsBundleRefused d (NotBundle path) = IsNoBundle d path
+IsBundleRefused d (Breaks breaks) = (breaks ≢ []) × ((objects : List Data) × IsOutlined d objects × AreAllBreaks 0 objects breaks)
+IsBundleRefused d NoMemory = ⊥
 
 -- what a value is read as, but for memory
-abbrev pub Reads : Data → Result (List Data) BundleRefusal → Type 0
-Reads d (Ok objects) = IsBundle d objects
-Reads d (Err refusal) = IsRefused d refusal
+abbrev pub ReadsBundle : Data → Result (List Data) BundleRefusal → Type 0
+ReadsBundle d (Ok objects) = IsBundle d objects
+ReadsBundle d (Err refusal) = IsBundleRefused d refusal

@@ -33,7 +33,7 @@ pub record IsOf (objects : List Data) (id : Id) (at : ℕ) : Type 0 where
   pub has : HasId object id
 
 -- the same, and that is when it was modified
-pub record IsVersion (objects : List Data) (id : Id) (at : ℕ) (modified : Option ℤ) : Type 0 where
+pub record IsVersionAt (objects : List Data) (id : Id) (at : ℕ) (modified : Option ℤ) : Type 0 where
   pub object : Data
   pub there : slice_get objects at ≡ Some object
   pub has : HasId object id
@@ -42,8 +42,8 @@ pub record IsVersion (objects : List Data) (id : Id) (at : ℕ) (modified : Opti
 -- the place of the identifier's latest version: each other is earlier, or as late and at no later place
 pub record IsLatest (objects : List Data) (id : Id) (at : ℕ) : Type 0 where
   pub modified : Option ℤ
-  pub version : IsVersion objects id at modified
-  pub latest : (other : ℕ) (when : Option ℤ) → IsVersion objects id other when
+  pub version : IsVersionAt objects id at modified
+  pub latest : (other : ℕ) (when : Option ℤ) → IsVersionAt objects id other when
       → IsEarlier when modified ⊎ ((when ≡ modified) × (other ≤ at))
 
 -- the place that a text means: the latest version of the identifier that it is, and none where there is no version

@@ -7,7 +7,7 @@ use Rattle.stix_ids.specs.declared.id.Id.{Id}
 use Rattle.stix_ids.specs.Identifier.{IsTextOf}
 use Rattle.stix_objects.specs.Conditions.{text_at}
 
--- the objects that trees are
+-- the objects that JSON values are
 abbrev pub data_in : List Json → List Data
 data_in trees = map data_of trees
 

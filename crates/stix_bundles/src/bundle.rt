@@ -2,7 +2,7 @@ ghost use Rattle.std.specs.Prelude.{◌≡◌, ◌↔◌, ◌≤◌, [], IsTrue,
 ghost use Rattle.stix_ids.specs.PartsOf.{id_of};
 ghost use Rattle.stix_bundles.specs.Objects.{data_in};
 ghost use Rattle.stix_bundles.specs.Bundle.{AreAllBreaks};
-ghost use Rattle.stix_bundles.specs.Indexed.{IsHeld, IsKept};
+ghost use Rattle.stix_bundles.specs.inner.Index.{IsPositionOf, IsIndexed};
 
 use crate::index::Index;
 use flow_values::Items;
@@ -30,15 +30,15 @@ impl Model for Bundle {
     ghost view = { λ bundle. bundle.objects };
 
     ghost use Rattle.stix_bundles.specs.Objects.{data_in};
-    ghost use Rattle.stix_bundles.specs.Indexed.{IsKept};
+    ghost use Rattle.stix_bundles.specs.inner.Index.{IsIndexed};
 
-    ghost invariant = { λ bundle. IsKept (data_in bundle.objects) bundle.index };
+    ghost invariant = { λ bundle. IsIndexed (data_in bundle.objects) bundle.index };
 }
 
 impl Bundle {
     /// A bundle of these objects, which have that index.
     pub(crate) fn new(objects: Items<Json>, index: Index) -> Bundle
-        requires { IsKept (data_in objects) index }
+        requires { IsIndexed (data_in objects) index }
         ensures { result ≡ objects }
     {
         Bundle { objects, index }
@@ -69,7 +69,7 @@ impl Bundle {
 
     /// The position of the latest version of an identifier. Takes no memory.
     pub(crate) fn latest(&self, id: Parts<'_>) -> Option<u32>
-        ensures { IsHeld (data_in self.now) (id_of id.entry) result }
+        ensures { IsPositionOf (data_in self.now) (id_of id.entry) result }
     {
         self.index.get(id)
     }

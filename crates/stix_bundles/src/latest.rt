@@ -1,16 +1,16 @@
 ghost use Rattle.std.specs.Prelude.{◌≡◌, ◌↔◌, ◌+◌, ◌≤◌, ◌<◌, length, take as first, IsTrue, IfOk, OnOk};
 ghost use Rattle.stix_bundles.specs.Objects.{data_in};
 ghost use Rattle.stix_bundles.specs.Lookup.{IsEarlier};
-ghost use Rattle.stix_bundles.specs.Indexed.{IsIndexOf, Overtakes};
+ghost use Rattle.stix_bundles.specs.inner.Index.{IsIndexOf, Overtakes};
 
 use crate::index::Index;
 use crate::laws::{one_id, one_modified};
 use crate::property::{identifier, modified};
 use flow_values::NoMemory;
 use std::alloc::Global;
+use stix_json::Json;
 use stix_times::Instant;
 use stix_times::laws::is_before;
-use stix_json::Json;
 
 /// The latest versions of the objects.
 pub(crate) fn index_of(alloc: Global, objects: &[Json]) -> Result<Index, NoMemory>

@@ -6,13 +6,13 @@ ghost use Rattle.stix_json.specs.Walk.{path_text, place_part};
 ghost use Rattle.stix_json.specs.DataOf.{data_of};
 ghost use Rattle.stix_bundles.specs.Objects.{data_in};
 ghost use Rattle.stix_bundles.specs.Bundle.{IsObject, IsIdentified, IsListOf, FailsAt, IsOutlined};
-ghost use Rattle.stix_bundles.specs.Failures.{failed_parts, FailsInObjects, FailsInMembers};
+ghost use Rattle.stix_bundles.specs.inner.Failures.{failed_parts, FailsInObjects, FailsInMembers};
 
 use flow_values::{NoMemory, Text};
-use stix_objects::text_at;
 use std::alloc::Global;
 use stix_ids::Parts;
 use stix_json::{Json, get};
+use stix_objects::text_at;
 
 /// How many objects a bundle has at most.
 const MAX_OBJECTS: usize = 8_388_608;

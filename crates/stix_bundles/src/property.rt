@@ -4,12 +4,12 @@ ghost use Rattle.stix_ids.specs.PartsOf.{id_of};
 ghost use Rattle.stix_json.specs.DataOf.{data_of};
 ghost use Rattle.stix_bundles.specs.Objects.{HasId};
 ghost use Rattle.stix_bundles.specs.Lookup.{IsModified};
-ghost use Rattle.stix_bundles.specs.Observed.{IsObservedData, IsTimeAt};
+ghost use Rattle.stix_bundles.specs.Observations.{IsObservedData, IsTimeAt};
 
-use stix_objects::text_at;
 use stix_ids::Parts;
-use stix_times::{Instant, read, read_millis};
 use stix_json::Json;
+use stix_objects::text_at;
+use stix_times::{Instant, read, read_millis};
 
 /// The identifier of an object.
 pub(crate) fn identifier(object: &Json) -> Option<Parts<'_>>

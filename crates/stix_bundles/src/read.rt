@@ -3,21 +3,21 @@ ghost use Rattle.serde_json.specs.Data.{Data};
 ghost use Rattle.stix_json.specs.DataOf.{data_of};
 ghost use Rattle.stix_bundles.specs.declared.refusal.BundleRefusal.{BundleRefusal};
 ghost use Rattle.stix_bundles.specs.Objects.{data_in};
-ghost use Rattle.stix_bundles.specs.Bundle.{IsListOf, HasObjects, AreAllBreaks, told_of, IsBundle, IsRefused};
+ghost use Rattle.stix_bundles.specs.Bundle.{IsListOf, HasObjects, AreAllBreaks, break_of_object, IsBundle, IsBundleRefused};
 
 use crate::latest::index_of;
 use crate::outline::first_failure;
 use crate::{Bundle, BundleRefusal, ObjectBreak};
 use flow_values::{Items, NoMemory};
-use stix_objects::{Break, breaks};
 use std::alloc::Global;
 use stix_json::{Json, take};
+use stix_objects::{Break, breaks};
 
-/// The bundle that a tree is, which takes the tree's objects over; or why it is none: the first
+/// The bundle that a JSON value is, which takes the value's objects over; or why it is none: the first
 /// condition of a bundle that fails, else all breaks of its objects.
 pub fn read_bundle(alloc: Global, tree: Json) -> Result<Bundle, BundleRefusal>
     ensures ok { IfOk result (λ bundle. IsBundle (data_of tree) (data_in bundle)) }
-    ensures err { IfErr result (λ refusal. (refusal ≡ BundleRefusal.NoMemory) ⊎ IsRefused (data_of tree) refusal) }
+    ensures err { IfErr result (λ refusal. (refusal ≡ BundleRefusal.NoMemory) ⊎ IsBundleRefused (data_of tree) refusal) }
 {
     if let Some(failure) = first_failure(&tree) {
         let path = failure.path(alloc)?;
@@ -72,7 +72,7 @@ fn add_breaks(
     own: Items<Break>,
     found: &mut Items<ObjectBreak>,
 ) -> Result<(), NoMemory>
-    ensures { OnOk result (found.new ≡ found.old ++ map (told_of object) own) }
+    ensures { OnOk result (found.new ≡ found.old ++ map (break_of_object object) own) }
 {
     for broken in own.into_vec() {
         found.push(ObjectBreak {

@@ -5,8 +5,8 @@ use crate::{
 use flow_values::{NoMemory, Text};
 use std::alloc::Global;
 use std::test::Fail;
-use stix_times::nanos;
 use stix_json::{Json, read_json};
+use stix_times::nanos;
 
 /// The breaks, each with its object, its rule and its path.
 fn told_breaks(alloc: Global, breaks: &[ObjectBreak]) -> Result<Text, NoMemory> {

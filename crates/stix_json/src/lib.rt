@@ -1,7 +1,7 @@
-//! JSON values without fractions and null (RFC 8259), as trees that own their texts and lists.
+//! JSON values without fractions and null (RFC 8259), which own their texts and lists.
 //!
 //! `read_json` gives the value that `serde_json`'s definition of reading gives, or the first reason
-//! against it, with its path. `write_json` writes a tree so that it reads back.
+//! against it, with its path. `write_json` writes a value so that it reads back.
 #![tactic(auto)]
 
 mod convert;

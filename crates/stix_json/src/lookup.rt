@@ -1,11 +1,11 @@
 ghost use Rattle.std.specs.Prelude.{◌≡◌, None, IfSome, IfNone, map, option_map};
 ghost use Rattle.serde_json.specs.Find.{get_member, get as member_of};
 ghost use Rattle.stix_json.specs.DataOf.{data_of, field_data, members_of};
-ghost use Rattle.stix_json.specs.Naming.{IsFieldAt};
+ghost use Rattle.stix_json.specs.inner.Naming.{IsFieldAt};
 
 use crate::{Field, Json};
 
-/// The value of the first field of that name. None where there is none, or the tree has no fields.
+/// The value of the first field of that name. None where there is none, or the value has no fields.
 pub fn get<'a>(tree: &'a Json, name: &str) -> Option<&'a Json>
     ensures { option_map (λ value. data_of value.now) result ≡ member_of name.now (data_of tree.now) }
 {
@@ -15,7 +15,7 @@ pub fn get<'a>(tree: &'a Json, name: &str) -> Option<&'a Json>
     }
 }
 
-/// The same, taken out of the tree.
+/// The same, taken out of the value.
 pub fn take(tree: Json, name: &str) -> Option<Json>
     ensures { option_map data_of result ≡ member_of name.now (data_of tree) }
 {

@@ -7,7 +7,7 @@ use Rattle.stix_ids.specs.Identifier.{IsTextOf}
 use Rattle.stix_objects.specs.declared.form.Precision.{Precision}
 use Rattle.stix_objects.specs.Form.{Form}
 use Rattle.stix_objects.specs.Row.{Condition, is_true, is_false, meets, absent}
-use Rattle.stix_objects.specs.Singles.{IsMomentOf, JudgesOwnId}
+use Rattle.stix_objects.specs.Singles.{IsTimestampOf, JudgesOwnId}
 use Rattle.stix_objects.specs.Forms.{MeetsForm}
 
 -- the property is there and meets the form
@@ -31,25 +31,25 @@ abbrev pub text_at : List ℕ → Data → Option (List ℕ)
 text_at name d = option_and_then as_str (get name d)
 
 -- the property is a timestamp of that instant
-pub record IsAt (precision : Precision) (name : List ℕ) (d : Data) (instant : ℤ) : Type 0 where
+pub record IsTimestampAt (precision : Precision) (name : List ℕ) (d : Data) (instant : ℤ) : Type 0 where
   pub text : List ℕ
   pub there : text_at name d ≡ Some text
-  pub moment : IsMomentOf precision text instant
+  pub timestamp : IsTimestampOf precision text instant
 
 -- the second property is earlier than the first
-pub record IsEarlier (precision : Precision) (first second : List ℕ) (d : Data) : Type 0 where
+pub record SecondIsEarlier (precision : Precision) (first second : List ℕ) (d : Data) : Type 0 where
   pub from : ℤ
   pub to : ℤ
-  pub begins : IsAt precision first d from
-  pub ends : IsAt precision second d to
+  pub begins : IsTimestampAt precision first d from
+  pub ends : IsTimestampAt precision second d to
   pub earlier : to <ℤ from
 
 -- the second property isn't later than the first
-pub record IsNotLater (precision : Precision) (first second : List ℕ) (d : Data) : Type 0 where
+pub record SecondIsNotLater (precision : Precision) (first second : List ℕ) (d : Data) : Type 0 where
   pub from : ℤ
   pub to : ℤ
-  pub begins : IsAt precision first d from
-  pub ends : IsAt precision second d to
+  pub begins : IsTimestampAt precision first d from
+  pub ends : IsTimestampAt precision second d to
   pub not_later : to ≤ℤ from
 
 -- a colour of the traffic light protocol, and the number of its UUID (STIX 2.1, section 7.2.1.4)

@@ -1,8 +1,8 @@
-pub mod Found
+pub mod BreakAt
 pub mod Form
 pub mod Row
 pub mod CommonRows
-pub mod StatedTypes
+pub mod DomainTypes
 pub mod ObservableTypes
 pub mod Types
 pub mod Judging
@@ -11,7 +11,6 @@ pub mod Forms
 pub mod Conditions
 pub mod Rows
 pub mod Breaks
-pub mod Views
-pub mod Adding
 pub mod Sound
 pub mod RuleName
+pub mod inner

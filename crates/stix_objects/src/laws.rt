@@ -2,7 +2,7 @@
 
 ghost use Rattle.std.specs.Prelude.{◌≡◌, List, [], Some, codes};
 ghost use Rattle.serde_json.specs.Data.{Data};
-ghost use Rattle.stix_objects.specs.declared.broken.Break.{Break};
+ghost use Rattle.stix_objects.specs.declared.rule_break.Break.{Break};
 ghost use Rattle.stix_objects.specs.Breaks.{AreBreaksOf, rows_for, type_of};
 ghost use Rattle.stix_objects.specs.Conditions.{text_at};
 ghost use Rattle.stix_objects.specs.Sound.{MeetsAll, IsNamed, IsTimed};

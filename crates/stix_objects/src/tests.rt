@@ -1,8 +1,8 @@
 //! Rows of objects, and the breaks that the tables of STIX 2.1 give them.
 
 mod common;
+mod domain;
 mod observable;
-mod stated;
 
 use crate::{Break, Group, breaks, group, group_before};
 use flow_values::{NoMemory, Text};

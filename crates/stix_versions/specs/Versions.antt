@@ -72,7 +72,7 @@ BreaksAs objects at id created modified d AfterRevoked = FollowsRevoked objects 
 BreaksAs objects at id created modified d SameVersionTwice = RepeatsVersion objects at id modified d
 
 -- the object at the place is a version that breaks the rule
-pub record Breaks (objects : List Data) (at : ℕ) (rule : VersionRule) : Type 0 where
+pub record BreaksVersionRule (objects : List Data) (at : ℕ) (rule : VersionRule) : Type 0 where
   pub id : Id
   pub created : ℤ
   pub modified : ℤ
@@ -92,15 +92,15 @@ AreBroken IsBroken (rule ∷ rules) broken =
     ⊎ ((¬ IsBroken rule) × AreBroken IsBroken rules broken)
 
 -- a rule, told of the object at the place
-abbrev pub told_of : ℕ → VersionRule → VersionBreak
-told_of at rule = record { object = at; rule = rule }
+abbrev pub break_of_version : ℕ → VersionRule → VersionBreak
+break_of_version at rule = record { object = at; rule = rule }
 
 -- the breaks of so many objects from a place on, object by object
-abbrev pub AreBreaksFrom : List Data → ℕ → List Data → List VersionBreak → Type 0
-AreBreaksFrom objects at [] breaks = breaks ≡ []
-AreBreaksFrom objects at (d ∷ ds) breaks = (own : List VersionRule) × (rest : List VersionBreak)
-    × AreBroken (Breaks objects at) rules_told own × AreBreaksFrom objects (at + 1) ds rest × (breaks ≡ map (told_of at) own ++ rest)
+abbrev pub AreVersionBreaksFrom : List Data → ℕ → List Data → List VersionBreak → Type 0
+AreVersionBreaksFrom objects at [] breaks = breaks ≡ []
+AreVersionBreaksFrom objects at (d ∷ ds) breaks = (own : List VersionRule) × (rest : List VersionBreak)
+    × AreBroken (BreaksVersionRule objects at) rules_told own × AreVersionBreaksFrom objects (at + 1) ds rest × (breaks ≡ map (break_of_version at) own ++ rest)
 
 -- all breaks of the objects of a bundle
 abbrev pub AreVersionBreaks : List Data → List VersionBreak → Type 0
-AreVersionBreaks objects = AreBreaksFrom objects 0 objects
+AreVersionBreaks objects = AreVersionBreaksFrom objects 0 objects

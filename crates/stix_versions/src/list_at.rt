@@ -1,7 +1,7 @@
 ghost use Rattle.std.specs.Prelude.{IfSome, IfNone};
 ghost use Rattle.stix_json.specs.DataOf.{data_of};
 ghost use Rattle.stix_bundles.specs.Objects.{data_in};
-ghost use Rattle.stix_versions.specs.Selected.{IsListAt, HasNoListAt};
+ghost use Rattle.stix_versions.specs.inner.Selectors.{IsListAt, HasNoListAt};
 
 use stix_json::{Json, get};
 

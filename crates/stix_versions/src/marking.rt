@@ -4,14 +4,14 @@ ghost use Rattle.stix_ids.specs.Identifier.{IsTextOf};
 ghost use Rattle.stix_json.specs.DataOf.{data_of};
 ghost use Rattle.stix_bundles.specs.Objects.{data_in};
 ghost use Rattle.stix_versions.specs.Markings.{Has, HasOne, RefersToMarking, IsBreakOf};
-ghost use Rattle.stix_versions.specs.Selected.{IsSelectorText, Misses, IsWellNamed, IsListAt};
+ghost use Rattle.stix_versions.specs.inner.Selectors.{IsSelectorText, Misses, IsWellNamed, IsListAt};
 
 use crate::MarkingRule;
 use crate::list_at::list_at;
 use crate::selector::{is_selector, selected};
-use stix_objects::text_at;
 use stix_ids::Parts;
 use stix_json::{Json, get};
+use stix_objects::text_at;
 
 /// The first rule that a marking of the object breaks.
 pub(crate) fn broken_rule(object: &Json, marking: &Json) -> Option<MarkingRule>

@@ -1,10 +1,10 @@
 //! Granular markings of an object, and the breaks that section 7.2.3 of STIX 2.1 gives them.
 
 use crate::{MarkingBreak, marking_breaks};
-use stix_bundles::{Bundle, read_bundle};
 use flow_values::{NoMemory, Text};
 use std::alloc::Global;
 use std::test::Fail;
+use stix_bundles::{Bundle, read_bundle};
 use stix_json::read_json;
 
 /// The bundle of an object without markings, and of one with these.

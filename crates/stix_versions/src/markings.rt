@@ -2,15 +2,15 @@ ghost use Rattle.std.specs.Prelude.{◌≡◌, ◌++◌, ◌≤◌, List, length
 ghost use Rattle.stix_json.specs.DataOf.{data_of};
 ghost use Rattle.stix_bundles.specs.Objects.{data_in};
 ghost use Rattle.stix_versions.specs.declared.marking_break.MarkingBreak.{MarkingBreak};
-ghost use Rattle.stix_versions.specs.Markings.{AreBreaksOf, AreMarkingBreaks};
-ghost use Rattle.stix_versions.specs.Selected.{AreOwnBreaks};
+ghost use Rattle.stix_versions.specs.Markings.{AreBreaksOfMarkings, AreMarkingBreaks};
+ghost use Rattle.stix_versions.specs.inner.Selectors.{AreOwnBreaks};
 
 use crate::MarkingBreak;
 use crate::list_at::list_at;
 use crate::marking::broken_rule;
-use stix_bundles::Bundle;
 use flow_values::{Items, NoMemory};
 use std::alloc::Global;
+use stix_bundles::Bundle;
 use stix_json::Json;
 
 /// What is wrong with the granular markings of the objects of a bundle, object by object, and for each
@@ -52,7 +52,7 @@ fn add_list(
     found: &mut Items<MarkingBreak>,
 ) -> Result<(), NoMemory>
     ensures { OnOk result ((own : List MarkingBreak)
-        × AreBreaksOf object_at (data_of object.now) 0 (data_in markings.now) own × (found.new ≡ found.old ++ own)) }
+        × AreBreaksOfMarkings object_at (data_of object.now) 0 (data_in markings.now) own × (found.new ≡ found.old ++ own)) }
 {
     for at in 0..markings.len() {
         if let Some(rule) = broken_rule(object, &markings[at]) {

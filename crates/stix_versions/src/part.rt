@@ -4,7 +4,7 @@ ghost use Rattle.std.specs.Str.Parse.{IsNumeral, digits_value};
 ghost use Rattle.serde_json.specs.Find.{at as at_place};
 ghost use Rattle.stix_json.specs.DataOf.{data_of};
 ghost use Rattle.stix_versions.specs.Selector.{Part, IsNameCharacter, IsName, IsPlace, in_brackets, chosen as chosen_by};
-ghost use Rattle.stix_versions.specs.Paths.{IsPartOf};
+ghost use Rattle.stix_versions.specs.inner.Paths.{IsPartOf};
 
 use stix_json::{Json, get};
 

@@ -1,7 +1,7 @@
 ghost use Rattle.std.specs.Prelude.{◌≡◌, ◌↔◌, List, IsTrue, option_map};
 ghost use Rattle.stix_json.specs.DataOf.{data_of};
 ghost use Rattle.stix_versions.specs.Selector.{Part, IsSelector, value_at};
-ghost use Rattle.stix_versions.specs.Paths.{IsPath};
+ghost use Rattle.stix_versions.specs.inner.Paths.{IsPath};
 
 use crate::part::{chosen, is_part};
 use stix_json::Json;

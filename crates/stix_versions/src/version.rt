@@ -4,13 +4,13 @@ ghost use Rattle.serde_json.specs.Find.{get as member_of};
 ghost use Rattle.stix_json.specs.DataOf.{data_of};
 ghost use Rattle.stix_bundles.specs.Objects.{data_in};
 ghost use Rattle.stix_versions.specs.Versions.{IsObservable, IsRevoked};
-ghost use Rattle.stix_versions.specs.Seen.{IsMillisAt, IsSeenAs, IsNoVersion};
+ghost use Rattle.stix_versions.specs.inner.Version.{IsMillisAt, IsVersionAs, IsNoVersion};
 
 use stix_bundles::laws::one_meaning;
 use stix_bundles::{Bundle, find};
+use stix_json::{Json, get};
 use stix_objects::{Group, group, text_at};
 use stix_times::{Instant, read_millis};
-use stix_json::{Json, get};
 
 /// A version of an object.
 #[derive(Clone, Copy)]
@@ -25,7 +25,7 @@ pub(crate) struct Version {
 /// The version that the object at a position is. None where it has no versions.
 pub(crate) fn version_at(bundle: &Bundle, at: usize) -> Option<Version>
     requires { at < length bundle.now }
-    ensures some { IfSome result (IsSeenAs (data_in bundle.now) at) }
+    ensures some { IfSome result (IsVersionAs (data_in bundle.now) at) }
     ensures none { IfNone result (IsNoVersion (data_in bundle.now) at) }
 {
     one_meaning();

@@ -1,6 +1,6 @@
 use Rattle.std.proofs.Common.{refl}
 use Rattle.std.proofs.lemmas.Bool.{false≢true}
-use Rattle.stix_bundles.proofs.Adding.{there_at, put_well, add_beside, add_overtaken}
+use Rattle.stix_bundles.proofs.IndexOfLemmas.{there_at, put_well, add_beside, add_overtaken}
 use Rattle.stix_ids.specs.PartsOf.{id_of}
 use Rattle.stix_json.specs.DataOf.{data_of}
 use Rattle.stix_bundles.specs.Objects.{data_in}

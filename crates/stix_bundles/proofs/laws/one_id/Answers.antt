@@ -1,4 +1,4 @@
-use Rattle.stix_bundles.proofs.Meanings.{has_one_id}
+use Rattle.stix_bundles.proofs.LookupLemmas.{has_one_id}
 use Rattle.stix_bundles.proofs.laws.one_id.Goals as goal
 
 pub returns : goal.returns

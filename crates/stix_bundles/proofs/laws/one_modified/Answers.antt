@@ -1,4 +1,4 @@
-use Rattle.stix_bundles.proofs.Meanings.{modified_once}
+use Rattle.stix_bundles.proofs.LookupLemmas.{modified_once}
 use Rattle.stix_bundles.proofs.laws.one_modified.Goals as goal
 
 pub returns : goal.returns

@@ -1,5 +1,5 @@
 use Rattle.stix_json.specs.DataOf.{data_of}
-use Rattle.stix_bundles.proofs.Properties.{was_modified}
+use Rattle.stix_bundles.proofs.PropertyLemmas.{was_modified}
 use Rattle.stix_bundles.proofs.property.modified.Goals as goal
 
 pub returns : goal.returns

@@ -1,5 +1,5 @@
 use Rattle.stix_json.specs.DataOf.{data_of}
-use Rattle.stix_bundles.proofs.Properties.{no_time}
+use Rattle.stix_bundles.proofs.PropertyLemmas.{no_time}
 use Rattle.stix_bundles.proofs.property.time_at.Goals as goal
 
 pub returns-clause-none : goal.returns-clause-none

@@ -1,4 +1,4 @@
-use Rattle.stix_bundles.proofs.Outlines.{list_is_row}
+use Rattle.stix_bundles.proofs.OutlineLemmas.{list_is_row}
 use Rattle.stix_bundles.proofs.read.items_of.Goals as goal
 
 pub returns-in-Array : goal.returns-in-Array

@@ -1,7 +1,7 @@
 use Rattle.std.proofs.Common.{sym, ◌∙◌}
 use Rattle.std.proofs.lemmas.Bool.{eqb-true, eq-eqb}
 use Rattle.stix_ids.specs.PartsOf.{id_of}
-use Rattle.stix_objects.proofs.Identifiers.{same_number, no_number}
+use Rattle.stix_objects.proofs.IdentifierLemmas.{same_number, no_number}
 use Rattle.stix_objects.proofs.identifier.has_number.Goals as goal
 
 pub returns-in-Some-identifier_of : goal.returns-in-Some-identifier_of

@@ -1,6 +1,6 @@
 use Rattle.stix_json.specs.DataOf.{data_of}
 use Rattle.stix_bundles.specs.Objects.{data_in}
-use Rattle.stix_versions.proofs.Marked.{on_ok, are_markings}
+use Rattle.stix_versions.proofs.MarkingsLemmas.{on_ok, are_markings}
 use Rattle.stix_versions.proofs.markings.add_breaks.Goals as goal
 
 pub returns-in-Some : goal.returns-in-Some

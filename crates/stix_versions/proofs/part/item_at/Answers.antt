@@ -1,7 +1,7 @@
 use Rattle.std.proofs.Common.{◌≡◌, List, option_map, slice_get, subst}
 use Rattle.std.specs.Str.Parse.{digits_value}
 use Rattle.stix_json.specs.declared.value.Json.{Json}
-use Rattle.stix_versions.proofs.Items.{item_read}
+use Rattle.stix_versions.proofs.ItemsLemmas.{item_read}
 use Rattle.stix_versions.proofs.part.item_at.Goals as goal
 
 pub returns-in-Array : goal.returns-in-Array

@@ -3,8 +3,8 @@ use denote.Ref.{Bor}
 use Rattle.std.specs.Str.Parse.{digits_value}
 use Rattle.stix_json.specs.declared.value.Json.{Json}
 use Rattle.std.proofs.lemmas.Option.{slice_get_past}
-use Rattle.stix_versions.proofs.Digits.{parsed}
-use Rattle.stix_versions.proofs.Items.{item_looked_up}
+use Rattle.stix_versions.proofs.DigitsLemmas.{parsed}
+use Rattle.stix_versions.proofs.ItemsLemmas.{item_looked_up}
 use Rattle.stix_versions.proofs.part.numbered.Goals as goal
 
 pub returns-in_err-at : goal.returns-in_err-at

@@ -3,7 +3,7 @@ use denote.Ref.{Bor}
 use Rattle.serde_json.specs.Data.{Data}
 use Rattle.stix_json.specs.declared.value.Json.{Json}
 use Rattle.stix_json.specs.DataOf.{data_of}
-use Rattle.stix_versions.proofs.Named.{named_next, named_here}
+use Rattle.stix_versions.proofs.ValueAtLemmas.{named_next, named_here}
 use Rattle.stix_versions.proofs.selector.selected.Goals as goal
 
 pub returns-in_err-here : goal.returns-in_err-here

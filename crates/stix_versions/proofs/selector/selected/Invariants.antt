@@ -3,7 +3,7 @@ use denote.Text.{Utf8}
 use denote.Shadow.{shadow}
 use Rattle.stix_json.specs.DataOf.{data_of}
 use Rattle.stix_versions.specs.Selector.{Part, value_at}
-use Rattle.stix_versions.specs.Paths.{IsPath}
+use Rattle.stix_versions.specs.inner.Paths.{IsPath}
 use Rattle.stix_versions.proofs.selector.selected.Given as goal
 
 abbrev pub invariant-loop-part : goal.invariant-loop-part

@@ -1,5 +1,5 @@
 use Rattle.stix_json.specs.DataOf.{data_of}
-use Rattle.stix_versions.proofs.Seeing.{no_millis, some_millis}
+use Rattle.stix_versions.proofs.VersionLemmas.{no_millis, some_millis}
 use Rattle.stix_versions.proofs.version.millis_at.Goals as goal
 
 pub returns-clause-some : goal.returns-clause-some

@@ -1,8 +1,8 @@
 use Rattle.std.proofs.lemmas.Bool.{false≢true}
 use Rattle.stix_json.specs.DataOf.{data_of}
 use Rattle.stix_bundles.specs.Objects.{data_in}
-use Rattle.stix_versions.specs.Seen.{IsNoVersion}
-use Rattle.stix_versions.proofs.Seeing.{if_none, object_there, uncreated_is_none, unmodified_is_none, unmeant_is_none, seen_as}
+use Rattle.stix_versions.specs.inner.Version.{IsNoVersion}
+use Rattle.stix_versions.proofs.VersionLemmas.{if_none, object_there, uncreated_is_none, unmodified_is_none, unmeant_is_none, seen_as}
 use Rattle.stix_versions.proofs.version.version_at.Goals as goal
 
 pub returns-in_err-created-clause-none : goal.returns-in_err-created-clause-none

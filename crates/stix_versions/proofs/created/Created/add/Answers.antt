@@ -2,9 +2,9 @@ use Rattle.std.proofs.Common.{rules, ◌≡◌, Option, subst}
 use Rattle.std.specs.Ordering.{nat_cmp}
 use Rattle.std.specs.BTreeMap.{get}
 use Rattle.stix_versions.specs.declared.created.FirstCreated.{FirstCreated}
-use Rattle.stix_versions.specs.Kept.{IsNextCreated}
-use Rattle.stix_versions.proofs.Agreeing.{Laws}
-use Rattle.stix_versions.proofs.Creation.{created_more, created_told}
+use Rattle.stix_versions.specs.inner.FirstVersions.{IsNextCreated}
+use Rattle.stix_versions.proofs.IsVersionLemmas.{Laws}
+use Rattle.stix_versions.proofs.CreatedLemmas.{created_more, created_told}
 use Rattle.stix_versions.proofs.created.Created.add.Goals as goal
 
 pub returns-clause-told : goal.returns-clause-told

@@ -1,9 +1,9 @@
 use Rattle.std.proofs.Common.{rules, ◌≡◌, ℤ, Option, subst, sym}
 use Rattle.std.specs.Ordering.{nat_cmp}
 use Rattle.std.specs.BTreeMap.{get}
-use Rattle.stix_versions.specs.Kept.{IsNextRevoked}
-use Rattle.stix_versions.proofs.Agreeing.{Laws}
-use Rattle.stix_versions.proofs.Revocation.{unrevoked_more, revoked_more}
+use Rattle.stix_versions.specs.inner.FirstVersions.{IsNextRevoked}
+use Rattle.stix_versions.proofs.IsVersionLemmas.{Laws}
+use Rattle.stix_versions.proofs.RevokedLemmas.{unrevoked_more, revoked_more}
 use Rattle.stix_versions.proofs.revoked.Revoked.add.Goals as goal
 
 pub returns-then-not-version : goal.returns-then-not-version

@@ -1,6 +1,6 @@
 use Rattle.std.proofs.lemmas.Bool.{false≢true}
-use Rattle.stix_versions.proofs.Agreeing.{Laws}
-use Rattle.stix_versions.proofs.Revocation.{none_revoked, first_revoked}
+use Rattle.stix_versions.proofs.IsVersionLemmas.{Laws}
+use Rattle.stix_versions.proofs.RevokedLemmas.{none_revoked, first_revoked}
 use Rattle.stix_versions.proofs.revoked.Revoked.precedes.Goals as goal
 
 pub returns-in-Some : goal.returns-in-Some
