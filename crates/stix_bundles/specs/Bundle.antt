@@ -92,7 +92,3 @@ IsBundleRefused d (NotBundle path) = IsNoBundle d path
 IsBundleRefused d (Breaks breaks) = (breaks ≢ []) × ((objects : List Data) × IsOutlined d objects × AreAllBreaks 0 objects breaks)
 IsBundleRefused d NoMemory = ⊥
 
--- what a value is read as, but for memory
-abbrev pub ReadsBundle : Data → Result (List Data) BundleRefusal → Type 0
-ReadsBundle d (Ok objects) = IsBundle d objects
-ReadsBundle d (Err refusal) = IsBundleRefused d refusal

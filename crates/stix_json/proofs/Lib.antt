@@ -6,3 +6,4 @@ pub mod WriteLemmas
 pub mod ReadingLemmas
 pub mod DataOfLemmas
 pub mod EntriesLemmas
+pub mod FieldsLemmas

@@ -27,7 +27,7 @@ passed_at : (name l : List ℕ) (e : Data) (ms : Members) → bytes_eq l name �
 passed_at name l e ms is = past_test (slice_cmp nat_cmp name l) e (get_member name ms) (is_eq-slice_cmp name l ∙ nat_list_eq_equiv.symm name l ∙ is)
 
 -- the members of the fields from a place on, the first of which is this field
-opened : (fields : List Field) (i : ℕ) (field : Field) → i < length fields → field ≡ get_or fields i field
+pub opened : (fields : List Field) (i : ℕ) (field : Field) → i < length fields → field ≡ get_or fields i field
     → members_of (map field_data (drop i fields)) ≡ member field.name (data_of field.value) (members_of (map field_data (drop (i + 1) fields)))
 opened fields i field within is =
     let here : drop i fields ≡ field ∷ drop (i + 1) fields = drop_more fields i field within ∙ ap (λ f. f ∷ drop (i + 1) fields) (sym is) in

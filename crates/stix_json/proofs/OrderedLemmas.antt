@@ -7,7 +7,7 @@ use Rattle.std.specs.Ordering.{ordering_reverse, match_ordering}
 use Rattle.json.specs.Lex.{tokens}
 use Rattle.json.specs.Json as json
 use Rattle.serde_json.specs.Data.{Num, Data, null, boolean, number, string, array, object, Items, item, Members, no_members, member, put}
-use Rattle.serde_json.specs.Find.{get_member}
+use Rattle.serde_json.specs.Find.{get, get_member}
 use Rattle.serde_json.specs.View.{view, items_view}
 use Rattle.serde_json.specs.declared.value.Value.{Value}
 use Rattle.stix_json.specs.Entries.{list_of, list_or_none, list_under}
@@ -150,3 +150,12 @@ pub item_ordered : (all done left rest : List Value) (v : Value) → ItemsAreOrd
 item_ordered all done left rest v h whole split =
     let P : List Value → Type 0 = λ vs. ItemsAreOrdered (items_view vs) in
     at_item done v rest (subst P (whole ∙ ap (λ vs. done ++ vs) split) h)
+
+-- the property of an ordered object is ordered
+pub property_ordered : (object value : Data) (name : List ℕ) → IsOrdered object → get name object ≡ Some value → IsOrdered value
+property_ordered null value name ordered is = absurd cc
+property_ordered (boolean b) value name ordered is = absurd cc
+property_ordered (number n) value name ordered is = absurd cc
+property_ordered (string s) value name ordered is = absurd cc
+property_ordered (array ds) value name ordered is = absurd cc
+property_ordered (object ms) value name ordered is = on_some (get_member name ms) value is (member_ordered name ms ordered)

@@ -1,6 +1,7 @@
 pub mod DataOf
 pub mod Entries
 pub mod Ordered
+pub mod Properties
 pub mod Reading
 pub mod Refusal
 pub mod Walk
