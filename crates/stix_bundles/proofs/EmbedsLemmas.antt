@@ -4,7 +4,7 @@ use Rattle.std.proofs.lemmas.Bool.{cases_lt}
 use Rattle.std.proofs.lemmas.Option.{slice_get_within}
 use Rattle.serde_json.specs.Data.{Data}
 use Rattle.stix_bundles.specs.Observations.{Embeds, EmbedsAt, IsFirstEmbedding, NoneEmbeds}
-use Rattle.stix_bundles.proofs.PropertyLemmas.{same_some}
+use Rattle.stix_bundles.proofs.ObjectsLemmas.{same_some}
 
 pub first_embedding_at : (ds : List Data) (at : ℕ) (d : Data) → slice_get ds at ≡ Some d → Embeds d → ((n : ℕ) → n < at → ¬ EmbedsAt ds n) → IsFirstEmbedding ds at
 first_embedding_at ds at d there embeds before = record { embeds = record { object = d; there = there; embeds = embeds }; before = before }

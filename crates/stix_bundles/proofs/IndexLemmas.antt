@@ -7,10 +7,10 @@ use Rattle.std.proofs.lemmas.Slice.Eq.{bytes_eq-Decides}
 use Rattle.serde_json.specs.Data.{Data}
 use Rattle.stix_ids.specs.declared.id.Id.{Id}
 use Rattle.stix_bundles.specs.declared.index.Index.{Index}
-use Rattle.stix_bundles.specs.Objects.{HasId}
+use Rattle.stix_objects.specs.Properties.{HasId}
 use Rattle.stix_bundles.specs.Lookup.{IsModified, IsEarlier, IsOf, IsVersionAt, IsLatest}
 use Rattle.stix_bundles.specs.inner.Index.{position_of, same_id, Puts, Overtakes, IsPositionOf, IsIndexOf}
-use Rattle.stix_bundles.proofs.PropertyLemmas.{same_some}
+use Rattle.stix_bundles.proofs.ObjectsLemmas.{same_some}
 use Rattle.stix_bundles.proofs.TakeLemmas.{taken, taken_before, in_taken}
 use Rattle.stix_bundles.proofs.LookupLemmas.{of_version}
 

@@ -6,7 +6,8 @@ use Rattle.stix_ids.specs.declared.id.Id.{Id}
 use Rattle.stix_json.specs.declared.value.Json.{Json}
 use Rattle.stix_json.specs.DataOf.{data_of}
 use Rattle.stix_bundles.specs.declared.index.Index.{Index}
-use Rattle.stix_bundles.specs.Objects.{data_in, HasId}
+use Rattle.stix_bundles.specs.Objects.{data_in}
+use Rattle.stix_objects.specs.Properties.{HasId}
 use Rattle.stix_bundles.specs.Lookup.{IsModified}
 use Rattle.stix_bundles.specs.inner.Index.{position_of, Puts, Overtakes, IsPositionOf, IsIndexOf}
 use Rattle.stix_bundles.proofs.ObjectsLemmas.{data_read}

@@ -9,7 +9,7 @@ use Rattle.stix_bundles.specs.Objects.{data_in}
 use Rattle.stix_bundles.specs.Observations.{IsObservedData}
 use Rattle.stix_bundles.specs.inner.LastTimes.{IsLastTimeOf}
 use Rattle.stix_bundles.proofs.ObjectsLemmas.{data_read}
-use Rattle.stix_bundles.proofs.PropertyLemmas.{same_some}
+use Rattle.stix_bundles.proofs.ObjectsLemmas.{same_some}
 
 pub stands : (read all : List Json) → read ≡ all → (last_time : LastTime) → IsLastTimeOf (data_in all) last_time → (tree : Json) → tree ≡ slice_index_or read last_time.at tree
     → slice_get (data_in all) last_time.at ≡ Some (data_of tree)

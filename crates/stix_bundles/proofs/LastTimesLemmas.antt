@@ -16,8 +16,8 @@ use Rattle.serde_json.specs.Data.{Data, null}
 use Rattle.stix_bundles.specs.declared.last_time.LastTime.{LastTime}
 use Rattle.stix_bundles.specs.Observations.{IsObservedData, is_observed_data, IsObservedAt}
 use Rattle.stix_bundles.specs.inner.LastTimes.{IsLastTimeOf, AreLastTimesBefore}
-use Rattle.stix_objects.specs.Conditions.{text_at}
-use Rattle.stix_bundles.proofs.PropertyLemmas.{same_some}
+use Rattle.stix_json.specs.Properties.{text_at}
+use Rattle.stix_bundles.proofs.ObjectsLemmas.{same_some}
 
 -- whether two last times stand at one place
 abbrev pub same_place : LastTime → LastTime → Bool

@@ -1,7 +1,6 @@
 pub mod ObjectsLemmas
 pub mod OutlineLemmas
 pub mod AllBreaksLemmas
-pub mod PropertyLemmas
 pub mod TakeLemmas
 pub mod LookupLemmas
 pub mod IndexLemmas

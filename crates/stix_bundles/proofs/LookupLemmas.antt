@@ -1,37 +1,28 @@
 -- What a text means, and that it means one place.
-use Rattle.std.proofs.Common.{arith, ◌≡◌, inl, inr, ℕ, ℤ, List, Option, Some, None, sym, ap, refl, subst, ◌∙◌}
+use Rattle.std.proofs.Common.{arith, ◌≡◌, inl, inr, ℕ, ℤ, List, Option, Some, None, codes, ap, refl, subst}
 use Rattle.std.proofs.lemmas.Int.{ints}
 use Rattle.serde_json.specs.Data.{Data}
-use Rattle.stix_times.specs.Reading.{IsTextOf as IsTimeOf, IsMillisTextOf}
 use Rattle.stix_ids.specs.declared.id.Id.{Id}
 use Rattle.stix_ids.specs.Identifier.{IsTextOf}
-use Rattle.stix_bundles.specs.Objects.{HasId}
+use Rattle.stix_objects.specs.declared.form.Precision.{Precision}
+use Rattle.stix_objects.specs.declared.form.Precision.TheVariants.{Millis}
+use Rattle.stix_objects.specs.Properties.{IsTimestampAt}
 use Rattle.stix_bundles.specs.Lookup.{IsModified, IsEarlier, IsOf, IsVersionAt, IsLatest, Means}
 use Rattle.stix_bundles.specs.inner.Index.{IsPositionOf}
-use Rattle.stix_bundles.proofs.PropertyLemmas.{same_some}
 
 -- a text is one identifier's
 abbrev pub OneIdentifier : Type 0
 OneIdentifier = (text : List ℕ) (first second : Id) → IsTextOf text first → IsTextOf text second → first ≡ second
 
--- a text names one instant
-abbrev pub OneInstant : Type 0
-OneInstant = (text : List ℕ) (first second : ℤ) → IsTimeOf text first → IsTimeOf text second → first ≡ second
+-- a property is a timestamp of one instant
+abbrev pub OneTimestamp : Type 0
+OneTimestamp = (precision : Precision) (name : List ℕ) (d : Data) (first second : ℤ) → IsTimestampAt precision name d first → IsTimestampAt precision name d second → first ≡ second
 
-pub has_one_id : OneIdentifier → (d : Data) (first second : Id) → HasId d first → HasId d second → first ≡ second
-has_one_id one d first second has also =
-    one has.text first second has.reads (subst (λ (t : List ℕ). IsTextOf t second) (same_some also.text has.text (sym also.there ∙ has.there)) also.reads)
-
-pub millis_is_time : (text : List ℕ) (instant : ℤ) → IsMillisTextOf text instant → IsTimeOf text instant
-millis_is_time text instant is = (is.0, is.1, (is.2.0, is.2.2))
-
-pub modified_once : OneInstant → (d : Data) (first second : Option ℤ) → IsModified d first → IsModified d second → first ≡ second
+pub modified_once : OneTimestamp → (d : Data) (first second : Option ℤ) → IsModified d first → IsModified d second → first ≡ second
 modified_once one d None None is also = refl
 modified_once one d None (Some second) is also = absurd (is second also)
 modified_once one d (Some first) None is also = absurd (also first is)
-modified_once one d (Some first) (Some second) is also =
-    let other = subst (λ (t : List ℕ). IsMillisTextOf t second) (same_some also.text is.text (sym also.there ∙ is.there)) also.names in
-    ap Some (one is.text first second (millis_is_time is.text first is.names) (millis_is_time is.text second other))
+modified_once one d (Some first) (Some second) is also = ap Some (one Millis (codes "modified") d first second is also)
 
 pub of_version : (objects : List Data) (id : Id) (at : ℕ) (modified : Option ℤ) → IsVersionAt objects id at modified → IsOf objects id at
 of_version objects id at modified is = record { object = is.object; there = is.there; has = is.has }

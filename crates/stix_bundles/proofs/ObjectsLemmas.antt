@@ -29,3 +29,6 @@ holds_before_more P xs at x there p before n other less is =
 
 pub holds_all : (P : Data → Type 0) (xs : List Data) → HoldsBefore P xs (length xs) → All P xs
 holds_all P xs before = λ k d inside. before k (slice_index_or xs k d) inside (slice_get-get_or xs k d inside)
+
+pub same_some : {A : Type 0} (x y : A) → Some x ≡ Some y → x ≡ y
+same_some {A} x y e = ap (λ (o : Option A). unwrap_or o x) e

@@ -17,7 +17,7 @@ use Rattle.stix_bundles.specs.declared.last_time.LastTime.{LastTime}
 use Rattle.stix_bundles.specs.declared.observation.Observation.{Observation}
 use Rattle.stix_bundles.specs.Observations.{ObservationAt, AreObservations}
 use Rattle.stix_bundles.specs.inner.LastTimes.{AreLastTimes, IsUpTo, AreInOrder, last_time_of, AreObservationsAt}
-use Rattle.stix_bundles.proofs.PropertyLemmas.{same_some}
+use Rattle.stix_bundles.proofs.ObjectsLemmas.{same_some}
 use Rattle.stix_bundles.proofs.LastTimesLemmas.{same_place}
 
 by_orders : (first second : Ordering) (m n : LastTime) → is_lt (ordering_then first second) ≡ false

@@ -9,7 +9,7 @@ use Rattle.stix_json.specs.DataOf.{data_of}
 use Rattle.stix_bundles.specs.Objects.{data_in}
 use Rattle.stix_bundles.specs.Lookup.{IsModified, IsEarlier}
 use Rattle.stix_bundles.specs.inner.Index.{Overtakes}
-use Rattle.stix_bundles.proofs.PropertyLemmas.{same_some}
+use Rattle.stix_bundles.proofs.ObjectsLemmas.{same_some}
 use Rattle.stix_bundles.proofs.ObjectsLemmas.{data_read}
 use Rattle.stix_bundles.proofs.IndexLemmas.{OneModified}
 

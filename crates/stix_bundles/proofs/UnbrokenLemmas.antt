@@ -4,10 +4,11 @@ use Rattle.serde_json.specs.Data.{Data}
 use Rattle.stix_objects.specs.declared.rule_break.Break.{Break}
 use Rattle.stix_objects.specs.Breaks.{AreBreaksOf}
 use Rattle.stix_objects.specs.Sound.{IsTimed}
+use Rattle.stix_objects.specs.declared.form.Precision.TheVariants.{Any}
+use Rattle.stix_objects.specs.Properties.{IsTimestampAt}
 use Rattle.stix_bundles.specs.declared.object_break.ObjectBreak.{ObjectBreak}
 use Rattle.stix_bundles.specs.Bundle.{AreAllBreaks, break_of_object}
-use Rattle.stix_bundles.specs.Observations.{IsTimeAt}
-use Rattle.stix_bundles.proofs.PropertyLemmas.{same_some}
+use Rattle.stix_bundles.proofs.ObjectsLemmas.{same_some}
 
 none_own : (at : ℕ) (own : List Break) (rest : List ObjectBreak) → [] ≡ map (break_of_object at) own ++ rest → own ≡ []
 none_own at [] rest is = refl
@@ -24,8 +25,8 @@ unbroken_at from (x ∷ xs) all zero d there =
 unbroken_at from (x ∷ xs) all (suc n) d there =
     unbroken_at (from + 1) xs (subst (AreAllBreaks (from + 1) xs) (none_rest from all.0 all.1 all.4) all.3) n d there
 
-pub first_time_of : (first last : List ℕ) (d : Data) → IsTimed first last d → (instant : ℤ) × IsTimeAt first d instant
-first_time_of first last d is = (is.from, record { text = is.begins.text; there = is.begins.there; names = is.begins.timestamp })
+pub first_time_of : (first last : List ℕ) (d : Data) → IsTimed first last d → (instant : ℤ) × IsTimestampAt Any first d instant
+first_time_of first last d is = (is.from, is.begins)
 
-pub last_time_of_object : (first last : List ℕ) (d : Data) → IsTimed first last d → (instant : ℤ) × IsTimeAt last d instant
-last_time_of_object first last d is = (is.to, record { text = is.ends.text; there = is.ends.there; names = is.ends.timestamp })
+pub last_time_of_object : (first last : List ℕ) (d : Data) → IsTimed first last d → (instant : ℤ) × IsTimestampAt Any last d instant
+last_time_of_object first last d is = (is.to, is.ends)

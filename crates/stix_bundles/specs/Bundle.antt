@@ -1,17 +1,17 @@
 -- Bundles (STIX 2.1, section 8): an object of the type `bundle`, with an identifier of that kind and, where there are
 -- some, a list of objects. Here it has at most 8,388,608 of them, and each meets the rules of its type.
-use Rattle.std.specs.Prelude.{◌≡◌, ◌≢◌, ◌⊎◌, ℕ, ◌+◌, ◌≤◌, ◌<◌, List, [], ◌∷◌, ◌++◌, length, map, All, slice_get, Some, MatchOption, IsSome, Result, Ok, Err, codes}
+use Rattle.std.specs.Prelude.{◌≡◌, ◌≢◌, ◌⊎◌, ℕ, ◌+◌, ◌≤◌, ◌<◌, List, [], ◌∷◌, ◌++◌, length, map, All, slice_get, Some, MatchOption, IsSome, codes}
 use Rattle.serde_json.specs.Data.{Data, Items, no_items, item}
 use Rattle.serde_json.specs.Find.{get, as_array, as_object}
 use Rattle.stix_ids.specs.declared.id.Id.{Id}
 use Rattle.stix_json.specs.Walk.{path_text, place_part}
 use Rattle.stix_objects.specs.declared.rule_break.Break.{Break}
-use Rattle.stix_objects.specs.Conditions.{text_at}
+use Rattle.stix_json.specs.Properties.{text_at}
 use Rattle.stix_objects.specs.Breaks.{AreBreaksOf}
 use Rattle.stix_bundles.specs.declared.object_break.ObjectBreak.{ObjectBreak}
 use Rattle.stix_bundles.specs.declared.refusal.BundleRefusal.{BundleRefusal}
 use Rattle.stix_bundles.specs.declared.refusal.BundleRefusal.TheVariants.{NotBundle, Breaks, NoMemory}
-use Rattle.stix_bundles.specs.Objects.{HasId}
+use Rattle.stix_objects.specs.Properties.{HasId}
 
 -- the items of a list, one after another
 abbrev pub listed : Items → List Data
@@ -91,4 +91,3 @@ abbrev pub IsBundleRefused : Data → BundleRefusal → Type 0
 IsBundleRefused d (NotBundle path) = IsNoBundle d path
 IsBundleRefused d (Breaks breaks) = (breaks ≢ []) × ((objects : List Data) × IsOutlined d objects × AreAllBreaks 0 objects breaks)
 IsBundleRefused d NoMemory = ⊥
-

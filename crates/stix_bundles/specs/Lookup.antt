@@ -3,22 +3,15 @@
 -- and of versions that are equally late the last in the bundle counts.
 use Rattle.std.specs.Prelude.{◌≡◌, ◌⊎◌, ⊤, ℕ, ◌≤◌, ℤ, ◌<ℤ◌, List, Option, Some, None, slice_get, codes}
 use Rattle.serde_json.specs.Data.{Data}
-use Rattle.stix_times.specs.Reading.{IsMillisTextOf}
+use Rattle.flow_values.specs.Answers.{FindsExactly}
 use Rattle.stix_ids.specs.declared.id.Id.{Id}
 use Rattle.stix_ids.specs.Identifier.{IsTextOf}
-use Rattle.stix_objects.specs.Conditions.{text_at}
-use Rattle.stix_bundles.specs.Objects.{HasId}
+use Rattle.stix_objects.specs.declared.form.Precision.TheVariants.{Millis}
+use Rattle.stix_objects.specs.Properties.{IsTimestampAt, HasId}
 
--- the object's `modified` is a timestamp of that instant, to the millisecond at least (sections 3.2 and 2.16)
-pub record IsModifiedAt (object : Data) (instant : ℤ) : Type 0 where
-  pub text : List ℕ
-  pub there : text_at (codes "modified") object ≡ Some text
-  pub names : IsMillisTextOf text instant
-
--- when the object was modified: none where it tells no such instant
+-- when the object was modified, to the millisecond at least: none where it tells no such instant (sections 3.2 and 2.16)
 abbrev pub IsModified : Data → Option ℤ → Type 0
-IsModified d None = (instant : ℤ) → ¬ IsModifiedAt d instant
-IsModified d (Some instant) = IsModifiedAt d instant
+IsModified d when = FindsExactly (IsTimestampAt Millis (codes "modified") d) when
 
 -- the first is earlier than the second, and none is earlier than any
 abbrev pub IsEarlier : Option ℤ → Option ℤ → Type 0

@@ -1,15 +1,15 @@
 -- The observations of a bundle: its observed-data objects (STIX 2.1, section 4.13) in the order in which they were last
 -- observed, numbered one after another.
-use Rattle.std.specs.Prelude.{◌≡◌, ◌⊎◌, ℕ, ◌+◌, ◌<◌, ℤ, ◌<ℤ◌, List, [], ◌∷◌, ◌++◌, map, filter_map, count_by, Bool, false, Option, Some, IsSome, slice_get, option_and_then, option_to_list, bytes_eq, codes}
+use Rattle.std.specs.Prelude.{◌≡◌, ◌⊎◌, ℕ, ◌+◌, ◌<◌, ◌<ℤ◌, List, [], ◌∷◌, ◌++◌, map, filter_map, count_by, Bool, false, Option, Some, IsSome, slice_get, option_and_then, option_to_list, bytes_eq, codes}
 use Rattle.std.specs.Option.{option_map_or}
 use Rattle.serde_json.specs.Data.{Data}
 use Rattle.serde_json.specs.Find.{get, as_array, as_str}
-use Rattle.stix_times.specs.Reading.{IsTextOf as IsTimeOf}
-use Rattle.stix_objects.specs.Conditions.{text_at}
+use Rattle.stix_json.specs.Properties.{text_at}
 use Rattle.stix_bundles.specs.declared.observation.Observation.{Observation}
 use Rattle.stix_bundles.specs.declared.observation.ObservationRefusal.{ObservationRefusal}
 use Rattle.stix_bundles.specs.declared.observation.ObservationRefusal.TheVariants.{EmbeddedObjects, NoMemory}
-use Rattle.stix_bundles.specs.Objects.{HasId}
+use Rattle.stix_objects.specs.declared.form.Precision.TheVariants.{Any}
+use Rattle.stix_objects.specs.Properties.{IsTimestampAt, HasId}
 use Rattle.stix_bundles.specs.Bundle.{listed}
 use Rattle.stix_bundles.specs.Lookup.{Means}
 
@@ -60,12 +60,6 @@ AreMeant objects [] places = places ≡ []
 AreMeant objects (text ∷ texts) places = (place : Option ℕ) × (rest : List ℕ)
     × Means objects text place × AreMeant objects texts rest × (places ≡ option_to_list place ++ rest)
 
--- the property is a timestamp of that instant (section 2.16)
-pub record IsTimeAt (name : List ℕ) (object : Data) (instant : ℤ) : Type 0 where
-  pub text : List ℕ
-  pub there : text_at name object ≡ Some text
-  pub names : IsTimeOf text instant
-
 -- the observation that the observed-data at the place is, with its number
 pub record IsObservationAt (objects : List Data) (at number : ℕ) (observation : Observation) : Type 0 where
   pub object : Data
@@ -73,8 +67,8 @@ pub record IsObservationAt (objects : List Data) (at number : ℕ) (observation 
   pub observed : IsObservedData object
   pub numbered : observation.number ≡ number
   pub named : HasId object observation.id
-  pub first : IsTimeAt (codes "first_observed") object observation.first
-  pub last : IsTimeAt (codes "last_observed") object observation.last
+  pub first : IsTimestampAt Any (codes "first_observed") object observation.first
+  pub last : IsTimestampAt Any (codes "last_observed") object observation.last
   pub roots : AreMeant objects (references object) observation.roots
 
 -- an observation, and the place of its object

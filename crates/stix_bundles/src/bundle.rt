@@ -1,5 +1,6 @@
-ghost use Rattle.std.specs.Prelude.{◌≡◌, ◌↔◌, ◌≤◌, [], IsTrue, length, option_map, slice_get};
+ghost use Rattle.std.specs.Prelude.{◌≡◌, ◌↔◌, ◌≤◌, [], All, IsTrue, length, option_map, slice_get};
 ghost use Rattle.stix_ids.specs.PartsOf.{id_of};
+ghost use Rattle.stix_json.specs.Ordered.{IsOrdered};
 ghost use Rattle.stix_bundles.specs.Objects.{data_in};
 ghost use Rattle.stix_bundles.specs.Bundle.{AreAllBreaks};
 ghost use Rattle.stix_bundles.specs.inner.Index.{IsPositionOf, IsIndexed};
@@ -58,10 +59,11 @@ impl Bundle {
         self.objects.is_empty()
     }
 
-    /// Its objects, which are not too many and break no rule.
+    /// Its objects, which are not too many, ordered, and break no rule.
     pub fn objects(&self) -> &[Json]
         ensures value { result.now ≡ self.now }
         ensures counted { length self.now ≤ 8_388_608 }
+        ensures ordered { All IsOrdered (data_in self.now) }
         ensures unbroken { AreAllBreaks 0 (data_in self.now) [] }
     {
         self.objects.as_slice()

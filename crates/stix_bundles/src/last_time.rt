@@ -4,11 +4,12 @@ ghost use Rattle.stix_bundles.specs.Bundle.{AreAllBreaks};
 ghost use Rattle.stix_bundles.specs.Observations.{IsObservedAt};
 ghost use Rattle.stix_bundles.specs.inner.LastTimes.{IsLastTimeOf, AreLastTimes, AreInOrder};
 
-use crate::property::{is_observed_data, time_at};
+use crate::property::is_observed_data;
 use flow_values::NoMemory;
 use std::alloc::Global;
 use stix_json::Json;
 use stix_objects::laws::no_breaks;
+use stix_objects::{Precision, timestamp_at};
 use stix_times::Instant;
 
 /// When an observed-data object was last observed, and its position. Moments are ordered by time,
@@ -65,7 +66,7 @@ fn last_observed(objects: &[Json], at: usize) -> Option<Instant>
         return None;
     }
     no_breaks();
-    match time_at(object, "last_observed") {
+    match timestamp_at(object, Precision::Any, "last_observed") {
         Some(last) => Some(last),
         None => unreachable!(),
     }

@@ -4,26 +4,17 @@ ghost use Rattle.std.specs.Prelude.{◌≡◌, ℕ, ℤ, List, Option, None, sli
 ghost use Rattle.serde_json.specs.Data.{Data};
 ghost use Rattle.stix_ids.specs.declared.id.Id.{Id};
 ghost use Rattle.stix_ids.specs.Identifier.{IsTextOf};
-ghost use Rattle.stix_bundles.specs.Objects.{HasId};
 ghost use Rattle.stix_bundles.specs.Lookup.{IsModified, IsOf, Means};
 
 use stix_ids::laws::one_identifier;
-use stix_times::laws::one_instant;
-
-/// An object has at most one identifier.
-pub fn one_id()
-    ensures { (object : Data) (first second : Id) → HasId object first → HasId object second
-        → first ≡ second }
-{
-    one_identifier();
-}
+use stix_objects::laws::one_timestamp;
 
 /// An object was modified at one time or at none.
 pub fn one_modified()
     ensures { (object : Data) (first second : Option ℤ) → IsModified object first
         → IsModified object second → first ≡ second }
 {
-    one_instant();
+    one_timestamp();
 }
 
 /// A text means one place, or none, and all texts of one identifier mean the same. The text of an

@@ -2,20 +2,22 @@ ghost use Rattle.std.specs.Prelude.{◌≡◌, ◌↔◌, IsTrue, ◌+◌, ◌�
 ghost use Rattle.serde_json.specs.Find.{as_str};
 ghost use Rattle.stix_json.specs.DataOf.{data_of};
 ghost use Rattle.stix_objects.specs.Breaks.{AreBreaksOf};
-ghost use Rattle.stix_bundles.specs.Objects.{data_in, HasId};
+ghost use Rattle.stix_objects.specs.declared.form.Precision.TheVariants.{Any};
+ghost use Rattle.stix_bundles.specs.Objects.{data_in};
+ghost use Rattle.stix_objects.specs.Properties.{IsTimestampAt, HasId};
 ghost use Rattle.stix_bundles.specs.Lookup.{Means};
-ghost use Rattle.stix_bundles.specs.Observations.{how_many, NoneEmbeds, Embeds, IsFirstEmbedding, IsObservedData, IsTimeAt, references, AreMeant, IsObservationAt, AreObservations, AreRefused};
+ghost use Rattle.stix_bundles.specs.Observations.{how_many, NoneEmbeds, Embeds, IsFirstEmbedding, IsObservedData, references, AreMeant, IsObservationAt, AreObservations, AreRefused};
 ghost use Rattle.stix_bundles.specs.inner.LastTimes.{IsLastTimeOf, AreObservationsAt};
 
 use crate::last_time::{LastTime, last_times_in_order};
-use crate::property::{is_observed_data, time_at};
+use crate::property::is_observed_data;
 use crate::{Bundle, Observation, ObservationRefusal, find};
 use flow_values::{Items, NoMemory};
 use std::alloc::Global;
 use stix_ids::{Id, read_id};
-use stix_json::{Json, get};
+use stix_json::{Json, get, text_at};
 use stix_objects::laws::no_breaks;
-use stix_objects::text_at;
+use stix_objects::{Precision, timestamp_at};
 use stix_times::Instant;
 
 /// The observations of a bundle: its observed-data objects in the order in which they were last
@@ -127,10 +129,10 @@ fn own_id(alloc: Global, object: &Json) -> Result<Id, NoMemory>
 fn first_observed(object: &Json) -> Instant
     requires unbroken { AreBreaksOf (data_of object.now) [] }
     requires observed { IsObservedData (data_of object.now) }
-    ensures { IsTimeAt (codes "first_observed") (data_of object.now) result }
+    ensures { IsTimestampAt Any (codes "first_observed") (data_of object.now) result }
 {
     no_breaks();
-    match time_at(object, "first_observed") {
+    match timestamp_at(object, Precision::Any, "first_observed") {
         Some(first) => first,
         None => unreachable!(),
     }

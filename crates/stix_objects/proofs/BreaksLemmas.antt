@@ -15,7 +15,7 @@ use Rattle.stix_objects.specs.Row.{Row, required, optional, required_where, own_
 use Rattle.stix_objects.specs.Judging.{Asks, Forbids, InTurn, OfKind}
 use Rattle.stix_objects.specs.Singles.{integer_of, JudgesTimestamp, JudgesSingle, JudgesOwnId}
 use Rattle.stix_objects.specs.Forms.{JudgesHere, JudgesUnder, JudgesItems, JudgesList, JudgesValue, JudgesPart, JudgesParts, OfList, JudgesForm}
-use Rattle.stix_objects.specs.Conditions.{text_at}
+use Rattle.stix_json.specs.Properties.{text_at}
 use Rattle.stix_objects.specs.Rows.{JudgesOwn, Judges}
 use Rattle.stix_objects.specs.Breaks.{JudgesRows, AreBreaksBy}
 

@@ -1,9 +1,15 @@
 -- What the one identifier of a text tells of every reading of it.
-use Rattle.std.proofs.Common.{◌≡◌, ℕ, List, Option, Some, None, true, false, bytes_eq, subst, ap, ◌∙◌}
+use Rattle.std.proofs.Common.{◌≡◌, ℕ, List, Option, Some, None, IfSome, option_map, unwrap_or, codes, true, false, bytes_eq, subst, sym, ap, ◌∙◌}
 use Rattle.std.proofs.lemmas.Slice.Eq.{bytes_eq-Decides}
+use Rattle.flow_values.specs.Answers.{FindsExactly}
+use Rattle.serde_json.specs.Data.{Data}
 use Rattle.stix_ids.specs.declared.id.Id.{Id}
+use Rattle.stix_ids.specs.declared.parts.Parts.{Parts}
 use Rattle.stix_ids.specs.Identifier.{IsTextOf, IsIdText}
+use Rattle.stix_ids.specs.PartsOf.{id_of}
 use Rattle.stix_objects.specs.Types.{is_among}
+use Rattle.stix_json.specs.Properties.{text_at}
+use Rattle.stix_objects.specs.Properties.{HasId}
 use Rattle.stix_objects.specs.Singles.{Refers, NamesOwn}
 
 abbrev pub IsOnly : List ℕ → Option Id → Type 0
@@ -36,14 +42,17 @@ pub named_by_own : (own : Option (List ℕ)) (s : List ℕ) → NamesOwn own s �
 named_by_own None s named = named
 named_by_own (Some own) s named = (record { kind = own; number = named.0 }, named.1)
 
--- the number of every reading
-pub same_number : (s t : List ℕ) (id other : Id) → IsOnly s (Some id) → Some s ≡ Some t → IsTextOf t other → id.number ≡ other.number
-same_number s t id other only is named =
-    let text : t ≡ s = cc in
-    let same : Some id ≡ Some other = only other (subst (λ (text : List ℕ). IsTextOf text other) text named) in
-    cc
+-- an object has one identifier
+pub one_id : ((text : List ℕ) (first second : Id) → IsTextOf text first → IsTextOf text second → first ≡ second) → (d : Data) (first second : Id)
+    → HasId d first → HasId d second → first ≡ second
+one_id one d first second is also =
+    let text : also.text ≡ is.text = ap (λ (o : Option (List ℕ)). unwrap_or o also.text) (sym also.there ∙ is.there) in
+    one is.text first second is.reads (subst (λ (t : List ℕ). IsTextOf t second) text also.reads)
 
-pub no_number : (s t : List ℕ) (other : Id) → IsOnly s None → Some s ≡ Some t → IsTextOf t other → ⊥
-no_number s t other only is named =
-    let text : t ≡ s = cc in
-    names_none s only (other, subst (λ (text : List ℕ). IsTextOf text other) text named)
+-- the identifier that is read of the text of `id`, if it is one
+pub identified : (d : Data) (s : List ℕ) → Some s ≡ text_at (codes "id") d → (found : Option Parts) → IfSome found (λ parts. IsTextOf s (id_of parts))
+    → IsOnly s (option_map id_of found) → FindsExactly (HasId d) (option_map id_of found)
+identified d s there None some only = λ id has.
+    let text : has.text ≡ s = ap (λ (o : Option (List ℕ)). unwrap_or o s) (sym has.there ∙ sym there) in
+    names_none s only (id, subst (λ (t : List ℕ). IsTextOf t id) text has.reads)
+identified d s there (Some parts) some only = record { text = s; there = sym there; reads = some }

@@ -19,7 +19,8 @@ use Rattle.stix_objects.specs.Types.{type_named, group_in, rows_in}
 use Rattle.stix_objects.specs.Judging.{Asks, OfKind}
 use Rattle.stix_objects.specs.Singles.{IsTimestamp, NamesOwn, JudgesSingle, JudgesOwnId}
 use Rattle.stix_objects.specs.Forms.{JudgesValue, JudgesForm}
-use Rattle.stix_objects.specs.Conditions.{text_at, IsTimestampAt}
+use Rattle.stix_objects.specs.Properties.{IsTimestampAt}
+use Rattle.stix_json.specs.Properties.{text_at}
 use Rattle.stix_objects.specs.Rows.{Judges, JudgesOwn}
 use Rattle.stix_objects.specs.Breaks.{standing, rows_for, type_of, JudgesRows, AreBreaksBy, AreBreaksOf}
 use Rattle.stix_objects.specs.Sound.{MeetsAll, IsNamed, IsTimed}
@@ -79,7 +80,7 @@ met_time : (name : List ℕ) (d : Data) → Judges (required name time) d None �
 met_time name d judged =
     let v = met_value name (JudgesForm time) (get name d) judged in
     let s = met_kind (as_str v.0) (λ s. Asks (IsTimestamp Any s) BadTime) (met_here (JudgesSingle (timestamp Any) v.0) v.2) in
-    (s.2.0, record { text = s.0; there = text_there name d v.0 s.0 v.1 s.1; timestamp = s.2.1 })
+    (s.2.0, record { text = s.0; there = text_there name d v.0 s.0 v.1 s.1; names = s.2.1 })
 
 named_met : (d : Data) → IsSome (as_object d) → Judges (required (codes "type") (one kind)) d None → Judges own_id d None → IsNamed d
 named_met d object typed owned =

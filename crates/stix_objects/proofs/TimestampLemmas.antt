@@ -1,10 +1,16 @@
 -- A text that names an instant does so with three to six digits of a second, or is refused for these alone.
-use Rattle.std.proofs.Common.{◌↔◌, ◌<ℤ◌, ◌≤ℤ◌, Bool, not, IsTrue, subst, ◌≡◌, ℕ, ℤ, ◌⊎◌, inl, inr, List, length, Result, Ok, Err, Some, None, true, false, refl, arith}
+use Rattle.std.proofs.Common.{◌↔◌, ◌<ℤ◌, ◌≤ℤ◌, Bool, not, IsTrue, subst, ◌≡◌, ℕ, ℤ, ◌⊎◌, inl, inr, List, length, Result, Ok, Err, Option, IfSome, unwrap_or, ap, sym, ◌∙◌, Some, None, true, false, refl, arith}
 use Rattle.std.proofs.lemmas.Bool.Decides.{leb_tells}
 use Rattle.std.proofs.lemmas.Int.{ints, by_lt_z}
+use Rattle.flow_values.specs.Answers.{FindsExactly}
 use Rattle.stix_times.specs.declared.refusal.TimeRefusal.{TimeRefusal}
 use Rattle.stix_times.specs.declared.refusal.TimeRefusal.TheVariants.{NotMillis}
 use Rattle.stix_times.specs.Timestamp.{Timestamp, nanos_of}
+use Rattle.serde_json.specs.Data.{Data}
+use Rattle.stix_objects.specs.declared.form.Precision.{Precision}
+use Rattle.stix_objects.specs.declared.form.Precision.TheVariants.{Any, Millis}
+use Rattle.stix_objects.specs.Singles.{IsTimestampOf}
+use Rattle.stix_objects.specs.Properties.{IsTimestampAt}
 use Rattle.stix_times.specs.Reading.{HasMillis, IsTextOf, IsMillisTextOf, Reads, ReadsMillis, IsRefusedMillis}
 
 -- a text that names an instant isn't refused
@@ -65,3 +71,22 @@ not_later_of from begins to ends true first second tells not_later =
     let earlier : from <ℤ to = subst (λ (i : ℤ). i <ℤ to) same (subst (λ (j : ℤ). begins <ℤ j) same_end (tells.0 refl)) in
     absurd (omega (arith, ints))
 not_later_of from begins to ends false first second tells not_later = refl
+
+-- what holds of the answer, and of no other instant, is found exactly
+pub found_exactly : (Rule : ℤ → Type 0) (found : Option ℤ) → IfSome found Rule → ((instant : ℤ) → Rule instant → found ≡ Some instant) → FindsExactly Rule found
+found_exactly Rule None there only = λ instant is. let none : None ≡ Some instant = only instant is in cc
+found_exactly Rule (Some instant) there only = there
+
+abbrev pub OneInstant : Type 0
+OneInstant = (text : List ℕ) (first second : ℤ) → IsTextOf text first → IsTextOf text second → first ≡ second
+
+instant_once : OneInstant → (precision : Precision) (text : List ℕ) (first second : ℤ) → IsTimestampOf precision text first → IsTimestampOf precision text second → first ≡ second
+instant_once one Any text first second is also = one text first second is also
+instant_once one Millis text first second is also = one text first second (time_of_millis text first is) (time_of_millis text second also)
+
+-- a property is a timestamp of one instant
+pub timestamp_once : OneInstant → (precision : Precision) (name : List ℕ) (d : Data) (first second : ℤ) → IsTimestampAt precision name d first
+    → IsTimestampAt precision name d second → first ≡ second
+timestamp_once one precision name d first second is also =
+    let text : also.text ≡ is.text = ap (λ (o : Option (List ℕ)). unwrap_or o also.text) (sym also.there ∙ is.there) in
+    instant_once one precision is.text first second is.names (subst (λ (t : List ℕ). IsTimestampOf precision t second) text also.names)

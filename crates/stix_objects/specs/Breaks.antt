@@ -11,7 +11,7 @@ use Rattle.stix_objects.specs.BreakAt.{BreakAt, here, break_of}
 use Rattle.stix_objects.specs.Row.{Row, required, optional, required_where, CommonRow, for, unless_own, ObjectType}
 use Rattle.stix_objects.specs.CommonRows.{common_rows}
 use Rattle.stix_objects.specs.Types.{type_named, group_in, rows_in}
-use Rattle.stix_objects.specs.Conditions.{text_at}
+use Rattle.stix_json.specs.Properties.{text_at}
 use Rattle.stix_objects.specs.Rows.{Judges}
 
 -- whether two groups are one

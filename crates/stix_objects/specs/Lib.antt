@@ -8,6 +8,7 @@ pub mod Types
 pub mod Judging
 pub mod Singles
 pub mod Forms
+pub mod Properties
 pub mod Conditions
 pub mod Rows
 pub mod Breaks

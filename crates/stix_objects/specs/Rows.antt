@@ -9,7 +9,8 @@ use Rattle.stix_objects.specs.Row.{Row, required, optional, required_where, own_
 use Rattle.stix_objects.specs.Judging.{Forbids}
 use Rattle.stix_objects.specs.Singles.{JudgesOwnId}
 use Rattle.stix_objects.specs.Forms.{JudgesValue, JudgesForm, LacksAll}
-use Rattle.stix_objects.specs.Conditions.{Holds, HoldAll, text_at, SecondIsEarlier, SecondIsNotLater, defined_text, defined_colour, IsMarking, HasOtherColour}
+use Rattle.stix_objects.specs.Conditions.{Holds, HoldAll, SecondIsEarlier, SecondIsNotLater, defined_text, defined_colour, IsMarking, HasOtherColour}
+use Rattle.stix_json.specs.Properties.{text_at}
 
 -- a rule broken at a path
 abbrev pub at : List (List ℕ) → Rule → BreakAt

@@ -6,7 +6,8 @@ use Rattle.stix_ids.specs.Kind.{IsKind}
 use Rattle.stix_ids.specs.Identifier.{IsTextOf}
 use Rattle.stix_objects.specs.declared.form.Precision.TheVariants.{Any}
 use Rattle.stix_objects.specs.Row.{Row}
-use Rattle.stix_objects.specs.Conditions.{text_at, IsTimestampAt}
+use Rattle.stix_objects.specs.Properties.{IsTimestampAt}
+use Rattle.stix_json.specs.Properties.{text_at}
 use Rattle.stix_objects.specs.Rows.{Judges}
 
 -- the value meets each row

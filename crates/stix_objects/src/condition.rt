@@ -1,14 +1,13 @@
-ghost use Rattle.std.specs.Prelude.{◌≡◌, ◌↔◌, IsTrue, Some, true, false, option_map, map};
+ghost use Rattle.std.specs.Prelude.{◌≡◌, ◌↔◌, IsTrue, Some, true, false, map};
 ghost use Rattle.serde_json.specs.Data.{boolean};
 ghost use Rattle.serde_json.specs.Find.{get as member_of};
 ghost use Rattle.stix_json.specs.DataOf.{data_of};
-ghost use Rattle.stix_objects.specs.Conditions.{Meets, Holds, HoldAll, text_at as text_under};
+ghost use Rattle.stix_objects.specs.Conditions.{Meets, Holds, HoldAll};
 ghost use Rattle.stix_objects.specs.inner.Views.{form_view, condition_view};
 
 use crate::form::Form;
 use crate::list::judge_form;
 use crate::row::Condition;
-use crate::single::text_of;
 use stix_json::{Json, get};
 
 /// Whether an object meets all the conditions.
@@ -53,12 +52,4 @@ fn meets(object: &Json, name: &str, form: &Form) -> bool
         Some(value) => judge_form(form, value).is_none(),
         None => false,
     }
-}
-
-/// The text of a property. None where the property is absent or no text, or the tree is no object.
-/// Takes no memory.
-pub fn text_at<'a>(object: &'a Json, name: &str) -> Option<&'a str>
-    ensures { option_map (λ text. text.now) result ≡ text_under name.now (data_of object.now) }
-{
-    text_of(get(object, name)?)
 }

@@ -1,6 +1,6 @@
 /// How finely a timestamp must be written.
 #[derive(Clone, Copy, Debug, PartialEq, Eq)]
-pub(crate) enum Precision {
+pub enum Precision {
     /// With up to nine digits of a second.
     Any,
     /// With three to six digits of a second.

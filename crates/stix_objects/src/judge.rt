@@ -8,7 +8,7 @@ ghost use Rattle.stix_objects.specs.Rows.{Judges};
 ghost use Rattle.stix_objects.specs.inner.Views.{form_view, row_view, row_break_view};
 
 use crate::Rule;
-use crate::condition::{hold_all, holds, text_at};
+use crate::condition::{hold_all, holds};
 use crate::form::Form;
 use crate::identifier::judge_own_id;
 use crate::list::judge_form;
@@ -17,7 +17,7 @@ use crate::records::lacks_all;
 use crate::row::Row;
 use crate::row_break::{RowBreak, Site, ValueBreak};
 use crate::timestamp::{second_is_earlier, second_is_not_later};
-use stix_json::{Json, get};
+use stix_json::{Json, get, text_at};
 
 /// What an object breaks of a row.
 pub(crate) fn judge(row: &Row, object: &Json) -> Option<RowBreak>

@@ -27,9 +27,11 @@ mod tables;
 mod tests;
 mod timestamp;
 
-pub use condition::text_at;
+pub use form::Precision;
 pub use groups::Group;
+pub use identifier::object_id;
 pub use kinds::{group, group_before};
 pub use report::breaks;
 pub use rule::Rule;
 pub use rule_break::Break;
+pub use timestamp::timestamp_at;

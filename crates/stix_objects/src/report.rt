@@ -8,7 +8,6 @@ ghost use Rattle.stix_objects.specs.CommonRows.{common_rows as shared_rows};
 ghost use Rattle.stix_objects.specs.inner.Adding.{Adds, AddsOne, standing_rows};
 ghost use Rattle.stix_objects.specs.inner.Views.{row_view, common_view, type_view, row_break_view};
 
-use crate::condition::text_at;
 use crate::judge::judge;
 use crate::object_type::{ObjectType, group_in, rows_in, type_named};
 use crate::row::{CommonRow, Row};
@@ -16,7 +15,7 @@ use crate::tables::common::common_rows;
 use crate::{Break, Group, Rule};
 use flow_values::{Items, NoMemory, Text};
 use std::alloc::Global;
-use stix_json::Json;
+use stix_json::{Json, text_at};
 
 /// The breaks of a value: one for each row of its type that it doesn't meet, in the order of the
 /// rows, the common ones first. A value that is no object has one break.

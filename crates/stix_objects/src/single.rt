@@ -1,5 +1,4 @@
-ghost use Rattle.std.specs.Prelude.{◌≡◌, ◌↔◌, ℕ, List, IsTrue, option_map, map};
-ghost use Rattle.serde_json.specs.Find.{as_str};
+ghost use Rattle.std.specs.Prelude.{◌≡◌, ◌↔◌, ℕ, List, IsTrue, map};
 ghost use Rattle.stix_json.specs.DataOf.{data_of, field_data, members_of};
 ghost use Rattle.stix_objects.specs.Form.{any_text, kind as kind_form, version as version_form, one_of, any_boolean, integer_in, object, texts_by_name};
 ghost use Rattle.stix_objects.specs.Singles.{AreTexts, JudgesTexts, JudgesSingle};
@@ -10,7 +9,7 @@ use crate::form::Single;
 use crate::identifier::{judge_any_reference, judge_reference};
 use crate::timestamp::judge_timestamp;
 use stix_ids::read_kind;
-use stix_json::{Field, Json};
+use stix_json::{Field, Json, text_of};
 
 /// What a value breaks of its form.
 pub(crate) fn judge_single(single: &Single, value: &Json) -> Option<Rule>
@@ -28,16 +27,6 @@ pub(crate) fn judge_single(single: &Single, value: &Json) -> Option<Rule>
         Single::Integer(least, most) => judge_integer(*least, *most, value),
         Single::Object => judge_object(value),
         Single::Hashes => judge_hashes(value),
-    }
-}
-
-/// The text that a value is.
-pub(crate) fn text_of(value: &Json) -> Option<&str>
-    ensures { option_map (λ text. text.now) result ≡ as_str (data_of value.now) }
-{
-    match value {
-        Json::String(text) => Some(text.as_str()),
-        Json::Bool(_) | Json::Integer(_) | Json::Array(_) | Json::Object(_) => None,
     }
 }
 

@@ -1,15 +1,15 @@
 ghost use Rattle.std.specs.Prelude.{◌≡◌, ◌↔◌, ℤ, Some, IsTrue, IfSome};
+ghost use Rattle.flow_values.specs.Answers.{FindsExactly};
 ghost use Rattle.stix_json.specs.DataOf.{data_of};
 ghost use Rattle.stix_objects.specs.declared.form.Precision.TheVariants.{Any, Millis};
 ghost use Rattle.stix_objects.specs.Form.{timestamp};
 ghost use Rattle.stix_objects.specs.Singles.{IsTimestampOf, JudgesTimestamp, JudgesSingle};
-ghost use Rattle.stix_objects.specs.Conditions.{IsTimestampAt, SecondIsEarlier, SecondIsNotLater};
+ghost use Rattle.stix_objects.specs.Conditions.{SecondIsEarlier, SecondIsNotLater};
+ghost use Rattle.stix_objects.specs.Properties.{IsTimestampAt};
 
 use crate::Rule;
-use crate::condition::text_at;
 use crate::form::Precision;
-use crate::single::text_of;
-use stix_json::Json;
+use stix_json::{Json, text_at, text_of};
 use stix_times::laws::is_before;
 use stix_times::{Instant, TimeRefusal, read, read_millis};
 
@@ -84,7 +84,14 @@ fn millis_of(text: &str) -> Option<Instant>
     }
 }
 
-/// The instant of a property.
+/// The instant of a property that is a timestamp in that precision. Takes no memory.
+pub fn timestamp_at(object: &Json, precision: Precision, name: &str) -> Option<Instant>
+    ensures { FindsExactly (IsTimestampAt precision name.now (data_of object.now)) result }
+{
+    instant_at(object, precision, name)
+}
+
+/// The same.
 fn instant_at(object: &Json, precision: Precision, name: &str) -> Option<Instant>
     ensures there { IfSome result (IsTimestampAt precision name.now (data_of object.now)) }
     ensures only { (instant : ℤ) → IsTimestampAt precision name.now (data_of object.now) instant

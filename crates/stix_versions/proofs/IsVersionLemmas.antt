@@ -3,7 +3,7 @@ use Rattle.std.proofs.Common.{◌≡◌, ℕ, ℤ, List, Option, Some, sym, subs
 use Rattle.serde_json.specs.Data.{Data}
 use Rattle.stix_times.specs.Reading.{IsTextOf as IsTimeOf, IsMillisTextOf}
 use Rattle.stix_ids.specs.declared.id.Id.{Id}
-use Rattle.stix_bundles.specs.Objects.{HasId}
+use Rattle.stix_objects.specs.Properties.{HasId}
 use Rattle.stix_bundles.specs.Lookup.{IsLatest, Means}
 use Rattle.stix_versions.specs.Versions.{IsVersion}
 use Rattle.stix_versions.proofs.VersionLemmas.{one_some}

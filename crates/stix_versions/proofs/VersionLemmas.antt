@@ -1,20 +1,19 @@
 -- What reading an object tells of the version that it is.
-use Rattle.std.proofs.Common.{◌≡◌, ◌↔◌, ◌<◌, ℕ, ℤ, List, length, Option, Some, None, IsTrue, IfNone, IfSome, IfOk, Result, Ok, Err, unwrap_or, slice_get, slice_index_or, codes, sym, ap, refl, subst, ◌∙◌, option_map}
-use Rattle.std.specs.Result.{result_ok}
+use Rattle.std.proofs.Common.{◌≡◌, ◌↔◌, ◌<◌, ℕ, ℤ, List, length, Option, Some, None, IsTrue, IfNone, unwrap_or, slice_get, slice_index_or, codes, sym, ap, refl, subst, ◌∙◌, option_map}
 use Rattle.std.proofs.lemmas.Option.{slice_get-map, slice_get_read}
 use Rattle.serde_json.specs.Data.{Data}
-use Rattle.stix_times.specs.declared.refusal.TimeRefusal.{TimeRefusal}
-use Rattle.stix_times.specs.Reading.{IsMillisTextOf, ReadsMillis}
 use Rattle.stix_ids.specs.declared.id.Id.{Id}
 use Rattle.stix_ids.specs.Identifier.{IsTextOf}
 use Rattle.stix_json.specs.declared.value.Json.{Json}
 use Rattle.stix_json.specs.DataOf.{data_of}
-use Rattle.stix_objects.specs.Conditions.{text_at}
+use Rattle.stix_json.specs.Properties.{text_at}
+use Rattle.stix_objects.specs.declared.form.Precision.TheVariants.{Millis}
+use Rattle.stix_objects.specs.Properties.{IsTimestampAt}
 use Rattle.stix_bundles.specs.Objects.{data_in}
 use Rattle.stix_bundles.specs.Lookup.{IsOf, Means}
 use Rattle.stix_versions.specs.declared.version.Version.{Version}
 use Rattle.stix_versions.specs.Versions.{IsObservable, IsVersion, IsRevoked}
-use Rattle.stix_versions.specs.inner.Version.{IsMillisAt, IsVersionAs, IsNoVersion}
+use Rattle.stix_versions.specs.inner.Version.{IsVersionAs, IsNoVersion}
 
 pub one_some : {A : Type 0} (x y : A) → Some x ≡ Some y → x ≡ y
 one_some {A} x y e = ap (λ (o : Option A). unwrap_or o x) e
@@ -22,23 +21,6 @@ one_some {A} x y e = ap (λ (o : Option A). unwrap_or o x) e
 pub if_none : {A : Type 0} (P : Type 0) (o : Option A) → P → IfNone o P
 if_none P None p = p
 if_none P (Some x) p = tt
-
-pub no_millis : (name : List ℕ) (d : Data) (text : List ℕ) → Some text ≡ text_at name d → (read : Result ℤ TimeRefusal)
-    → ((other : Result ℤ TimeRefusal) → ReadsMillis text other → other ≡ read) → (o : Option ℤ) → o ≡ result_ok read
-    → IfNone o ((instant : ℤ) → ¬ IsMillisAt name d instant)
-no_millis name d text there (Ok instant) only o is = subst (λ (x : Option ℤ). IfNone x ((i : ℤ) → ¬ IsMillisAt name d i)) (sym is) tt
-no_millis name d text there (Err refusal) only o is =
-    subst (λ (x : Option ℤ). IfNone x ((i : ℤ) → ¬ IsMillisAt name d i)) (sym is)
-    (λ instant at.
-    let named : IsMillisTextOf text instant = subst (λ (t : List ℕ). IsMillisTextOf t instant) (one_some at.text text (sym at.there ∙ sym there)) at.names in
-    let same : Ok instant ≡ Err refusal = only (Ok instant) named in
-    cc)
-
-pub some_millis : (name : List ℕ) (d : Data) (text : List ℕ) → Some text ≡ text_at name d → (read : Result ℤ TimeRefusal)
-    → IfOk read (IsMillisTextOf text) → (o : Option ℤ) → o ≡ result_ok read → IfSome o (IsMillisAt name d)
-some_millis name d text there (Ok instant) ok o is =
-    subst (λ (x : Option ℤ). IfSome x (IsMillisAt name d)) (sym is) (record { text = text; there = sym there; names = ok })
-some_millis name d text there (Err refusal) ok o is = subst (λ (x : Option ℤ). IfSome x (IsMillisAt name d)) (sym is) tt
 
 pub data_there : (trees : List Json) (at : ℕ) (tree : Json) → at < length trees → tree ≡ slice_index_or trees at tree → slice_get (data_in trees) at ≡ Some (data_of tree)
 data_there trees at tree inside is = slice_get-map data_of trees at ∙ ap (λ (x : Option Json). option_map data_of x) (slice_get_read trees (length trees) at tree refl inside is)
@@ -59,17 +41,17 @@ nameless_is_none objects at d there none = λ id created modified other is.
     let same : Some has.text ≡ None = sym has.there ∙ none in
     cc
 
-pub uncreated_is_none : (objects : List Data) (at : ℕ) (d : Data) → slice_get objects at ≡ Some d → ((i : ℤ) → ¬ IsMillisAt (codes "created") d i)
+pub uncreated_is_none : (objects : List Data) (at : ℕ) (d : Data) → slice_get objects at ≡ Some d → ((i : ℤ) → ¬ IsTimestampAt Millis (codes "created") d i)
     → IsNoVersion objects at
 uncreated_is_none objects at d there none = λ id created modified other is.
     let was = (version_of objects at d there id created modified other is).was_created in
-    none created (record { text = was.text; there = was.there; names = was.names })
+    none created was
 
-pub unmodified_is_none : (objects : List Data) (at : ℕ) (d : Data) → slice_get objects at ≡ Some d → ((i : ℤ) → ¬ IsMillisAt (codes "modified") d i)
+pub unmodified_is_none : (objects : List Data) (at : ℕ) (d : Data) → slice_get objects at ≡ Some d → ((i : ℤ) → ¬ IsTimestampAt Millis (codes "modified") d i)
     → IsNoVersion objects at
 unmodified_is_none objects at d there none = λ id created modified other is.
     let was = (version_of objects at d there id created modified other is).was_modified in
-    none modified (record { text = was.text; there = was.there; names = was.names })
+    none modified was
 
 abbrev pub OwnMeans : Type 0
 OwnMeans = (objects : List Data) (id : Id) (at : ℕ) (text : List ℕ) → IsOf objects id at → IsTextOf text id → ¬ Means objects text None
@@ -82,8 +64,8 @@ unmeant_is_none own objects at d there text named none = λ id created modified 
     own objects id at text (record { object = d; there = there; has = has }) reads none
 
 pub seen_as : (objects : List Data) (at : ℕ) (d : Data) → slice_get objects at ≡ Some d → (seen : Version) → ¬ IsObservable d → (text : List ℕ)
-    → Some text ≡ text_at (codes "id") d → Means objects text (Some seen.group) → IsMillisAt (codes "created") d seen.created
-    → IsMillisAt (codes "modified") d seen.modified → (IsTrue seen.revoked ↔ IsRevoked d) → IsVersionAs objects at seen
+    → Some text ≡ text_at (codes "id") d → Means objects text (Some seen.group) → IsTimestampAt Millis (codes "created") d seen.created
+    → IsTimestampAt Millis (codes "modified") d seen.modified → (IsTrue seen.revoked ↔ IsRevoked d) → IsVersionAs objects at seen
 seen_as objects at d there seen versioned text named means created modified revoked = record {
   id = means.0;
   object = d;
@@ -91,8 +73,8 @@ seen_as objects at d there seen versioned text named means created modified revo
     there = there;
     versioned = versioned;
     has = record { text = text; there = sym named; reads = means.1 };
-    was_created = record { text = created.text; there = created.there; names = created.names };
-    was_modified = record { text = modified.text; there = modified.there; names = modified.names };
+    was_created = created;
+    was_modified = modified;
   };
   grouped = means.2;
   revoked = revoked;

@@ -5,7 +5,7 @@ use Rattle.serde_json.specs.Data.{Data, Items, string}
 use Rattle.serde_json.specs.Find.{get, as_array}
 use Rattle.stix_ids.specs.declared.id.Id.{Id}
 use Rattle.stix_ids.specs.Identifier.{IsTextOf}
-use Rattle.stix_objects.specs.Conditions.{text_at}
+use Rattle.stix_json.specs.Properties.{text_at}
 use Rattle.stix_bundles.specs.Bundle.{listed}
 use Rattle.stix_versions.specs.declared.marking_break.MarkingRule.{MarkingRule}
 use Rattle.stix_versions.specs.declared.marking_break.MarkingRule.TheVariants.{MarkingOrLang, BadMarkingRef, BadSelector, SelectorMissing}

@@ -9,7 +9,8 @@ use crate::version::Version;
 use flow_values::NoMemory;
 use std::alloc::Global;
 use std::collections::BTreeMap;
-use stix_bundles::laws::{one_id, one_meaning};
+use stix_bundles::laws::one_meaning;
+use stix_objects::laws::one_id;
 use stix_times::laws::one_instant;
 use stix_times::{Instant, nanos};
 

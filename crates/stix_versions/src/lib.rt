@@ -5,7 +5,6 @@
 
 mod created;
 pub mod laws;
-mod list_at;
 mod marking;
 mod marking_break;
 #[cfg(test)]

@@ -11,7 +11,8 @@ use flow_values::NoMemory;
 use std::alloc::Global;
 use std::collections::BTreeMap;
 use stix_bundles::Bundle;
-use stix_bundles::laws::{one_id, one_meaning};
+use stix_bundles::laws::one_meaning;
+use stix_objects::laws::one_id;
 use stix_times::Instant;
 use stix_times::laws::{is_before, one_instant};
 

@@ -12,8 +12,9 @@ use crate::version::Version;
 use flow_values::NoMemory;
 use std::alloc::Global;
 use std::collections::BTreeMap;
-use stix_bundles::laws::{one_id, one_meaning};
+use stix_bundles::laws::one_meaning;
 use stix_json::Json;
+use stix_objects::laws::one_id;
 use stix_times::laws::one_instant;
 use stix_times::nanos;
 

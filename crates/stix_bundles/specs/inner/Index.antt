@@ -1,9 +1,10 @@
 -- For private clauses and the invariant of a bundle: what its index holds.
-use Rattle.std.specs.Prelude.{◌≡◌, ◌≤◌, ◌&&◌, ◌==◌, ℕ, ℤ, List, [], length, Bool, bytes_eq, if◌then◌else◌, Option, Some, None, option_and_then, slice_get}
+use Rattle.std.specs.Prelude.{◌≡◌, ◌≤◌, ◌&&◌, ◌==◌, ℕ, ℤ, List, [], length, All, Bool, bytes_eq, if◌then◌else◌, Option, Some, None, option_and_then, slice_get}
 use Rattle.std.specs.Ordering.{nat_cmp}
 use Rattle.std.specs.BTreeMap.{get, get_by_text}
 use Rattle.serde_json.specs.Data.{Data}
 use Rattle.stix_ids.specs.declared.id.Id.{Id}
+use Rattle.stix_json.specs.Ordered.{IsOrdered}
 use Rattle.stix_bundles.specs.declared.index.Index.{Index}
 use Rattle.stix_bundles.specs.Bundle.{AreAllBreaks}
 use Rattle.stix_bundles.specs.Lookup.{IsModified, IsEarlier, IsOf, IsLatest}
@@ -39,4 +40,5 @@ IsIndexOf objects index = (id : Id) → IsPositionOf objects id (position_of ind
 pub record IsIndexed (objects : List Data) (index : Index) : Type 0 where
   pub counted : length objects ≤ 8_388_608
   pub unbroken : AreAllBreaks 0 objects []
+  pub ordered : All IsOrdered objects
   pub indexed : IsIndexOf objects index

@@ -2,16 +2,18 @@
 use Rattle.std.specs.Prelude.{◌≡◌, ◌⊎◌, ◌==◌, ℕ, ◌+◌, ◌<◌, ◌≤◌, ◌<ℤ◌, List, length, map, take, All, Contains, Some, slice_get, codes}
 use Rattle.std.specs.List.{IsDistinct}
 use Rattle.serde_json.specs.Data.{Data}
+use Rattle.stix_objects.specs.declared.form.Precision.TheVariants.{Any}
+use Rattle.stix_objects.specs.Properties.{IsTimestampAt}
 use Rattle.stix_bundles.specs.declared.last_time.LastTime.{LastTime}
 use Rattle.stix_bundles.specs.declared.observation.Observation.{Observation}
-use Rattle.stix_bundles.specs.Observations.{IsObservedData, IsObservedAt, IsTimeAt, IsObservationAt, ObservationAt, how_many}
+use Rattle.stix_bundles.specs.Observations.{IsObservedData, IsObservedAt, IsObservationAt, ObservationAt, how_many}
 
 -- the last time is that of an observed-data of the objects
 pub record IsLastTimeOf (objects : List Data) (last_time : LastTime) : Type 0 where
   pub object : Data
   pub there : slice_get objects last_time.at ≡ Some object
   pub observed : IsObservedData object
-  pub last : IsTimeAt (codes "last_observed") object last_time.last
+  pub last : IsTimestampAt Any (codes "last_observed") object last_time.last
 
 -- the last times of the observed-data before a place, one for each
 pub record AreLastTimesBefore (objects : List Data) (end : ℕ) (last_times : List LastTime) : Type 0 where

@@ -1,18 +1,10 @@
 -- For private clauses: versions as the code keeps them, and what is kept of those before a place.
-use Rattle.std.specs.Prelude.{◌≡◌, ◌≢◌, ◌↔◌, ℕ, ◌<◌, ℤ, List, Bool, true, false, IsTrue, Some}
+use Rattle.std.specs.Prelude.{◌≡◌, ◌≢◌, ◌↔◌, ℕ, ◌<◌, ℤ, List, Bool, true, false, IsTrue}
 use Rattle.serde_json.specs.Data.{Data}
-use Rattle.stix_times.specs.Reading.{IsMillisTextOf}
 use Rattle.stix_ids.specs.declared.id.Id.{Id}
-use Rattle.stix_objects.specs.Conditions.{text_at}
 use Rattle.stix_bundles.specs.Lookup.{IsLatest}
 use Rattle.stix_versions.specs.declared.version.Version.{Version}
 use Rattle.stix_versions.specs.Versions.{IsVersion, IsRevoked}
-
--- the property is a timestamp of that instant, to the millisecond at least
-pub record IsMillisAt (name : List ℕ) (object : Data) (instant : ℤ) : Type 0 where
-  pub text : List ℕ
-  pub there : text_at name object ≡ Some text
-  pub names : IsMillisTextOf text instant
 
 -- the object at the place is this version; its group is the place of the latest version of its identifier
 pub record IsVersionAs (objects : List Data) (at : ℕ) (seen : Version) : Type 0 where

@@ -8,4 +8,4 @@ unreachable-requires c =
     let d = data_of c.args.object.now in
     let timed = c.no_breaks.ensures.observed d c.requires.unbroken c.requires.observed in
     let time = first_time_of (codes "first_observed") (codes "last_observed") d timed in
-    c.in-None.ensures.none time.0 time.1
+    c.in-None.ensures time.0 time.1

@@ -1,9 +1,10 @@
 use Rattle.std.proofs.Common.{codes, refl, sym, subst, ◌∙◌}
 use Rattle.serde_json.specs.Data.{Data}
 use Rattle.stix_json.specs.DataOf.{data_of}
+use Rattle.stix_objects.specs.declared.form.Precision.TheVariants.{Any}
+use Rattle.stix_objects.specs.Properties.{IsTimestampAt}
 use Rattle.stix_bundles.specs.Objects.{data_in}
-use Rattle.stix_bundles.specs.Observations.{IsTimeAt}
-use Rattle.stix_bundles.proofs.PropertyLemmas.{same_some}
+use Rattle.stix_bundles.proofs.ObjectsLemmas.{same_some}
 use Rattle.stix_bundles.proofs.UnbrokenLemmas.{unbroken_at}
 use Rattle.stix_bundles.proofs.LastTimeLemmas.{stands, stands_observed}
 use Rattle.stix_bundles.proofs.observe.observation.Goals as goal
@@ -36,6 +37,6 @@ returns-clause-seen c =
       numbered = refl;
       named = c.in_ok-id.ensures;
       first = c.first_observed.ensures;
-      last = subst (λ (d : Data). IsTimeAt (codes "last_observed") d c.args.last_time.last) same c.requires.last;
+      last = subst (λ (d : Data). IsTimestampAt Any (codes "last_observed") d c.args.last_time.last) same c.requires.last;
       roots = c.in_ok-roots.ensures;
     }

@@ -3,7 +3,7 @@ use Rattle.serde_json.specs.Find.{get as member_of}
 use Rattle.stix_json.specs.DataOf.{data_of}
 use Rattle.stix_objects.specs.BreakAt.{here}
 use Rattle.stix_objects.specs.Singles.{JudgesOwnId}
-use Rattle.stix_objects.specs.Conditions.{text_at}
+use Rattle.stix_json.specs.Properties.{text_at}
 use Rattle.stix_objects.specs.Rows.{JudgesOwn}
 use Rattle.stix_objects.specs.inner.Views.{row_break_view}
 use Rattle.stix_objects.proofs.JudgingLemmas.{value_there}
