@@ -15,3 +15,5 @@ pub mod AreMeantLemmas
 pub mod ObservationsAtLemmas
 pub mod ReferencesLemmas
 pub mod LastTimeLemmas
+pub mod OneObservationsLemmas
+pub mod OneBundleLemmas

@@ -10,8 +10,7 @@ use flow_values::NoMemory;
 use std::alloc::Global;
 use std::collections::BTreeMap;
 use stix_bundles::laws::one_meaning;
-use stix_objects::laws::one_id;
-use stix_times::laws::one_instant;
+use stix_objects::laws::{one_id, one_timestamp};
 use stix_times::{Instant, nanos};
 
 /// Of an object's versions so far, the `created` of the first, and whether another one has another.
@@ -46,7 +45,7 @@ impl Created {
     {
         one_id();
         one_meaning();
-        one_instant();
+        one_timestamp();
         let group = version.group;
         let created = version.created;
         let first = self.groups.get(&group).copied();

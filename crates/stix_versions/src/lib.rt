@@ -7,13 +7,13 @@ mod created;
 pub mod laws;
 mod marking;
 mod marking_break;
-#[cfg(test)]
-mod marking_tests;
 mod markings;
 mod part;
 mod revoked;
 mod same;
 mod selector;
+#[cfg(test)]
+mod tests;
 mod twins;
 mod version;
 mod version_break;

@@ -12,9 +12,9 @@ use std::alloc::Global;
 use std::collections::BTreeMap;
 use stix_bundles::Bundle;
 use stix_bundles::laws::one_meaning;
-use stix_objects::laws::one_id;
+use stix_objects::laws::{one_id, one_timestamp};
 use stix_times::Instant;
-use stix_times::laws::{is_before, one_instant};
+use stix_times::laws::is_before;
 
 /// For each object with a version that is revoked, the earliest `modified` of such a version, by the
 /// group of its versions.
@@ -46,7 +46,7 @@ impl Revoked {
     {
         one_id();
         one_meaning();
-        one_instant();
+        one_timestamp();
         if !version.revoked {
             return Ok(());
         }
@@ -65,7 +65,7 @@ impl Revoked {
     {
         one_id();
         one_meaning();
-        one_instant();
+        one_timestamp();
         let group = version.group;
         let modified = version.modified;
         match self.groups.get(&group) {

@@ -14,8 +14,7 @@ use std::alloc::Global;
 use std::collections::BTreeMap;
 use stix_bundles::laws::one_meaning;
 use stix_json::Json;
-use stix_objects::laws::one_id;
-use stix_times::laws::one_instant;
+use stix_objects::laws::{one_id, one_timestamp};
 use stix_times::nanos;
 
 /// Of an object's versions of one `modified` so far, the position of the first, and whether another
@@ -59,7 +58,7 @@ impl Twins {
     {
         one_id();
         one_meaning();
-        one_instant();
+        one_timestamp();
         let instant = (version.group, nanos(version.modified));
         let first = self.instants.get(&instant).copied();
         let next = next_twin(objects, first, &objects[at], at as u32);

@@ -15,7 +15,7 @@ use Rattle.stix_versions.proofs.twins.Twins.add.Goals as goal
 
 pub returns-clause-told : goal.returns-clause-told
 returns-clause-told c =
-    let laws : Laws = record { one_id = c.one_id.ensures; one_instant = c.one_instant.ensures; one_meaning = c.one_meaning.ensures.one } in
+    let laws : Laws = record { one_id = c.one_id.ensures; one_timestamp = c.one_timestamp.ensures; one_meaning = c.one_meaning.ensures.one } in
     let objects = data_in c.args.objects.now in
     let seen = c.args.version.now in
     let next = c.next_twin-next.result in
@@ -32,7 +32,7 @@ returns-clause-told c =
 
 pub returns-clause-kept : goal.returns-clause-kept
 returns-clause-kept c =
-    let laws : Laws = record { one_id = c.one_id.ensures; one_instant = c.one_instant.ensures; one_meaning = c.one_meaning.ensures.one } in
+    let laws : Laws = record { one_id = c.one_id.ensures; one_timestamp = c.one_timestamp.ensures; one_meaning = c.one_meaning.ensures.one } in
     let objects = data_in c.args.objects.now in
     let seen = c.args.version.now in
     let next = c.next_twin-next.result in
