@@ -1,17 +1,17 @@
 -- Bundles (STIX 2.1, section 8): an object of the type `bundle`, with an identifier of that kind and, where there are
 -- some, a list of objects. Here it has at most 8,388,608 of them, and each meets the rules of its type.
-use Rattle.std.specs.Prelude.{◌≡◌, ◌≢◌, ◌⊎◌, ℕ, ◌+◌, ◌≤◌, ◌<◌, List, [], ◌∷◌, ◌++◌, length, map, All, slice_get, Some, MatchOption, IsSome, Result, Ok, Err, codes}
+use Rattle.std.specs.Prelude.{◌≡◌, ◌≢◌, ◌⊎◌, ℕ, ◌+◌, ◌≤◌, ◌<◌, List, [], ◌∷◌, ◌++◌, length, map, All, slice_get, Some, MatchOption, IsSome, codes}
 use Rattle.serde_json.specs.Data.{Data, Items, no_items, item}
 use Rattle.serde_json.specs.Find.{get, as_array, as_object}
 use Rattle.stix_ids.specs.declared.id.Id.{Id}
 use Rattle.stix_json.specs.Walk.{path_text, place_part}
-use Rattle.stix_objects.specs.declared.broken.Break.{Break}
-use Rattle.stix_objects.specs.Conditions.{text_at}
+use Rattle.stix_objects.specs.declared.rule_break.Break.{Break}
+use Rattle.stix_json.specs.Properties.{text_at}
 use Rattle.stix_objects.specs.Breaks.{AreBreaksOf}
 use Rattle.stix_bundles.specs.declared.object_break.ObjectBreak.{ObjectBreak}
 use Rattle.stix_bundles.specs.declared.refusal.BundleRefusal.{BundleRefusal}
 use Rattle.stix_bundles.specs.declared.refusal.BundleRefusal.TheVariants.{NotBundle, Breaks, NoMemory}
-use Rattle.stix_bundles.specs.Objects.{HasId}
+use Rattle.stix_objects.specs.Properties.{HasId}
 
 -- the items of a list, one after another
 abbrev pub listed : Items → List Data
@@ -72,14 +72,14 @@ abbrev pub IsNoBundle : Data → List ℕ → Type 0
 IsNoBundle d path = (parts : List (List ℕ)) × FailsAt d parts × (path ≡ path_text parts)
 
 -- a break, told of the object at this position
-abbrev pub told_of : ℕ → Break → ObjectBreak
-told_of at found = record { object = at; found = found }
+abbrev pub break_of_object : ℕ → Break → ObjectBreak
+break_of_object at found = record { object = at; found = found }
 
 -- the breaks of the objects from a position on, object by object
 abbrev pub AreAllBreaks : ℕ → List Data → List ObjectBreak → Type 0
 AreAllBreaks at [] breaks = breaks ≡ []
 AreAllBreaks at (d ∷ ds) breaks = (own : List Break) × (rest : List ObjectBreak)
-    × AreBreaksOf d own × AreAllBreaks (at + 1) ds rest × (breaks ≡ map (told_of at) own ++ rest)
+    × AreBreaksOf d own × AreAllBreaks (at + 1) ds rest × (breaks ≡ map (break_of_object at) own ++ rest)
 
 -- the objects of a bundle, which meet their rules
 pub record IsBundle (d : Data) (objects : List Data) : Type 0 where
@@ -87,12 +87,7 @@ pub record IsBundle (d : Data) (objects : List Data) : Type 0 where
   pub unbroken : AreAllBreaks 0 objects []
 
 -- why a value is no bundle
-abbrev pub IsRefused : Data → BundleRefusal → Type 0
-IsRefused d (NotBundle path) = IsNoBundle d path
-IsRefused d (Breaks breaks) = (breaks ≢ []) × ((objects : List Data) × IsOutlined d objects × AreAllBreaks 0 objects breaks)
-IsRefused d NoMemory = ⊥
-
--- what a value is read as, but for memory
-abbrev pub Reads : Data → Result (List Data) BundleRefusal → Type 0
-Reads d (Ok objects) = IsBundle d objects
-Reads d (Err refusal) = IsRefused d refusal
+abbrev pub IsBundleRefused : Data → BundleRefusal → Type 0
+IsBundleRefused d (NotBundle path) = IsNoBundle d path
+IsBundleRefused d (Breaks breaks) = (breaks ≢ []) × ((objects : List Data) × IsOutlined d objects × AreAllBreaks 0 objects breaks)
+IsBundleRefused d NoMemory = ⊥

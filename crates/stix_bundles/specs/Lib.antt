@@ -1,7 +1,5 @@
 pub mod Objects
 pub mod Bundle
-pub mod Failures
 pub mod Lookup
-pub mod Observed
-pub mod Indexed
-pub mod Moments
+pub mod Observations
+pub mod inner

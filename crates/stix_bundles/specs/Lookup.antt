@@ -3,22 +3,15 @@
 -- and of versions that are equally late the last in the bundle counts.
 use Rattle.std.specs.Prelude.{◌≡◌, ◌⊎◌, ⊤, ℕ, ◌≤◌, ℤ, ◌<ℤ◌, List, Option, Some, None, slice_get, codes}
 use Rattle.serde_json.specs.Data.{Data}
-use Rattle.stix_times.specs.Reading.{IsMillisTextOf}
+use Rattle.flow_values.specs.Answers.{FindsExactly}
 use Rattle.stix_ids.specs.declared.id.Id.{Id}
 use Rattle.stix_ids.specs.Identifier.{IsTextOf}
-use Rattle.stix_objects.specs.Conditions.{text_at}
-use Rattle.stix_bundles.specs.Objects.{HasId}
+use Rattle.stix_objects.specs.declared.form.Precision.TheVariants.{Millis}
+use Rattle.stix_objects.specs.Properties.{IsTimestampAt, HasId}
 
--- the object's `modified` is a timestamp of that instant, to the millisecond at least (sections 3.2 and 2.16)
-pub record IsModifiedAt (object : Data) (instant : ℤ) : Type 0 where
-  pub text : List ℕ
-  pub there : text_at (codes "modified") object ≡ Some text
-  pub names : IsMillisTextOf text instant
-
--- when the object was modified: none where it tells no such instant
+-- when the object was modified, to the millisecond at least: none where it tells no such instant (sections 3.2 and 2.16)
 abbrev pub IsModified : Data → Option ℤ → Type 0
-IsModified d None = (instant : ℤ) → ¬ IsModifiedAt d instant
-IsModified d (Some instant) = IsModifiedAt d instant
+IsModified d when = FindsExactly (IsTimestampAt Millis (codes "modified") d) when
 
 -- the first is earlier than the second, and none is earlier than any
 abbrev pub IsEarlier : Option ℤ → Option ℤ → Type 0
@@ -33,7 +26,7 @@ pub record IsOf (objects : List Data) (id : Id) (at : ℕ) : Type 0 where
   pub has : HasId object id
 
 -- the same, and that is when it was modified
-pub record IsVersion (objects : List Data) (id : Id) (at : ℕ) (modified : Option ℤ) : Type 0 where
+pub record IsVersionAt (objects : List Data) (id : Id) (at : ℕ) (modified : Option ℤ) : Type 0 where
   pub object : Data
   pub there : slice_get objects at ≡ Some object
   pub has : HasId object id
@@ -42,8 +35,8 @@ pub record IsVersion (objects : List Data) (id : Id) (at : ℕ) (modified : Opti
 -- the place of the identifier's latest version: each other is earlier, or as late and at no later place
 pub record IsLatest (objects : List Data) (id : Id) (at : ℕ) : Type 0 where
   pub modified : Option ℤ
-  pub version : IsVersion objects id at modified
-  pub latest : (other : ℕ) (when : Option ℤ) → IsVersion objects id other when
+  pub version : IsVersionAt objects id at modified
+  pub latest : (other : ℕ) (when : Option ℤ) → IsVersionAt objects id other when
       → IsEarlier when modified ⊎ ((when ≡ modified) × (other ≤ at))
 
 -- the place that a text means: the latest version of the identifier that it is, and none where there is no version

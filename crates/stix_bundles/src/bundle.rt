@@ -1,8 +1,9 @@
-ghost use Rattle.std.specs.Prelude.{◌≡◌, ◌↔◌, ◌≤◌, [], IsTrue, length, option_map, slice_get};
+ghost use Rattle.std.specs.Prelude.{◌≡◌, ◌↔◌, ◌≤◌, [], All, IsTrue, length, option_map, slice_get};
 ghost use Rattle.stix_ids.specs.PartsOf.{id_of};
+ghost use Rattle.stix_json.specs.Ordered.{IsOrdered};
 ghost use Rattle.stix_bundles.specs.Objects.{data_in};
 ghost use Rattle.stix_bundles.specs.Bundle.{AreAllBreaks};
-ghost use Rattle.stix_bundles.specs.Indexed.{IsHeld, IsKept};
+ghost use Rattle.stix_bundles.specs.inner.Index.{IsPositionOf, IsIndexed};
 
 use crate::index::Index;
 use flow_values::Items;
@@ -30,15 +31,15 @@ impl Model for Bundle {
     ghost view = { λ bundle. bundle.objects };
 
     ghost use Rattle.stix_bundles.specs.Objects.{data_in};
-    ghost use Rattle.stix_bundles.specs.Indexed.{IsKept};
+    ghost use Rattle.stix_bundles.specs.inner.Index.{IsIndexed};
 
-    ghost invariant = { λ bundle. IsKept (data_in bundle.objects) bundle.index };
+    ghost invariant = { λ bundle. IsIndexed (data_in bundle.objects) bundle.index };
 }
 
 impl Bundle {
     /// A bundle of these objects, which have that index.
     pub(crate) fn new(objects: Items<Json>, index: Index) -> Bundle
-        requires { IsKept (data_in objects) index }
+        requires { IsIndexed (data_in objects) index }
         ensures { result ≡ objects }
     {
         Bundle { objects, index }
@@ -58,10 +59,11 @@ impl Bundle {
         self.objects.is_empty()
     }
 
-    /// Its objects, which are not too many and break no rule.
+    /// Its objects, which are not too many, ordered, and break no rule.
     pub fn objects(&self) -> &[Json]
         ensures value { result.now ≡ self.now }
         ensures counted { length self.now ≤ 8_388_608 }
+        ensures ordered { All IsOrdered (data_in self.now) }
         ensures unbroken { AreAllBreaks 0 (data_in self.now) [] }
     {
         self.objects.as_slice()
@@ -69,7 +71,7 @@ impl Bundle {
 
     /// The position of the latest version of an identifier. Takes no memory.
     pub(crate) fn latest(&self, id: Parts<'_>) -> Option<u32>
-        ensures { IsHeld (data_in self.now) (id_of id.entry) result }
+        ensures { IsPositionOf (data_in self.now) (id_of id.entry) result }
     {
         self.index.get(id)
     }

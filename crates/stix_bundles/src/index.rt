@@ -1,7 +1,7 @@
 ghost use Rattle.std.specs.Prelude.{◌≡◌, ◌≢◌, Some, None, OnOk};
 ghost use Rattle.stix_ids.specs.declared.id.Id.{Id};
 ghost use Rattle.stix_ids.specs.PartsOf.{id_of};
-ghost use Rattle.stix_bundles.specs.Indexed.{held, Puts};
+ghost use Rattle.stix_bundles.specs.inner.Index.{position_of, Puts};
 
 use flow_values::NoMemory;
 use std::alloc::Global;
@@ -17,7 +17,7 @@ pub(crate) struct Index {
 impl Index {
     /// No positions. Takes no memory.
     pub(crate) fn new(alloc: Global) -> Index
-        ensures { (id : Id) → held result id ≡ None }
+        ensures { (id : Id) → position_of result id ≡ None }
     {
         Index {
             kinds: BTreeMap::new(alloc),
@@ -26,7 +26,7 @@ impl Index {
 
     /// The position of an identifier. Takes no memory.
     pub(crate) fn get(&self, id: Parts<'_>) -> Option<u32>
-        ensures { result ≡ held self.now (id_of id.entry) }
+        ensures { result ≡ position_of self.now (id_of id.entry) }
     {
         let places = self.kinds.get(id.kind)?;
         places.get(&id.number).copied()

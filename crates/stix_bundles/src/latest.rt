@@ -1,16 +1,18 @@
 ghost use Rattle.std.specs.Prelude.{◌≡◌, ◌↔◌, ◌+◌, ◌≤◌, ◌<◌, length, take as first, IsTrue, IfOk, OnOk};
 ghost use Rattle.stix_bundles.specs.Objects.{data_in};
 ghost use Rattle.stix_bundles.specs.Lookup.{IsEarlier};
-ghost use Rattle.stix_bundles.specs.Indexed.{IsIndexOf, Overtakes};
+ghost use Rattle.stix_bundles.specs.inner.Index.{IsIndexOf, Overtakes};
 
 use crate::index::Index;
-use crate::laws::{one_id, one_modified};
-use crate::property::{identifier, modified};
+use crate::laws::one_modified;
+use crate::property::modified;
 use flow_values::NoMemory;
 use std::alloc::Global;
+use stix_json::Json;
+use stix_objects::laws::one_id;
+use stix_objects::object_id;
 use stix_times::Instant;
 use stix_times::laws::is_before;
-use stix_json::Json;
 
 /// The latest versions of the objects.
 pub(crate) fn index_of(alloc: Global, objects: &[Json]) -> Result<Index, NoMemory>
@@ -32,7 +34,7 @@ fn add(alloc: Global, objects: &[Json], at: usize, index: &mut Index) -> Result<
     ensures { OnOk result (IsIndexOf (first (at + 1) (data_in objects.now)) index.new) }
 {
     let object = &objects[at];
-    let Some(id) = identifier(object) else {
+    let Some(id) = object_id(object) else {
         return Ok(());
     };
     one_id();

@@ -4,26 +4,21 @@ ghost use Rattle.std.specs.Prelude.{◌≡◌, ℕ, ℤ, List, Option, None, sli
 ghost use Rattle.serde_json.specs.Data.{Data};
 ghost use Rattle.stix_ids.specs.declared.id.Id.{Id};
 ghost use Rattle.stix_ids.specs.Identifier.{IsTextOf};
-ghost use Rattle.stix_bundles.specs.Objects.{HasId};
+ghost use Rattle.stix_bundles.specs.declared.refusal.BundleRefusal.{BundleRefusal};
+ghost use Rattle.stix_bundles.specs.Bundle.{IsBundle, IsBundleRefused};
+ghost use Rattle.stix_bundles.specs.declared.observation.Observation.{Observation};
+ghost use Rattle.stix_bundles.specs.Observations.{AreObservations};
 ghost use Rattle.stix_bundles.specs.Lookup.{IsModified, IsOf, Means};
 
 use stix_ids::laws::one_identifier;
-use stix_times::laws::one_instant;
-
-/// An object has at most one identifier.
-pub fn one_id()
-    ensures { (object : Data) (first second : Id) → HasId object first → HasId object second
-        → first ≡ second }
-{
-    one_identifier();
-}
+use stix_objects::laws::{one_id, one_list, one_timestamp};
 
 /// An object was modified at one time or at none.
 pub fn one_modified()
     ensures { (object : Data) (first second : Option ℤ) → IsModified object first
         → IsModified object second → first ≡ second }
 {
-    one_instant();
+    one_timestamp();
 }
 
 /// A text means one place, or none, and all texts of one identifier mean the same. The text of an
@@ -38,4 +33,24 @@ pub fn one_meaning()
 {
     one_identifier();
     one_modified();
+}
+
+/// Objects have one list of observations from a first number on.
+pub fn one_list_of_observations()
+    ensures { (objects : List Data) (number : ℕ) (first second : List Observation) → AreObservations objects number first
+        → AreObservations objects number second → first ≡ second }
+{
+    one_id();
+    one_timestamp();
+    one_meaning();
+}
+
+/// A value is one bundle, or is refused for one cause.
+pub fn one_reading()
+    ensures bundle { (value : Data) (first second : List Data) → IsBundle value first → IsBundle value second → first ≡ second }
+    ensures refusal { (value : Data) (first second : BundleRefusal) → IsBundleRefused value first → IsBundleRefused value second
+        → first ≡ second }
+    ensures either { (value : Data) (objects : List Data) (refusal : BundleRefusal) → IsBundle value objects → ¬ IsBundleRefused value refusal }
+{
+    one_list();
 }

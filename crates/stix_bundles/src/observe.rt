@@ -2,21 +2,23 @@ ghost use Rattle.std.specs.Prelude.{◌≡◌, ◌↔◌, IsTrue, ◌+◌, ◌�
 ghost use Rattle.serde_json.specs.Find.{as_str};
 ghost use Rattle.stix_json.specs.DataOf.{data_of};
 ghost use Rattle.stix_objects.specs.Breaks.{AreBreaksOf};
-ghost use Rattle.stix_bundles.specs.Objects.{data_in, HasId};
+ghost use Rattle.stix_objects.specs.declared.form.Precision.TheVariants.{Any};
+ghost use Rattle.stix_bundles.specs.Objects.{data_in};
+ghost use Rattle.stix_objects.specs.Properties.{IsTimestampAt, HasId};
 ghost use Rattle.stix_bundles.specs.Lookup.{Means};
-ghost use Rattle.stix_bundles.specs.Observed.{how_many, NoneEmbeds, Embeds, IsFirstEmbedding, IsObservedData, IsTimeAt, references, AreMeant, IsSeenAt, AreObservations, AreRefused};
-ghost use Rattle.stix_bundles.specs.Moments.{IsMomentOf, AreSeenAt};
+ghost use Rattle.stix_bundles.specs.Observations.{how_many, NoneEmbeds, Embeds, IsFirstEmbedding, IsObservedData, references, AreMeant, IsObservationAt, AreObservations, AreRefused};
+ghost use Rattle.stix_bundles.specs.inner.LastTimes.{IsLastTimeOf, AreObservationsAt};
 
-use crate::moment::{Moment, moments_in_order};
-use crate::property::{is_observed_data, time_at};
+use crate::last_time::{LastTime, last_times_in_order};
+use crate::property::is_observed_data;
 use crate::{Bundle, Observation, ObservationRefusal, find};
 use flow_values::{Items, NoMemory};
-use stix_objects::laws::no_breaks;
-use stix_objects::text_at;
 use std::alloc::Global;
 use stix_ids::{Id, read_id};
+use stix_json::{Json, get, text_at};
+use stix_objects::laws::no_breaks;
+use stix_objects::{Precision, timestamp_at};
 use stix_times::Instant;
-use stix_json::{Json, get};
 
 /// The observations of a bundle: its observed-data objects in the order in which they were last
 /// observed, of equal times the one that stands first, numbered from `first` on. Each has the
@@ -45,8 +47,8 @@ fn all_observed(alloc: Global, bundle: &Bundle, first: u64) -> Result<Items<Obse
     requires { first + how_many (data_in bundle.now) ≤ 2 ^ 63 }
     ensures { IfOk result (AreObservations (data_in bundle.now) first) }
 {
-    let moments = moments_in_order(alloc, bundle.objects())?;
-    observed(alloc, bundle, first, moments.as_slice())
+    let last_times = last_times_in_order(alloc, bundle.objects())?;
+    observed(alloc, bundle, first, last_times.as_slice())
 }
 
 /// The first observed-data that holds its objects itself.
@@ -70,43 +72,43 @@ fn embeds(object: &Json) -> bool
     is_observed_data(object) && get(object, "objects").is_some()
 }
 
-/// The observations at these moments, numbered from `first` on.
+/// The observations at these last times, numbered from `first` on.
 fn observed(
     alloc: Global,
     bundle: &Bundle,
     first: u64,
-    moments: &[Moment],
+    last_times: &[LastTime],
 ) -> Result<Items<Observation>, NoMemory>
-    requires each { All (IsMomentOf (data_in bundle.now)) moments.now }
-    requires fits { first + length moments.now ≤ 2 ^ 63 }
-    ensures { IfOk result (AreSeenAt (data_in bundle.now) first moments.now) }
+    requires each { All (IsLastTimeOf (data_in bundle.now)) last_times.now }
+    requires fits { first + length last_times.now ≤ 2 ^ 63 }
+    ensures { IfOk result (AreObservationsAt (data_in bundle.now) first last_times.now) }
 {
     let mut observations = Items::new(alloc);
-    for at in 0..moments.len() {
-        observations.push(observation(alloc, bundle, moments[at], first + at as u64)?)?;
+    for at in 0..last_times.len() {
+        observations.push(observation(alloc, bundle, last_times[at], first + at as u64)?)?;
     }
     Ok(observations)
 }
 
-/// The observation at a moment.
+/// The observation at a last time.
 fn observation(
     alloc: Global,
     bundle: &Bundle,
-    moment: Moment,
+    last_time: LastTime,
     number: u64,
 ) -> Result<Observation, NoMemory>
-    requires { IsMomentOf (data_in bundle.now) moment }
-    ensures seen { IfOk result (IsSeenAt (data_in bundle.now) moment.at number) }
-    ensures last { IfOk result (λ observation. observation.last ≡ moment.last) }
+    requires { IsLastTimeOf (data_in bundle.now) last_time }
+    ensures seen { IfOk result (IsObservationAt (data_in bundle.now) last_time.at number) }
+    ensures last { IfOk result (λ observation. observation.last ≡ last_time.last) }
 {
-    let object = &bundle.objects()[moment.at as usize];
+    let object = &bundle.objects()[last_time.at as usize];
     let id = own_id(alloc, object)?;
     let roots = roots_of(alloc, bundle, object)?;
     Ok(Observation {
         number,
         id,
         first: first_observed(object),
-        last: moment.last,
+        last: last_time.last,
         roots,
     })
 }
@@ -127,10 +129,10 @@ fn own_id(alloc: Global, object: &Json) -> Result<Id, NoMemory>
 fn first_observed(object: &Json) -> Instant
     requires unbroken { AreBreaksOf (data_of object.now) [] }
     requires observed { IsObservedData (data_of object.now) }
-    ensures { IsTimeAt (codes "first_observed") (data_of object.now) result }
+    ensures { IsTimestampAt Any (codes "first_observed") (data_of object.now) result }
 {
     no_breaks();
-    match time_at(object, "first_observed") {
+    match timestamp_at(object, Precision::Any, "first_observed") {
         Some(first) => first,
         None => unreachable!(),
     }

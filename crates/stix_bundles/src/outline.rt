@@ -1,18 +1,15 @@
 ghost use Rattle.std.specs.Prelude.{◌≡◌, ◌↔◌, ◌≤◌, ◌∷◌, [], List, All, IsTrue, IfSome, IfNone, IfOk, codes, length};
 ghost use Rattle.serde_json.specs.Data.{Data};
-ghost use Rattle.stix_ids.specs.declared.id.Id.{Id};
-ghost use Rattle.stix_ids.specs.Identifier.{IsTextOf};
 ghost use Rattle.stix_json.specs.Walk.{path_text, place_part};
 ghost use Rattle.stix_json.specs.DataOf.{data_of};
 ghost use Rattle.stix_bundles.specs.Objects.{data_in};
 ghost use Rattle.stix_bundles.specs.Bundle.{IsObject, IsIdentified, IsListOf, FailsAt, IsOutlined};
-ghost use Rattle.stix_bundles.specs.Failures.{failed_parts, FailsInObjects, FailsInMembers};
+ghost use Rattle.stix_bundles.specs.inner.Failures.{failed_parts, FailsInObjects, FailsInMembers};
 
 use flow_values::{NoMemory, Text};
-use stix_objects::text_at;
 use std::alloc::Global;
-use stix_ids::Parts;
-use stix_json::{Json, get};
+use stix_ids::is_of_kind;
+use stix_json::{Json, get, text_at};
 
 /// How many objects a bundle has at most.
 const MAX_OBJECTS: usize = 8_388_608;
@@ -73,17 +70,8 @@ fn has_bundle_id(tree: &Json) -> bool
     ensures { IsTrue result ↔ IsIdentified (data_of tree.now) }
 {
     match text_at(tree, "id") {
-        Some(text) => names_bundle(text),
+        Some(text) => is_of_kind(text, "bundle"),
         None => false,
-    }
-}
-
-fn names_bundle(text: &str) -> bool
-    ensures { IsTrue result ↔ ((id : Id) × IsTextOf text.now id × (id.kind ≡ codes "bundle")) }
-{
-    match Parts::read(text) {
-        Ok(parts) => parts.kind == "bundle",
-        Err(_) => false,
     }
 }
 

@@ -1,23 +1,27 @@
-ghost use Rattle.std.specs.Prelude.{◌≡◌, ◌⊎◌, ◌≤◌, ◌++◌, List, length, map, IfOk, IfErr, OnOk};
+ghost use Rattle.std.specs.Prelude.{◌≡◌, ◌⊎◌, ◌≤◌, ◌++◌, List, length, map, All, IfOk, IfErr, OnOk};
 ghost use Rattle.serde_json.specs.Data.{Data};
 ghost use Rattle.stix_json.specs.DataOf.{data_of};
+ghost use Rattle.stix_json.specs.Ordered.{IsOrdered};
 ghost use Rattle.stix_bundles.specs.declared.refusal.BundleRefusal.{BundleRefusal};
 ghost use Rattle.stix_bundles.specs.Objects.{data_in};
-ghost use Rattle.stix_bundles.specs.Bundle.{IsListOf, HasObjects, AreAllBreaks, told_of, IsBundle, IsRefused};
+ghost use Rattle.stix_bundles.specs.Bundle.{IsListOf, HasObjects, AreAllBreaks, break_of_object, IsBundle, IsBundleRefused};
 
 use crate::latest::index_of;
 use crate::outline::first_failure;
 use crate::{Bundle, BundleRefusal, ObjectBreak};
 use flow_values::{Items, NoMemory};
-use stix_objects::{Break, breaks};
 use std::alloc::Global;
+use stix_json::laws::ordered_parts;
 use stix_json::{Json, take};
+use stix_objects::{Break, breaks};
 
-/// The bundle that a tree is, which takes the tree's objects over; or why it is none: the first
-/// condition of a bundle that fails, else all breaks of its objects.
+/// The bundle that a JSON value is, which takes the value's objects over; or why it is none: the first
+/// condition of a bundle that fails, else all breaks of its objects. What `read_json` gives is ordered,
+/// and `is_ordered` tests it of any value.
 pub fn read_bundle(alloc: Global, tree: Json) -> Result<Bundle, BundleRefusal>
+    requires { IsOrdered (data_of tree) }
     ensures ok { IfOk result (λ bundle. IsBundle (data_of tree) (data_in bundle)) }
-    ensures err { IfErr result (λ refusal. (refusal ≡ BundleRefusal.NoMemory) ⊎ IsRefused (data_of tree) refusal) }
+    ensures err { IfErr result (λ refusal. (refusal ≡ BundleRefusal.NoMemory) ⊎ IsBundleRefused (data_of tree) refusal) }
 {
     if let Some(failure) = first_failure(&tree) {
         let path = failure.path(alloc)?;
@@ -34,9 +38,12 @@ pub fn read_bundle(alloc: Global, tree: Json) -> Result<Bundle, BundleRefusal>
 
 /// The objects of a bundle, taken out of it.
 fn take_objects(alloc: Global, tree: Json) -> Items<Json>
-    requires { (objects : List Data) × HasObjects (data_of tree) objects }
-    ensures { HasObjects (data_of tree) (data_in result) }
+    requires outlined { (objects : List Data) × HasObjects (data_of tree) objects }
+    requires ordered { IsOrdered (data_of tree) }
+    ensures all { HasObjects (data_of tree) (data_in result) }
+    ensures ordered { All IsOrdered (data_in result) }
 {
+    ordered_parts();
     match take(tree, "objects") {
         Some(value) => items_of(alloc, value),
         None => Items::new(alloc),
@@ -45,8 +52,11 @@ fn take_objects(alloc: Global, tree: Json) -> Items<Json>
 
 /// The items of a list.
 fn items_of(alloc: Global, value: Json) -> Items<Json>
-    ensures { (members : List Data) → IsListOf (data_of value) members → members ≡ data_in result }
+    requires { IsOrdered (data_of value) }
+    ensures all { (members : List Data) → IsListOf (data_of value) members → members ≡ data_in result }
+    ensures ordered { All IsOrdered (data_in result) }
 {
+    ordered_parts();
     match value {
         Json::Array(items) => items,
         Json::Bool(_) | Json::Integer(_) | Json::String(_) | Json::Object(_) => Items::new(alloc),
@@ -72,7 +82,7 @@ fn add_breaks(
     own: Items<Break>,
     found: &mut Items<ObjectBreak>,
 ) -> Result<(), NoMemory>
-    ensures { OnOk result (found.new ≡ found.old ++ map (told_of object) own) }
+    ensures { OnOk result (found.new ≡ found.old ++ map (break_of_object object) own) }
 {
     for broken in own.into_vec() {
         found.push(ObjectBreak {

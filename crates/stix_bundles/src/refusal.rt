@@ -1,7 +1,7 @@
 use crate::ObjectBreak;
 use flow_values::{Items, NoMemory, Text};
 
-/// Why a tree was not read as a bundle.
+/// Why a JSON value was not read as a bundle.
 #[derive(Debug, Drop)]
 pub enum BundleRefusal {
     /// It isn't a bundle, and the path tells where the first condition fails: the empty path, `type`,

@@ -9,13 +9,13 @@ use Rattle.stix_json.specs.declared.refusal.JsonRefusal.{JsonRefusal}
 use Rattle.stix_json.specs.declared.refusal.JsonRefusal.TheVariants as refused
 use Rattle.stix_json.specs.DataOf.{data_of}
 use Rattle.stix_json.specs.Refusal.{refusal_of}
-use Rattle.stix_json.specs.Reading.{IsValueOf, IsTreeOf, IsRefusedAs}
+use Rattle.stix_json.specs.Reading.{IsValueOf, IsJsonOf, IsJsonRefusedAs}
 use Rattle.stix_json.specs.Walk.{path_text, place_part}
-use Rattle.stix_objects.specs.declared.broken.Break.{Break}
+use Rattle.stix_objects.specs.declared.rule_break.Break.{Break}
 use Rattle.stix_objects.specs.Breaks.{AreBreaksOf}
 use Rattle.stix_bundles.specs.declared.object_break.ObjectBreak.{ObjectBreak}
 use Rattle.stix_bundles.specs.declared.refusal.BundleRefusal.TheVariants.{NotBundle, Breaks, NoMemory}
-use Rattle.stix_bundles.specs.Bundle.{listed, IsObject, IsTyped, IsIdentified, IsListOf, HasObjects, IsOutlined, IsFirstNoObject, FailsAt, IsNoBundle, told_of, AreAllBreaks, IsBundle}
+use Rattle.stix_bundles.specs.Bundle.{listed, IsObject, IsTyped, IsIdentified, IsListOf, HasObjects, IsOutlined, IsFirstNoObject, FailsAt, IsNoBundle, break_of_object, AreAllBreaks, IsBundle}
 use Rattle.stix_versions.specs.declared.version_break.VersionBreak.{VersionBreak}
 use Rattle.stix_versions.specs.declared.marking_break.MarkingBreak.{MarkingBreak}
 use Rattle.stix_versions.specs.Versions.{AreVersionBreaks}
@@ -58,7 +58,7 @@ all_breaks_once one at [] a b first second = first ∙ sym second
 all_breaks_once one at (x ∷ xs) a b first second =
     let own : first.0 ≡ second.0 = one x first.0 second.0 first.2 second.2 in
     let rest : first.1 ≡ second.1 = all_breaks_once one (at + 1) xs first.1 second.1 first.3 second.3 in
-    first.4 ∙ ap (λ (bs : List Break). map (told_of at) bs ++ first.1) own ∙ ap (λ (r : List ObjectBreak). map (told_of at) second.0 ++ r) rest ∙ sym second.4
+    first.4 ∙ ap (λ (bs : List Break). map (break_of_object at) bs ++ first.1) own ∙ ap (λ (r : List ObjectBreak). map (break_of_object at) second.0 ++ r) rest ∙ sym second.4
 
 -- a value with a bundle's outline fails nowhere
 no_failure : (d : Data) (xs : List Data) (parts : List (List ℕ)) → IsOutlined d xs → ¬ (FailsAt d parts)
@@ -214,7 +214,7 @@ abbrev IsToldOf : List ℕ → JsonRefusal → Type 0
 IsToldOf bytes refusal = ((refusal ≡ refused.NotJson) × ((d : Data) → ¬ (IsValueOf bytes d)))
     ⊎ ((d : Data) × IsValueOf bytes d × (refusal_of d ≡ Some refusal))
 
-told : (bytes : List ℕ) (refusal : JsonRefusal) → refusal ≢ refused.NoMemory → IsRefusedAs bytes refusal → IsToldOf bytes refusal
+told : (bytes : List ℕ) (refusal : JsonRefusal) → refusal ≢ refused.NoMemory → IsJsonRefusedAs bytes refusal → IsToldOf bytes refusal
 told bytes refused.NotJson other why = inl (refl, why)
 told bytes (refused.TooDeep path) other why = inr why
 told bytes (refused.NotWhole path) other why = inr why
@@ -223,7 +223,7 @@ told bytes (refused.OutOfRange path) other why = inr why
 told bytes refused.NotList other why = elim why [ ]
 told bytes refused.NoMemory other why = absurd (other refl)
 
-no_tree : (bytes : List ℕ) (tree : Json) (refusal : JsonRefusal) → IsTreeOf bytes tree → ¬ (IsToldOf bytes refusal)
+no_tree : (bytes : List ℕ) (tree : Json) (refusal : JsonRefusal) → IsJsonOf bytes tree → ¬ (IsToldOf bytes refusal)
 no_tree bytes tree refusal is (inl none) = none.1 (data_of tree) is.value
 no_tree bytes tree refusal is (inr some) =
     let same : some.0 ≡ data_of tree = one_value bytes some.0 (data_of tree) some.1 is.value in

@@ -4,9 +4,9 @@ use Rattle.serde_json.specs.Data.{Data}
 use Rattle.stix_json.specs.declared.value.Json.{Json}
 use Rattle.stix_json.specs.declared.refusal.JsonRefusal.TheVariants as tree_refusal
 use Rattle.stix_json.specs.DataOf.{data_of}
-use Rattle.stix_json.specs.Reading.{IsTreeOf, IsRefusedAs}
+use Rattle.stix_json.specs.Reading.{IsJsonOf, IsJsonRefusedAs}
 use Rattle.stix_bundles.specs.declared.refusal.BundleRefusal.TheVariants.{NotBundle, Breaks, NoMemory}
-use Rattle.stix_bundles.specs.Bundle.{IsBundle, IsRefused}
+use Rattle.stix_bundles.specs.Bundle.{IsBundle, IsBundleRefused}
 use Rattle.stix_versions.specs.Versions.{AreVersionBreaks}
 use Rattle.stix_versions.specs.Markings.{AreMarkingBreaks}
 use Rattle.match_log.specs.declared.end.InputRule.{InputRule}
@@ -19,7 +19,7 @@ abbrev pub IsNotBundleFor : Data → InputRule → Type 0
 IsNotBundleFor d NotYet = ⊥
 IsNotBundleFor d InputTooLong = ⊥
 IsNotBundleFor d (NoTree refusal) = ⊥
-IsNotBundleFor d (NoBundle (NotBundle path)) = IsRefused d (NotBundle path)
+IsNotBundleFor d (NoBundle (NotBundle path)) = IsBundleRefused d (NotBundle path)
 IsNotBundleFor d (NoBundle (Breaks breaks)) = ⊥
 IsNotBundleFor d (NoBundle NoMemory) = ⊥
 
@@ -34,18 +34,18 @@ AreJudged objects (Refused rule) = ⊥
 abbrev pub IsBundleJudged : Data → Verdict → Type 0
 IsBundleJudged d (Sound count) = (objects : List Data) × IsBundle d objects × AreJudged objects (Sound count)
 IsBundleJudged d (Unfit versions markings) = (objects : List Data) × IsBundle d objects × AreJudged objects (Unfit versions markings)
-IsBundleJudged d (Broken breaks) = IsRefused d (Breaks breaks)
+IsBundleJudged d (Broken breaks) = IsBundleRefused d (Breaks breaks)
 IsBundleJudged d (Refused rule) = IsNotBundleFor d rule
 
 -- some bytes are a tree of which that is known
 abbrev pub HasTree : List ℕ → (Data → Type 0) → Type 0
-HasTree bytes P = (tree : Json) × IsTreeOf bytes tree × P (data_of tree)
+HasTree bytes P = (tree : Json) × IsJsonOf bytes tree × P (data_of tree)
 
 -- why bytes are refused, of which there aren't too many: they are no tree, or it is no bundle
 abbrev pub IsRefusedFor : List ℕ → InputRule → Type 0
 IsRefusedFor bytes NotYet = ⊥
 IsRefusedFor bytes InputTooLong = ⊥
-IsRefusedFor bytes (NoTree refusal) = (refusal ≢ tree_refusal.NoMemory) × IsRefusedAs bytes refusal
+IsRefusedFor bytes (NoTree refusal) = (refusal ≢ tree_refusal.NoMemory) × IsJsonRefusedAs bytes refusal
 IsRefusedFor bytes (NoBundle refusal) = HasTree bytes (λ d. IsNotBundleFor d (NoBundle refusal))
 
 -- what bytes are

@@ -2,7 +2,7 @@ ghost use Rattle.std.specs.Prelude.{◌≡◌, ◌≢◌, IfOk};
 ghost use Rattle.stix_json.specs.declared.refusal.JsonRefusal.TheVariants as tree_refusal;
 ghost use Rattle.stix_bundles.specs.Objects.{data_in};
 ghost use Rattle.stix_json.specs.DataOf.{data_of};
-ghost use Rattle.stix_json.specs.Reading.{IsRefusedAs};
+ghost use Rattle.stix_json.specs.Reading.{IsJsonRefusedAs};
 ghost use Rattle.stix_command.specs.Verdicts.{IsJudged, IsBundleJudged, AreJudged};
 
 use crate::verdict::Verdict;

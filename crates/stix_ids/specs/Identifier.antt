@@ -25,6 +25,10 @@ pub record IsTextOf (text : List ℕ) (id : Id) : Type 0 where
 abbrev pub IsIdText : List ℕ → Type 0
 IsIdText text = (id : Id) × IsTextOf text id
 
+-- the text of an identifier of the kind
+abbrev pub IsOfKind : List ℕ → List ℕ → Type 0
+IsOfKind text kind = (id : Id) × IsTextOf text id × (id.kind ≡ kind)
+
 -- the identifier's text in lower-case digits
 abbrev pub canonical_text : Id → List ℕ
 canonical_text id = id.kind ++ 45 ∷ 45 ∷ uuid_text id.number

@@ -19,6 +19,6 @@ pub use id::Id;
 pub use kind::read_kind;
 pub use parts::Parts;
 pub use pick::Pick;
-pub use reading::{is_text_of, read_id};
+pub use reading::{is_of_kind, is_text_of, read_id};
 pub use refusal::IdRefusal;
 pub use writing::write_id;

@@ -2,7 +2,7 @@ ghost use Rattle.std.specs.Prelude.{◌≡◌, ◌≢◌, ◌⊎◌, ◌↔◌, 
 ghost use Rattle.stix_ids.specs.declared.id.Id.{Id};
 ghost use Rattle.stix_ids.specs.declared.refusal.IdRefusal.{IdRefusal};
 ghost use Rattle.stix_ids.specs.declared.refusal.IdRefusal.TheVariants.{NoMemory};
-ghost use Rattle.stix_ids.specs.Identifier.{IsTextOf};
+ghost use Rattle.stix_ids.specs.Identifier.{IsTextOf, IsOfKind};
 ghost use Rattle.stix_ids.specs.Reading.{IsRefused};
 
 use crate::parts::Parts;
@@ -25,6 +25,16 @@ pub fn read_id(alloc: Global, text: &str) -> Result<Id, IdRefusal>
         kind,
         number: parts.number,
     })
+}
+
+/// Whether the text reads as an identifier of the kind. Takes no memory.
+pub fn is_of_kind(text: &str, kind: &str) -> bool
+    ensures { IsTrue result ↔ IsOfKind text.now kind.now }
+{
+    match Parts::read(text) {
+        Ok(parts) => parts.kind == kind,
+        Err(_) => false,
+    }
 }
 
 /// Whether the text reads as the identifier.

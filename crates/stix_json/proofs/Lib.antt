@@ -1,8 +1,9 @@
-pub mod Steps
-pub mod Walks
-pub mod Rising
-pub mod Names
-pub mod Front
-pub mod Back
-pub mod Signs
-pub mod Judged
+pub mod FlawsLemmas
+pub mod WalkLemmas
+pub mod OrderedLemmas
+pub mod NamingLemmas
+pub mod WriteLemmas
+pub mod ReadingLemmas
+pub mod DataOfLemmas
+pub mod EntriesLemmas
+pub mod FieldsLemmas

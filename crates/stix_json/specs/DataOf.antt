@@ -1,4 +1,4 @@
--- The JSON value that a tree is (RFC 8259, section 3).
+-- The JSON value that a Json is (RFC 8259, section 3).
 use Rattle.std.specs.Prelude.{ℕ, List, [], ◌∷◌}
 use Rattle.serde_json.specs.Data.{Data, boolean, number, string, array, object, Members, no_members, member}
 use Rattle.serde_json.specs.Find.{of_integer}
@@ -18,19 +18,19 @@ members_of [] = no_members
 members_of (m ∷ ms) = member m.name m.value (members_of ms)
 
 -- one level, whose items and fields are values already
-abbrev pub tree_level : Json-F Data Member → Data
-tree_level (Json-F.Bool truth) = boolean truth
-tree_level (Json-F.Integer whole) = number (of_integer whole)
-tree_level (Json-F.String words) = string words
-tree_level (Json-F.Array items) = array (items_of items)
-tree_level (Json-F.Object fields) = object (members_of fields)
+abbrev pub json_level : Json-F Data Member → Data
+json_level (Json-F.Bool truth) = boolean truth
+json_level (Json-F.Integer whole) = number (of_integer whole)
+json_level (Json-F.String words) = string words
+json_level (Json-F.Array items) = array (items_of items)
+json_level (Json-F.Object fields) = object (members_of fields)
 
 abbrev pub field_level : Field-F Data Member → Member
 field_level field = record { name = field.name; value = field.value }
 
--- the value that a tree is
+-- the value that a Json is
 abbrev pub data_of : Json → Data
-data_of = fold-Json Data Member tree_level field_level
+data_of = fold-Json Data Member json_level field_level
 
 -- the member that a field is
 abbrev pub field_data : Field → Member

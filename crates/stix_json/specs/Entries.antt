@@ -5,7 +5,7 @@ use Rattle.serde_json.specs.Find.{get_member}
 use Rattle.stix_json.specs.declared.entry.Entry.{Entry}
 use Rattle.stix_json.specs.declared.refusal.JsonRefusal.{JsonRefusal}
 use Rattle.stix_json.specs.declared.refusal.JsonRefusal.TheVariants.{NotJson, TooDeep, NotWhole, Null, OutOfRange, NotList, NoMemory}
-use Rattle.stix_json.specs.Reading.{IsValueOf, HasNoValue, Judges}
+use Rattle.stix_json.specs.Reading.{IsValueOf, HasNoValue, IsEntryFor}
 
 -- the items, where the value is a list
 abbrev pub list_of : Data → Option Items
@@ -31,11 +31,11 @@ list_under name (array ds) = None
 list_under name (object ms) = list_or_none (get_member name ms)
 
 -- each entry is its item judged by itself
-abbrev pub JudgesAll : Items → List Entry → Type 0
-JudgesAll no_items [] = ⊤
-JudgesAll no_items (e ∷ es) = ⊥
-JudgesAll (item d ds) [] = ⊥
-JudgesAll (item d ds) (e ∷ es) = Judges d e × JudgesAll ds es
+abbrev pub AreEntriesFor : Items → List Entry → Type 0
+AreEntriesFor no_items [] = ⊤
+AreEntriesFor no_items (e ∷ es) = ⊥
+AreEntriesFor (item d ds) [] = ⊥
+AreEntriesFor (item d ds) (e ∷ es) = IsEntryFor d e × AreEntriesFor ds es
 
 -- the entries of the list that some bytes have under a name
 pub record AreEntriesOf (bytes name : List ℕ) (entries : List Entry) : Type 0 where
@@ -43,7 +43,7 @@ pub record AreEntriesOf (bytes name : List ℕ) (entries : List Entry) : Type 0 
   pub list : Items
   pub value : IsValueOf bytes whole
   pub under : list_under name whole ≡ Some list
-  pub judged : JudgesAll list entries
+  pub judged : AreEntriesFor list entries
 
 -- the bytes have no list under a name
 pub record HasNoList (bytes name : List ℕ) : Type 0 where

@@ -1,8 +1,8 @@
 pub mod DataOf
 pub mod Entries
-pub mod Flaws
 pub mod Ordered
+pub mod Properties
 pub mod Reading
 pub mod Refusal
 pub mod Walk
-pub mod Naming
+pub mod inner

@@ -6,9 +6,9 @@ use Rattle.std.specs.Cmp.Lexicographic.{slice_cmp}
 use Rattle.serde_json.specs.Data.{Data, null, boolean, number, string, array, object, Items, no_items, item, Members, no_members, member}
 
 -- a name comes before the first of these
-abbrev pub IsBefore : List ℕ → Members → Type 0
-IsBefore name no_members = ⊤
-IsBefore name (member next d ms) = slice_cmp nat_cmp name next ≡ Less
+abbrev pub IsNameBefore : List ℕ → Members → Type 0
+IsNameBefore name no_members = ⊤
+IsNameBefore name (member next d ms) = slice_cmp nat_cmp name next ≡ Less
 
 abbrev mutual
   pub IsOrdered : Data → Type 0
@@ -25,4 +25,4 @@ abbrev mutual
 
   pub MembersAreOrdered : Members → Type 0
   MembersAreOrdered no_members = ⊤
-  MembersAreOrdered (member name d ms) = IsBefore name ms × IsOrdered d × MembersAreOrdered ms
+  MembersAreOrdered (member name d ms) = IsNameBefore name ms × IsOrdered d × MembersAreOrdered ms

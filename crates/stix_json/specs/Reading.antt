@@ -1,4 +1,4 @@
--- The tree that some bytes are, the refusal where they are none, and the same of each entry of a list.
+-- The JSON value that some bytes are, the refusal where they are none, and the same of each entry of a list.
 use Rattle.std.specs.Prelude.{◌≡◌, ⊤, ℕ, List, Some, None, IsUtf8}
 use Rattle.serde_json.specs.Data.{Data}
 use Rattle.serde_json.specs.Read.{read}
@@ -20,8 +20,8 @@ pub record IsValueOf (bytes : List ℕ) (d : Data) : Type 0 where
 abbrev pub HasNoValue : List ℕ → Type 0
 HasNoValue bytes = (d : Data) → ¬ (IsValueOf bytes d)
 
--- the tree is that value, nothing in it is refused, and its names rise
-pub record IsTreeAs (d : Data) (tree : Json) : Type 0 where
+-- the Json is that value, nothing in it is refused, and its names rise
+pub record IsJsonAs (d : Data) (tree : Json) : Type 0 where
   pub same : data_of tree ≡ d
   pub good : refusal_of d ≡ None
   pub ordered : IsOrdered d
@@ -37,22 +37,22 @@ IsRefusalOf d NotList = ⊥
 IsRefusalOf d NoMemory = ⊥
 
 -- a value judged by itself
-abbrev pub Judges : Data → Entry → Type 0
-Judges d (Good tree) = IsTreeAs d tree
-Judges d (Bad refusal) = IsRefusalOf d refusal
+abbrev pub IsEntryFor : Data → Entry → Type 0
+IsEntryFor d (Good tree) = IsJsonAs d tree
+IsEntryFor d (Bad refusal) = IsRefusalOf d refusal
 
--- the tree of some bytes
-pub record IsTreeOf (bytes : List ℕ) (tree : Json) : Type 0 where
+-- the Json of some bytes
+pub record IsJsonOf (bytes : List ℕ) (tree : Json) : Type 0 where
   pub value : IsValueOf bytes (data_of tree)
   pub good : refusal_of (data_of tree) ≡ None
   pub ordered : IsOrdered (data_of tree)
 
 -- the refusal of some bytes; memory may run out at any time
-abbrev pub IsRefusedAs : List ℕ → JsonRefusal → Type 0
-IsRefusedAs bytes NotJson = HasNoValue bytes
-IsRefusedAs bytes (TooDeep path) = (d : Data) × IsValueOf bytes d × IsRefusalOf d (TooDeep path)
-IsRefusedAs bytes (NotWhole path) = (d : Data) × IsValueOf bytes d × IsRefusalOf d (NotWhole path)
-IsRefusedAs bytes (Null path) = (d : Data) × IsValueOf bytes d × IsRefusalOf d (Null path)
-IsRefusedAs bytes (OutOfRange path) = (d : Data) × IsValueOf bytes d × IsRefusalOf d (OutOfRange path)
-IsRefusedAs bytes NotList = ⊥
-IsRefusedAs bytes NoMemory = ⊤
+abbrev pub IsJsonRefusedAs : List ℕ → JsonRefusal → Type 0
+IsJsonRefusedAs bytes NotJson = HasNoValue bytes
+IsJsonRefusedAs bytes (TooDeep path) = (d : Data) × IsValueOf bytes d × IsRefusalOf d (TooDeep path)
+IsJsonRefusedAs bytes (NotWhole path) = (d : Data) × IsValueOf bytes d × IsRefusalOf d (NotWhole path)
+IsJsonRefusedAs bytes (Null path) = (d : Data) × IsValueOf bytes d × IsRefusalOf d (Null path)
+IsJsonRefusedAs bytes (OutOfRange path) = (d : Data) × IsValueOf bytes d × IsRefusalOf d (OutOfRange path)
+IsJsonRefusedAs bytes NotList = ⊥
+IsJsonRefusedAs bytes NoMemory = ⊤

@@ -1,4 +1,4 @@
--- Why a JSON value is no tree: it nests too deep, or holds null, a fraction or a number out of range.
+-- Why a JSON value is refused: it nests too deep, or holds null, a fraction or a number out of range.
 use Rattle.std.specs.Prelude.{ℕ, ◌+◌, ◌&&◌, List, [], ◌∷◌, length, Bool, true, false, nat_lt, nat_le, if◌then◌else◌, ℤ, unsigned_abs, Option, Some, None}
 use Rattle.std.specs.Option.{option_or}
 use Rattle.serde_json.specs.Data.{Data, null, boolean, number, string, array, object}
@@ -35,7 +35,7 @@ abbrev pub number_refusal : List ℕ → Option ℤ → Option JsonRefusal
 number_refusal path None = Some (NotWhole path)
 number_refusal path (Some whole) = if nat_le (unsigned_abs whole) MAX_WHOLE then None else Some (OutOfRange path)
 
--- a value at a path that a tree doesn't hold
+-- a value at a path that Json doesn't hold
 abbrev pub value_refusal : List ℕ → Data → Option JsonRefusal
 value_refusal path null = Some (Null path)
 value_refusal path (boolean b) = None
@@ -47,6 +47,6 @@ value_refusal path (object ms) = None
 abbrev pub visit_refusal : Visit → Option JsonRefusal
 visit_refusal v = value_refusal (path_text v.parts) v.value
 
--- the first value that nests too deep, else the first that a tree doesn't hold
+-- the first value that nests too deep, else the first that Json doesn't hold
 abbrev pub refusal_of : Data → Option JsonRefusal
 refusal_of d = option_or (first_told depth_refusal (walk [] d)) (first_told visit_refusal (walk [] d))

@@ -3,11 +3,11 @@ ghost use Rattle.serde_json.specs.Data.{number as number_data};
 ghost use Rattle.serde_json.specs.Find.{of_integer};
 ghost use Rattle.serde_json.specs.View.{view, items_view, items_of, members_view, number_view};
 ghost use Rattle.stix_json.specs.DataOf.{data_of, field_data, members_of};
-ghost use Rattle.stix_json.specs.Flaws.{first_flaw, items_flaw, members_flaw, number_flaw, flaw_here, Halts};
+ghost use Rattle.stix_json.specs.inner.Flaws.{first_flaw, items_flaw, members_flaw, number_flaw, flaw_here, Halts};
 
 use crate::flaw::{Flaw, Halt, Reason};
 use crate::place::Place;
-use crate::{Field, MAX_WHOLE, Json};
+use crate::{Field, Json, MAX_WHOLE};
 use flow_values::{Items, Text};
 use serde_json::{Map, Number, Value};
 use std::alloc::Global;
@@ -30,7 +30,7 @@ fn whole_of(number: Number) -> Result<i64, Reason>
     Ok(whole)
 }
 
-/// The tree of a number.
+/// The value of a number.
 fn convert_number(number: Number) -> Result<Json, Halt>
     ensures ok { IfOk result (λ tree. (number_flaw (number_view number) ≡ None)
         × (data_of tree ≡ number_data (number_view number))) }
@@ -45,7 +45,7 @@ fn convert_number(number: Number) -> Result<Json, Halt>
     }
 }
 
-/// The tree of a value, which owns the value's texts, or the first value that no tree holds.
+/// A value as `Json`, which owns the value's texts, or the first value in it that `Json` doesn't hold.
 #[cycle(convert)]
 pub(crate) fn convert(alloc: Global, value: Value) -> Result<Json, Halt>
     ensures ok { IfOk result (λ tree. (first_flaw (view value) ≡ None) × (data_of tree ≡ view value)) }

@@ -1,6 +1,6 @@
 ghost use Rattle.std.specs.Prelude.{◌≡◌, IfOk};
 ghost use Rattle.serde_json.specs.View.{view, items_view, members_view};
-ghost use Rattle.stix_json.specs.Flaws.{too_deep, items_too_deep, members_too_deep};
+ghost use Rattle.stix_json.specs.inner.Flaws.{too_deep, items_too_deep, members_too_deep};
 
 use crate::place::Place;
 use flow_values::NoMemory;

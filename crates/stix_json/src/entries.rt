@@ -1,7 +1,7 @@
 ghost use Rattle.std.specs.Prelude.{◌≡◌, IfOk, IfErr, option_map};
 ghost use Rattle.serde_json.specs.View.{view, items_view, members_view};
 ghost use Rattle.serde_json.specs.Find.{get_member};
-ghost use Rattle.stix_json.specs.Entries.{list_of, list_under, JudgesAll, AreEntriesOf, HasNoEntriesAs};
+ghost use Rattle.stix_json.specs.Entries.{list_of, list_under, AreEntriesFor, AreEntriesOf, HasNoEntriesAs};
 ghost use Rattle.stix_json.specs.Ordered.{ItemsAreOrdered};
 
 use crate::judge::judge;
@@ -47,7 +47,7 @@ fn take_list(alloc: Global, value: Value, name: &str) -> Option<Vec<Value>>
 /// Each item judged by itself.
 fn judge_items(alloc: Global, items: Vec<Value>) -> Result<Items<Entry>, NoMemory>
     requires { ItemsAreOrdered (items_view items.items) }
-    ensures { IfOk result (λ entries. JudgesAll (items_view items.items) entries) }
+    ensures { IfOk result (λ entries. AreEntriesFor (items_view items.items) entries) }
 {
     let mut entries = Items::new(alloc);
     for item in items {

@@ -1,6 +1,6 @@
 ghost use Rattle.std.specs.Prelude.{◌≡◌, IfOk, Option, option_map};
 ghost use Rattle.stix_json.specs.Walk.{place_part};
-ghost use Rattle.stix_json.specs.Flaws.{flaw_under, refusal_at, Halts};
+ghost use Rattle.stix_json.specs.inner.Flaws.{flaw_under, refusal_at, Halts};
 ghost use Rattle.stix_json.specs.declared.flaw.Flaw.{Flaw as FlawOf};
 ghost use Rattle.stix_json.specs.declared.flaw.Halt.TheVariants.{NoMemory as OutOfMemory};
 
@@ -9,7 +9,7 @@ use crate::place::Place;
 use flow_values::NoMemory;
 use std::alloc::Global;
 
-/// Why a value is none that a tree holds.
+/// Why a value is none that `Json` holds.
 #[derive(Clone, Copy, Debug, PartialEq, Eq)]
 pub(crate) enum Reason {
     NotWhole,
@@ -17,7 +17,7 @@ pub(crate) enum Reason {
     OutOfRange,
 }
 
-/// A value that no tree holds, and where it stands.
+/// A value that `Json` doesn't hold, and where it stands.
 #[derive(Debug, Drop)]
 pub(crate) struct Flaw {
     pub reason: Reason,

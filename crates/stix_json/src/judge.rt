@@ -1,13 +1,13 @@
 ghost use Rattle.std.specs.Prelude.{◌≡◌, None, IfOk, option_map};
 ghost use Rattle.serde_json.specs.View.{view};
-ghost use Rattle.stix_json.specs.Flaws.{too_deep, path_of};
+ghost use Rattle.stix_json.specs.inner.Flaws.{too_deep, path_of};
 ghost use Rattle.stix_json.specs.Ordered.{IsOrdered};
-ghost use Rattle.stix_json.specs.Reading.{Judges};
+ghost use Rattle.stix_json.specs.Reading.{IsEntryFor};
 
 use crate::convert::convert;
 use crate::depth::first_too_deep;
 use crate::flaw::Halt;
-use crate::{Entry, MAX_LEVELS, JsonRefusal};
+use crate::{Entry, JsonRefusal, MAX_LEVELS};
 use flow_values::{NoMemory, Text};
 use serde_json::Value;
 use std::alloc::Global;
@@ -22,11 +22,11 @@ fn deep_path(alloc: Global, value: &Value) -> Result<Option<Text>, NoMemory>
     }
 }
 
-/// The tree of a value that doesn't nest too deep, or why it is none.
+/// The `Json` of a value that doesn't nest too deep, or why it is none.
 fn judge_shallow(alloc: Global, value: Value) -> Result<Entry, NoMemory>
     requires ordered { IsOrdered (view value) }
     requires shallow { too_deep MAX_LEVELS (view value) ≡ None }
-    ensures { IfOk result (λ entry. Judges (view value) entry) }
+    ensures { IfOk result (λ entry. IsEntryFor (view value) entry) }
 {
     match convert(alloc, value) {
         Ok(tree) => Ok(Entry::Good(tree)),
@@ -35,10 +35,10 @@ fn judge_shallow(alloc: Global, value: Value) -> Result<Entry, NoMemory>
     }
 }
 
-/// The tree of a value, or why it is none.
+/// The `Json` of a value, or why it is none.
 pub(crate) fn judge(alloc: Global, value: Value) -> Result<Entry, NoMemory>
     requires { IsOrdered (view value) }
-    ensures { IfOk result (λ entry. Judges (view value) entry) }
+    ensures { IfOk result (λ entry. IsEntryFor (view value) entry) }
 {
     match deep_path(alloc, &value)? {
         Some(path) => Ok(Entry::Bad(JsonRefusal::TooDeep { path })),

@@ -1,7 +1,7 @@
-//! JSON values without fractions and null (RFC 8259), as trees that own their texts and lists.
+//! JSON values without fractions and null (RFC 8259), which own their texts and lists.
 //!
 //! `read_json` gives the value that `serde_json`'s definition of reading gives, or the first reason
-//! against it, with its path. `write_json` writes a tree so that it reads back.
+//! against it, with its path. `write_json` writes a value so that it reads back.
 #![tactic(auto)]
 
 mod convert;
@@ -10,9 +10,12 @@ mod entries;
 mod entry;
 mod flaw;
 mod judge;
+pub mod laws;
 mod limits;
 mod lookup;
+mod ordered;
 mod place;
+mod property;
 mod read;
 mod refusal;
 #[cfg(test)]
@@ -23,7 +26,9 @@ mod write;
 pub use entries::read_entries;
 pub use entry::Entry;
 pub use limits::{MAX_LEVELS, MAX_WHOLE};
-pub use lookup::{get, take};
+pub use lookup::{get, get_ordered, take};
+pub use ordered::is_ordered;
+pub use property::{list_at, list_of, text_at, text_of};
 pub use read::read_json;
 pub use refusal::JsonRefusal;
 pub use value::{Field, Json};

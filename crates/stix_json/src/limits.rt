@@ -1,6 +1,6 @@
-/// The most levels of lists and objects that a tree has. The outermost has level 1.
+/// The most levels of lists and objects that a value has. The outermost has level 1.
 pub const MAX_LEVELS: usize = 64;
 
-/// The greatest whole number of a tree, and without its sign the least: 2^53 - 1, up to which every
+/// The greatest integer of a value, and without its sign the least: 2^53 - 1, up to which every
 /// reader of JSON gives the same number.
 pub const MAX_WHOLE: u64 = 9_007_199_254_740_991;

@@ -1,6 +1,6 @@
 ghost use Rattle.std.specs.Prelude.{◌≡◌, IfOk};
 ghost use Rattle.stix_json.specs.Walk.{place_part};
-ghost use Rattle.stix_json.specs.Flaws.{under, path_of};
+ghost use Rattle.stix_json.specs.inner.Flaws.{under, path_of};
 
 use flow_values::{NoMemory, Text};
 use std::alloc::Global;

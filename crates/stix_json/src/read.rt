@@ -1,6 +1,6 @@
 ghost use Rattle.std.specs.Prelude.{◌≡◌, ◌⊎◌, IfOk, IfErr};
 ghost use Rattle.serde_json.specs.View.{view};
-ghost use Rattle.stix_json.specs.Reading.{IsValueOf, HasNoValue, IsTreeOf, IsRefusedAs};
+ghost use Rattle.stix_json.specs.Reading.{IsValueOf, HasNoValue, IsJsonOf, IsJsonRefusedAs};
 ghost use Rattle.stix_json.specs.declared.refusal.JsonRefusal.TheVariants.{NotJson, NoMemory as OutOfMemory};
 
 use crate::judge::judge;
@@ -24,11 +24,11 @@ pub(crate) fn read_value(alloc: Global, bytes: &[u8]) -> Result<Value, JsonRefus
     }
 }
 
-/// The tree that bytes are, which is ordered, or why they are none: `NotJson`, else `TooDeep`, else
-/// the first value that a tree doesn't hold, with its path. Never `NotList`.
+/// The JSON value that bytes are, which is ordered, or why they are none: `NotJson`, else `TooDeep`, else
+/// the first value that `Json` doesn't hold, with its path. Never `NotList`.
 pub fn read_json(alloc: Global, bytes: &[u8]) -> Result<Json, JsonRefusal>
-    ensures ok { IfOk result (λ tree. IsTreeOf bytes.now tree) }
-    ensures err { IfErr result (λ refusal. IsRefusedAs bytes.now refusal) }
+    ensures ok { IfOk result (λ tree. IsJsonOf bytes.now tree) }
+    ensures err { IfErr result (λ refusal. IsJsonRefusedAs bytes.now refusal) }
 {
     let value = read_value(alloc, bytes)?;
     match judge(alloc, value)? {

@@ -2,7 +2,7 @@ use flow_values::{NoMemory, Text};
 use std::error::Error;
 use std::fmt;
 
-/// Why bytes give no tree. A path joins the names and the places `[n]`, counted from 0, by dots; the
+/// Why bytes give no JSON value. A path joins the names and the places `[n]`, counted from 0, by dots; the
 /// path of the whole value is empty.
 #[derive(Debug, Drop)]
 pub enum JsonRefusal {

@@ -5,19 +5,19 @@ ghost use Rattle.serde_json.specs.View.{items_of};
 ghost use Rattle.stix_json.specs.DataOf.{data_of, field_data, members_of};
 ghost use Rattle.stix_json.specs.Ordered.{IsOrdered};
 ghost use Rattle.stix_json.specs.Refusal.{refusal_of};
-ghost use Rattle.stix_json.specs.Reading.{IsTreeOf};
+ghost use Rattle.stix_json.specs.Reading.{IsJsonOf};
 
 use crate::{Field, Json};
 use flow_values::{NoMemory, Text};
 use json::Writer;
 use std::alloc::{AllocError, Global};
 
-/// The text of an ordered tree as compact JSON, with its names in byte order. Where nothing in the
-/// tree is refused, the text reads as that tree.
+/// The text of an ordered value as compact JSON, with its names in byte order. Where nothing in the
+/// value is refused, the text reads as that value.
 pub fn write_json(alloc: Global, tree: &Json) -> Result<Text, NoMemory>
     requires { IsOrdered (data_of tree.now) }
     ensures text { IfOk result (λ text. text ≡ compact_text (data_of tree.now)) }
-    ensures reads_back { IfOk result (λ text. refusal_of (data_of tree.now) ≡ None → IsTreeOf text tree.now) }
+    ensures reads_back { IfOk result (λ text. refusal_of (data_of tree.now) ≡ None → IsJsonOf text tree.now) }
 {
     let mut out = Writer::new(Vec::new(alloc));
     write_value(tree, &mut out)?;

@@ -3,13 +3,13 @@ use Rattle.std.proofs.Common.{◌≡◌, List, [], ◌∷◌, ◌++◌, append_a
 use Rattle.std.specs.List.{cons_option}
 use Rattle.serde_json.specs.Data.{Data}
 use Rattle.stix_objects.specs.declared.groups.Group.{Group}
-use Rattle.stix_objects.specs.declared.broken.Break.{Break}
-use Rattle.stix_objects.specs.Found.{Found, break_of}
+use Rattle.stix_objects.specs.declared.rule_break.Break.{Break}
+use Rattle.stix_objects.specs.BreakAt.{BreakAt, break_of}
 use Rattle.stix_objects.specs.Row.{Row, CommonRow, ObjectType}
 use Rattle.stix_objects.specs.CommonRows.{common_rows}
 use Rattle.stix_objects.specs.Types.{group_in, rows_in}
-use Rattle.stix_objects.specs.Breaks.{rows_for, JudgesAll, AreBreaksBy}
-use Rattle.stix_objects.specs.Adding.{with_told, Adds, standing_rows}
+use Rattle.stix_objects.specs.Breaks.{rows_for, JudgesRows, AreBreaksBy}
+use Rattle.stix_objects.specs.inner.Adding.{with_break, Adds, standing_rows}
 
 adds_from : (rows : List Row) (d : Data) (before mid after : List Break) → mid ≡ before → Adds rows d mid after → Adds rows d before after
 adds_from rows d before mid after is adds = subst (λ (from : List Break). Adds rows d from after) is adds
@@ -19,11 +19,11 @@ pub adds_standing : (row : Option Row) (rows : List Row) (d : Data) (before mid 
     → Adds (cons_option row rows) d before after
 adds_standing None rows d before mid after first rest = adds_from rows d before mid after first rest
 adds_standing (Some row) rows d before mid after first rest =
-    (first.0, first.1, adds_from rows d (with_told before first.0) mid after first.2 rest)
+    (first.0, first.1, adds_from rows d (with_break before first.0) mid after first.2 rest)
 
 adds_append : (first rest : List Row) (d : Data) (before mid after : List Break) → Adds first d before mid → Adds rest d mid after → Adds (first ++ rest) d before after
 adds_append [] rest d before mid after h k = adds_from rest d before mid after h k
-adds_append (row ∷ rows) rest d before mid after h k = (h.0, h.1, adds_append rows rest d (with_told before h.0) mid after h.2 k)
+adds_append (row ∷ rows) rest d before mid after h k = (h.0, h.1, adds_append rows rest d (with_break before h.0) mid after h.2 k)
 
 told_first : (told : Option Break) (later : List Break) → option_to_list told ++ later ≡ cons_option told later
 told_first None later = refl
@@ -35,15 +35,15 @@ append_nil (x ∷ xs) = ap (λ ys. x ∷ ys) (append_nil xs)
 
 -- what is added is told by the outcomes
 pub record Told (rows : List Row) (d : Data) (before after : List Break) : Type 0 where
-  pub outcomes : List (Option Found)
-  pub judged : JudgesAll rows d outcomes
+  pub outcomes : List (Option BreakAt)
+  pub judged : JudgesRows rows d outcomes
   pub told : after ≡ before ++ filter_map (option_map break_of) outcomes
 
 adds_told : (rows : List Row) (d : Data) (before after : List Break) → Adds rows d before after → Told rows d before after
 adds_told [] d before after adds = record { outcomes = []; judged = tt; told = adds ∙ sym (append_nil before) }
 adds_told (row ∷ rows) d before after adds =
     let outcome = adds.0 in
-    let later = adds_told rows d (with_told before outcome) after adds.2 in
+    let later = adds_told rows d (with_break before outcome) after adds.2 in
     let rest = filter_map (option_map break_of) later.outcomes in
     record {
       outcomes = outcome ∷ later.outcomes;

@@ -1,7 +1,7 @@
-mod Times
-mod Identifiers
-mod Lists
-mod Outcomes
-mod Unique
+mod TimestampLemmas
+mod IdentifierLemmas
+mod ListLemmas
+mod JudgingLemmas
+mod BreaksLemmas
 mod SoundLemmas
 mod AddingLemmas

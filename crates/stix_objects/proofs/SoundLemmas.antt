@@ -6,25 +6,26 @@ use Rattle.serde_json.specs.Data.{Data}
 use Rattle.serde_json.specs.Find.{get, as_str, as_object}
 use Rattle.stix_ids.specs.Kind.{IsKind}
 use Rattle.stix_objects.specs.declared.groups.Group.{Group}
-use Rattle.stix_objects.specs.declared.groups.Group.TheVariants.{Stated, Marking, Observable, Other}
+use Rattle.stix_objects.specs.declared.groups.Group.TheVariants.{Domain, Marking, Observable, Other}
 use Rattle.stix_objects.specs.declared.rule.Rule.{Rule}
 use Rattle.stix_objects.specs.declared.rule.Rule.TheVariants.{BadWord, BadTime, BadId, NotObject}
 use Rattle.stix_objects.specs.declared.form.Precision.TheVariants.{Any}
-use Rattle.stix_objects.specs.Found.{Found, here, under, break_of}
-use Rattle.stix_objects.specs.Form.{kind, moment, one, time}
+use Rattle.stix_objects.specs.BreakAt.{BreakAt, here, under, break_of}
+use Rattle.stix_objects.specs.Form.{kind, timestamp, one, time}
 use Rattle.stix_objects.specs.Row.{Row, required, own_id, order}
 use Rattle.stix_objects.specs.CommonRows.{common_rows}
-use Rattle.stix_objects.specs.StatedTypes.{observed_data}
+use Rattle.stix_objects.specs.DomainTypes.{observed_data}
 use Rattle.stix_objects.specs.Types.{type_named, group_in, rows_in}
 use Rattle.stix_objects.specs.Judging.{Asks, OfKind}
-use Rattle.stix_objects.specs.Singles.{IsMoment, NamesOwn, JudgesSingle, JudgesOwnId}
+use Rattle.stix_objects.specs.Singles.{IsTimestamp, NamesOwn, JudgesSingle, JudgesOwnId}
 use Rattle.stix_objects.specs.Forms.{JudgesValue, JudgesForm}
-use Rattle.stix_objects.specs.Conditions.{text_at, IsAt}
+use Rattle.stix_objects.specs.Properties.{IsTimestampAt}
+use Rattle.stix_json.specs.Properties.{text_at}
 use Rattle.stix_objects.specs.Rows.{Judges, JudgesOwn}
-use Rattle.stix_objects.specs.Breaks.{standing, rows_for, type_of, JudgesAll, AreBreaksBy, AreBreaksOf}
+use Rattle.stix_objects.specs.Breaks.{standing, rows_for, type_of, JudgesRows, AreBreaksBy, AreBreaksOf}
 use Rattle.stix_objects.specs.Sound.{MeetsAll, IsNamed, IsTimed}
 
-meets_all : (rows : List Row) (d : Data) (outcomes : List (Option Found)) → JudgesAll rows d outcomes → [] ≡ filter_map (option_map break_of) outcomes → MeetsAll rows d
+meets_all : (rows : List Row) (d : Data) (outcomes : List (Option BreakAt)) → JudgesRows rows d outcomes → [] ≡ filter_map (option_map break_of) outcomes → MeetsAll rows d
 meets_all [] d outcomes judged told = tt
 meets_all (row ∷ rows) d [] judged told = absurd judged
 meets_all (row ∷ rows) d (None ∷ outcomes) judged told = (judged.0, meets_all rows d outcomes judged.1 told)
@@ -50,20 +51,20 @@ own_met (row ∷ rows) rest d met = own_met rows rest d met.1
 -- each group has the rows of the type and of the identifier
 common_met : (group : Group) (own : List Row) (d : Data) → MeetsAll (filter_map (standing group own) common_rows ++ own) d
     → Judges (required (codes "type") (one kind)) d None × Judges own_id d None
-common_met Stated own d met = (met.0, met.1.1.0)
+common_met Domain own d met = (met.0, met.1.1.0)
 common_met Marking own d met = (met.0, met.1.1.0)
 common_met Observable own d met = (met.0, met.1.1.0)
 common_met Other own d met = (met.0, met.1.1.0)
 
-met_inside : {A : Type 0} (o : Option A) (tell : A → Found) → None ≡ option_map tell o → o ≡ None
+met_inside : {A : Type 0} (o : Option A) (tell : A → BreakAt) → None ≡ option_map tell o → o ≡ None
 met_inside None tell is = refl
 met_inside (Some a) tell is = absurd (cc)
 
 -- a required property that is met is there and meets its form
-met_value : (name : List ℕ) (J : Data → Option Found → Type 0) (o : Option Data) → JudgesValue (Unit {0}) name J o None → (v : Data) × (o ≡ Some v) × J v None
+met_value : (name : List ℕ) (J : Data → Option BreakAt → Type 0) (o : Option Data) → JudgesValue (Unit {0}) name J o None → (v : Data) × (o ≡ Some v) × J v None
 met_value name J None judged = absurd (judged tt)
 met_value name J (Some v) judged =
-    (v, refl, subst (λ (o : Option Found). J v o) (met_inside judged.0 (under name) judged.2) judged.1)
+    (v, refl, subst (λ (o : Option BreakAt). J v o) (met_inside judged.0 (under name) judged.2) judged.1)
 
 met_here : (J : Option Rule → Type 0) → ((rule : Option Rule) × J rule × (None ≡ option_map here rule)) → J None
 met_here J judged = subst (λ (o : Option Rule). J o) (met_inside judged.0 here judged.2) judged.1
@@ -75,11 +76,11 @@ met_kind (Some a) J judged = (a, refl, judged)
 text_there : (name : List ℕ) (d v : Data) (s : List ℕ) → get name d ≡ Some v → as_str v ≡ Some s → text_at name d ≡ Some s
 text_there name d v s there is = ap (option_and_then as_str) there ∙ is
 
-met_time : (name : List ℕ) (d : Data) → Judges (required name time) d None → (i : ℤ) × IsAt Any name d i
+met_time : (name : List ℕ) (d : Data) → Judges (required name time) d None → (i : ℤ) × IsTimestampAt Any name d i
 met_time name d judged =
     let v = met_value name (JudgesForm time) (get name d) judged in
-    let s = met_kind (as_str v.0) (λ s. Asks (IsMoment Any s) BadTime) (met_here (JudgesSingle (moment Any) v.0) v.2) in
-    (s.2.0, record { text = s.0; there = text_there name d v.0 s.0 v.1 s.1; moment = s.2.1 })
+    let s = met_kind (as_str v.0) (λ s. Asks (IsTimestamp Any s) BadTime) (met_here (JudgesSingle (timestamp Any) v.0) v.2) in
+    (s.2.0, record { text = s.0; there = text_there name d v.0 s.0 v.1 s.1; names = s.2.1 })
 
 named_met : (d : Data) → IsSome (as_object d) → Judges (required (codes "type") (one kind)) d None → Judges own_id d None → IsNamed d
 named_met d object typed owned =

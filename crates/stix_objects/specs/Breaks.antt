@@ -4,19 +4,19 @@ use Rattle.std.specs.List.{list_any}
 use Rattle.serde_json.specs.Data.{Data}
 use Rattle.serde_json.specs.Find.{as_object}
 use Rattle.stix_objects.specs.declared.groups.Group.{Group}
-use Rattle.stix_objects.specs.declared.groups.Group.TheVariants.{Stated, Marking, Observable, Other}
+use Rattle.stix_objects.specs.declared.groups.Group.TheVariants.{Domain, Marking, Observable, Other}
 use Rattle.stix_objects.specs.declared.rule.Rule.TheVariants.{NotObject}
-use Rattle.stix_objects.specs.declared.broken.Break.{Break}
-use Rattle.stix_objects.specs.Found.{Found, here, break_of}
+use Rattle.stix_objects.specs.declared.rule_break.Break.{Break}
+use Rattle.stix_objects.specs.BreakAt.{BreakAt, here, break_of}
 use Rattle.stix_objects.specs.Row.{Row, required, optional, required_where, CommonRow, for, unless_own, ObjectType}
 use Rattle.stix_objects.specs.CommonRows.{common_rows}
 use Rattle.stix_objects.specs.Types.{type_named, group_in, rows_in}
-use Rattle.stix_objects.specs.Conditions.{text_at}
+use Rattle.stix_json.specs.Properties.{text_at}
 use Rattle.stix_objects.specs.Rows.{Judges}
 
 -- whether two groups are one
 abbrev pub same_group : Group → Group → Bool
-same_group Stated Stated = true
+same_group Domain Domain = true
 same_group Marking Marking = true
 same_group Observable Observable = true
 same_group Other Other = true
@@ -39,21 +39,21 @@ standing group own (unless_own groups name form) =
 abbrev pub rows_for : Option ObjectType → List Row
 rows_for type = filter_map (standing (group_in type) (rows_in type)) common_rows ++ rows_in type
 
--- the type of an object, where its rows are stated
+-- the type of an object, where it has rows of its own
 abbrev pub type_of : Data → Option ObjectType
 type_of d = option_and_then type_named (text_at (codes "type") d)
 
 -- each row's outcome, in order
-abbrev pub JudgesAll : List Row → Data → List (Option Found) → Type 0
-JudgesAll [] d [] = ⊤
-JudgesAll [] d (outcome ∷ outcomes) = ⊥
-JudgesAll (row ∷ rows) d [] = ⊥
-JudgesAll (row ∷ rows) d (outcome ∷ outcomes) = Judges row d outcome × JudgesAll rows d outcomes
+abbrev pub JudgesRows : List Row → Data → List (Option BreakAt) → Type 0
+JudgesRows [] d [] = ⊤
+JudgesRows [] d (outcome ∷ outcomes) = ⊥
+JudgesRows (row ∷ rows) d [] = ⊥
+JudgesRows (row ∷ rows) d (outcome ∷ outcomes) = Judges row d outcome × JudgesRows rows d outcomes
 
 -- these are the breaks of the rows
 pub record AreBreaksBy (rows : List Row) (d : Data) (breaks : List Break) : Type 0 where
-  pub outcomes : List (Option Found)
-  pub judged : JudgesAll rows d outcomes
+  pub outcomes : List (Option BreakAt)
+  pub judged : JudgesRows rows d outcomes
   pub told : breaks ≡ filter_map (option_map break_of) outcomes
 
 -- these are the breaks of a value: of an object those of its rows, and of another value the one that it is none

@@ -1,14 +1,15 @@
 -- What holds of an object, where a row asks for it.
 use Rattle.std.specs.Prelude.{◌≡◌, ⊤, ℕ, ℤ, ◌<ℤ◌, ◌≤ℤ◌, List, [], ◌∷◌, true, false, Option, Some, None, MatchOption, IsSome, option_and_then, find, bytes_eq, option_map, codes}
 use Rattle.serde_json.specs.Data.{Data, boolean}
-use Rattle.serde_json.specs.Find.{get, as_str, as_object}
+use Rattle.serde_json.specs.Find.{get, as_object}
 use Rattle.stix_ids.specs.declared.id.Id.{Id}
-use Rattle.stix_ids.specs.Identifier.{IsTextOf}
+use Rattle.stix_json.specs.Properties.{text_at}
 use Rattle.stix_objects.specs.declared.form.Precision.{Precision}
 use Rattle.stix_objects.specs.Form.{Form}
 use Rattle.stix_objects.specs.Row.{Condition, is_true, is_false, meets, absent}
-use Rattle.stix_objects.specs.Singles.{IsMomentOf, JudgesOwnId}
+use Rattle.stix_objects.specs.Singles.{JudgesOwnId}
 use Rattle.stix_objects.specs.Forms.{MeetsForm}
+use Rattle.stix_objects.specs.Properties.{IsTimestampAt, HasId}
 
 -- the property is there and meets the form
 abbrev pub Meets : List ℕ → Form → Data → Type 0
@@ -26,30 +27,20 @@ abbrev pub HoldAll : List Condition → Data → Type 0
 HoldAll [] d = ⊤
 HoldAll (condition ∷ conditions) d = Holds condition d × HoldAll conditions d
 
--- the text of a property, where it is one
-abbrev pub text_at : List ℕ → Data → Option (List ℕ)
-text_at name d = option_and_then as_str (get name d)
-
--- the property is a timestamp of that instant
-pub record IsAt (precision : Precision) (name : List ℕ) (d : Data) (instant : ℤ) : Type 0 where
-  pub text : List ℕ
-  pub there : text_at name d ≡ Some text
-  pub moment : IsMomentOf precision text instant
-
 -- the second property is earlier than the first
-pub record IsEarlier (precision : Precision) (first second : List ℕ) (d : Data) : Type 0 where
+pub record SecondIsEarlier (precision : Precision) (first second : List ℕ) (d : Data) : Type 0 where
   pub from : ℤ
   pub to : ℤ
-  pub begins : IsAt precision first d from
-  pub ends : IsAt precision second d to
+  pub begins : IsTimestampAt precision first d from
+  pub ends : IsTimestampAt precision second d to
   pub earlier : to <ℤ from
 
 -- the second property isn't later than the first
-pub record IsNotLater (precision : Precision) (first second : List ℕ) (d : Data) : Type 0 where
+pub record SecondIsNotLater (precision : Precision) (first second : List ℕ) (d : Data) : Type 0 where
   pub from : ℤ
   pub to : ℤ
-  pub begins : IsAt precision first d from
-  pub ends : IsAt precision second d to
+  pub begins : IsTimestampAt precision first d from
+  pub ends : IsTimestampAt precision second d to
   pub not_later : to ≤ℤ from
 
 -- a colour of the traffic light protocol, and the number of its UUID (STIX 2.1, section 7.2.1.4)
@@ -86,12 +77,8 @@ pub record IsMarking (type : List ℕ) (d : Data) : Type 0 where
   pub definition_is : DefinesObjectOrNone d
 
 -- the object has an identifier with that number
-pub record HasNumber (d : Data) (number : ℕ) : Type 0 where
-  pub text : List ℕ
-  pub id : Id
-  pub there : text_at (codes "id") d ≡ Some text
-  pub reads : IsTextOf text id
-  pub same : id.number ≡ number
+abbrev pub HasNumber : Data → ℕ → Type 0
+HasNumber d number = (id : Id) × HasId d id × (id.number ≡ number)
 
 -- the object's identifier, where there is one, is of the object's type
 abbrev pub HasOwnIdOrNone : Data → Type 0

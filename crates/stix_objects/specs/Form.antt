@@ -3,19 +3,19 @@ use Rattle.std.specs.Prelude.{ℕ, ℤ, pos, List, [], ◌∷◌, codes}
 use Rattle.stix_objects.specs.declared.form.Precision.{Precision}
 use Rattle.stix_objects.specs.declared.form.Precision.TheVariants.{Any, Millis}
 
--- what one value must be: a text, a text that is a kind, the text `2.1`, one of some words, a timestamp, an
--- identifier, an identifier of one of some kinds, true or false, a whole number in a range, an object, an object of
+-- what one value must be: a text, a text that is a kind, the text `2.1`, one of some texts, a timestamp, an
+-- identifier, an identifier of one of some kinds, true or false, an integer in a range, an object, an object of
 -- texts
 pub data Single : Type 0 where
-  words : Single
+  any_text : Single
   kind : Single
   version : Single
   one_of : List (List ℕ) → Single
-  moment : Precision → Single
+  timestamp : Precision → Single
   any_reference : Single
   reference : List (List ℕ) → Single
-  truth : Single
-  within : ℤ → ℤ → Single
+  any_boolean : Single
+  integer_in : ℤ → ℤ → Single
   object : Single
   texts_by_name : Single
 
@@ -34,23 +34,23 @@ pub data Form : Type 0 where
 
 -- a text
 abbrev pub text : Form
-text = one words
+text = one any_text
 
 -- true or false
-abbrev pub flag : Form
-flag = one truth
+abbrev pub boolean : Form
+boolean = one any_boolean
 
--- a whole number in a range
-abbrev pub whole : ℕ → ℕ → Form
-whole least most = one (within (pos least) (pos most))
+-- an integer in a range
+abbrev pub integer : ℕ → ℕ → Form
+integer least most = one (integer_in (pos least) (pos most))
 
 -- a timestamp
 abbrev pub time : Form
-time = one (moment Any)
+time = one (timestamp Any)
 
 -- a timestamp with three to six digits of a second
 abbrev pub millis : Form
-millis = one (moment Millis)
+millis = one (timestamp Millis)
 
 -- an identifier of one of these kinds
 abbrev pub ref : List (List ℕ) → Form
@@ -70,7 +70,7 @@ refs_any = list any_reference
 
 -- a list of texts
 abbrev pub texts : Form
-texts = list words
+texts = list any_text
 
 -- one of these texts
 abbrev pub word : List (List ℕ) → Form
@@ -90,10 +90,10 @@ listed = list object
 
 -- external references, STIX 2.1, section 2.5
 abbrev pub external : Form
-external = records (must (codes "source_name") words ∷ may (codes "description") words
-    ∷ may (codes "url") words ∷ may (codes "external_id") words ∷ may (codes "hashes") texts_by_name
+external = records (must (codes "source_name") any_text ∷ may (codes "description") any_text
+    ∷ may (codes "url") any_text ∷ may (codes "external_id") any_text ∷ may (codes "hashes") texts_by_name
     ∷ some_of (codes "description" ∷ codes "url" ∷ codes "external_id" ∷ []) ∷ [])
 
 -- kill chain phases, STIX 2.1, section 2.11
 abbrev pub phases : Form
-phases = records (must (codes "kill_chain_name") words ∷ must (codes "phase_name") words ∷ [])
+phases = records (must (codes "kill_chain_name") any_text ∷ must (codes "phase_name") any_text ∷ [])

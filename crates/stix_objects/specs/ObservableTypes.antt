@@ -1,7 +1,7 @@
--- The own rows of the cyber-observable objects, each with its section of STIX 2.1.
+-- The own rows of the observables, each with its section of STIX 2.1.
 use Rattle.std.specs.Prelude.{List, [], ◌∷◌, neg_ℤ, pos, codes}
 use Rattle.stix_objects.specs.declared.form.Precision.TheVariants.{Any}
-use Rattle.stix_objects.specs.Form.{within, one, Form, text, flag, whole, time, ref, refs, texts, fields, hashes, listed}
+use Rattle.stix_objects.specs.Form.{integer_in, one, Form, text, boolean, integer, time, ref, refs, texts, fields, hashes, listed}
 use Rattle.stix_objects.specs.Row.{is_true, is_false, meets, absent, Row, required, optional, required_where, order, needs_one_of, excludes}
 
 -- a value, and no more: 6.10 mac-addr, 6.15 url
@@ -20,7 +20,7 @@ artifact = optional (codes "mime_type") text ∷ optional (codes "payload_bin") 
 
 -- 6.2
 abbrev pub autonomous_system : List Row
-autonomous_system = required (codes "number") (whole 0 4294967295) ∷ optional (codes "name") text
+autonomous_system = required (codes "number") (integer 0 4294967295) ∷ optional (codes "name") text
     ∷ optional (codes "rir") text ∷ []
 
 -- 6.3
@@ -41,7 +41,7 @@ email_addr = required (codes "value") text ∷ optional (codes "display_name") t
 
 -- 6.6
 abbrev pub email_message : List Row
-email_message = required (codes "is_multipart") flag ∷ optional (codes "date") time
+email_message = required (codes "is_multipart") boolean ∷ optional (codes "date") time
     ∷ optional (codes "content_type") text
     ∷ optional (codes "from_ref") (ref (codes "email-addr" ∷ []))
     ∷ optional (codes "sender_ref") (ref (codes "email-addr" ∷ []))
@@ -58,7 +58,7 @@ email_message = required (codes "is_multipart") flag ∷ optional (codes "date")
 
 -- 6.7
 abbrev pub file : List Row
-file = optional (codes "hashes") hashes ∷ optional (codes "size") (whole 0 9007199254740991)
+file = optional (codes "hashes") hashes ∷ optional (codes "size") (integer 0 9007199254740991)
     ∷ optional (codes "name") text ∷ optional (codes "ctime") time ∷ optional (codes "mtime") time
     ∷ optional (codes "atime") time ∷ optional (codes "parent_directory_ref") (ref (codes "directory" ∷ []))
     ∷ needs_one_of (codes "name" ∷ []) (codes "hashes" ∷ codes "name" ∷ []) ∷ []
@@ -79,16 +79,16 @@ endpoints = ref (codes "ipv4-addr" ∷ codes "ipv6-addr" ∷ codes "mac-addr" �
 
 -- 6.12
 abbrev pub network_traffic : List Row
-network_traffic = optional (codes "start") time ∷ optional (codes "end") time ∷ optional (codes "is_active") flag
+network_traffic = optional (codes "start") time ∷ optional (codes "end") time ∷ optional (codes "is_active") boolean
     ∷ optional (codes "src_ref") endpoints ∷ optional (codes "dst_ref") endpoints
-    ∷ optional (codes "src_port") (whole 0 65535) ∷ optional (codes "dst_port") (whole 0 65535)
+    ∷ optional (codes "src_port") (integer 0 65535) ∷ optional (codes "dst_port") (integer 0 65535)
     ∷ required (codes "protocols") texts ∷ order Any (codes "start") (codes "end")
     ∷ needs_one_of (codes "src_ref" ∷ []) (codes "src_ref" ∷ codes "dst_ref" ∷ [])
     ∷ excludes (codes "end") (is_true (codes "is_active") ∷ meets (codes "end") time ∷ []) ∷ []
 
 -- 6.13
 abbrev pub process : List Row
-process = optional (codes "is_hidden") flag ∷ optional (codes "pid") (whole 0 9007199254740991)
+process = optional (codes "is_hidden") boolean ∷ optional (codes "pid") (integer 0 9007199254740991)
     ∷ optional (codes "created_time") time ∷ optional (codes "cwd") text ∷ optional (codes "command_line") text
     ∷ optional (codes "environment_variables") fields
     ∷ optional (codes "opened_connection_refs") (refs (codes "network-traffic" ∷ []))
@@ -109,9 +109,9 @@ software = required (codes "name") text ∷ optional (codes "cpe") text ∷ opti
 abbrev pub user_account : List Row
 user_account = optional (codes "user_id") text ∷ optional (codes "credential") text
     ∷ optional (codes "account_login") text ∷ optional (codes "account_type") text
-    ∷ optional (codes "display_name") text ∷ optional (codes "is_service_account") flag
-    ∷ optional (codes "is_privileged") flag ∷ optional (codes "can_escalate_privs") flag
-    ∷ optional (codes "is_disabled") flag ∷ optional (codes "account_created") time
+    ∷ optional (codes "display_name") text ∷ optional (codes "is_service_account") boolean
+    ∷ optional (codes "is_privileged") boolean ∷ optional (codes "can_escalate_privs") boolean
+    ∷ optional (codes "is_disabled") boolean ∷ optional (codes "account_created") time
     ∷ optional (codes "account_expires") time ∷ optional (codes "credential_last_changed") time
     ∷ optional (codes "account_first_login") time ∷ optional (codes "account_last_login") time ∷ []
 
@@ -119,17 +119,17 @@ user_account = optional (codes "user_id") text ∷ optional (codes "credential")
 abbrev pub windows_registry_key : List Row
 windows_registry_key = optional (codes "key") text ∷ optional (codes "values") listed
     ∷ optional (codes "modified_time") time ∷ optional (codes "creator_user_ref") (ref (codes "user-account" ∷ []))
-    ∷ optional (codes "number_of_subkeys") (whole 0 9007199254740991) ∷ []
+    ∷ optional (codes "number_of_subkeys") (integer 0 9007199254740991) ∷ []
 
 -- 6.18
 abbrev pub x509_certificate : List Row
-x509_certificate = optional (codes "is_self_signed") flag ∷ optional (codes "hashes") hashes
+x509_certificate = optional (codes "is_self_signed") boolean ∷ optional (codes "hashes") hashes
     ∷ optional (codes "version") text ∷ optional (codes "serial_number") text
     ∷ optional (codes "signature_algorithm") text ∷ optional (codes "issuer") text
     ∷ optional (codes "validity_not_before") time ∷ optional (codes "validity_not_after") time
     ∷ optional (codes "subject") text ∷ optional (codes "subject_public_key_algorithm") text
     ∷ optional (codes "subject_public_key_modulus") text
-    ∷ optional (codes "subject_public_key_exponent") (one (within (neg_ℤ (pos 9007199254740991)) (pos 9007199254740991)))
+    ∷ optional (codes "subject_public_key_exponent") (one (integer_in (neg_ℤ (pos 9007199254740991)) (pos 9007199254740991)))
     ∷ optional (codes "x509_v3_extensions") fields
     ∷ needs_one_of [] (codes "is_self_signed" ∷ codes "hashes" ∷ codes "version" ∷ codes "serial_number"
     ∷ codes "signature_algorithm" ∷ codes "issuer" ∷ codes "validity_not_before" ∷ codes "validity_not_after"

@@ -10,7 +10,7 @@ use Rattle.stix_objects.specs.declared.rule.Rule.{Rule}
 use Rattle.stix_objects.specs.declared.rule.Rule.TheVariants.{BadId, BadTime, NotMillis, OutOfRange, EmptyList, BadReference, BadWord, BadSpec, WrongKind}
 use Rattle.stix_objects.specs.declared.form.Precision.{Precision}
 use Rattle.stix_objects.specs.declared.form.Precision.TheVariants.{Any, Millis}
-use Rattle.stix_objects.specs.Form.{Single, words, kind, version, one_of, moment, any_reference, reference, truth, within, texts_by_name}
+use Rattle.stix_objects.specs.Form.{Single, any_text, kind, version, one_of, timestamp, any_reference, reference, any_boolean, integer_in, texts_by_name}
 use Rattle.stix_objects.specs.Form as forms
 use Rattle.stix_objects.specs.Types.{is_among}
 use Rattle.stix_objects.specs.Judging.{Asks, InTurn, OfKind}
@@ -19,28 +19,28 @@ use Rattle.stix_objects.specs.Judging.{Asks, InTurn, OfKind}
 abbrev pub Met : Option Rule → Type 0
 Met outcome = outcome ≡ None
 
--- the whole number that a value is
-abbrev pub as_whole : Data → Option ℤ
-as_whole null = None
-as_whole (boolean b) = None
-as_whole (number n) = as_integer n
-as_whole (string s) = None
-as_whole (array ds) = None
-as_whole (object ms) = None
+-- the integer that a value is
+abbrev pub integer_of : Data → Option ℤ
+integer_of null = None
+integer_of (boolean b) = None
+integer_of (number n) = as_integer n
+integer_of (string s) = None
+integer_of (array ds) = None
+integer_of (object ms) = None
 
 -- the text is a timestamp of that instant, STIX 2.1, section 2.16; to the millisecond at least, section 3.2
-abbrev pub IsMomentOf : Precision → List ℕ → ℤ → Type 0
-IsMomentOf Any s instant = IsTimeOf s instant
-IsMomentOf Millis s instant = IsMillisOf s instant
+abbrev pub IsTimestampOf : Precision → List ℕ → ℤ → Type 0
+IsTimestampOf Any s instant = IsTimeOf s instant
+IsTimestampOf Millis s instant = IsMillisOf s instant
 
 -- the text is some timestamp
-abbrev pub IsMoment : Precision → List ℕ → Type 0
-IsMoment precision s = (instant : ℤ) × IsMomentOf precision s instant
+abbrev pub IsTimestamp : Precision → List ℕ → Type 0
+IsTimestamp precision s = (instant : ℤ) × IsTimestampOf precision s instant
 
 -- what a text breaks of a timestamp
-abbrev pub JudgesMoment : Precision → List ℕ → Option Rule → Type 0
-JudgesMoment Any s outcome = Asks (IsMoment Any s) BadTime outcome
-JudgesMoment Millis s outcome = InTurn (Asks (IsMoment Any s) BadTime) (Asks (IsMoment Millis s) NotMillis) outcome
+abbrev pub JudgesTimestamp : Precision → List ℕ → Option Rule → Type 0
+JudgesTimestamp Any s outcome = Asks (IsTimestamp Any s) BadTime outcome
+JudgesTimestamp Millis s outcome = InTurn (Asks (IsTimestamp Any s) BadTime) (Asks (IsTimestamp Millis s) NotMillis) outcome
 
 -- the text is an identifier of one of these kinds
 abbrev pub Refers : List (List ℕ) → List ℕ → Type 0
@@ -66,15 +66,15 @@ JudgesTexts ms outcome = InTurn (Asks (AreTexts ms) WrongKind) (Asks (HasMember 
 
 -- what a value breaks of a form
 abbrev pub JudgesSingle : Single → Data → Option Rule → Type 0
-JudgesSingle words d outcome = OfKind (as_str d) (λ s. Met) outcome
+JudgesSingle any_text d outcome = OfKind (as_str d) (λ s. Met) outcome
 JudgesSingle kind d outcome = OfKind (as_str d) (λ s. Asks (IsKind s) BadWord) outcome
 JudgesSingle version d outcome = OfKind (as_str d) (λ s. Asks (s ≡ codes "2.1") BadSpec) outcome
 JudgesSingle (one_of known) d outcome = OfKind (as_str d) (λ s. Asks (IsTrue (is_among s known)) BadWord) outcome
-JudgesSingle (moment precision) d outcome = OfKind (as_str d) (JudgesMoment precision) outcome
+JudgesSingle (timestamp precision) d outcome = OfKind (as_str d) (JudgesTimestamp precision) outcome
 JudgesSingle any_reference d outcome = OfKind (as_str d) (λ s. Asks (IsIdText s) BadId) outcome
 JudgesSingle (reference kinds) d outcome = OfKind (as_str d) (JudgesReference kinds) outcome
-JudgesSingle truth d outcome = OfKind (as_bool d) (λ b. Met) outcome
-JudgesSingle (within least most) d outcome = OfKind (as_whole d) (λ z. Asks ((least ≤ℤ z) × (z ≤ℤ most)) OutOfRange) outcome
+JudgesSingle any_boolean d outcome = OfKind (as_bool d) (λ b. Met) outcome
+JudgesSingle (integer_in least most) d outcome = OfKind (integer_of d) (λ z. Asks ((least ≤ℤ z) × (z ≤ℤ most)) OutOfRange) outcome
 JudgesSingle forms.object d outcome = OfKind (as_object d) (λ ms. Met) outcome
 JudgesSingle texts_by_name d outcome = OfKind (as_object d) JudgesTexts outcome
 

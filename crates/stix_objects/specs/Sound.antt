@@ -6,7 +6,8 @@ use Rattle.stix_ids.specs.Kind.{IsKind}
 use Rattle.stix_ids.specs.Identifier.{IsTextOf}
 use Rattle.stix_objects.specs.declared.form.Precision.TheVariants.{Any}
 use Rattle.stix_objects.specs.Row.{Row}
-use Rattle.stix_objects.specs.Conditions.{text_at, IsAt}
+use Rattle.stix_objects.specs.Properties.{IsTimestampAt}
+use Rattle.stix_json.specs.Properties.{text_at}
 use Rattle.stix_objects.specs.Rows.{Judges}
 
 -- the value meets each row
@@ -29,6 +30,6 @@ pub record IsNamed (d : Data) : Type 0 where
 pub record IsTimed (first second : List ℕ) (d : Data) : Type 0 where
   pub from : ℤ
   pub to : ℤ
-  pub begins : IsAt Any first d from
-  pub ends : IsAt Any second d to
+  pub begins : IsTimestampAt Any first d from
+  pub ends : IsTimestampAt Any second d to
   pub ordered : from ≤ℤ to

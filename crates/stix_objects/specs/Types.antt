@@ -1,47 +1,47 @@
--- The object types whose own rows are stated, and the groups (STIX 2.1, sections 4 to 7).
+-- The object types with rows of their own, and the groups (STIX 2.1, sections 4 to 7).
 use Rattle.std.specs.Prelude.{ℕ, List, [], ◌∷◌, Bool, Option, find, bytes_eq, codes, if◌then◌else◌}
 use Rattle.std.specs.List.{list_any}
 use Rattle.std.specs.Option.{option_map_or, option_or}
 use Rattle.stix_objects.specs.declared.groups.Group.{Group}
-use Rattle.stix_objects.specs.declared.groups.Group.TheVariants.{Stated, Marking, Observable, Other}
+use Rattle.stix_objects.specs.declared.groups.Group.TheVariants.{Domain, Marking, Observable, Other}
 use Rattle.stix_objects.specs.Row.{Row, ObjectType}
-use Rattle.stix_objects.specs.StatedTypes.{named, named_in_phases, named_and_seen, grouping, indicator, infrastructure, malware, malware_analysis, note, observed_data, opinion, report, relationship, sighting, marking_definition}
+use Rattle.stix_objects.specs.DomainTypes.{named, named_in_phases, named_and_seen, grouping, indicator, infrastructure, malware, malware_analysis, note, observed_data, opinion, report, relationship, sighting, marking_definition}
 use Rattle.stix_objects.specs.ObservableTypes.{valued, artifact, autonomous_system, directory, domain_name, email_addr, email_message, file, address, mutex, network_traffic, process, software, user_account, windows_registry_key, x509_certificate}
 
--- a type whose objects are stated ones
-abbrev pub stated : List ℕ → List Row → ObjectType
-stated name rows = record { name = name; group = Stated; rows = rows }
+-- a type of domain or relationship objects
+abbrev pub domain : List ℕ → List Row → ObjectType
+domain name rows = record { name = name; group = Domain; rows = rows }
 
--- a type of cyber-observables
+-- a type of observables
 abbrev pub observable : List ℕ → List Row → ObjectType
 observable name rows = record { name = name; group = Observable; rows = rows }
 
 -- the domain objects (section 4), the relationship objects (section 5) and the marking-definition (section 7.2.1)
-abbrev pub stated_types : List ObjectType
-stated_types =
-    stated (codes "attack-pattern") named_in_phases
-    ∷ stated (codes "campaign") named_and_seen
-    ∷ stated (codes "course-of-action") named
-    ∷ stated (codes "grouping") grouping
-    ∷ stated (codes "identity") named
-    ∷ stated (codes "indicator") indicator
-    ∷ stated (codes "infrastructure") infrastructure
-    ∷ stated (codes "intrusion-set") named_and_seen
-    ∷ stated (codes "malware") malware
-    ∷ stated (codes "malware-analysis") malware_analysis
-    ∷ stated (codes "note") note
-    ∷ stated (codes "observed-data") observed_data
-    ∷ stated (codes "opinion") opinion
-    ∷ stated (codes "report") report
-    ∷ stated (codes "threat-actor") named_and_seen
-    ∷ stated (codes "tool") named_in_phases
-    ∷ stated (codes "vulnerability") named
-    ∷ stated (codes "relationship") relationship
-    ∷ stated (codes "sighting") sighting
+abbrev pub domain_types : List ObjectType
+domain_types =
+    domain (codes "attack-pattern") named_in_phases
+    ∷ domain (codes "campaign") named_and_seen
+    ∷ domain (codes "course-of-action") named
+    ∷ domain (codes "grouping") grouping
+    ∷ domain (codes "identity") named
+    ∷ domain (codes "indicator") indicator
+    ∷ domain (codes "infrastructure") infrastructure
+    ∷ domain (codes "intrusion-set") named_and_seen
+    ∷ domain (codes "malware") malware
+    ∷ domain (codes "malware-analysis") malware_analysis
+    ∷ domain (codes "note") note
+    ∷ domain (codes "observed-data") observed_data
+    ∷ domain (codes "opinion") opinion
+    ∷ domain (codes "report") report
+    ∷ domain (codes "threat-actor") named_and_seen
+    ∷ domain (codes "tool") named_in_phases
+    ∷ domain (codes "vulnerability") named
+    ∷ domain (codes "relationship") relationship
+    ∷ domain (codes "sighting") sighting
     ∷ record { name = codes "marking-definition"; group = Marking; rows = marking_definition }
     ∷ []
 
--- the cyber-observable objects (section 6)
+-- the observables (section 6)
 abbrev pub observable_types : List ObjectType
 observable_types =
     observable (codes "artifact") artifact
@@ -68,9 +68,9 @@ observable_types =
 abbrev pub first_named : List ℕ → List ObjectType → Option ObjectType
 first_named name types = find (λ type. bytes_eq type.name name) types
 
--- the type of that name, where its rows are stated
+-- the type of that name, where it has rows of its own
 abbrev pub type_named : List ℕ → Option ObjectType
-type_named name = option_or (first_named name stated_types) (first_named name observable_types)
+type_named name = option_or (first_named name domain_types) (first_named name observable_types)
 
 -- the group of a type, and Other where there is none
 abbrev pub group_in : Option ObjectType → Group
@@ -84,14 +84,14 @@ rows_in found = option_map_or (λ type. type.rows) found []
 abbrev pub group_of : List ℕ → Group
 group_of name = group_in (type_named name)
 
--- the types that were stated later than the others
+-- the types that got their rows later than the others
 abbrev pub later_types : List (List ℕ)
 later_types = codes "malware-analysis" ∷ codes "artifact" ∷ codes "email-message" ∷ codes "x509-certificate" ∷ []
 
 -- whether a text is one of these
 abbrev pub is_among : List ℕ → List (List ℕ) → Bool
-is_among word words = list_any (λ known. bytes_eq known word) words
+is_among word any_text = list_any (λ known. bytes_eq known word) any_text
 
--- the group that a kind had before the later types were stated
+-- the group that a kind had before the later types got their rows
 abbrev pub group_before_of : List ℕ → Group
 group_before_of name = if is_among name later_types then Other else group_of name

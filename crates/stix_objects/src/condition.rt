@@ -1,14 +1,13 @@
-ghost use Rattle.std.specs.Prelude.{◌≡◌, ◌↔◌, IsTrue, Some, true, false, option_map, map};
+ghost use Rattle.std.specs.Prelude.{◌≡◌, ◌↔◌, IsTrue, Some, true, false, map};
 ghost use Rattle.serde_json.specs.Data.{boolean};
 ghost use Rattle.serde_json.specs.Find.{get as member_of};
 ghost use Rattle.stix_json.specs.DataOf.{data_of};
-ghost use Rattle.stix_objects.specs.Conditions.{Meets, Holds, HoldAll, text_at as text_under};
-ghost use Rattle.stix_objects.specs.Views.{form_view, condition_view};
+ghost use Rattle.stix_objects.specs.Conditions.{Meets, Holds, HoldAll};
+ghost use Rattle.stix_objects.specs.inner.Views.{form_view, condition_view};
 
 use crate::form::Form;
 use crate::list::judge_form;
 use crate::row::Condition;
-use crate::single::text_of;
 use stix_json::{Json, get};
 
 /// Whether an object meets all the conditions.
@@ -28,15 +27,15 @@ pub(crate) fn holds(condition: &Condition, object: &Json) -> bool
     ensures { IsTrue result ↔ Holds (condition_view condition.now) (data_of object.now) }
 {
     match condition {
-        Condition::IsTrue(name) => is_flag(object, name, true),
-        Condition::IsFalse(name) => is_flag(object, name, false),
+        Condition::IsTrue(name) => is_boolean(object, name, true),
+        Condition::IsFalse(name) => is_boolean(object, name, false),
         Condition::Meets(name, form) => meets(object, name, form),
         Condition::Absent(name) => get(object, name).is_none(),
     }
 }
 
-/// Whether the property is there and is that truth.
-fn is_flag(object: &Json, name: &str, wanted: bool) -> bool
+/// Whether the property is there and is that truth value.
+fn is_boolean(object: &Json, name: &str, wanted: bool) -> bool
     ensures { IsTrue result ↔ (member_of name.now (data_of object.now) ≡ Some (boolean wanted)) }
 {
     match get(object, name) {
@@ -53,12 +52,4 @@ fn meets(object: &Json, name: &str, form: &Form) -> bool
         Some(value) => judge_form(form, value).is_none(),
         None => false,
     }
-}
-
-/// The text of a property. None where the property is absent or no text, or the tree is no object.
-/// Takes no memory.
-pub fn text_at<'a>(object: &'a Json, name: &str) -> Option<&'a str>
-    ensures { option_map (λ text. text.now) result ≡ text_under name.now (data_of object.now) }
-{
-    text_of(get(object, name)?)
 }

@@ -1,6 +1,6 @@
 /// How finely a timestamp must be written.
 #[derive(Clone, Copy, Debug, PartialEq, Eq)]
-pub(crate) enum Precision {
+pub enum Precision {
     /// With up to nine digits of a second.
     Any,
     /// With three to six digits of a second.
@@ -18,17 +18,17 @@ pub(crate) enum Single {
     /// One of these texts.
     Word(&'static [&'static str]),
     /// A timestamp.
-    Moment(Precision),
+    Timestamp(Precision),
     /// An identifier.
     AnyRef,
     /// An identifier of one of these kinds.
     Ref(&'static [&'static str]),
     /// True or false.
-    Flag,
-    /// A whole number from the first to the second.
-    Whole(i64, i64),
+    Boolean,
+    /// An integer from the first to the second.
+    Integer(i64, i64),
     /// An object.
-    Fields,
+    Object,
     /// An object with one or more members, all texts.
     Hashes,
 }
@@ -60,11 +60,11 @@ pub(crate) const KIND: Form = Form::One(Single::Kind);
 
 pub(crate) const VERSION: Form = Form::One(Single::Version);
 
-pub(crate) const FLAG: Form = Form::One(Single::Flag);
+pub(crate) const BOOLEAN: Form = Form::One(Single::Boolean);
 
-pub(crate) const TIME: Form = Form::One(Single::Moment(Precision::Any));
+pub(crate) const TIME: Form = Form::One(Single::Timestamp(Precision::Any));
 
-pub(crate) const MILLIS: Form = Form::One(Single::Moment(Precision::Millis));
+pub(crate) const MILLIS: Form = Form::One(Single::Timestamp(Precision::Millis));
 
 pub(crate) const REF_ANY: Form = Form::One(Single::AnyRef);
 
@@ -72,11 +72,11 @@ pub(crate) const REFS_ANY: Form = Form::List(Single::AnyRef);
 
 pub(crate) const TEXTS: Form = Form::List(Single::Text);
 
-pub(crate) const FIELDS: Form = Form::One(Single::Fields);
+pub(crate) const FIELDS: Form = Form::One(Single::Object);
 
 pub(crate) const HASHES: Form = Form::One(Single::Hashes);
 
-pub(crate) const LISTED: Form = Form::List(Single::Fields);
+pub(crate) const LISTED: Form = Form::List(Single::Object);
 
 /// External references.
 pub(crate) const EXTERNAL: Form = Form::Records(&[

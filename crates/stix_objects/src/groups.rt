@@ -5,11 +5,11 @@ ghost use Rattle.stix_objects.specs.Breaks.{same_group};
 /// Which common rows stand for a type.
 #[derive(Clone, Copy, Debug, PartialEq, Eq)]
 pub enum Group {
-    /// The domain and relationship objects whose rows are stated.
-    Stated,
+    /// The domain and relationship objects with rows of their own.
+    Domain,
     /// The marking-definition.
     Marking,
-    /// The cyber-observable objects whose rows are stated.
+    /// The observables with rows of their own.
     Observable,
     /// Every other type.
     Other,
@@ -27,11 +27,11 @@ impl Group {
         ensures { result ≡ same_group self other }
     {
         match (self, other) {
-            (Group::Stated, Group::Stated)
+            (Group::Domain, Group::Domain)
             | (Group::Marking, Group::Marking)
             | (Group::Observable, Group::Observable)
             | (Group::Other, Group::Other) => true,
-            (Group::Stated | Group::Marking | Group::Observable | Group::Other, _) => false,
+            (Group::Domain | Group::Marking | Group::Observable | Group::Other, _) => false,
         }
     }
 }

@@ -2,16 +2,17 @@ ghost use Rattle.std.specs.Prelude.{◌≡◌, ◌↔◌, Some, IsTrue, IfSome, 
 ghost use Rattle.stix_ids.specs.declared.id.Id.{Id};
 ghost use Rattle.stix_ids.specs.Identifier.{IsTextOf};
 ghost use Rattle.stix_ids.specs.PartsOf.{id_of};
+ghost use Rattle.flow_values.specs.Answers.{FindsExactly};
 ghost use Rattle.stix_json.specs.DataOf.{data_of};
 ghost use Rattle.stix_objects.specs.Form.{any_reference, reference};
 ghost use Rattle.stix_objects.specs.Singles.{NamesOwn, JudgesOwnId, JudgesSingle};
+ghost use Rattle.stix_objects.specs.Properties.{HasId};
 ghost use Rattle.stix_objects.specs.Conditions.{HasNumber};
 
 use crate::Rule;
-use crate::condition::text_at;
-use crate::single::text_of;
 use stix_ids::Parts;
-use stix_json::Json;
+use stix_ids::laws::one_identifier;
+use stix_json::{Json, text_at, text_of};
 
 /// The identifier that a text is, which is the only one.
 fn identifier_of(text: &str) -> Option<Parts<'_>>
@@ -77,14 +78,19 @@ fn names_own(own: Option<&str>, text: &str) -> bool
     }
 }
 
+/// The identifier of an object. Takes no memory.
+pub fn object_id(object: &Json) -> Option<Parts<'_>>
+    ensures { FindsExactly (HasId (data_of object.now)) (option_map id_of result) }
+{
+    identifier_of(text_at(object, "id")?)
+}
+
 /// Whether the object has an identifier with that number.
 pub(crate) fn has_number(object: &Json, number: u128) -> bool
     ensures { IsTrue result ↔ HasNumber (data_of object.now) number }
 {
-    let Some(text) = text_at(object, "id") else {
-        return false;
-    };
-    match identifier_of(text) {
+    one_identifier();
+    match object_id(object) {
         Some(parts) => parts.number == number,
         None => false,
     }

@@ -5,23 +5,23 @@ ghost use Rattle.serde_json.specs.Find.{get as member_of};
 ghost use Rattle.stix_objects.specs.Row.{own_id};
 ghost use Rattle.stix_objects.specs.Forms.{JudgesValue, JudgesForm};
 ghost use Rattle.stix_objects.specs.Rows.{Judges};
-ghost use Rattle.stix_objects.specs.Views.{form_view, row_view, finding_view};
+ghost use Rattle.stix_objects.specs.inner.Views.{form_view, row_view, row_break_view};
 
 use crate::Rule;
-use crate::condition::{hold_all, holds, text_at};
+use crate::condition::{hold_all, holds};
 use crate::form::Form;
-use crate::found::{Fault, Finding, Site};
 use crate::identifier::judge_own_id;
 use crate::list::judge_form;
 use crate::marking::{has_other_colour, lacks_colour, lacks_statement};
-use crate::moment::{is_earlier, is_not_later};
 use crate::records::lacks_all;
 use crate::row::Row;
-use stix_json::{Json, get};
+use crate::row_break::{RowBreak, Site, ValueBreak};
+use crate::timestamp::{second_is_earlier, second_is_not_later};
+use stix_json::{Json, get, text_at};
 
 /// What an object breaks of a row.
-pub(crate) fn judge(row: &Row, object: &Json) -> Option<Finding>
-    ensures { Judges (row_view row.now) (data_of object.now) (option_map finding_view result) }
+pub(crate) fn judge(row: &Row, object: &Json) -> Option<RowBreak>
+    ensures { Judges (row_view row.now) (data_of object.now) (option_map row_break_view result) }
 {
     match row {
         Row::Required(name, form) => judge_property(true, name, form, object),
@@ -31,80 +31,85 @@ pub(crate) fn judge(row: &Row, object: &Json) -> Option<Finding>
         }
         Row::OwnId => judge_id(object),
         Row::Order(precision, first, second) => found_where(
-            is_earlier(object, *precision, first, second),
-            Finding::at(second, Rule::BadOrder),
+            second_is_earlier(object, *precision, first, second),
+            RowBreak::at(second, Rule::BadOrder),
         ),
         Row::StrictOrder(precision, first, second) => found_where(
-            is_not_later(object, *precision, first, second),
-            Finding::at(second, Rule::BadOrder),
+            second_is_not_later(object, *precision, first, second),
+            RowBreak::at(second, Rule::BadOrder),
         ),
         Row::NeedsOneOf(at, names) => found_where(lacks_all(object, names), needs_one_of(*at)),
         Row::Excludes(name, conditions) => found_where(
             hold_all(conditions, object),
-            Finding::at(name, Rule::Excludes),
+            RowBreak::at(name, Rule::Excludes),
         ),
         Row::Statement => found_where(
             lacks_statement(object),
-            Finding {
+            RowBreak {
                 rule: Rule::Missing,
                 site: Site::Within("definition", "statement"),
             },
         ),
         Row::Colour => found_where(
             lacks_colour(object),
-            Finding {
+            RowBreak {
                 rule: Rule::BadWord,
                 site: Site::Within("definition", "tlp"),
             },
         ),
-        Row::ColourId => found_where(has_other_colour(object), Finding::at("id", Rule::BadId)),
+        Row::ColourId => found_where(has_other_colour(object), RowBreak::at("id", Rule::BadId)),
     }
 }
 
 /// What an object breaks of a property in that form, which is required or not.
-fn judge_property(required: bool, name: &'static str, form: &Form, object: &Json) -> Option<Finding>
+fn judge_property(
+    required: bool,
+    name: &'static str,
+    form: &Form,
+    object: &Json,
+) -> Option<RowBreak>
     ensures { JudgesValue (IsTrue required) name.now (JudgesForm (form_view form.now))
-        (member_of name.now (data_of object.now)) (option_map finding_view result) }
+        (member_of name.now (data_of object.now)) (option_map row_break_view result) }
 {
     match get(object, name) {
         Some(value) => match judge_form(form, value) {
-            Some(fault) => Some(fault.in_property(name)),
+            Some(value_break) => Some(value_break.in_property(name)),
             None => None,
         },
-        None => found_where(required, Finding::at(name, Rule::Missing)),
+        None => found_where(required, RowBreak::at(name, Rule::Missing)),
     }
 }
 
 /// What an object breaks of its identifier, which is of its type.
-fn judge_id(object: &Json) -> Option<Finding>
-    ensures { Judges own_id (data_of object.now) (option_map finding_view result) }
+fn judge_id(object: &Json) -> Option<RowBreak>
+    ensures { Judges own_id (data_of object.now) (option_map row_break_view result) }
 {
     let Some(id) = get(object, "id") else {
-        return Some(Finding::at("id", Rule::Missing));
+        return Some(RowBreak::at("id", Rule::Missing));
     };
     match judge_own_id(text_at(object, "type"), id) {
-        Some(rule) => Some(Finding::at("id", rule)),
+        Some(rule) => Some(RowBreak::at("id", rule)),
         None => None,
     }
 }
 
-/// The finding, where something is broken.
-fn found_where(broken: bool, finding: Finding) -> Option<Finding>
-    ensures { result ≡ (if broken then Some finding else None) }
+/// The row_break, where something is broken.
+fn found_where(broken: bool, row_break: RowBreak) -> Option<RowBreak>
+    ensures { result ≡ (if broken then Some row_break else None) }
 {
-    if broken { Some(finding) } else { None }
+    if broken { Some(row_break) } else { None }
 }
 
 /// None of several properties is there: told at one of them, else of the whole object.
-fn needs_one_of(at: Option<&'static str>) -> Finding
-    ensures { finding_view result ≡ record {
+fn needs_one_of(at: Option<&'static str>) -> RowBreak
+    ensures { row_break_view result ≡ record {
       rule = NeedsOneOf;
       parts = option_to_list (option_map (λ name. name.now) at.entry);
     } }
 {
     match at {
-        Some(name) => Finding::at(name, Rule::NeedsOneOf),
-        None => Finding {
+        Some(name) => RowBreak::at(name, Rule::NeedsOneOf),
+        None => RowBreak {
             rule: Rule::NeedsOneOf,
             site: Site::Whole,
         },

@@ -11,7 +11,7 @@ pub fn group(kind: &str) -> Group
     group_in(type_named(kind))
 }
 
-/// The types that were stated later than the others.
+/// The types that got their rows later than the others.
 const LATER_TYPES: [&str; 4] = [
     "malware-analysis",
     "artifact",
@@ -19,7 +19,7 @@ const LATER_TYPES: [&str; 4] = [
     "x509-certificate",
 ];
 
-/// The group that the type of this name had before the later types were stated. Takes no memory.
+/// The group that the type of this name had before the later types got their rows. Takes no memory.
 pub fn group_before(kind: &str) -> Group
     ensures { result ≡ group_before_of kind.now }
 {

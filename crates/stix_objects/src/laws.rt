@@ -1,17 +1,38 @@
 //! What follows from the definitions: the contracts are the laws, and the functions do nothing.
 
-ghost use Rattle.std.specs.Prelude.{◌≡◌, List, [], Some, codes};
+ghost use Rattle.std.specs.Prelude.{◌≡◌, ℕ, ℤ, List, [], Some, codes};
 ghost use Rattle.serde_json.specs.Data.{Data};
-ghost use Rattle.stix_objects.specs.declared.broken.Break.{Break};
+ghost use Rattle.stix_ids.specs.declared.id.Id.{Id};
+ghost use Rattle.stix_objects.specs.declared.form.Precision.{Precision};
+ghost use Rattle.stix_objects.specs.declared.rule_break.Break.{Break};
 ghost use Rattle.stix_objects.specs.Breaks.{AreBreaksOf, rows_for, type_of};
-ghost use Rattle.stix_objects.specs.Conditions.{text_at};
+ghost use Rattle.stix_json.specs.Properties.{text_at};
+ghost use Rattle.stix_objects.specs.Properties.{IsTimestampAt, HasId};
 ghost use Rattle.stix_objects.specs.Sound.{MeetsAll, IsNamed, IsTimed};
+
+use stix_ids::laws::one_identifier;
+use stix_times::laws::one_instant;
 
 /// A value has one list of breaks.
 pub fn one_list()
     ensures { (value : Data) (first second : List Break) → AreBreaksOf value first
         → AreBreaksOf value second → first ≡ second }
 {}
+
+/// An object has at most one identifier.
+pub fn one_id()
+    ensures { (object : Data) (first second : Id) → HasId object first → HasId object second → first ≡ second }
+{
+    one_identifier();
+}
+
+/// A property is a timestamp of at most one instant.
+pub fn one_timestamp()
+    ensures { (precision : Precision) (name : List ℕ) (object : Data) (first second : ℤ) → IsTimestampAt precision name object first
+        → IsTimestampAt precision name object second → first ≡ second }
+{
+    one_instant();
+}
 
 /// What is known of a value without breaks: it meets all the rows of its type, it has a type and an
 /// identifier of that type, and an observed-data has its two times in order.

@@ -5,10 +5,8 @@
 //! A type's rows stand in `tables`, and in the definitions of specs/ beside them.
 #![tactic(auto)]
 
-mod broken;
 mod condition;
 mod form;
-mod found;
 mod groups;
 mod identifier;
 mod judge;
@@ -16,20 +14,24 @@ mod kinds;
 pub mod laws;
 mod list;
 mod marking;
-mod moment;
 mod object_type;
 mod records;
 mod report;
 mod row;
+mod row_break;
 mod rule;
+mod rule_break;
 mod single;
 mod tables;
 #[cfg(test)]
 mod tests;
+mod timestamp;
 
-pub use broken::Break;
-pub use condition::text_at;
+pub use form::Precision;
 pub use groups::Group;
+pub use identifier::object_id;
 pub use kinds::{group, group_before};
 pub use report::breaks;
 pub use rule::Rule;
+pub use rule_break::Break;
+pub use timestamp::timestamp_at;

@@ -3,9 +3,8 @@ ghost use Rattle.stix_json.specs.DataOf.{data_of};
 ghost use Rattle.stix_objects.specs.Conditions.{defined_text as text_defined, defined_colour as colour_defined, number_of_colour, DefinesObjectOrNone, IsMarking, HasOwnIdOrNone, HasOtherColour};
 ghost use Rattle.stix_objects.specs.Rows.{LacksStatement, LacksColour};
 
-use crate::condition::text_at;
 use crate::identifier::{has_number, judge_own_id};
-use stix_json::{Json, get};
+use stix_json::{Json, get, text_at};
 
 /// Whether the object is a marking by a statement and lacks its text.
 pub(crate) fn lacks_statement(object: &Json) -> bool

@@ -1,12 +1,12 @@
 ghost use Rattle.std.specs.Prelude.{◌≡◌, map, option_map};
 ghost use Rattle.stix_objects.specs.Types.{type_named as named_type, first_named as first_type, group_in as group_of_type, rows_in as rows_of_type};
-ghost use Rattle.stix_objects.specs.Views.{row_view, type_view};
+ghost use Rattle.stix_objects.specs.inner.Views.{row_view, type_view};
 
 use crate::Group;
 use crate::row::Row;
-use crate::tables::types::{observable_types, stated_types};
+use crate::tables::types::{domain_types, observable_types};
 
-/// An object type whose own rows are stated.
+/// An object type with rows of its own.
 #[derive(Clone, Copy)]
 pub(crate) struct ObjectType {
     pub(crate) name: &'static str,
@@ -14,11 +14,11 @@ pub(crate) struct ObjectType {
     pub(crate) rows: &'static [Row],
 }
 
-/// The type of this name, where its rows are stated.
+/// The type of this name, where it has rows of its own.
 pub(crate) fn type_named(name: &str) -> Option<&'static ObjectType>
     ensures { option_map (λ found. type_view found.now) result ≡ named_type name.now }
 {
-    match first_named(stated_types(), name) {
+    match first_named(domain_types(), name) {
         Some(found) => Some(found),
         None => first_named(observable_types(), name),
     }

@@ -3,60 +3,60 @@ ghost use Rattle.serde_json.specs.View.{items_of};
 ghost use Rattle.stix_json.specs.DataOf.{data_of};
 ghost use Rattle.stix_objects.specs.Form.{records};
 ghost use Rattle.stix_objects.specs.Forms.{JudgesHere, JudgesItems, LacksAll, JudgesUnder, JudgesPart, JudgesParts, JudgesForm};
-ghost use Rattle.stix_objects.specs.Views.{single_view, part_view, flaw_view, fault_view};
+ghost use Rattle.stix_objects.specs.inner.Views.{single_view, part_view, item_break_view, value_break_view};
 
 use crate::Rule;
 use crate::form::{Part, Single};
-use crate::found::{Fault, Flaw};
 use crate::list::judge_filled;
+use crate::row_break::{ItemBreak, ValueBreak};
 use crate::single::judge_single;
 use stix_json::{Json, get};
 
 /// What a value breaks of a list of objects with these parts.
-pub(crate) fn judge_records(parts: &[Part], value: &Json) -> Option<Fault>
-    ensures { JudgesForm (records (map part_view parts.now)) (data_of value.now) (option_map fault_view result) }
+pub(crate) fn judge_records(parts: &[Part], value: &Json) -> Option<ValueBreak>
+    ensures { JudgesForm (records (map part_view parts.now)) (data_of value.now) (option_map value_break_view result) }
 {
     let Json::Array(items) = value else {
-        return Some(Fault::here(Rule::WrongKind));
+        return Some(ValueBreak::here(Rule::WrongKind));
     };
-    match judge_filled(&Single::Fields, items.as_slice()) {
-        Some(fault) => Some(fault),
-        None => first_flawed(parts, items.as_slice()),
+    match judge_filled(&Single::Object, items.as_slice()) {
+        Some(value_break) => Some(value_break),
+        None => first_broken_record(parts, items.as_slice()),
     }
 }
 
 /// What the first object breaks that breaks one of the parts.
-fn first_flawed(parts: &[Part], items: &[Json]) -> Option<Fault>
+fn first_broken_record(parts: &[Part], items: &[Json]) -> Option<ValueBreak>
     ensures { JudgesItems (JudgesParts (map part_view parts.now)) 0 (items_of (map data_of items.now))
-        (option_map fault_view result) }
+        (option_map value_break_view result) }
 {
     for (at, item) in items.iter().enumerate() {
-        if let Some(flaw) = judge_parts(parts, item) {
-            return Some(flaw.in_item(at));
+        if let Some(item_break) = judge_parts(parts, item) {
+            return Some(item_break.in_item(at));
         }
     }
     None
 }
 
 /// What an object breaks of the first part that it breaks.
-fn judge_parts(parts: &[Part], object: &Json) -> Option<Flaw>
-    ensures { JudgesParts (map part_view parts.now) (data_of object.now) (option_map flaw_view result) }
+fn judge_parts(parts: &[Part], object: &Json) -> Option<ItemBreak>
+    ensures { JudgesParts (map part_view parts.now) (data_of object.now) (option_map item_break_view result) }
 {
     for part in parts {
-        if let Some(flaw) = judge_part(part, object) {
-            return Some(flaw);
+        if let Some(item_break) = judge_part(part, object) {
+            return Some(item_break);
         }
     }
     None
 }
 
-fn judge_part(part: &Part, object: &Json) -> Option<Flaw>
-    ensures { JudgesPart (part_view part.now) (data_of object.now) (option_map flaw_view result) }
+fn judge_part(part: &Part, object: &Json) -> Option<ItemBreak>
+    ensures { JudgesPart (part_view part.now) (data_of object.now) (option_map item_break_view result) }
 {
     match part {
         Part::Must(name, single) => match get(object, name) {
             Some(value) => judge_in(name, single, value),
-            None => Some(Flaw {
+            None => Some(ItemBreak {
                 rule: Rule::Missing,
                 part: Some(name),
             }),
@@ -67,7 +67,7 @@ fn judge_part(part: &Part, object: &Json) -> Option<Flaw>
         },
         Part::SomeOf(names) => {
             if lacks_all(object, names) {
-                Some(Flaw {
+                Some(ItemBreak {
                     rule: Rule::NeedsOneOf,
                     part: None,
                 })
@@ -79,12 +79,12 @@ fn judge_part(part: &Part, object: &Json) -> Option<Flaw>
 }
 
 /// What the value of a part breaks of its form.
-fn judge_in(name: &'static str, single: &Single, value: &Json) -> Option<Flaw>
+fn judge_in(name: &'static str, single: &Single, value: &Json) -> Option<ItemBreak>
     ensures { JudgesUnder name.now (JudgesHere (single_view single.now) (data_of value.now))
-        (option_map flaw_view result) }
+        (option_map item_break_view result) }
 {
     match judge_single(single, value) {
-        Some(rule) => Some(Flaw {
+        Some(rule) => Some(ItemBreak {
             rule,
             part: Some(name),
         }),

@@ -1,14 +1,13 @@
 ghost use Rattle.std.specs.Prelude.{◌≡◌, [], ◌∷◌, IfOk, OnOk, option_map, option_to_list, option_and_then, map};
 ghost use Rattle.stix_json.specs.DataOf.{data_of};
 ghost use Rattle.stix_objects.specs.declared.rule.Rule.TheVariants.{NotObject};
-ghost use Rattle.stix_objects.specs.Found.{here, break_of};
+ghost use Rattle.stix_objects.specs.BreakAt.{here, break_of};
 ghost use Rattle.stix_objects.specs.Breaks.{type_of, AreBreaksBy, AreBreaksOf, rows_for, standing};
 ghost use Rattle.stix_objects.specs.Types.{group_in as group_of_type, rows_in as rows_of_type};
 ghost use Rattle.stix_objects.specs.CommonRows.{common_rows as shared_rows};
-ghost use Rattle.stix_objects.specs.Adding.{Adds, AddsOne, standing_rows};
-ghost use Rattle.stix_objects.specs.Views.{row_view, common_view, type_view, finding_view};
+ghost use Rattle.stix_objects.specs.inner.Adding.{Adds, AddsOne, standing_rows};
+ghost use Rattle.stix_objects.specs.inner.Views.{row_view, common_view, type_view, row_break_view};
 
-use crate::condition::text_at;
 use crate::judge::judge;
 use crate::object_type::{ObjectType, group_in, rows_in, type_named};
 use crate::row::{CommonRow, Row};
@@ -16,7 +15,7 @@ use crate::tables::common::common_rows;
 use crate::{Break, Group, Rule};
 use flow_values::{Items, NoMemory, Text};
 use std::alloc::Global;
-use stix_json::Json;
+use stix_json::{Json, text_at};
 
 /// The breaks of a value: one for each row of its type that it doesn't meet, in the order of the
 /// rows, the common ones first. A value that is no object has one break.
@@ -61,7 +60,7 @@ fn object_breaks(alloc: Global, object: &Json) -> Result<Items<Break>, NoMemory>
     Ok(found)
 }
 
-/// The type of an object, where its rows are stated.
+/// The type of an object, where it has rows of its own.
 fn object_type(object: &Json) -> Option<&'static ObjectType>
     ensures { option_map (λ found. type_view found.now) result ≡ type_of (data_of object.now) }
 {
@@ -130,8 +129,8 @@ fn add_break(
 ) -> Result<(), NoMemory>
     ensures { OnOk result (AddsOne (row_view row.now) (data_of object.now) found.old found.new) }
 {
-    if let Some(finding) = judge(row, object) {
-        found.push(finding.into_break(alloc)?)?;
+    if let Some(row_break) = judge(row, object) {
+        found.push(row_break.into_break(alloc)?)?;
     }
     Ok(())
 }

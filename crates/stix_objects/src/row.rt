@@ -1,7 +1,7 @@
 ghost use Rattle.std.specs.Prelude.{◌≡◌, option_map, map};
 ghost use Rattle.std.specs.List.{list_any};
 ghost use Rattle.stix_objects.specs.Breaks.{is_row_of, standing as standing_row};
-ghost use Rattle.stix_objects.specs.Views.{form_view, row_view, common_view};
+ghost use Rattle.stix_objects.specs.inner.Views.{form_view, row_view, common_view};
 
 use crate::Group;
 use crate::form::{Form, Precision};

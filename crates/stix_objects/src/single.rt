@@ -1,16 +1,15 @@
-ghost use Rattle.std.specs.Prelude.{◌≡◌, ◌↔◌, ℕ, List, IsTrue, option_map, map};
-ghost use Rattle.serde_json.specs.Find.{as_str};
+ghost use Rattle.std.specs.Prelude.{◌≡◌, ◌↔◌, ℕ, List, IsTrue, map};
 ghost use Rattle.stix_json.specs.DataOf.{data_of, field_data, members_of};
-ghost use Rattle.stix_objects.specs.Form.{words, kind as kind_form, version as version_form, one_of, truth, within, object, texts_by_name};
+ghost use Rattle.stix_objects.specs.Form.{any_text, kind as kind_form, version as version_form, one_of, any_boolean, integer_in, object, texts_by_name};
 ghost use Rattle.stix_objects.specs.Singles.{AreTexts, JudgesTexts, JudgesSingle};
-ghost use Rattle.stix_objects.specs.Views.{single_view};
+ghost use Rattle.stix_objects.specs.inner.Views.{single_view};
 
 use crate::Rule;
 use crate::form::Single;
 use crate::identifier::{judge_any_reference, judge_reference};
-use crate::moment::judge_moment;
+use crate::timestamp::judge_timestamp;
 use stix_ids::read_kind;
-use stix_json::{Field, Json};
+use stix_json::{Field, Json, text_of};
 
 /// What a value breaks of its form.
 pub(crate) fn judge_single(single: &Single, value: &Json) -> Option<Rule>
@@ -21,28 +20,18 @@ pub(crate) fn judge_single(single: &Single, value: &Json) -> Option<Rule>
         Single::Kind => judge_kind(value),
         Single::Version => judge_version(value),
         Single::Word(known) => judge_word(known, value),
-        Single::Moment(precision) => judge_moment(*precision, value),
+        Single::Timestamp(precision) => judge_timestamp(*precision, value),
         Single::AnyRef => judge_any_reference(value),
         Single::Ref(kinds) => judge_reference(kinds, value),
-        Single::Flag => judge_flag(value),
-        Single::Whole(least, most) => judge_whole(*least, *most, value),
-        Single::Fields => judge_fields(value),
+        Single::Boolean => judge_boolean(value),
+        Single::Integer(least, most) => judge_integer(*least, *most, value),
+        Single::Object => judge_object(value),
         Single::Hashes => judge_hashes(value),
     }
 }
 
-/// The text that a value is.
-pub(crate) fn text_of(value: &Json) -> Option<&str>
-    ensures { option_map (λ text. text.now) result ≡ as_str (data_of value.now) }
-{
-    match value {
-        Json::String(words) => Some(words.as_str()),
-        Json::Bool(_) | Json::Integer(_) | Json::Array(_) | Json::Object(_) => None,
-    }
-}
-
 fn judge_text(value: &Json) -> Option<Rule>
-    ensures { JudgesSingle words (data_of value.now) result }
+    ensures { JudgesSingle any_text (data_of value.now) result }
 {
     match text_of(value) {
         Some(_) => None,
@@ -88,33 +77,37 @@ fn judge_word(known: &[&str], value: &Json) -> Option<Rule>
     }
 }
 
-fn judge_flag(value: &Json) -> Option<Rule>
-    ensures { JudgesSingle truth (data_of value.now) result }
+fn judge_boolean(value: &Json) -> Option<Rule>
+    ensures { JudgesSingle any_boolean (data_of value.now) result }
 {
     match value {
         Json::Bool(_) => None,
-        Json::Integer(_) | Json::String(_) | Json::Array(_) | Json::Object(_) => Some(Rule::WrongKind),
+        Json::Integer(_) | Json::String(_) | Json::Array(_) | Json::Object(_) => Some(
+            Rule::WrongKind,
+        ),
     }
 }
 
-fn judge_whole(least: i64, most: i64, value: &Json) -> Option<Rule>
-    ensures { JudgesSingle (within least most) (data_of value.now) result }
+fn judge_integer(least: i64, most: i64, value: &Json) -> Option<Rule>
+    ensures { JudgesSingle (integer_in least most) (data_of value.now) result }
 {
-    let Json::Integer(whole) = value else {
+    let Json::Integer(integer) = value else {
         return Some(Rule::WrongKind);
     };
-    if *whole < least || *whole > most {
+    if *integer < least || *integer > most {
         return Some(Rule::OutOfRange);
     }
     None
 }
 
-fn judge_fields(value: &Json) -> Option<Rule>
+fn judge_object(value: &Json) -> Option<Rule>
     ensures { JudgesSingle object (data_of value.now) result }
 {
     match value {
         Json::Object(_) => None,
-        Json::Bool(_) | Json::Integer(_) | Json::String(_) | Json::Array(_) => Some(Rule::WrongKind),
+        Json::Bool(_) | Json::Integer(_) | Json::String(_) | Json::Array(_) => Some(
+            Rule::WrongKind,
+        ),
     }
 }
 
@@ -123,7 +116,9 @@ fn judge_hashes(value: &Json) -> Option<Rule>
 {
     match value {
         Json::Object(hashes) => judge_texts(hashes.as_slice()),
-        Json::Bool(_) | Json::Integer(_) | Json::String(_) | Json::Array(_) => Some(Rule::WrongKind),
+        Json::Bool(_) | Json::Integer(_) | Json::String(_) | Json::Array(_) => Some(
+            Rule::WrongKind,
+        ),
     }
 }
 

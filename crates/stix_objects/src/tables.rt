@@ -1,6 +1,6 @@
 //! The tables of the rules: the rows that types share, the own rows of each type, and the types.
 
 pub(crate) mod common;
+mod domain;
 mod observable;
-mod stated;
 pub(crate) mod types;

@@ -1,10 +1,5 @@
 pub mod Names
 pub mod Versions
 pub mod Selector
-pub mod Paths
 pub mod Markings
-pub mod Selected
-pub mod Seen
-pub mod Kept
-pub mod Twin
-pub mod Told
+pub mod inner

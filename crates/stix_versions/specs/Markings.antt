@@ -5,7 +5,7 @@ use Rattle.serde_json.specs.Data.{Data, Items, string}
 use Rattle.serde_json.specs.Find.{get, as_array}
 use Rattle.stix_ids.specs.declared.id.Id.{Id}
 use Rattle.stix_ids.specs.Identifier.{IsTextOf}
-use Rattle.stix_objects.specs.Conditions.{text_at}
+use Rattle.stix_json.specs.Properties.{text_at}
 use Rattle.stix_bundles.specs.Bundle.{listed}
 use Rattle.stix_versions.specs.declared.marking_break.MarkingRule.{MarkingRule}
 use Rattle.stix_versions.specs.declared.marking_break.MarkingRule.TheVariants.{MarkingOrLang, BadMarkingRef, BadSelector, SelectorMissing}
@@ -53,38 +53,38 @@ pub record MissesOne (object marking : Data) : Type 0 where
   pub missing : value_at parts object ≡ None
 
 -- the rule applies to a marking of the object, and none before it does
-abbrev pub Breaks : Data → Data → MarkingRule → Type 0
-Breaks d marking MarkingOrLang = ¬ HasOne marking
-Breaks d marking BadMarkingRef = HasOne marking × Has (codes "marking_ref") marking × (¬ RefersToMarking marking)
-Breaks d marking BadSelector = HasOne marking × (Has (codes "marking_ref") marking → RefersToMarking marking) × (¬ HasSelectors marking)
-Breaks d marking SelectorMissing = HasOne marking × (Has (codes "marking_ref") marking → RefersToMarking marking) × HasSelectors marking × MissesOne d marking
+abbrev pub BreaksMarkingRule : Data → Data → MarkingRule → Type 0
+BreaksMarkingRule d marking MarkingOrLang = ¬ HasOne marking
+BreaksMarkingRule d marking BadMarkingRef = HasOne marking × Has (codes "marking_ref") marking × (¬ RefersToMarking marking)
+BreaksMarkingRule d marking BadSelector = HasOne marking × (Has (codes "marking_ref") marking → RefersToMarking marking) × (¬ HasSelectors marking)
+BreaksMarkingRule d marking SelectorMissing = HasOne marking × (Has (codes "marking_ref") marking → RefersToMarking marking) × HasSelectors marking × MissesOne d marking
 
 -- the rule that a marking breaks, or none
 abbrev pub IsBreakOf : Data → Data → Option MarkingRule → Type 0
-IsBreakOf d marking found = MatchOption found ((rule : MarkingRule) → ¬ Breaks d marking rule) (Breaks d marking)
+IsBreakOf d marking found = MatchOption found ((rule : MarkingRule) → ¬ BreaksMarkingRule d marking rule) (BreaksMarkingRule d marking)
 
 -- a rule, told of a marking of an object by their places
-abbrev pub told_of : ℕ → ℕ → MarkingRule → MarkingBreak
-told_of place at rule = record { object = place; marking = at; rule = rule }
+abbrev pub break_of_marking : ℕ → ℕ → MarkingRule → MarkingBreak
+break_of_marking place at rule = record { object = place; marking = at; rule = rule }
 
 -- the breaks of the markings of an object, from a place on
-abbrev pub AreBreaksOf : ℕ → Data → ℕ → List Data → List MarkingBreak → Type 0
-AreBreaksOf place d at [] breaks = breaks ≡ []
-AreBreaksOf place d at (marking ∷ markings) breaks = (found : Option MarkingRule) × (rest : List MarkingBreak)
-    × IsBreakOf d marking found × AreBreaksOf place d (at + 1) markings rest
-    × (breaks ≡ map (told_of place at) (option_to_list found) ++ rest)
+abbrev pub AreBreaksOfMarkings : ℕ → Data → ℕ → List Data → List MarkingBreak → Type 0
+AreBreaksOfMarkings place d at [] breaks = breaks ≡ []
+AreBreaksOfMarkings place d at (marking ∷ markings) breaks = (found : Option MarkingRule) × (rest : List MarkingBreak)
+    × IsBreakOf d marking found × AreBreaksOfMarkings place d (at + 1) markings rest
+    × (breaks ≡ map (break_of_marking place at) (option_to_list found) ++ rest)
 
 -- the granular markings of an object: none where it names none, or names no list
 abbrev pub AreMarkings : Data → List Data → Type 0
 AreMarkings d markings = MatchOption (get (codes "granular_markings") d) (markings ≡ []) (λ value. MatchOption (as_array value) (markings ≡ []) (λ items. markings ≡ listed items))
 
 -- the breaks of the objects from a place on, object by object
-abbrev pub AreBreaksFrom : ℕ → List Data → List MarkingBreak → Type 0
-AreBreaksFrom place [] breaks = breaks ≡ []
-AreBreaksFrom place (d ∷ ds) breaks = (markings : List Data) × (own rest : List MarkingBreak)
-    × AreMarkings d markings × AreBreaksOf place d 0 markings own × AreBreaksFrom (place + 1) ds rest
+abbrev pub AreMarkingBreaksFrom : ℕ → List Data → List MarkingBreak → Type 0
+AreMarkingBreaksFrom place [] breaks = breaks ≡ []
+AreMarkingBreaksFrom place (d ∷ ds) breaks = (markings : List Data) × (own rest : List MarkingBreak)
+    × AreMarkings d markings × AreBreaksOfMarkings place d 0 markings own × AreMarkingBreaksFrom (place + 1) ds rest
     × (breaks ≡ own ++ rest)
 
 -- all breaks of the granular markings in a bundle
 abbrev pub AreMarkingBreaks : List Data → List MarkingBreak → Type 0
-AreMarkingBreaks objects = AreBreaksFrom 0 objects
+AreMarkingBreaks objects = AreMarkingBreaksFrom 0 objects

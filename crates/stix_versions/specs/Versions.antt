@@ -3,34 +3,28 @@
 use Rattle.std.specs.Prelude.{◌≡◌, ◌≢◌, ◌⊎◌, ℕ, ◌+◌, ◌<◌, ℤ, ◌<ℤ◌, List, [], ◌∷◌, ◌++◌, map, Some, slice_get, true, codes}
 use Rattle.serde_json.specs.Data.{Data, boolean}
 use Rattle.serde_json.specs.Find.{get}
-use Rattle.stix_times.specs.Reading.{IsMillisTextOf}
 use Rattle.stix_ids.specs.declared.id.Id.{Id}
 use Rattle.stix_objects.specs.declared.groups.Group.TheVariants.{Observable}
-use Rattle.stix_objects.specs.Conditions.{text_at}
+use Rattle.stix_json.specs.Properties.{text_at}
 use Rattle.stix_objects.specs.Types.{group_of}
-use Rattle.stix_bundles.specs.Objects.{HasId}
-use Rattle.stix_bundles.specs.Lookup.{IsModifiedAt}
+use Rattle.stix_objects.specs.declared.form.Precision.TheVariants.{Millis}
+use Rattle.stix_objects.specs.Properties.{IsTimestampAt, HasId}
 use Rattle.stix_versions.specs.declared.version_break.VersionRule.{VersionRule}
 use Rattle.stix_versions.specs.declared.version_break.VersionRule.TheVariants.{CreatedChanged, AfterRevoked, SameVersionTwice}
 use Rattle.stix_versions.specs.declared.version_break.VersionBreak.{VersionBreak}
-
--- the object's `created` is a timestamp of that instant, to the millisecond at least (sections 3.2 and 2.16)
-pub record IsCreatedAt (object : Data) (instant : ℤ) : Type 0 where
-  pub text : List ℕ
-  pub there : text_at (codes "created") object ≡ Some text
-  pub names : IsMillisTextOf text instant
 
 -- its type is that of a cyber-observable, which has no versions (section 6)
 abbrev pub IsObservable : Data → Type 0
 IsObservable d = (kind : List ℕ) × (text_at (codes "type") d ≡ Some kind) × (group_of kind ≡ Observable)
 
--- the object at the place is a version of the identifier, created and modified then
+-- the object at the place is a version of the identifier, created and modified then, to the millisecond at least
+-- (sections 3.2 and 2.16)
 pub record IsVersion (objects : List Data) (at : ℕ) (id : Id) (created modified : ℤ) (object : Data) : Type 0 where
   pub there : slice_get objects at ≡ Some object
   pub versioned : ¬ IsObservable object
   pub has : HasId object id
-  pub was_created : IsCreatedAt object created
-  pub was_modified : IsModifiedAt object modified
+  pub was_created : IsTimestampAt Millis (codes "created") object created
+  pub was_modified : IsTimestampAt Millis (codes "modified") object modified
 
 -- `revoked` is true
 abbrev pub IsRevoked : Data → Type 0
@@ -72,7 +66,7 @@ BreaksAs objects at id created modified d AfterRevoked = FollowsRevoked objects 
 BreaksAs objects at id created modified d SameVersionTwice = RepeatsVersion objects at id modified d
 
 -- the object at the place is a version that breaks the rule
-pub record Breaks (objects : List Data) (at : ℕ) (rule : VersionRule) : Type 0 where
+pub record BreaksVersionRule (objects : List Data) (at : ℕ) (rule : VersionRule) : Type 0 where
   pub id : Id
   pub created : ℤ
   pub modified : ℤ
@@ -92,15 +86,15 @@ AreBroken IsBroken (rule ∷ rules) broken =
     ⊎ ((¬ IsBroken rule) × AreBroken IsBroken rules broken)
 
 -- a rule, told of the object at the place
-abbrev pub told_of : ℕ → VersionRule → VersionBreak
-told_of at rule = record { object = at; rule = rule }
+abbrev pub break_of_version : ℕ → VersionRule → VersionBreak
+break_of_version at rule = record { object = at; rule = rule }
 
 -- the breaks of so many objects from a place on, object by object
-abbrev pub AreBreaksFrom : List Data → ℕ → List Data → List VersionBreak → Type 0
-AreBreaksFrom objects at [] breaks = breaks ≡ []
-AreBreaksFrom objects at (d ∷ ds) breaks = (own : List VersionRule) × (rest : List VersionBreak)
-    × AreBroken (Breaks objects at) rules_told own × AreBreaksFrom objects (at + 1) ds rest × (breaks ≡ map (told_of at) own ++ rest)
+abbrev pub AreVersionBreaksFrom : List Data → ℕ → List Data → List VersionBreak → Type 0
+AreVersionBreaksFrom objects at [] breaks = breaks ≡ []
+AreVersionBreaksFrom objects at (d ∷ ds) breaks = (own : List VersionRule) × (rest : List VersionBreak)
+    × AreBroken (BreaksVersionRule objects at) rules_told own × AreVersionBreaksFrom objects (at + 1) ds rest × (breaks ≡ map (break_of_version at) own ++ rest)
 
 -- all breaks of the objects of a bundle
 abbrev pub AreVersionBreaks : List Data → List VersionBreak → Type 0
-AreVersionBreaks objects = AreBreaksFrom objects 0 objects
+AreVersionBreaks objects = AreVersionBreaksFrom objects 0 objects

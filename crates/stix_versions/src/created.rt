@@ -1,16 +1,16 @@
 ghost use Rattle.std.specs.Prelude.{◌↔◌, ◌+◌, ℕ, List, IsTrue, IfOk, OnOk};
 ghost use Rattle.serde_json.specs.Data.{Data};
 ghost use Rattle.stix_versions.specs.declared.version_break.VersionRule.TheVariants as rule;
-ghost use Rattle.stix_versions.specs.Versions.{Breaks};
-ghost use Rattle.stix_versions.specs.Seen.{IsSeenAs};
-ghost use Rattle.stix_versions.specs.Kept.{IsNextCreated, AreCreatedBefore};
+ghost use Rattle.stix_versions.specs.Versions.{BreaksVersionRule};
+ghost use Rattle.stix_versions.specs.inner.Version.{IsVersionAs};
+ghost use Rattle.stix_versions.specs.inner.FirstVersions.{IsNextCreated, AreCreatedBefore};
 
 use crate::version::Version;
-use stix_bundles::laws::{one_id, one_meaning};
 use flow_values::NoMemory;
 use std::alloc::Global;
 use std::collections::BTreeMap;
-use stix_times::laws::one_instant;
+use stix_bundles::laws::one_meaning;
+use stix_objects::laws::{one_id, one_timestamp};
 use stix_times::{Instant, nanos};
 
 /// Of an object's versions so far, the `created` of the first, and whether another one has another.
@@ -38,14 +38,14 @@ impl Created {
 
     /// Adds the version at the next position, and tells whether one before it has another `created`.
     pub(crate) fn add(&mut self, version: &Version) -> Result<bool, NoMemory>
-        ensures told { IfOk result (λ changed. (objects : List Data) (at : ℕ) → IsSeenAs objects at version.now
-            → AreCreatedBefore objects at self.old → IsTrue changed ↔ Breaks objects at rule.CreatedChanged) }
-        ensures kept { OnOk result ((objects : List Data) (at : ℕ) → IsSeenAs objects at version.now
+        ensures told { IfOk result (λ changed. (objects : List Data) (at : ℕ) → IsVersionAs objects at version.now
+            → AreCreatedBefore objects at self.old → IsTrue changed ↔ BreaksVersionRule objects at rule.CreatedChanged) }
+        ensures kept { OnOk result ((objects : List Data) (at : ℕ) → IsVersionAs objects at version.now
             → AreCreatedBefore objects at self.old → AreCreatedBefore objects (at + 1) self.new) }
     {
         one_id();
         one_meaning();
-        one_instant();
+        one_timestamp();
         let group = version.group;
         let created = version.created;
         let first = self.groups.get(&group).copied();

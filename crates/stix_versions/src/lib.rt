@@ -5,16 +5,15 @@
 
 mod created;
 pub mod laws;
-mod list_at;
 mod marking;
 mod marking_break;
-#[cfg(test)]
-mod marking_tests;
 mod markings;
 mod part;
 mod revoked;
 mod same;
 mod selector;
+#[cfg(test)]
+mod tests;
 mod twins;
 mod version;
 mod version_break;

@@ -1,20 +1,18 @@
 ghost use Rattle.std.specs.Prelude.{◌≡◌, ◌↔◌, IsTrue, Any, All, codes};
-ghost use Rattle.stix_ids.specs.declared.id.Id.{Id};
-ghost use Rattle.stix_ids.specs.Identifier.{IsTextOf};
 ghost use Rattle.stix_json.specs.DataOf.{data_of};
+ghost use Rattle.stix_json.specs.Ordered.{IsOrdered};
 ghost use Rattle.stix_bundles.specs.Objects.{data_in};
 ghost use Rattle.stix_versions.specs.Markings.{Has, HasOne, RefersToMarking, IsBreakOf};
-ghost use Rattle.stix_versions.specs.Selected.{IsSelectorText, Misses, IsWellNamed, IsListAt};
+ghost use Rattle.stix_versions.specs.inner.Selectors.{IsSelectorText, Misses, IsWellNamed, IsListAt};
 
 use crate::MarkingRule;
-use crate::list_at::list_at;
 use crate::selector::{is_selector, selected};
-use stix_objects::text_at;
-use stix_ids::Parts;
-use stix_json::{Json, get};
+use stix_ids::is_of_kind;
+use stix_json::{Json, get, list_at, text_at};
 
 /// The first rule that a marking of the object breaks.
 pub(crate) fn broken_rule(object: &Json, marking: &Json) -> Option<MarkingRule>
+    requires { IsOrdered (data_of object.now) }
     ensures { IsBreakOf (data_of object.now) (data_of marking.now) result }
 {
     if !has_one(marking) {
@@ -45,23 +43,15 @@ fn refers_to_marking(marking: &Json) -> bool
     ensures { IsTrue result ↔ RefersToMarking (data_of marking.now) }
 {
     match text_at(marking, "marking_ref") {
-        Some(text) => names_marking(text),
+        Some(text) => is_of_kind(text, "marking-definition"),
         None => false,
-    }
-}
-
-fn names_marking(text: &str) -> bool
-    ensures { IsTrue result ↔ ((id : Id) × IsTextOf text.now id × (id.kind ≡ codes "marking-definition")) }
-{
-    match Parts::read(text) {
-        Ok(parts) => parts.kind == "marking-definition",
-        Err(_) => false,
     }
 }
 
 /// The first rule that the selectors of a marking break, which names one marking or language well.
 fn broken_by_selectors(object: &Json, marking: &Json) -> Option<MarkingRule>
-    requires { IsWellNamed (data_of marking.now) }
+    requires named { IsWellNamed (data_of marking.now) }
+    requires ordered { IsOrdered (data_of object.now) }
     ensures { IsBreakOf (data_of object.now) (data_of marking.now) result }
 {
     let Some(selectors) = list_at(marking, "selectors") else {
@@ -73,6 +63,7 @@ fn broken_by_selectors(object: &Json, marking: &Json) -> Option<MarkingRule>
 /// The same of the list that they are.
 fn broken_in_list(object: &Json, marking: &Json, selectors: &[Json]) -> Option<MarkingRule>
     requires named { IsWellNamed (data_of marking.now) }
+    requires ordered { IsOrdered (data_of object.now) }
     requires listed { IsListAt (codes "selectors") (data_of marking.now) (data_in selectors.now) }
     ensures { IsBreakOf (data_of object.now) (data_of marking.now) result }
 {
@@ -103,12 +94,14 @@ fn is_selector_text(value: &Json) -> bool
 
 /// Whether one of the values is a selector that names nothing in the object.
 fn misses_one(object: &Json, values: &[Json]) -> bool
+    requires { IsOrdered (data_of object.now) }
     ensures { IsTrue result ↔ Any (λ value. Misses (data_of object.now) (data_of value)) values.now }
 {
     values.iter().any(|value| misses(object, value))
 }
 
 fn misses(object: &Json, value: &Json) -> bool
+    requires { IsOrdered (data_of object.now) }
     ensures { IsTrue result ↔ Misses (data_of object.now) (data_of value.now) }
 {
     match value {

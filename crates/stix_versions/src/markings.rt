@@ -1,17 +1,17 @@
-ghost use Rattle.std.specs.Prelude.{◌≡◌, ◌++◌, ◌≤◌, List, length, IfOk, OnOk};
+ghost use Rattle.std.specs.Prelude.{◌≡◌, ◌++◌, ◌≤◌, List, All, length, IfOk, OnOk};
 ghost use Rattle.stix_json.specs.DataOf.{data_of};
+ghost use Rattle.stix_json.specs.Ordered.{IsOrdered};
 ghost use Rattle.stix_bundles.specs.Objects.{data_in};
 ghost use Rattle.stix_versions.specs.declared.marking_break.MarkingBreak.{MarkingBreak};
-ghost use Rattle.stix_versions.specs.Markings.{AreBreaksOf, AreMarkingBreaks};
-ghost use Rattle.stix_versions.specs.Selected.{AreOwnBreaks};
+ghost use Rattle.stix_versions.specs.Markings.{AreBreaksOfMarkings, AreMarkingBreaks};
+ghost use Rattle.stix_versions.specs.inner.Selectors.{AreOwnBreaks};
 
 use crate::MarkingBreak;
-use crate::list_at::list_at;
 use crate::marking::broken_rule;
-use stix_bundles::Bundle;
 use flow_values::{Items, NoMemory};
 use std::alloc::Global;
-use stix_json::Json;
+use stix_bundles::Bundle;
+use stix_json::{Json, list_at};
 
 /// What is wrong with the granular markings of the objects of a bundle, object by object, and for each
 /// in the order of its markings (STIX 2.1, section 7.2.3); for each marking the first rule that it
@@ -24,7 +24,8 @@ pub fn marking_breaks(alloc: Global, bundle: &Bundle) -> Result<Items<MarkingBre
 
 /// The same of a list of objects.
 fn all_breaks(alloc: Global, objects: &[Json]) -> Result<Items<MarkingBreak>, NoMemory>
-    requires { length objects.now ≤ 8_388_608 }
+    requires counted { length objects.now ≤ 8_388_608 }
+    requires ordered { All IsOrdered (data_in objects.now) }
     ensures { IfOk result (AreMarkingBreaks (data_in objects.now)) }
 {
     let mut found = Items::new(alloc);
@@ -36,6 +37,7 @@ fn all_breaks(alloc: Global, objects: &[Json]) -> Result<Items<MarkingBreak>, No
 
 /// Adds the breaks of the object at a position.
 fn add_breaks(at: u32, object: &Json, found: &mut Items<MarkingBreak>) -> Result<(), NoMemory>
+    requires { IsOrdered (data_of object.now) }
     ensures { OnOk result ((own : List MarkingBreak) × AreOwnBreaks at (data_of object.now) own × (found.new ≡ found.old ++ own)) }
 {
     match list_at(object, "granular_markings") {
@@ -51,8 +53,9 @@ fn add_list(
     markings: &[Json],
     found: &mut Items<MarkingBreak>,
 ) -> Result<(), NoMemory>
+    requires { IsOrdered (data_of object.now) }
     ensures { OnOk result ((own : List MarkingBreak)
-        × AreBreaksOf object_at (data_of object.now) 0 (data_in markings.now) own × (found.new ≡ found.old ++ own)) }
+        × AreBreaksOfMarkings object_at (data_of object.now) 0 (data_in markings.now) own × (found.new ≡ found.old ++ own)) }
 {
     for at in 0..markings.len() {
         if let Some(rule) = broken_rule(object, &markings[at]) {

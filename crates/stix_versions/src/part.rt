@@ -3,10 +3,12 @@ ghost use Rattle.std.specs.Char.{IsAsciiDigit};
 ghost use Rattle.std.specs.Str.Parse.{IsNumeral, digits_value};
 ghost use Rattle.serde_json.specs.Find.{at as at_place};
 ghost use Rattle.stix_json.specs.DataOf.{data_of};
+ghost use Rattle.stix_json.specs.Ordered.{IsOrdered};
 ghost use Rattle.stix_versions.specs.Selector.{Part, IsNameCharacter, IsName, IsPlace, in_brackets, chosen as chosen_by};
-ghost use Rattle.stix_versions.specs.Paths.{IsPartOf};
+ghost use Rattle.stix_versions.specs.inner.Paths.{IsPartOf};
 
-use stix_json::{Json, get};
+use stix_json::laws::ordered_parts;
+use stix_json::{Json, get_ordered};
 
 /// Whether the text is one part of a selector.
 pub(crate) fn is_part(text: &str) -> bool
@@ -20,12 +22,14 @@ pub(crate) fn is_part(text: &str) -> bool
 
 /// What a part names in a value.
 pub(crate) fn chosen<'a>(text: &str, value: &'a Json) -> Option<&'a Json>
-    ensures { (part : Part) → IsPartOf text.now part
+    requires { IsOrdered (data_of value.now) }
+    ensures value { (part : Part) → IsPartOf text.now part
         → option_map (λ inner. data_of inner.now) result ≡ chosen_by part (data_of value.now) }
+    ensures ordered { IfSome result (λ inner. IsOrdered (data_of inner.now)) }
 {
     match bracketed(text) {
         Some(digits) => item_at(digits, value),
-        None => get(value, text),
+        None => get_ordered(value, text),
     }
 }
 
@@ -72,9 +76,12 @@ fn is_name_character(byte: u8) -> bool
 /// The item of a list at the place that the digits write. None in what is no list, and where the list
 /// has no such place.
 fn item_at<'a>(digits: &str, value: &'a Json) -> Option<&'a Json>
-    ensures { IsNumeral 10 digits.now
+    requires { IsOrdered (data_of value.now) }
+    ensures value { IsNumeral 10 digits.now
         → option_map (λ item. data_of item.now) result ≡ at_place (digits_value 10 digits.now) (data_of value.now) }
+    ensures ordered { IfSome result (λ item. IsOrdered (data_of item.now)) }
 {
+    ordered_parts();
     match value {
         Json::Array(items) => numbered(digits, items.as_slice()),
         Json::Bool(_) | Json::Integer(_) | Json::String(_) | Json::Object(_) => None,
@@ -83,8 +90,10 @@ fn item_at<'a>(digits: &str, value: &'a Json) -> Option<&'a Json>
 
 /// The item at the place that the digits write.
 fn numbered<'a>(digits: &str, items: &'a [Json]) -> Option<&'a Json>
-    ensures { IsNumeral 10 digits.now
+    requires { All (λ item. IsOrdered (data_of item)) items.now }
+    ensures value { IsNumeral 10 digits.now
         → option_map (λ item. item.now) result ≡ slice_get items.now (digits_value 10 digits.now) }
+    ensures ordered { IfSome result (λ item. IsOrdered (data_of item.now)) }
 {
     let at: usize = digits.parse().ok()?;
     items.get(at)

@@ -2,18 +2,19 @@ ghost use Rattle.std.specs.Prelude.{◌↔◌, ◌+◌, ℕ, List, length, IsTru
 ghost use Rattle.serde_json.specs.Data.{Data};
 ghost use Rattle.stix_bundles.specs.Objects.{data_in};
 ghost use Rattle.stix_versions.specs.declared.version_break.VersionRule.TheVariants as rule;
-ghost use Rattle.stix_versions.specs.Versions.{Breaks};
-ghost use Rattle.stix_versions.specs.Seen.{IsSeenAs};
-ghost use Rattle.stix_versions.specs.Kept.{IsNextRevoked, AreRevokedBefore};
+ghost use Rattle.stix_versions.specs.Versions.{BreaksVersionRule};
+ghost use Rattle.stix_versions.specs.inner.Version.{IsVersionAs};
+ghost use Rattle.stix_versions.specs.inner.FirstVersions.{IsNextRevoked, AreRevokedBefore};
 
 use crate::version::{Version, version_at};
-use stix_bundles::Bundle;
-use stix_bundles::laws::{one_id, one_meaning};
 use flow_values::NoMemory;
 use std::alloc::Global;
 use std::collections::BTreeMap;
+use stix_bundles::Bundle;
+use stix_bundles::laws::one_meaning;
+use stix_objects::laws::{one_id, one_timestamp};
 use stix_times::Instant;
-use stix_times::laws::{is_before, one_instant};
+use stix_times::laws::is_before;
 
 /// For each object with a version that is revoked, the earliest `modified` of such a version, by the
 /// group of its versions.
@@ -40,12 +41,12 @@ impl Revoked {
 
     /// Adds the version at the next position.
     fn add(&mut self, version: &Version) -> Result<(), NoMemory>
-        ensures { OnOk result ((objects : List Data) (at : ℕ) → IsSeenAs objects at version.now
+        ensures { OnOk result ((objects : List Data) (at : ℕ) → IsVersionAs objects at version.now
             → AreRevokedBefore objects at self.old → AreRevokedBefore objects (at + 1) self.new) }
     {
         one_id();
         one_meaning();
-        one_instant();
+        one_timestamp();
         if !version.revoked {
             return Ok(());
         }
@@ -59,12 +60,12 @@ impl Revoked {
 
     /// Whether a version of the same object that was modified before is revoked.
     pub(crate) fn precedes(&self, version: &Version) -> bool
-        ensures { (objects : List Data) (at : ℕ) → IsSeenAs objects at version.now
-            → AreRevokedBefore objects (length objects) self.now → IsTrue result ↔ Breaks objects at rule.AfterRevoked }
+        ensures { (objects : List Data) (at : ℕ) → IsVersionAs objects at version.now
+            → AreRevokedBefore objects (length objects) self.now → IsTrue result ↔ BreaksVersionRule objects at rule.AfterRevoked }
     {
         one_id();
         one_meaning();
-        one_instant();
+        one_timestamp();
         let group = version.group;
         let modified = version.modified;
         match self.groups.get(&group) {

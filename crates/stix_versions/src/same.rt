@@ -3,7 +3,7 @@ ghost use Rattle.stix_json.specs.DataOf.{data_of, field_data};
 
 use stix_json::{Field, Json};
 
-/// Whether two trees are the same value.
+/// Whether two JSON values are the same value.
 #[cycle(same)]
 pub(crate) fn is_same(first: &Json, second: &Json) -> bool
     ensures { IsTrue result ↔ (data_of first.now ≡ data_of second.now) }
@@ -18,9 +18,10 @@ pub(crate) fn is_same(first: &Json, second: &Json) -> bool
         (Json::Object(first), Json::Object(second)) => {
             are_same_fields(first.as_slice(), second.as_slice())
         }
-        (Json::Bool(_) | Json::Integer(_) | Json::String(_) | Json::Array(_) | Json::Object(_), _) => {
-            false
-        }
+        (
+            Json::Bool(_) | Json::Integer(_) | Json::String(_) | Json::Array(_) | Json::Object(_),
+            _,
+        ) => { false }
     }
 }
 

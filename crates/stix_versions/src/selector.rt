@@ -1,7 +1,8 @@
 ghost use Rattle.std.specs.Prelude.{◌≡◌, ◌↔◌, List, IsTrue, option_map};
 ghost use Rattle.stix_json.specs.DataOf.{data_of};
+ghost use Rattle.stix_json.specs.Ordered.{IsOrdered};
 ghost use Rattle.stix_versions.specs.Selector.{Part, IsSelector, value_at};
-ghost use Rattle.stix_versions.specs.Paths.{IsPath};
+ghost use Rattle.stix_versions.specs.inner.Paths.{IsPath};
 
 use crate::part::{chosen, is_part};
 use stix_json::Json;
@@ -29,6 +30,7 @@ fn is_path(text: &str) -> bool
 
 /// What a selector names in an object.
 pub(crate) fn selected<'a>(text: &str, object: &'a Json) -> Option<&'a Json>
+    requires { IsOrdered (data_of object.now) }
     ensures { (parts : List Part) → IsPath text.now parts
         → option_map (λ value. data_of value.now) result ≡ value_at parts (data_of object.now) }
 {

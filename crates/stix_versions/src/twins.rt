@@ -3,19 +3,19 @@ ghost use Rattle.serde_json.specs.Data.{Data};
 ghost use Rattle.stix_json.specs.DataOf.{data_of};
 ghost use Rattle.stix_bundles.specs.Objects.{data_in};
 ghost use Rattle.stix_versions.specs.declared.version_break.VersionRule.TheVariants as rule;
-ghost use Rattle.stix_versions.specs.Versions.{Breaks};
-ghost use Rattle.stix_versions.specs.Seen.{IsSeenAs};
-ghost use Rattle.stix_versions.specs.Twin.{IsNextTwin, AreTwinsBefore};
+ghost use Rattle.stix_versions.specs.Versions.{BreaksVersionRule};
+ghost use Rattle.stix_versions.specs.inner.Version.{IsVersionAs};
+ghost use Rattle.stix_versions.specs.inner.Twins.{IsNextTwin, AreTwinsBefore};
 
 use crate::same::is_same;
 use crate::version::Version;
-use stix_bundles::laws::{one_id, one_meaning};
 use flow_values::NoMemory;
 use std::alloc::Global;
 use std::collections::BTreeMap;
-use stix_times::laws::one_instant;
-use stix_times::nanos;
+use stix_bundles::laws::one_meaning;
 use stix_json::Json;
+use stix_objects::laws::{one_id, one_timestamp};
+use stix_times::nanos;
 
 /// Of an object's versions of one `modified` so far, the position of the first, and whether another
 /// one is another object.
@@ -28,7 +28,7 @@ pub(crate) struct FirstTwin {
 /// The same for each object and `modified`, by the group of its versions and the instant.
 #[derive(Drop)]
 pub(crate) struct Twins {
-    moments: BTreeMap<(u32, i128), FirstTwin>,
+    instants: BTreeMap<(u32, i128), FirstTwin>,
 }
 
 impl Twins {
@@ -37,7 +37,7 @@ impl Twins {
         ensures { (objects : List Data) → AreTwinsBefore objects 0 result }
     {
         Twins {
-            moments: BTreeMap::new(alloc),
+            instants: BTreeMap::new(alloc),
         }
     }
 
@@ -51,19 +51,19 @@ impl Twins {
     ) -> Result<bool, NoMemory>
         requires counted { length objects.now ≤ 8_388_608 }
         requires there { at < length objects.now }
-        requires version { IsSeenAs (data_in objects.now) at version.now }
+        requires version { IsVersionAs (data_in objects.now) at version.now }
         requires before { AreTwinsBefore (data_in objects.now) at self.old }
-        ensures told { IfOk result (λ differs. IsTrue differs ↔ Breaks (data_in objects.now) at rule.SameVersionTwice) }
+        ensures told { IfOk result (λ differs. IsTrue differs ↔ BreaksVersionRule (data_in objects.now) at rule.SameVersionTwice) }
         ensures kept { OnOk result (AreTwinsBefore (data_in objects.now) (at + 1) self.new) }
     {
         one_id();
         one_meaning();
-        one_instant();
-        let moment = (version.group, nanos(version.modified));
-        let first = self.moments.get(&moment).copied();
+        one_timestamp();
+        let instant = (version.group, nanos(version.modified));
+        let first = self.instants.get(&instant).copied();
         let next = next_twin(objects, first, &objects[at], at as u32);
         let differs = next.differs;
-        self.moments.insert(moment, next)?;
+        self.instants.insert(instant, next)?;
         Ok(differs)
     }
 }

@@ -1,16 +1,16 @@
-ghost use Rattle.std.specs.Prelude.{◌≡◌, ◌↔◌, ◌<◌, ℤ, length, true, IsTrue, IfSome, IfNone, Some, codes};
+ghost use Rattle.std.specs.Prelude.{◌≡◌, ◌↔◌, ◌<◌, length, true, IsTrue, IfSome, IfNone, Some, codes};
 ghost use Rattle.serde_json.specs.Data.{boolean};
 ghost use Rattle.serde_json.specs.Find.{get as member_of};
 ghost use Rattle.stix_json.specs.DataOf.{data_of};
 ghost use Rattle.stix_bundles.specs.Objects.{data_in};
 ghost use Rattle.stix_versions.specs.Versions.{IsObservable, IsRevoked};
-ghost use Rattle.stix_versions.specs.Seen.{IsMillisAt, IsSeenAs, IsNoVersion};
+ghost use Rattle.stix_versions.specs.inner.Version.{IsVersionAs, IsNoVersion};
 
 use stix_bundles::laws::one_meaning;
 use stix_bundles::{Bundle, find};
-use stix_objects::{Group, group, text_at};
-use stix_times::{Instant, read_millis};
-use stix_json::{Json, get};
+use stix_json::{Json, get, text_at};
+use stix_objects::{Group, Precision, group, timestamp_at};
+use stix_times::Instant;
 
 /// A version of an object.
 #[derive(Clone, Copy)]
@@ -25,7 +25,7 @@ pub(crate) struct Version {
 /// The version that the object at a position is. None where it has no versions.
 pub(crate) fn version_at(bundle: &Bundle, at: usize) -> Option<Version>
     requires { at < length bundle.now }
-    ensures some { IfSome result (IsSeenAs (data_in bundle.now) at) }
+    ensures some { IfSome result (IsVersionAs (data_in bundle.now) at) }
     ensures none { IfNone result (IsNoVersion (data_in bundle.now) at) }
 {
     one_meaning();
@@ -34,8 +34,8 @@ pub(crate) fn version_at(bundle: &Bundle, at: usize) -> Option<Version>
         return None;
     }
     let id = text_at(object, "id")?;
-    let created = millis_at(object, "created")?;
-    let modified = millis_at(object, "modified")?;
+    let created = timestamp_at(object, Precision::Millis, "created")?;
+    let modified = timestamp_at(object, Precision::Millis, "modified")?;
     let group = find(bundle, id)?;
     Some(Version {
         group,
@@ -53,14 +53,6 @@ fn is_observable(object: &Json) -> bool
         Some(kind) => group(kind) == Group::Observable,
         None => false,
     }
-}
-
-/// The instant that a property names, to the millisecond at least.
-fn millis_at(object: &Json, name: &str) -> Option<Instant>
-    ensures some { IfSome result (IsMillisAt name.now (data_of object.now)) }
-    ensures none { IfNone result ((instant : ℤ) → ¬ IsMillisAt name.now (data_of object.now) instant) }
-{
-    read_millis(text_at(object, name)?).ok()
 }
 
 /// Whether a version revokes its object.

@@ -1,19 +1,19 @@
 ghost use Rattle.std.specs.Prelude.{◌≡◌, ◌↔◌, ◌+◌, ◌<◌, ◌++◌, List, length, map, take, IsTrue, IfOk, OnOk};
 ghost use Rattle.stix_bundles.specs.Objects.{data_in};
 ghost use Rattle.stix_versions.specs.declared.version_break.VersionRule.{VersionRule};
-ghost use Rattle.stix_versions.specs.Versions.{Breaks, AreBroken, rules_told, told_of, AreBreaksFrom, AreVersionBreaks};
-ghost use Rattle.stix_versions.specs.Kept.{AreCreatedBefore, AreRevokedBefore};
-ghost use Rattle.stix_versions.specs.Twin.{AreTwinsBefore};
-ghost use Rattle.stix_versions.specs.Told.{AreSeenBefore, where_so};
+ghost use Rattle.stix_versions.specs.Versions.{BreaksVersionRule, AreBroken, rules_told, break_of_version, AreVersionBreaksFrom, AreVersionBreaks};
+ghost use Rattle.stix_versions.specs.inner.FirstVersions.{AreCreatedBefore, AreRevokedBefore};
+ghost use Rattle.stix_versions.specs.inner.Twins.{AreTwinsBefore};
+ghost use Rattle.stix_versions.specs.inner.History.{AreVersionsBefore, where_so};
 
 use crate::created::Created;
 use crate::revoked::Revoked;
 use crate::twins::Twins;
 use crate::version::version_at;
 use crate::{VersionBreak, VersionRule};
-use stix_bundles::Bundle;
 use flow_values::{Items, NoMemory};
 use std::alloc::Global;
+use stix_bundles::Bundle;
 
 /// What is wrong with the versions of objects in a bundle, object by object, and for each object in
 /// the order of the rules (STIX 2.1, section 3.6). Only objects that have both `created` and `modified`
@@ -22,7 +22,7 @@ pub fn version_breaks(alloc: Global, bundle: &Bundle) -> Result<Items<VersionBre
     ensures { IfOk result (AreVersionBreaks (data_in bundle.now)) }
 {
     let revoked = Revoked::of(alloc, bundle)?;
-    let mut seen = Seen {
+    let mut seen = History {
         created: Created::new(alloc),
         twins: Twins::new(alloc),
     };
@@ -35,7 +35,7 @@ pub fn version_breaks(alloc: Global, bundle: &Bundle) -> Result<Items<VersionBre
 
 /// What is kept of the versions so far.
 #[derive(Drop)]
-pub(crate) struct Seen {
+pub(crate) struct History {
     created: Created,
     twins: Twins,
 }
@@ -45,15 +45,15 @@ fn add_breaks(
     bundle: &Bundle,
     at: usize,
     revoked: &Revoked,
-    seen: &mut Seen,
+    seen: &mut History,
     found: &mut Items<VersionBreak>,
 ) -> Result<(), NoMemory>
     requires there { at < length bundle.now }
     requires revoked { AreRevokedBefore (data_in bundle.now) (length (data_in bundle.now)) revoked.now }
-    requires before { AreSeenBefore (data_in bundle.now) at seen.old }
-    ensures told { OnOk result ((own : List VersionRule) × AreBroken (Breaks (data_in bundle.now) at) rules_told own
-        × (found.new ≡ found.old ++ map (told_of at) own)) }
-    ensures kept { OnOk result (AreSeenBefore (data_in bundle.now) (at + 1) seen.new) }
+    requires before { AreVersionsBefore (data_in bundle.now) at seen.old }
+    ensures told { OnOk result ((own : List VersionRule) × AreBroken (BreaksVersionRule (data_in bundle.now) at) rules_told own
+        × (found.new ≡ found.old ++ map (break_of_version at) own)) }
+    ensures kept { OnOk result (AreVersionsBefore (data_in bundle.now) (at + 1) seen.new) }
 {
     let Some(version) = version_at(bundle, at) else {
         return Ok(());
@@ -76,7 +76,7 @@ fn add(
     rule: VersionRule,
     found: &mut Items<VersionBreak>,
 ) -> Result<(), NoMemory>
-    ensures { OnOk result (found.new ≡ found.old ++ where_so broken (told_of object rule)) }
+    ensures { OnOk result (found.new ≡ found.old ++ where_so broken (break_of_version object rule)) }
 {
     if broken {
         found.push(VersionBreak { object, rule })?;

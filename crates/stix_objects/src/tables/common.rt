@@ -2,29 +2,29 @@
 
 ghost use Rattle.std.specs.Prelude.{◌≡◌, map};
 ghost use Rattle.stix_objects.specs.CommonRows.{common_rows as shared_rows};
-ghost use Rattle.stix_objects.specs.Views.{common_view};
+ghost use Rattle.stix_objects.specs.inner.Views.{common_view};
 
 use crate::Group;
 use crate::form::{
-    EXTERNAL, FIELDS, FLAG, Form, KIND, LISTED, MILLIS, Precision, Single, TEXT, TEXTS, VERSION,
+    BOOLEAN, EXTERNAL, FIELDS, Form, KIND, LISTED, MILLIS, Precision, Single, TEXT, TEXTS, VERSION,
 };
 use crate::row::{CommonRow, Row};
 
 const ALL: &[Group] = &[
-    Group::Stated,
+    Group::Domain,
     Group::Marking,
     Group::Observable,
     Group::Other,
 ];
 
-const STATED_AND_OTHER: &[Group] = &[Group::Stated, Group::Other];
+const DOMAIN_AND_OTHER: &[Group] = &[Group::Domain, Group::Other];
 
-const ALL_BUT_OBSERVABLE: &[Group] = &[Group::Stated, Group::Marking, Group::Other];
+const ALL_BUT_OBSERVABLE: &[Group] = &[Group::Domain, Group::Marking, Group::Other];
 
 const COMMON_ROWS: &[CommonRow] = &[
     CommonRow::For(ALL, Row::Required("type", KIND)),
     CommonRow::For(
-        &[Group::Stated, Group::Marking],
+        &[Group::Domain, Group::Marking],
         Row::Required("spec_version", VERSION),
     ),
     CommonRow::For(
@@ -37,23 +37,23 @@ const COMMON_ROWS: &[CommonRow] = &[
         Row::Optional("created_by_ref", Form::One(Single::Ref(&["identity"]))),
     ),
     CommonRow::For(
-        &[Group::Stated, Group::Marking],
+        &[Group::Domain, Group::Marking],
         Row::Required("created", MILLIS),
     ),
     CommonRow::For(&[Group::Other], Row::Optional("created", MILLIS)),
-    CommonRow::For(&[Group::Stated], Row::Required("modified", MILLIS)),
+    CommonRow::For(&[Group::Domain], Row::Required("modified", MILLIS)),
     CommonRow::For(&[Group::Other], Row::Optional("modified", MILLIS)),
     CommonRow::For(
-        STATED_AND_OTHER,
+        DOMAIN_AND_OTHER,
         Row::Order(Precision::Millis, "created", "modified"),
     ),
-    CommonRow::For(STATED_AND_OTHER, Row::Optional("revoked", FLAG)),
-    CommonRow::For(STATED_AND_OTHER, Row::Optional("labels", TEXTS)),
+    CommonRow::For(DOMAIN_AND_OTHER, Row::Optional("revoked", BOOLEAN)),
+    CommonRow::For(DOMAIN_AND_OTHER, Row::Optional("labels", TEXTS)),
     CommonRow::For(
-        STATED_AND_OTHER,
-        Row::Optional("confidence", Form::One(Single::Whole(0, 100))),
+        DOMAIN_AND_OTHER,
+        Row::Optional("confidence", Form::One(Single::Integer(0, 100))),
     ),
-    CommonRow::For(STATED_AND_OTHER, Row::Optional("lang", TEXT)),
+    CommonRow::For(DOMAIN_AND_OTHER, Row::Optional("lang", TEXT)),
     CommonRow::For(
         ALL_BUT_OBSERVABLE,
         Row::Optional("external_references", EXTERNAL),
@@ -67,9 +67,9 @@ const COMMON_ROWS: &[CommonRow] = &[
     ),
     CommonRow::For(ALL, Row::Optional("granular_markings", LISTED)),
     CommonRow::For(ALL, Row::Optional("extensions", FIELDS)),
-    CommonRow::For(&[Group::Observable], Row::Optional("defanged", FLAG)),
-    CommonRow::UnlessOwn(&[Group::Stated], "name", TEXT),
-    CommonRow::For(&[Group::Stated], Row::Optional("description", TEXT)),
+    CommonRow::For(&[Group::Observable], Row::Optional("defanged", BOOLEAN)),
+    CommonRow::UnlessOwn(&[Group::Domain], "name", TEXT),
+    CommonRow::For(&[Group::Domain], Row::Optional("description", TEXT)),
 ];
 
 /// The common rows, each with the groups for which it stands.

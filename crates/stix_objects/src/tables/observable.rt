@@ -1,6 +1,6 @@
-//! The own rows of the cyber-observable objects (STIX 2.1, section 6).
+//! The own rows of the observables (STIX 2.1, section 6).
 
-use crate::form::{FIELDS, FLAG, Form, HASHES, LISTED, Precision, Single, TEXT, TEXTS, TIME};
+use crate::form::{BOOLEAN, FIELDS, Form, HASHES, LISTED, Precision, Single, TEXT, TEXTS, TIME};
 use crate::row::{Condition, Row};
 
 /// What network traffic comes from and goes to.
@@ -41,7 +41,7 @@ pub(crate) const ARTIFACT: &[Row] = &[
 
 /// Section 6.2: autonomous-system.
 pub(crate) const AUTONOMOUS_SYSTEM: &[Row] = &[
-    Row::Required("number", Form::One(Single::Whole(0, 4_294_967_295))),
+    Row::Required("number", Form::One(Single::Integer(0, 4_294_967_295))),
     Row::Optional("name", TEXT),
     Row::Optional("rir", TEXT),
 ];
@@ -77,7 +77,7 @@ pub(crate) const EMAIL_ADDR: &[Row] = &[
 
 /// Section 6.6: email-message.
 pub(crate) const EMAIL_MESSAGE: &[Row] = &[
-    Row::Required("is_multipart", FLAG),
+    Row::Required("is_multipart", BOOLEAN),
     Row::Optional("date", TIME),
     Row::Optional("content_type", TEXT),
     Row::Optional("from_ref", Form::One(Single::Ref(&["email-addr"]))),
@@ -111,7 +111,7 @@ pub(crate) const EMAIL_MESSAGE: &[Row] = &[
 /// Section 6.7: file.
 pub(crate) const FILE: &[Row] = &[
     Row::Optional("hashes", HASHES),
-    Row::Optional("size", Form::One(Single::Whole(0, 9_007_199_254_740_991))),
+    Row::Optional("size", Form::One(Single::Integer(0, 9_007_199_254_740_991))),
     Row::Optional("name", TEXT),
     Row::Optional("ctime", TIME),
     Row::Optional("mtime", TIME),
@@ -140,11 +140,11 @@ pub(crate) const MUTEX: &[Row] = &[Row::Required("name", TEXT)];
 pub(crate) const NETWORK_TRAFFIC: &[Row] = &[
     Row::Optional("start", TIME),
     Row::Optional("end", TIME),
-    Row::Optional("is_active", FLAG),
+    Row::Optional("is_active", BOOLEAN),
     Row::Optional("src_ref", ENDPOINTS),
     Row::Optional("dst_ref", ENDPOINTS),
-    Row::Optional("src_port", Form::One(Single::Whole(0, 65_535))),
-    Row::Optional("dst_port", Form::One(Single::Whole(0, 65_535))),
+    Row::Optional("src_port", Form::One(Single::Integer(0, 65_535))),
+    Row::Optional("dst_port", Form::One(Single::Integer(0, 65_535))),
     Row::Required("protocols", TEXTS),
     Row::Order(Precision::Any, "start", "end"),
     Row::NeedsOneOf(Some("src_ref"), &["src_ref", "dst_ref"]),
@@ -159,8 +159,8 @@ pub(crate) const NETWORK_TRAFFIC: &[Row] = &[
 
 /// Section 6.13: process.
 pub(crate) const PROCESS: &[Row] = &[
-    Row::Optional("is_hidden", FLAG),
-    Row::Optional("pid", Form::One(Single::Whole(0, 9_007_199_254_740_991))),
+    Row::Optional("is_hidden", BOOLEAN),
+    Row::Optional("pid", Form::One(Single::Integer(0, 9_007_199_254_740_991))),
     Row::Optional("created_time", TIME),
     Row::Optional("cwd", TEXT),
     Row::Optional("command_line", TEXT),
@@ -212,10 +212,10 @@ pub(crate) const USER_ACCOUNT: &[Row] = &[
     Row::Optional("account_login", TEXT),
     Row::Optional("account_type", TEXT),
     Row::Optional("display_name", TEXT),
-    Row::Optional("is_service_account", FLAG),
-    Row::Optional("is_privileged", FLAG),
-    Row::Optional("can_escalate_privs", FLAG),
-    Row::Optional("is_disabled", FLAG),
+    Row::Optional("is_service_account", BOOLEAN),
+    Row::Optional("is_privileged", BOOLEAN),
+    Row::Optional("can_escalate_privs", BOOLEAN),
+    Row::Optional("is_disabled", BOOLEAN),
     Row::Optional("account_created", TIME),
     Row::Optional("account_expires", TIME),
     Row::Optional("credential_last_changed", TIME),
@@ -234,13 +234,13 @@ pub(crate) const WINDOWS_REGISTRY_KEY: &[Row] = &[
     ),
     Row::Optional(
         "number_of_subkeys",
-        Form::One(Single::Whole(0, 9_007_199_254_740_991)),
+        Form::One(Single::Integer(0, 9_007_199_254_740_991)),
     ),
 ];
 
 /// Section 6.18: x509-certificate.
 pub(crate) const X509_CERTIFICATE: &[Row] = &[
-    Row::Optional("is_self_signed", FLAG),
+    Row::Optional("is_self_signed", BOOLEAN),
     Row::Optional("hashes", HASHES),
     Row::Optional("version", TEXT),
     Row::Optional("serial_number", TEXT),
@@ -253,7 +253,7 @@ pub(crate) const X509_CERTIFICATE: &[Row] = &[
     Row::Optional("subject_public_key_modulus", TEXT),
     Row::Optional(
         "subject_public_key_exponent",
-        Form::One(Single::Whole(-9_007_199_254_740_991, 9_007_199_254_740_991)),
+        Form::One(Single::Integer(-9_007_199_254_740_991, 9_007_199_254_740_991)),
     ),
     Row::Optional("x509_v3_extensions", FIELDS),
     Row::NeedsOneOf(

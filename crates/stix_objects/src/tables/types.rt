@@ -1,121 +1,121 @@
-//! The object types whose own rows are stated (STIX 2.1, sections 4 to 7).
+//! The object types with rows of their own (STIX 2.1, sections 4 to 7).
 
 ghost use Rattle.std.specs.Prelude.{◌≡◌, map};
-ghost use Rattle.stix_objects.specs.Types.{stated_types as domain_types, observable_types as cyber_types};
-ghost use Rattle.stix_objects.specs.Views.{type_view};
+ghost use Rattle.stix_objects.specs.Types.{domain_types as types_of_domain, observable_types as cyber_types};
+ghost use Rattle.stix_objects.specs.inner.Views.{type_view};
 
 use crate::Group;
 use crate::object_type::ObjectType;
-use crate::tables::{observable, stated};
+use crate::tables::{domain, observable};
 
-const STATED_TYPES: &[ObjectType] = &[
+const DOMAIN_TYPES: &[ObjectType] = &[
     ObjectType {
         name: "attack-pattern",
-        group: Group::Stated,
-        rows: stated::NAMED_IN_PHASES,
+        group: Group::Domain,
+        rows: domain::NAMED_IN_PHASES,
     },
     ObjectType {
         name: "campaign",
-        group: Group::Stated,
-        rows: stated::NAMED_AND_SEEN,
+        group: Group::Domain,
+        rows: domain::NAMED_AND_SEEN,
     },
     ObjectType {
         name: "course-of-action",
-        group: Group::Stated,
-        rows: stated::NAMED,
+        group: Group::Domain,
+        rows: domain::NAMED,
     },
     ObjectType {
         name: "grouping",
-        group: Group::Stated,
-        rows: stated::GROUPING,
+        group: Group::Domain,
+        rows: domain::GROUPING,
     },
     ObjectType {
         name: "identity",
-        group: Group::Stated,
-        rows: stated::NAMED,
+        group: Group::Domain,
+        rows: domain::NAMED,
     },
     ObjectType {
         name: "indicator",
-        group: Group::Stated,
-        rows: stated::INDICATOR,
+        group: Group::Domain,
+        rows: domain::INDICATOR,
     },
     ObjectType {
         name: "infrastructure",
-        group: Group::Stated,
-        rows: stated::INFRASTRUCTURE,
+        group: Group::Domain,
+        rows: domain::INFRASTRUCTURE,
     },
     ObjectType {
         name: "intrusion-set",
-        group: Group::Stated,
-        rows: stated::NAMED_AND_SEEN,
+        group: Group::Domain,
+        rows: domain::NAMED_AND_SEEN,
     },
     ObjectType {
         name: "malware",
-        group: Group::Stated,
-        rows: stated::MALWARE,
+        group: Group::Domain,
+        rows: domain::MALWARE,
     },
     ObjectType {
         name: "malware-analysis",
-        group: Group::Stated,
-        rows: stated::MALWARE_ANALYSIS,
+        group: Group::Domain,
+        rows: domain::MALWARE_ANALYSIS,
     },
     ObjectType {
         name: "note",
-        group: Group::Stated,
-        rows: stated::NOTE,
+        group: Group::Domain,
+        rows: domain::NOTE,
     },
     ObjectType {
         name: "observed-data",
-        group: Group::Stated,
-        rows: stated::OBSERVED_DATA,
+        group: Group::Domain,
+        rows: domain::OBSERVED_DATA,
     },
     ObjectType {
         name: "opinion",
-        group: Group::Stated,
-        rows: stated::OPINION,
+        group: Group::Domain,
+        rows: domain::OPINION,
     },
     ObjectType {
         name: "report",
-        group: Group::Stated,
-        rows: stated::REPORT,
+        group: Group::Domain,
+        rows: domain::REPORT,
     },
     ObjectType {
         name: "threat-actor",
-        group: Group::Stated,
-        rows: stated::NAMED_AND_SEEN,
+        group: Group::Domain,
+        rows: domain::NAMED_AND_SEEN,
     },
     ObjectType {
         name: "tool",
-        group: Group::Stated,
-        rows: stated::NAMED_IN_PHASES,
+        group: Group::Domain,
+        rows: domain::NAMED_IN_PHASES,
     },
     ObjectType {
         name: "vulnerability",
-        group: Group::Stated,
-        rows: stated::NAMED,
+        group: Group::Domain,
+        rows: domain::NAMED,
     },
     ObjectType {
         name: "relationship",
-        group: Group::Stated,
-        rows: stated::RELATIONSHIP,
+        group: Group::Domain,
+        rows: domain::RELATIONSHIP,
     },
     ObjectType {
         name: "sighting",
-        group: Group::Stated,
-        rows: stated::SIGHTING,
+        group: Group::Domain,
+        rows: domain::SIGHTING,
     },
     ObjectType {
         name: "marking-definition",
         group: Group::Marking,
-        rows: stated::MARKING_DEFINITION,
+        rows: domain::MARKING_DEFINITION,
     },
 ];
 
 /// The domain objects, the relationship objects and the marking-definition.
-pub(crate) fn stated_types() -> &'static [ObjectType]
-    ensures { map type_view result.now ≡ domain_types }
+pub(crate) fn domain_types() -> &'static [ObjectType]
+    ensures { map type_view result.now ≡ types_of_domain }
 {
-    STATED_TYPES
+    DOMAIN_TYPES
 }
 
 const OBSERVABLE_TYPES: &[ObjectType] = &[
@@ -211,7 +211,7 @@ const OBSERVABLE_TYPES: &[ObjectType] = &[
     },
 ];
 
-/// The cyber-observable objects.
+/// The observables.
 pub(crate) fn observable_types() -> &'static [ObjectType]
     ensures { map type_view result.now ≡ cyber_types }
 {

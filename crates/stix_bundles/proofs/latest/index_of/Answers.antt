@@ -4,7 +4,7 @@ use Rattle.std.proofs.lemmas.List.{length-map}
 use Rattle.serde_json.specs.Data.{Data}
 use Rattle.stix_json.specs.DataOf.{data_of}
 use Rattle.stix_bundles.specs.Objects.{data_in}
-use Rattle.stix_bundles.specs.Indexed.{IsIndexOf}
+use Rattle.stix_bundles.specs.inner.Index.{IsIndexOf}
 use Rattle.stix_bundles.proofs.latest.index_of.Goals as goal
 
 pub returns : goal.returns

@@ -1,6 +1,6 @@
 use Rattle.std.proofs.Common.{take}
 use Rattle.stix_bundles.specs.Objects.{data_in}
-use Rattle.stix_bundles.specs.Indexed.{IsIndexOf}
+use Rattle.stix_bundles.specs.inner.Index.{IsIndexOf}
 use Rattle.stix_bundles.proofs.latest.index_of.Given as goal
 
 abbrev pub invariant-loop-at : goal.invariant-loop-at

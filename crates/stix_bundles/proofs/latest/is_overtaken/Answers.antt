@@ -1,4 +1,4 @@
-use Rattle.stix_bundles.proofs.Overtaking.{not_past, overtakes_at, earlier_at}
+use Rattle.stix_bundles.proofs.OvertakesLemmas.{not_past, overtakes_at, earlier_at}
 use Rattle.stix_bundles.proofs.latest.is_overtaken.Goals as goal
 
 pub returns-in-Some-get : goal.returns-in-Some-get

@@ -1,4 +1,4 @@
-use Rattle.stix_bundles.proofs.Meanings.{one_meaning, same_meaning}
+use Rattle.stix_bundles.proofs.LookupLemmas.{one_meaning, same_meaning}
 use Rattle.stix_bundles.proofs.laws.one_meaning.Goals as goal
 
 pub returns-clause-one : goal.returns-clause-one

@@ -1,6 +1,6 @@
 use Rattle.stix_bundles.specs.Objects.{data_in}
 use Rattle.stix_ids.specs.PartsOf.{id_of}
-use Rattle.stix_bundles.proofs.Meanings.{held_is_meant}
+use Rattle.stix_bundles.proofs.LookupLemmas.{held_is_meant}
 use Rattle.stix_bundles.proofs.lookup.find.Goals as goal
 
 pub returns-in-Ok : goal.returns-in-Ok

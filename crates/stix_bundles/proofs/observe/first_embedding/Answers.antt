@@ -4,8 +4,8 @@ use Rattle.std.proofs.lemmas.List.{length-map}
 use Rattle.std.proofs.Common.{sym, ◌∙◌}
 use Rattle.stix_json.specs.DataOf.{data_of}
 use Rattle.stix_bundles.specs.Objects.{data_in}
-use Rattle.stix_bundles.proofs.Members.{data_read}
-use Rattle.stix_bundles.proofs.Embedding.{first_embedding_at, none_embeds_more, none_embeds_all}
+use Rattle.stix_bundles.proofs.ObjectsLemmas.{data_read}
+use Rattle.stix_bundles.proofs.EmbedsLemmas.{first_embedding_at, none_embeds_more, none_embeds_all}
 use Rattle.stix_bundles.proofs.observe.first_embedding.Goals as goal
 
 pub loop-at-init : goal.loop-at-init

@@ -4,8 +4,8 @@ use Rattle.stix_json.specs.declared.value.Json.{Json}
 use Rattle.serde_json.specs.Find.{as_str}
 use Rattle.std.proofs.Common.{filter_map}
 use Rattle.stix_bundles.specs.Objects.{data_in}
-use Rattle.stix_bundles.specs.Observed.{AreMeant}
-use Rattle.stix_bundles.proofs.Meant.{texts_of, meant_step}
+use Rattle.stix_bundles.specs.Observations.{AreMeant}
+use Rattle.stix_bundles.proofs.AreMeantLemmas.{texts_of, meant_step}
 use Rattle.stix_bundles.proofs.observe.meant.Goals as goal
 use Rattle.stix_bundles.proofs.observe.meant.Goals.{in-Some+in_ok-push, in_default}
 

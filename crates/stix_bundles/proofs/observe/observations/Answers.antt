@@ -1,7 +1,7 @@
 use Rattle.std.proofs.Common.{List, subst}
 use Rattle.stix_json.specs.declared.value.Json.{Json}
 use Rattle.stix_bundles.specs.Objects.{data_in}
-use Rattle.stix_bundles.specs.Observed.{NoneEmbeds}
+use Rattle.stix_bundles.specs.Observations.{NoneEmbeds}
 use Rattle.stix_bundles.proofs.observe.observations.Goals as goal
 
 pub returns-in-Ok-clause-whole : goal.returns-in-Ok-clause-whole

@@ -3,8 +3,8 @@ use Rattle.serde_json.specs.Find.{as_str}
 use Rattle.stix_json.specs.declared.value.Json.{Json}
 use Rattle.stix_json.specs.DataOf.{data_of}
 use Rattle.stix_bundles.specs.Objects.{data_in}
-use Rattle.stix_bundles.specs.Observed.{AreMeant}
-use Rattle.stix_bundles.proofs.References.{references_of}
+use Rattle.stix_bundles.specs.Observations.{AreMeant}
+use Rattle.stix_bundles.proofs.ReferencesLemmas.{references_of}
 use Rattle.stix_bundles.proofs.observe.roots_of.Goals as goal
 
 pub returns-in-Some-Array : goal.returns-in-Some-Array

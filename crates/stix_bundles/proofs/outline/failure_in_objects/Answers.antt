@@ -4,10 +4,10 @@ use Rattle.std.proofs.lemmas.List.{length-map}
 use Rattle.serde_json.specs.Data.{Data}
 use Rattle.stix_json.specs.declared.value.Json.{Json}
 use Rattle.stix_bundles.specs.Bundle.{IsObject}
-use Rattle.stix_bundles.specs.Failures.{FailsInMembers}
+use Rattle.stix_bundles.specs.inner.Failures.{FailsInMembers}
 use Rattle.stix_json.specs.DataOf.{data_of}
 use Rattle.stix_bundles.specs.Objects.{data_in}
-use Rattle.stix_bundles.proofs.Outlines.{row_is_list, list_is_row, fails_in_list, list_is_well}
+use Rattle.stix_bundles.proofs.OutlineLemmas.{row_is_list, list_is_row, fails_in_list, list_is_well}
 use Rattle.stix_bundles.proofs.outline.failure_in_objects.Goals as goal
 
 pub returns-then-not-is_count-clause-some : goal.returns-then-not-is_count-clause-some

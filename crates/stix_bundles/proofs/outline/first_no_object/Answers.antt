@@ -4,7 +4,7 @@ use Rattle.std.proofs.lemmas.List.{length-map}
 use Rattle.stix_json.specs.DataOf.{data_of}
 use Rattle.stix_bundles.specs.Objects.{data_in}
 use Rattle.stix_bundles.specs.Bundle.{IsObject}
-use Rattle.stix_bundles.proofs.Members.{HoldsBefore, data_read, holds_before_more, holds_all}
+use Rattle.stix_bundles.proofs.ObjectsLemmas.{HoldsBefore, data_read, holds_before_more, holds_all}
 use Rattle.stix_bundles.proofs.outline.first_no_object.Goals as goal
 
 pub loop-at-init : goal.loop-at-init

@@ -2,7 +2,7 @@ use Rattle.std.proofs.Common.{◌+◌, List, take, subst, sym}
 use Rattle.stix_bundles.specs.declared.object_break.ObjectBreak.{ObjectBreak}
 use Rattle.stix_bundles.specs.Objects.{data_in}
 use Rattle.stix_bundles.specs.Bundle.{AreAllBreaks}
-use Rattle.stix_bundles.proofs.Breaking.{breaks_at}
+use Rattle.stix_bundles.proofs.AllBreaksLemmas.{breaks_at}
 use Rattle.stix_bundles.proofs.read.all_breaks.Goals as goal
 
 pub loop-at-preserved : goal.loop-at-preserved

@@ -3,7 +3,7 @@ use Rattle.std.proofs.lemmas.List.{length-map}
 use Rattle.std.proofs.lemmas.List.Sums.{count_by-le-length}
 use Rattle.stix_json.specs.DataOf.{data_of}
 use Rattle.stix_bundles.specs.Objects.{data_in}
-use Rattle.stix_bundles.specs.Observed.{is_observed_data}
+use Rattle.stix_bundles.specs.Observations.{is_observed_data}
 use Rattle.stix_bundles.proofs.tests.told_bundle.Goals as goal
 
 pub observations-requires : goal.observations-requires

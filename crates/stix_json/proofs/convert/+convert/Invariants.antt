@@ -1,8 +1,8 @@
 use Rattle.std.proofs.Common.{◌≡◌, ◌++◌, None, map}
 use Rattle.serde_json.specs.View.{view, items_view, members_view}
 use Rattle.stix_json.specs.DataOf.{data_of, field_data}
-use Rattle.stix_json.specs.Flaws.{items_flaw, members_flaw}
-use Rattle.stix_json.proofs.Steps.{entry_data}
+use Rattle.stix_json.specs.inner.Flaws.{items_flaw, members_flaw}
+use Rattle.stix_json.proofs.FlawsLemmas.{entry_data}
 use Rattle.stix_json.proofs.convert.+convert.Given as goal
 
 abbrev pub invariant-convert_items-loop-item : goal.invariant-convert_items-loop-item

@@ -1,6 +1,6 @@
 use Rattle.std.proofs.Common.{◌≡◌, drop}
 use Rattle.serde_json.specs.View.{items_view, members_view}
-use Rattle.stix_json.specs.Flaws.{items_too_deep, members_too_deep}
+use Rattle.stix_json.specs.inner.Flaws.{items_too_deep, members_too_deep}
 use Rattle.stix_json.proofs.depth.+deep.Given as goal
 
 abbrev pub invariant-first_item-loop-at : goal.invariant-first_item-loop-at

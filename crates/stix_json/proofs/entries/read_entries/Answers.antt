@@ -1,5 +1,5 @@
 use Rattle.serde_json.specs.View.{view, items_view}
-use Rattle.stix_json.proofs.Rising.{listed_ordered}
+use Rattle.stix_json.proofs.OrderedLemmas.{listed_ordered}
 use Rattle.stix_json.proofs.entries.read_entries.Goals as goal
 
 pub judge_items-requires : goal.judge_items-requires

@@ -1,5 +1,5 @@
 use Rattle.serde_json.specs.View.{view}
-use Rattle.stix_json.proofs.Walks.{deep_refused}
+use Rattle.stix_json.proofs.WalkLemmas.{deep_refused}
 use Rattle.stix_json.proofs.judge.judge.Goals as goal
 
 pub returns-in-Some : goal.returns-in-Some

@@ -2,9 +2,9 @@ use Rattle.std.proofs.Common.{sym, subst}
 use Rattle.serde_json.specs.View.{view}
 use Rattle.stix_json.specs.declared.refusal.JsonRefusal.{JsonRefusal}
 use Rattle.stix_json.specs.Reading.{IsRefusalOf}
-use Rattle.stix_json.specs.Flaws.{first_flaw, Halts}
+use Rattle.stix_json.specs.inner.Flaws.{first_flaw, Halts}
 use Rattle.stix_json.specs.declared.flaw.Halt.{Halt}
-use Rattle.stix_json.proofs.Walks.{nothing_refused, flaw_refused}
+use Rattle.stix_json.proofs.WalkLemmas.{nothing_refused, flaw_refused}
 use Rattle.stix_json.proofs.judge.judge_shallow.Goals as goal
 
 pub returns-in-Ok : goal.returns-in-Ok

@@ -1,5 +1,5 @@
 use Rattle.std.proofs.Common.{◌≡◌, ℕ, List, true, false, bytes_eq, sym, ap, ◌∙◌}
-use Rattle.stix_json.proofs.Names.{found_field, passed_field}
+use Rattle.stix_json.proofs.NamingLemmas.{found_field, passed_field}
 use Rattle.stix_json.proofs.lookup.first_named.Goals as goal
 
 pub returns-then-eq : goal.returns-then-eq

@@ -1,7 +1,7 @@
 use Rattle.std.proofs.Common.{◌≡◌, ℕ, List, length, true, false, bytes_eq, refl, sym, ap, ◌∙◌}
 use Rattle.std.proofs.lemmas.Option.{slice_get_read}
 use Rattle.stix_json.specs.declared.value.Field.{Field}
-use Rattle.stix_json.proofs.Names.{found_field, passed_field}
+use Rattle.stix_json.proofs.NamingLemmas.{found_field, passed_field}
 use Rattle.stix_json.proofs.lookup.place_of.Goals as goal
 
 pub returns-then-eq-clause-some : goal.returns-then-eq-clause-some

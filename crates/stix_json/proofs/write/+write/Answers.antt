@@ -1,7 +1,7 @@
 use Rattle.std.proofs.Common.{rules, ◌≡◌, ◌∷◌, [], ◌++◌, arith, ◌∙◌}
 use Rattle.std.proofs.lemmas.Result.{on_ok_weaker}
 use Rattle.json.specs.Token.{key}
-use Rattle.stix_json.proofs.Front.{items_step, items_done, fields_step, fields_done}
+use Rattle.stix_json.proofs.WriteLemmas.{items_step, items_done, fields_step, fields_done}
 use Rattle.stix_json.proofs.write.+write.Goals as goal
 
 pub write_items-loop-item-preserved : goal.write_items-loop-item-preserved

@@ -1,6 +1,6 @@
 use Rattle.std.proofs.Common.{◌≡◌, map, take, ◌++◌}
 use Rattle.stix_json.specs.DataOf.{data_of, field_data}
-use Rattle.stix_json.proofs.Front.{front, member_front}
+use Rattle.stix_json.proofs.WriteLemmas.{front, member_front}
 use Rattle.stix_json.proofs.write.+write.Given as goal
 
 abbrev pub invariant-write_items-loop-item : goal.invariant-write_items-loop-item

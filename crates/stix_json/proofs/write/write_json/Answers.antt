@@ -5,7 +5,7 @@ use Rattle.json.specs.Print.{print}
 use Rattle.serde_json.specs.Written.{outline}
 use Rattle.serde_json.proofs.Texts.{print-outline}
 use Rattle.stix_json.specs.DataOf.{data_of}
-use Rattle.stix_json.proofs.Back.{reads_back}
+use Rattle.stix_json.proofs.ReadingLemmas.{reads_back}
 use Rattle.stix_json.proofs.write.write_json.Goals as goal
 
 pub returns-in-Ok : goal.returns-in-Ok

@@ -1,7 +1,7 @@
 use Rattle.std.proofs.Common.{◌↔◌, drop, map}
 use Rattle.stix_json.specs.DataOf.{data_of}
 use Rattle.stix_objects.specs.Conditions.{HoldAll}
-use Rattle.stix_objects.specs.Views.{condition_view}
+use Rattle.stix_objects.specs.inner.Views.{condition_view}
 use Rattle.stix_objects.proofs.condition.hold_all.Given as goal
 
 abbrev pub invariant-loop-condition : goal.invariant-loop-condition

@@ -1,21 +1,21 @@
 use Rattle.std.proofs.Common.{◌≡◌, Bool, Option, Some, None, is_some, not, true, false, option_map, IsTrue, ◌↔◌, MatchOption, subst, refl}
 use Rattle.serde_json.specs.Data.{Data}
 use Rattle.stix_json.specs.DataOf.{data_of}
-use Rattle.stix_objects.specs.declared.found.Fault.{Fault}
-use Rattle.stix_objects.specs.Found.{Found}
+use Rattle.stix_objects.specs.declared.row_break.ValueBreak.{ValueBreak}
+use Rattle.stix_objects.specs.BreakAt.{BreakAt}
 use Rattle.stix_objects.specs.Forms.{MeetsForm, JudgesForm}
-use Rattle.stix_objects.specs.Views.{form_view, fault_view}
-use Rattle.stix_objects.proofs.Unique.{IsOne, form_one}
+use Rattle.stix_objects.specs.inner.Views.{form_view, value_break_view}
+use Rattle.stix_objects.proofs.BreaksLemmas.{IsOne, form_one}
 use Rattle.stix_objects.proofs.condition.meets.Goals as goal
 
 -- nothing is found exactly where the judgement's one outcome is none
-none_found : (Judges : Option Found → Type 0) → IsOne Judges → (found : Option Fault) (none : Bool) → is_some found ≡ not none → Judges (option_map fault_view found)
+none_found : (Judges : Option BreakAt → Type 0) → IsOne Judges → (found : Option ValueBreak) (none : Bool) → is_some found ≡ not none → Judges (option_map value_break_view found)
     → (IsTrue none ↔ Judges None)
 none_found Judges one None true is judged = (λ met. judged, λ met. refl)
 none_found Judges one None false is judged = absurd (cc)
-none_found Judges one (Some fault) true is judged = absurd (cc)
-none_found Judges one (Some fault) false is judged =
-    (λ met. absurd (cc), λ met. let same : Some (fault_view fault) ≡ None = one (Some (fault_view fault)) None judged met in absurd (cc))
+none_found Judges one (Some value_break) true is judged = absurd (cc)
+none_found Judges one (Some value_break) false is judged =
+    (λ met. absurd (cc), λ met. let same : Some (value_break_view value_break) ≡ None = one (Some (value_break_view value_break)) None judged met in absurd (cc))
 
 pub returns-in-Some : goal.returns-in-Some
 returns-in-Some c =

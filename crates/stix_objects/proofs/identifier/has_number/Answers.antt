@@ -1,23 +1,18 @@
-use Rattle.std.proofs.Common.{sym, ◌∙◌}
+use Rattle.std.proofs.Common.{ap, ◌∙◌}
 use Rattle.std.proofs.lemmas.Bool.{eqb-true, eq-eqb}
+use Rattle.stix_ids.specs.declared.id.Id.{Id}
 use Rattle.stix_ids.specs.PartsOf.{id_of}
-use Rattle.stix_objects.proofs.Identifiers.{same_number, no_number}
+use Rattle.stix_json.specs.DataOf.{data_of}
+use Rattle.stix_objects.proofs.IdentifierLemmas.{one_id}
 use Rattle.stix_objects.proofs.identifier.has_number.Goals as goal
 
-pub returns-in-Some-identifier_of : goal.returns-in-Some-identifier_of
-returns-in-Some-identifier_of c =
-    let id = id_of c.in-Some-identifier_of.parts in (
-      λ same. record {
-        text = c.in-Some.text.now;
-        id = id;
-        there = sym c.in-Some.ensures;
-        reads = c.in-Some-identifier_of.ensures.some;
-        same = eqb-true id.number c.args.number same;
-      },
+pub returns-in-Some : goal.returns-in-Some
+returns-in-Some c =
+    let id = id_of c.in-Some.parts in (
+      λ same. (id, c.in-Some.ensures, eqb-true id.number c.args.number same),
       λ has. eq-eqb id.number c.args.number
-          (same_number c.in-Some.text.now has.text id has.id c.in-Some-identifier_of.ensures.only (c.in-Some.ensures ∙ has.there) has.reads ∙ has.same),
+          (ap (λ (i : Id). i.number) (one_id c.one_identifier.ensures (data_of c.args.object.now) id has.0 c.in-Some.ensures has.1) ∙ has.2),
     )
 
 pub returns-in-None : goal.returns-in-None
-returns-in-None c =
-    (λ f. absurd (cc), λ has. absurd (no_number c.in-Some.text.now has.text has.id c.in-None.ensures.only (c.in-Some.ensures ∙ has.there) has.reads))
+returns-in-None c = (λ f. absurd (cc), λ has. absurd (c.in-None.ensures has.0 has.1))

@@ -4,8 +4,8 @@ use Rattle.stix_ids.specs.Identifier.{IsIdText}
 use Rattle.stix_json.specs.DataOf.{data_of}
 use Rattle.stix_objects.specs.declared.rule.Rule.TheVariants.{BadId}
 use Rattle.stix_objects.specs.Judging.{Asks}
-use Rattle.stix_objects.proofs.Outcomes.{of_kind}
-use Rattle.stix_objects.proofs.Identifiers.{names_none}
+use Rattle.stix_objects.proofs.JudgingLemmas.{of_kind}
+use Rattle.stix_objects.proofs.IdentifierLemmas.{names_none}
 use Rattle.stix_objects.proofs.identifier.judge_any_reference.Goals as goal
 
 pub returns-in-None : goal.returns-in-None

@@ -1,6 +1,6 @@
 use Rattle.std.proofs.Common.{ℕ, List, Bor, option_map, sym, ◌∙◌}
 use Rattle.stix_ids.specs.PartsOf.{id_of}
-use Rattle.stix_objects.proofs.Identifiers.{names_none, named_by_own, own_by_kind, kind_of_own}
+use Rattle.stix_objects.proofs.IdentifierLemmas.{names_none, named_by_own, own_by_kind, kind_of_own}
 use Rattle.stix_objects.proofs.identifier.names_own.Goals as goal
 
 pub returns-in_default : goal.returns-in_default

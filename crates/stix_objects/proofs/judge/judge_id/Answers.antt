@@ -1,12 +1,12 @@
 use Rattle.std.proofs.Common.{ℕ, List, Option, Some, subst, refl, ap, codes}
 use Rattle.serde_json.specs.Find.{get as member_of}
 use Rattle.stix_json.specs.DataOf.{data_of}
-use Rattle.stix_objects.specs.Found.{here}
+use Rattle.stix_objects.specs.BreakAt.{here}
 use Rattle.stix_objects.specs.Singles.{JudgesOwnId}
-use Rattle.stix_objects.specs.Conditions.{text_at}
+use Rattle.stix_json.specs.Properties.{text_at}
 use Rattle.stix_objects.specs.Rows.{JudgesOwn}
-use Rattle.stix_objects.specs.Views.{finding_view}
-use Rattle.stix_objects.proofs.Outcomes.{value_there}
+use Rattle.stix_objects.specs.inner.Views.{row_break_view}
+use Rattle.stix_objects.proofs.JudgingLemmas.{value_there}
 use Rattle.stix_objects.proofs.judge.judge_id.Goals as goal
 
 pub returns-in-Some-judge_own_id : goal.returns-in-Some-judge_own_id
@@ -15,5 +15,5 @@ returns-in-Some-judge_own_id c =
     let rule = c.in-Some-judge_own_id.rule in
     let judged = subst (λ (own : Option (List ℕ)). JudgesOwnId own (data_of c.in-Some.id.now) (Some rule)) c.text_at.ensures c.in-Some-judge_own_id.ensures in
     value_there (Unit {0}) (codes "id") (JudgesOwn (text_at (codes "type") d)) (member_of (codes "id") d) (data_of c.in-Some.id.now)
-    (Some (finding_view c.at-in-Some-judge_own_id.result)) c.in-Some.ensures
+    (Some (row_break_view c.at-in-Some-judge_own_id.result)) c.in-Some.ensures
     (Some (here rule), (Some rule, judged, refl), ap Some c.at-in-Some-judge_own_id.ensures)

@@ -1,9 +1,9 @@
 use Rattle.std.proofs.Common.{[], ◌∷◌}
 use Rattle.serde_json.specs.Find.{as_object}
 use Rattle.stix_objects.specs.declared.rule.Rule.TheVariants.{NotObject}
-use Rattle.stix_objects.specs.Found.{here, break_of}
+use Rattle.stix_objects.specs.BreakAt.{here, break_of}
 use Rattle.stix_objects.specs.Breaks.{AreBreaksBy, rows_for, type_of}
-use Rattle.stix_objects.proofs.Unique.{breaks_one, list_one}
+use Rattle.stix_objects.proofs.BreaksLemmas.{breaks_one, list_one}
 use Rattle.stix_objects.proofs.laws.one_list.Goals as goal
 
 pub returns : goal.returns

@@ -2,7 +2,7 @@ use Rattle.std.proofs.Common.{◌≡◌, ℕ, ◌+◌, ◌<◌, List, length, dr
 use Rattle.std.proofs.lemmas.List.{drop_more}
 use Rattle.stix_objects.specs.declared.object_type.ObjectType.{ObjectType}
 use Rattle.stix_objects.specs.Types.{first_named}
-use Rattle.stix_objects.specs.Views.{type_view}
+use Rattle.stix_objects.specs.inner.Views.{type_view}
 use Rattle.stix_objects.proofs.object_type.first_named.Goals as goal
 
 -- the first of the types from a place on is the one there where it has the name, else the first of those after it

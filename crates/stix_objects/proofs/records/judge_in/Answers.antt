@@ -1,5 +1,5 @@
 use Rattle.std.proofs.Common.{Some, refl}
-use Rattle.stix_objects.specs.Found.{here}
+use Rattle.stix_objects.specs.BreakAt.{here}
 use Rattle.stix_objects.proofs.records.judge_in.Goals as goal
 
 pub returns-in-Some : goal.returns-in-Some

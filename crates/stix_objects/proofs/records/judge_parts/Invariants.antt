@@ -1,11 +1,11 @@
 use Rattle.std.proofs.Common.{Option, drop, map}
 use Rattle.stix_json.specs.DataOf.{data_of}
-use Rattle.stix_objects.specs.Found.{Found}
+use Rattle.stix_objects.specs.BreakAt.{BreakAt}
 use Rattle.stix_objects.specs.Forms.{JudgesParts}
-use Rattle.stix_objects.specs.Views.{part_view}
+use Rattle.stix_objects.specs.inner.Views.{part_view}
 use Rattle.stix_objects.proofs.records.judge_parts.Given as goal
 
 abbrev pub invariant-loop-part : goal.invariant-loop-part
 invariant-loop-part l =
-    (outcome : Option Found) → JudgesParts (map part_view (drop l.part-index l.parts)) (data_of l.object) outcome
+    (outcome : Option BreakAt) → JudgesParts (map part_view (drop l.part-index l.parts)) (data_of l.object) outcome
     → JudgesParts (map part_view l.parts) (data_of l.object) outcome

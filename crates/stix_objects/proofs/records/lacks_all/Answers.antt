@@ -4,7 +4,7 @@ use Rattle.serde_json.specs.Find.{get as member_of}
 use Rattle.stix_json.specs.declared.value.Json.{Json}
 use Rattle.stix_json.specs.DataOf.{data_of}
 use Rattle.stix_objects.specs.Forms.{LacksAll}
-use Rattle.stix_objects.proofs.Lists.{open_at, close_at, there_of, absent_of, none_is_there}
+use Rattle.stix_objects.proofs.ListLemmas.{open_at, close_at, there_of, absent_of, none_is_there}
 use Rattle.stix_objects.proofs.records.lacks_all.Goals as goal
 
 abbrev Lacks : Data → List (Bor (List ℕ)) → Type 0

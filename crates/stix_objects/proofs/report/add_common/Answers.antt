@@ -1,9 +1,9 @@
 use Rattle.std.proofs.Common.{List, map, drop, ◌+◌, refl}
 use Rattle.stix_json.specs.DataOf.{data_of}
 use Rattle.stix_objects.specs.declared.row.CommonRow.{CommonRow}
-use Rattle.stix_objects.specs.Adding.{Adds, standing_rows}
-use Rattle.stix_objects.specs.Views.{row_view, common_view}
-use Rattle.stix_objects.proofs.Lists.{close_at, close_end}
+use Rattle.stix_objects.specs.inner.Adding.{Adds, standing_rows}
+use Rattle.stix_objects.specs.inner.Views.{row_view, common_view}
+use Rattle.stix_objects.proofs.ListLemmas.{close_at, close_end}
 use Rattle.stix_objects.proofs.AddingLemmas.{adds_standing}
 use Rattle.stix_objects.proofs.report.add_common.Goals as goal
 

@@ -1,8 +1,8 @@
 use Rattle.std.proofs.Common.{List, drop, map}
 use Rattle.stix_json.specs.DataOf.{data_of}
-use Rattle.stix_objects.specs.declared.broken.Break.{Break}
-use Rattle.stix_objects.specs.Adding.{Adds, standing_rows}
-use Rattle.stix_objects.specs.Views.{row_view, common_view}
+use Rattle.stix_objects.specs.declared.rule_break.Break.{Break}
+use Rattle.stix_objects.specs.inner.Adding.{Adds, standing_rows}
+use Rattle.stix_objects.specs.inner.Views.{row_view, common_view}
 use Rattle.stix_objects.proofs.report.add_common.Given as goal
 
 abbrev pub invariant-loop-common : goal.invariant-loop-common

@@ -1,8 +1,8 @@
 use Rattle.std.proofs.Common.{List, drop, map}
 use Rattle.stix_json.specs.DataOf.{data_of}
-use Rattle.stix_objects.specs.declared.broken.Break.{Break}
-use Rattle.stix_objects.specs.Adding.{Adds}
-use Rattle.stix_objects.specs.Views.{row_view}
+use Rattle.stix_objects.specs.declared.rule_break.Break.{Break}
+use Rattle.stix_objects.specs.inner.Adding.{Adds}
+use Rattle.stix_objects.specs.inner.Views.{row_view}
 use Rattle.stix_objects.proofs.report.add_own.Given as goal
 
 abbrev pub invariant-loop-row : goal.invariant-loop-row

@@ -1,10 +1,10 @@
 use Rattle.std.proofs.Common.{List, map, subst, ap, ◌∙◌}
 use Rattle.stix_json.specs.DataOf.{data_of}
-use Rattle.stix_objects.specs.declared.broken.Break.{Break}
+use Rattle.stix_objects.specs.declared.rule_break.Break.{Break}
 use Rattle.stix_objects.specs.Types.{group_in, rows_in}
 use Rattle.stix_objects.specs.Breaks.{type_of}
-use Rattle.stix_objects.specs.Adding.{Adds, standing_rows}
-use Rattle.stix_objects.specs.Views.{row_view, common_view}
+use Rattle.stix_objects.specs.inner.Adding.{Adds, standing_rows}
+use Rattle.stix_objects.specs.inner.Views.{row_view, common_view}
 use Rattle.stix_objects.proofs.AddingLemmas.{breaks_by}
 use Rattle.stix_objects.proofs.report.object_breaks.Goals as goal
 

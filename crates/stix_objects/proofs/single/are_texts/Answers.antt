@@ -3,7 +3,7 @@ use Rattle.serde_json.specs.Find.{as_str}
 use Rattle.stix_json.specs.declared.value.Field.{Field}
 use Rattle.stix_json.specs.DataOf.{data_of, field_data, members_of}
 use Rattle.stix_objects.specs.Singles.{AreTexts}
-use Rattle.stix_objects.proofs.Lists.{open_item, close_item, there_of, absent_of, none_is_there}
+use Rattle.stix_objects.proofs.ListLemmas.{open_item, close_item, there_of, absent_of, none_is_there}
 use Rattle.stix_objects.proofs.single.are_texts.Goals as goal
 
 abbrev Texts : List Field → Type 0

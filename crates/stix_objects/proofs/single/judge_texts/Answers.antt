@@ -3,7 +3,7 @@ use Rattle.stix_json.specs.declared.value.Field.{Field}
 use Rattle.stix_json.specs.DataOf.{field_data, members_of}
 use Rattle.stix_objects.specs.declared.rule.Rule.TheVariants.{WrongKind}
 use Rattle.stix_objects.specs.Singles.{HasMember}
-use Rattle.stix_objects.proofs.Outcomes.{not_true}
+use Rattle.stix_objects.proofs.JudgingLemmas.{not_true}
 use Rattle.stix_objects.proofs.single.judge_texts.Goals as goal
 
 pub returns-then-not-are_texts : goal.returns-then-not-are_texts

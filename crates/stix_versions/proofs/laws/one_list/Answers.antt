@@ -1,4 +1,4 @@
-use Rattle.stix_versions.proofs.OneList.{versions_once, markings_once}
+use Rattle.stix_versions.proofs.OneListLemmas.{versions_once, markings_once}
 use Rattle.stix_versions.proofs.laws.one_list.Goals as goal
 
 pub returns-clause-versions : goal.returns-clause-versions

@@ -1,7 +1,7 @@
 use Rattle.std.proofs.Common.{◌∙◌, sym}
 use Rattle.std.proofs.lemmas.Bool.{false≢true}
 use Rattle.stix_json.specs.DataOf.{data_of}
-use Rattle.stix_versions.proofs.Judged.{none_there, some_there, empty_list, no_selectors, one_misses, nothing_breaks}
+use Rattle.stix_versions.proofs.MarkingRuleLemmas.{none_there, some_there, empty_list, no_selectors, one_misses, nothing_breaks}
 use Rattle.stix_versions.proofs.marking.broken_in_list.Goals as goal
 use Rattle.stix_versions.proofs.marking.broken_in_list.Goals.{then-is_empty-via-then-is_empty, then-is_empty-via-else-is_empty+then-not-are_selectors}
 

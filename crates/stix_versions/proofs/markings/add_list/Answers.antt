@@ -2,9 +2,9 @@ use Rattle.std.proofs.Common.{◌++◌, [], List, Some, None, append-nil, append
 use Rattle.serde_json.specs.Data.{Data}
 use Rattle.stix_json.specs.DataOf.{data_of}
 use Rattle.stix_versions.specs.declared.marking_break.MarkingBreak.{MarkingBreak}
-use Rattle.stix_versions.specs.Markings.{AreBreaksOf}
-use Rattle.stix_versions.proofs.Places.{taken_all}
-use Rattle.stix_versions.proofs.Telling.{told, breaks_at}
+use Rattle.stix_versions.specs.Markings.{AreBreaksOfMarkings}
+use Rattle.stix_versions.proofs.FirstObjectsLemmas.{taken_all}
+use Rattle.stix_versions.proofs.MarkingBreaksLemmas.{told, breaks_at}
 use Rattle.stix_versions.proofs.markings.add_list.Goals as goal
 use Rattle.stix_versions.proofs.markings.add_list.Goals.{in-Some+in_ok-push, in_default}
 
@@ -35,6 +35,6 @@ pub returns : goal.returns
 returns c =
     let own = c.loop-at.invariant.0 in (
       own,
-      subst (λ (ms : List Data). AreBreaksOf c.args.object_at (data_of c.args.object.now) 0 ms own) (taken_all c.args.markings.now c.loop-at.at c.loop-at-test.false) c.loop-at.invariant.1,
+      subst (λ (ms : List Data). AreBreaksOfMarkings c.args.object_at (data_of c.args.object.now) 0 ms own) (taken_all c.args.markings.now c.loop-at.at c.loop-at-test.false) c.loop-at.invariant.1,
       c.loop-at.invariant.2,
     )

@@ -2,7 +2,7 @@ use Rattle.std.proofs.Common.{◌≡◌, ◌++◌, ◌∷◌, [], arith, List, �
 use denote.Ref.{Bor}
 use Rattle.std.proofs.lemmas.Str.Pattern.{strip_prefix_char, strip_suffix_char}
 use Rattle.stix_versions.specs.Selector.{in_brackets}
-use Rattle.stix_versions.proofs.Enclosed.{stripped_some, stripped_none}
+use Rattle.stix_versions.proofs.BracketsLemmas.{stripped_some, stripped_none}
 use Rattle.stix_versions.proofs.part.bracketed.Goals as goal
 
 pub returns-in_err-strip_prefix-clause-none : goal.returns-in_err-strip_prefix-clause-none

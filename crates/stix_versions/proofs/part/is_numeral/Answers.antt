@@ -1,6 +1,6 @@
 use Rattle.std.proofs.Common.{arith}
 use Rattle.std.proofs.lemmas.Bool.Decides.{nat_tests}
-use Rattle.stix_versions.proofs.Digits.{are_digits, digits_are}
+use Rattle.stix_versions.proofs.DigitsLemmas.{are_digits, digits_are}
 use Rattle.stix_versions.proofs.part.is_numeral.Goals as goal
 
 pub returns-then-not-is_empty : goal.returns-then-not-is_empty

@@ -1,6 +1,6 @@
 use Rattle.std.proofs.Common.{refl}
 use Rattle.stix_versions.specs.Selector.{named, placed}
-use Rattle.stix_versions.proofs.Parts.{place_only, name_only}
+use Rattle.stix_versions.proofs.PartLemmas.{place_only, name_only}
 use Rattle.stix_versions.proofs.part.is_part.Goals as goal
 
 pub returns-in-Some : goal.returns-in-Some

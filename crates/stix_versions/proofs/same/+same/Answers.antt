@@ -1,7 +1,7 @@
 use Rattle.std.proofs.Common.{arith, ◌<◌, length, sym, ◌∙◌}
 use Rattle.std.proofs.lemmas.Bool.{false≢true}
 use Rattle.stix_json.specs.DataOf.{data_of, field_data}
-use Rattle.stix_versions.proofs.Sameness.{same_item, same_rows, same_objects}
+use Rattle.stix_versions.proofs.SameLemmas.{same_item, same_rows, same_objects}
 use Rattle.stix_versions.proofs.same.+same.Goals as goal
 
 pub is_same-returns-in-Array-Array : goal.is_same-returns-in-Array-Array

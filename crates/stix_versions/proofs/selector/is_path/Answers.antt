@@ -1,6 +1,6 @@
 use Rattle.std.proofs.Common.{rules, sym, ◌∙◌}
 use Rattle.std.proofs.lemmas.Bool.{false≢true}
-use Rattle.stix_versions.proofs.Joined.{path_begins, path_goes_on, path_ends}
+use Rattle.stix_versions.proofs.PathLemmas.{path_begins, path_goes_on, path_ends}
 use Rattle.stix_versions.proofs.selector.is_path.Goals as goal
 
 pub returns-then-not-is_part : goal.returns-then-not-is_part

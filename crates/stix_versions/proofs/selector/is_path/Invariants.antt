@@ -2,7 +2,7 @@ use Rattle.std.proofs.Common.{List, length, ◌↔◌}
 use denote.Text.{Utf8}
 use denote.Shadow.{shadow}
 use Rattle.stix_versions.specs.Selector.{Part}
-use Rattle.stix_versions.specs.Paths.{IsPath}
+use Rattle.stix_versions.specs.inner.Paths.{IsPath}
 use Rattle.stix_versions.proofs.selector.is_path.Given as goal
 
 abbrev pub invariant-loop-part : goal.invariant-loop-part

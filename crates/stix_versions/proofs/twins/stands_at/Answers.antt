@@ -1,5 +1,5 @@
 use Rattle.stix_json.specs.DataOf.{data_of}
-use Rattle.stix_versions.proofs.Twinning.{stands_here, stands_nowhere}
+use Rattle.stix_versions.proofs.TwinsLemmas.{stands_here, stands_nowhere}
 use Rattle.stix_versions.proofs.twins.stands_at.Goals as goal
 
 pub returns-in-Some : goal.returns-in-Some

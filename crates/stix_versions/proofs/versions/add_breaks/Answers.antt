@@ -1,12 +1,12 @@
 use Rattle.std.proofs.Common.{◌↔◌, ◌+◌, ◌++◌, IsTrue, List, [], append-nil, sym, subst}
 use Rattle.stix_json.specs.declared.value.Json.{Json}
 use Rattle.stix_versions.specs.declared.version_break.VersionRule.TheVariants.{CreatedChanged, AfterRevoked, SameVersionTwice}
-use Rattle.stix_versions.specs.Twin.{AreTwinsBefore}
+use Rattle.stix_versions.specs.inner.Twins.{AreTwinsBefore}
 use Rattle.stix_bundles.specs.Objects.{data_in}
-use Rattle.stix_versions.specs.Versions.{Breaks}
-use Rattle.stix_versions.proofs.Creation.{created_past}
-use Rattle.stix_versions.proofs.Twinning.{twins_past}
-use Rattle.stix_versions.proofs.ToldLists.{so, none_broken, broken_where, told_where}
+use Rattle.stix_versions.specs.Versions.{BreaksVersionRule}
+use Rattle.stix_versions.proofs.CreatedLemmas.{created_past}
+use Rattle.stix_versions.proofs.TwinsLemmas.{twins_past}
+use Rattle.stix_versions.proofs.VersionBreaksLemmas.{so, none_broken, broken_where, told_where}
 use Rattle.stix_versions.proofs.versions.add_breaks.Goals as goal
 
 pub returns-in_default-clause-told : goal.returns-in_default-clause-told
@@ -33,9 +33,9 @@ returns-clause-told c =
     let twice = c.in_ok-twice.twice in
     let first = c.in_ok-changed.ensures.told objects at is c.requires.before.created in
     let second = c.precedes-after.ensures objects at is c.requires.revoked in
-    let third = subst (λ (ts : List Json). IsTrue twice ↔ Breaks (data_in ts) at SameVersionTwice) c.objects-objects.ensures.value c.in_ok-twice.ensures.told in (
+    let third = subst (λ (ts : List Json). IsTrue twice ↔ BreaksVersionRule (data_in ts) at SameVersionTwice) c.objects-objects.ensures.value c.in_ok-twice.ensures.told in (
       so changed CreatedChanged ++ (so after AfterRevoked ++ (so twice SameVersionTwice ++ [])),
-      broken_where (Breaks objects at) changed after twice first second third,
+      broken_where (BreaksVersionRule objects at) changed after twice first second third,
       told_where at c.args.found.now c.add-3.new.found c.add-4.new.found c.add-5.new.found changed after twice c.in_ok-add.ensures c.in_ok-add-2.ensures c.in_ok-add-3.ensures,
     )
 

@@ -1,8 +1,8 @@
 use Rattle.std.proofs.Common.{◌≡◌, Bool, true, false, not, ◌&&◌, cond, Some, None, refl, sym, ◌∙◌}
 use Rattle.stix_objects.specs.Row.{Row, optional}
 use Rattle.stix_objects.specs.Breaks.{is_row_of}
-use Rattle.stix_objects.specs.Views.{row_view, form_view}
-use Rattle.stix_objects.proofs.Lists.{any_of_map}
+use Rattle.stix_objects.specs.inner.Views.{row_view, form_view}
+use Rattle.stix_objects.proofs.ListLemmas.{any_of_map}
 use Rattle.stix_objects.proofs.row.CommonRow.standing.Goals as goal
 
 outside : (a b : Bool) (row : Row) → a ≡ false → None ≡ cond (a && not b) (Some row) None

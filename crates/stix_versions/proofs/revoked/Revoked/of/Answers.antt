@@ -1,8 +1,8 @@
 use Rattle.std.proofs.Common.{arith, ◌≡◌, ◌+◌, length, subst, sym}
 use Rattle.stix_bundles.specs.Objects.{data_in}
 use Rattle.stix_versions.specs.declared.revoked.Revoked.{Revoked}
-use Rattle.stix_versions.specs.Kept.{AreRevokedBefore}
-use Rattle.stix_versions.proofs.Revocation.{revoked_past}
+use Rattle.stix_versions.specs.inner.FirstVersions.{AreRevokedBefore}
+use Rattle.stix_versions.proofs.RevokedLemmas.{revoked_past}
 use Rattle.stix_versions.proofs.revoked.Revoked.of.Goals as goal
 use Rattle.stix_versions.proofs.revoked.Revoked.of.Goals.{in-Some+in_ok-add, in_default}
 

@@ -1,0 +1,34 @@
+-- The members of a list by their places.
+use Rattle.std.proofs.Common.{arith, ◌≡◌, ℕ, ◌+◌, ◌<◌, List, length, All, slice_get, slice_index_or, Option, Some, inl, inr, option_map, unwrap_or, sym, ap, refl, ◌∙◌, subst}
+use Rattle.std.proofs.lemmas.Bool.{cases_lt}
+use Rattle.std.proofs.lemmas.Option.{slice_get-map, slice_get-get_or, slice_get_read}
+use Rattle.serde_json.specs.Data.{Data}
+use Rattle.stix_json.specs.declared.value.Json.{Json}
+use Rattle.stix_json.specs.DataOf.{data_of}
+use Rattle.stix_bundles.specs.Objects.{data_in}
+
+-- of each of the first members the fact holds
+abbrev pub HoldsBefore : (Data → Type 0) → List Data → ℕ → Type 0
+HoldsBefore P xs at = (n : ℕ) (other : Data) → n < at → slice_get xs n ≡ Some other → P other
+
+pub data_at : (trees : List Json) (at : ℕ) (tree : Json) → slice_get trees at ≡ Some tree → slice_get (data_in trees) at ≡ Some (data_of tree)
+data_at trees at tree there = slice_get-map data_of trees at ∙ ap (λ (x : Option Json). option_map data_of x) there
+
+pub data_read : (trees : List Json) (at : ℕ) (tree : Json) → at < length trees → tree ≡ slice_index_or trees at tree → slice_get (data_in trees) at ≡ Some (data_of tree)
+data_read trees at tree inside is = data_at trees at tree (slice_get_read trees (length trees) at tree refl inside is)
+
+pub holds_before_more : (P : Data → Type 0) (xs : List Data) (at : ℕ) (x : Data) → slice_get xs at ≡ Some x → P x → HoldsBefore P xs at → HoldsBefore P xs (at + 1)
+holds_before_more P xs at x there p before n other less is =
+    elim (cases_lt n at) [
+      | inl earlier ↦ before n other earlier is
+      | inr not_earlier ↦
+          let same : n ≡ at = omega arith in
+          let is_x : Some x ≡ Some other = sym there ∙ subst (λ m. slice_get xs m ≡ Some other) same is in
+          subst P (ap (λ (o : Option Data). unwrap_or o x) is_x) p
+    ]
+
+pub holds_all : (P : Data → Type 0) (xs : List Data) → HoldsBefore P xs (length xs) → All P xs
+holds_all P xs before = λ k d inside. before k (slice_index_or xs k d) inside (slice_get-get_or xs k d inside)
+
+pub same_some : {A : Type 0} (x y : A) → Some x ≡ Some y → x ≡ y
+same_some {A} x y e = ap (λ (o : Option A). unwrap_or o x) e

@@ -1,0 +1,44 @@
+-- For private clauses and the invariant of a bundle: what its index holds.
+use Rattle.std.specs.Prelude.{◌≡◌, ◌≤◌, ◌&&◌, ◌==◌, ℕ, ℤ, List, [], length, All, Bool, bytes_eq, if◌then◌else◌, Option, Some, None, option_and_then, slice_get}
+use Rattle.std.specs.Ordering.{nat_cmp}
+use Rattle.std.specs.BTreeMap.{get, get_by_text}
+use Rattle.serde_json.specs.Data.{Data}
+use Rattle.stix_ids.specs.declared.id.Id.{Id}
+use Rattle.stix_json.specs.Ordered.{IsOrdered}
+use Rattle.stix_bundles.specs.declared.index.Index.{Index}
+use Rattle.stix_bundles.specs.Bundle.{AreAllBreaks}
+use Rattle.stix_bundles.specs.Lookup.{IsModified, IsEarlier, IsOf, IsLatest}
+
+-- what the index holds for an identifier
+abbrev pub position_of : Index → Id → Option ℕ
+position_of index id = option_and_then (λ places. get nat_cmp places id.number) (get_by_text index.kinds id.kind)
+
+-- whether two identifiers are one
+abbrev pub same_id : Id → Id → Bool
+same_id id other = bytes_eq id.kind other.kind && (id.number == other.number)
+
+-- the index holds the place for the identifier, and what it held for the others
+abbrev pub Puts : Index → Index → Id → ℕ → Type 0
+Puts before after id at = (other : Id) → position_of after other ≡ (if same_id id other then Some at else position_of before other)
+
+-- an object stands at the place that was modified later than that time
+abbrev pub Overtakes : List Data → Option ℕ → Option ℤ → Type 0
+Overtakes objects None time = ⊥
+Overtakes objects (Some at) time = (d : Data) × (modified : Option ℤ) × (slice_get objects at ≡ Some d)
+    × IsModified d modified × IsEarlier time modified
+
+-- what an index has to hold for an identifier: the place of the latest version, and none where there is none
+abbrev pub IsPositionOf : List Data → Id → Option ℕ → Type 0
+IsPositionOf objects id None = (at : ℕ) → ¬ IsOf objects id at
+IsPositionOf objects id (Some at) = IsLatest objects id at
+
+-- the index holds the places of the latest versions of the objects
+abbrev pub IsIndexOf : List Data → Index → Type 0
+IsIndexOf objects index = (id : Id) → IsPositionOf objects id (position_of index id)
+
+-- what is true of the objects of each bundle and its index
+pub record IsIndexed (objects : List Data) (index : Index) : Type 0 where
+  pub counted : length objects ≤ 8_388_608
+  pub unbroken : AreAllBreaks 0 objects []
+  pub ordered : All IsOrdered objects
+  pub indexed : IsIndexOf objects index

@@ -1,0 +1,42 @@
+ghost use Rattle.std.specs.Prelude.{◌≡◌, map, option_map};
+ghost use Rattle.serde_json.specs.Find.{as_str, as_array};
+ghost use Rattle.serde_json.specs.View.{items_of};
+ghost use Rattle.stix_json.specs.DataOf.{data_of};
+ghost use Rattle.stix_json.specs.Properties.{text_at as text_under, list_at as list_under};
+
+use crate::{Json, get};
+
+/// The text that a value is. Takes no memory, as the three below.
+pub fn text_of(value: &Json) -> Option<&str>
+    ensures { option_map (λ text. text.now) result ≡ as_str (data_of value.now) }
+{
+    match value {
+        Json::String(text) => Some(text.as_str()),
+        Json::Bool(_) | Json::Integer(_) | Json::Array(_) | Json::Object(_) => None,
+    }
+}
+
+/// The items of the list that a value is.
+pub fn list_of(value: &Json) -> Option<&[Json]>
+    ensures { option_map (λ items. items_of (map data_of items.now)) result ≡ as_array (data_of value.now) }
+{
+    match value {
+        Json::Array(items) => Some(items.as_slice()),
+        Json::Bool(_) | Json::Integer(_) | Json::String(_) | Json::Object(_) => None,
+    }
+}
+
+/// The text of a property. None where the property is absent or no text, or the value is no object.
+pub fn text_at<'a>(object: &'a Json, name: &str) -> Option<&'a str>
+    ensures { option_map (λ text. text.now) result ≡ text_under name.now (data_of object.now) }
+{
+    text_of(get(object, name)?)
+}
+
+/// The items of a property that is a list. None where the property is absent or no list, or the value
+/// is no object.
+pub fn list_at<'a>(object: &'a Json, name: &str) -> Option<&'a [Json]>
+    ensures { option_map (λ items. items_of (map data_of items.now)) result ≡ list_under name.now (data_of object.now) }
+{
+    list_of(get(object, name)?)
+}

@@ -1,0 +1,100 @@
+-- For private clauses: the code's tables as the definitions' tables, and what the code finds as what is found.
+use Rattle.std.specs.Prelude.{ℕ, List, [], ◌∷◌, map, option_map, option_to_list}
+use Rattle.stix_json.specs.Walk.{place_part}
+use Rattle.stix_objects.specs.declared.form.Single.{Single as SingleIn}
+use Rattle.stix_objects.specs.declared.form.Part.{Part as PartIn}
+use Rattle.stix_objects.specs.declared.form.Form.{Form as FormIn}
+use Rattle.stix_objects.specs.declared.row.Condition.{Condition as ConditionIn}
+use Rattle.stix_objects.specs.declared.row.Row.{Row as RowIn}
+use Rattle.stix_objects.specs.declared.row.CommonRow.{CommonRow as CommonRowIn}
+use Rattle.stix_objects.specs.declared.object_type.ObjectType.{ObjectType as ObjectTypeIn}
+use Rattle.stix_objects.specs.declared.row_break.Place.{Place}
+use Rattle.stix_objects.specs.declared.row_break.Place.TheVariants.{Here, Item, ItemPart}
+use Rattle.stix_objects.specs.declared.row_break.ItemBreak.{ItemBreak}
+use Rattle.stix_objects.specs.declared.row_break.ValueBreak.{ValueBreak}
+use Rattle.stix_objects.specs.declared.row_break.Site.{Site}
+use Rattle.stix_objects.specs.declared.row_break.Site.TheVariants.{Whole, Property, Within}
+use Rattle.stix_objects.specs.declared.row_break.RowBreak.{RowBreak}
+use Rattle.stix_objects.specs.BreakAt.{BreakAt}
+use Rattle.stix_objects.specs.Form.{Single, any_text, kind, version, one_of, timestamp, any_reference, reference, any_boolean, integer_in, object, texts_by_name, Part, must, may, some_of, Form, one, list, records}
+use Rattle.stix_objects.specs.Row.{Condition, is_true, is_false, meets, absent, Row, required, optional, required_where, own_id, order, strict_order, needs_one_of, excludes, statement, colour, colour_id, CommonRow, for, unless_own, ObjectType}
+
+-- what one value must be
+abbrev pub single_view : SingleIn → Single
+single_view SingleIn.Text = any_text
+single_view SingleIn.Kind = kind
+single_view SingleIn.Version = version
+single_view (SingleIn.Word known) = one_of (map (λ word. word.now) known.now)
+single_view (SingleIn.Timestamp precision) = timestamp precision
+single_view SingleIn.AnyRef = any_reference
+single_view (SingleIn.Ref kinds) = reference (map (λ kind. kind.now) kinds.now)
+single_view SingleIn.Boolean = any_boolean
+single_view (SingleIn.Integer least most) = integer_in least most
+single_view SingleIn.Object = object
+single_view SingleIn.Hashes = texts_by_name
+
+-- what an object in a list must have
+abbrev pub part_view : PartIn → Part
+part_view (PartIn.Must name single) = must name.now (single_view single)
+part_view (PartIn.May name single) = may name.now (single_view single)
+part_view (PartIn.SomeOf names) = some_of (map (λ name. name.now) names.now)
+
+-- what a property must be
+abbrev pub form_view : FormIn → Form
+form_view (FormIn.One single) = one (single_view single)
+form_view (FormIn.List single) = list (single_view single)
+form_view (FormIn.Records parts) = records (map part_view parts.now)
+
+-- what may hold of an object
+abbrev pub condition_view : ConditionIn → Condition
+condition_view (ConditionIn.IsTrue name) = is_true name.now
+condition_view (ConditionIn.IsFalse name) = is_false name.now
+condition_view (ConditionIn.Meets name form) = meets name.now (form_view form)
+condition_view (ConditionIn.Absent name) = absent name.now
+
+-- what an object must meet
+abbrev pub row_view : RowIn → Row
+row_view (RowIn.Required name form) = required name.now (form_view form)
+row_view (RowIn.Optional name form) = optional name.now (form_view form)
+row_view (RowIn.RequiredWhere name form condition) = required_where name.now (form_view form) (condition_view condition)
+row_view RowIn.OwnId = own_id
+row_view (RowIn.Order precision first second) = order precision first.now second.now
+row_view (RowIn.StrictOrder precision first second) = strict_order precision first.now second.now
+row_view (RowIn.NeedsOneOf at names) = needs_one_of (option_to_list (option_map (λ name. name.now) at)) (map (λ name. name.now) names.now)
+row_view (RowIn.Excludes name conditions) = excludes name.now (map condition_view conditions.now)
+row_view RowIn.Statement = statement
+row_view RowIn.Colour = colour
+row_view RowIn.ColourId = colour_id
+
+-- a row of several types
+abbrev pub common_view : CommonRowIn → CommonRow
+common_view (CommonRowIn.For groups row) = for groups.now (row_view row)
+common_view (CommonRowIn.UnlessOwn groups name form) = unless_own groups.now name.now (form_view form)
+
+-- an object type
+abbrev pub type_view : ObjectTypeIn → ObjectType
+type_view type = record { name = type.name.now; group = type.group; rows = map row_view type.rows.now }
+
+-- what is found in an object of a list
+abbrev pub item_break_view : ItemBreak → BreakAt
+item_break_view item_break = record { rule = item_break.rule; parts = option_to_list (option_map (λ name. name.now) item_break.part) }
+
+-- the parts of the path from a value to a place in it
+abbrev pub place_parts : Place → List (List ℕ)
+place_parts Here = []
+place_parts (Item at) = place_part at ∷ []
+place_parts (ItemPart at name) = place_part at ∷ name.now ∷ []
+
+-- what is found in the value of a property
+abbrev pub value_break_view : ValueBreak → BreakAt
+value_break_view value_break = record { rule = value_break.rule; parts = place_parts value_break.place }
+
+-- the parts of the path from an object to a place in it
+abbrev pub site_parts : Site → List (List ℕ)
+site_parts Whole = []
+site_parts (Property name place) = name.now ∷ place_parts place
+site_parts (Within outer inner) = outer.now ∷ inner.now ∷ []
+
+-- what is found in an object
+abbrev pub row_break_view : RowBreak → BreakAt
+row_break_view row_break = record { rule = row_break.rule; parts = site_parts row_break.site }

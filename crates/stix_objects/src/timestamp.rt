@@ -1,0 +1,137 @@
+ghost use Rattle.std.specs.Prelude.{◌≡◌, ◌↔◌, ℤ, Some, IsTrue, IfSome};
+ghost use Rattle.flow_values.specs.Answers.{FindsExactly};
+ghost use Rattle.stix_json.specs.DataOf.{data_of};
+ghost use Rattle.stix_objects.specs.declared.form.Precision.TheVariants.{Any, Millis};
+ghost use Rattle.stix_objects.specs.Form.{timestamp};
+ghost use Rattle.stix_objects.specs.Singles.{IsTimestampOf, JudgesTimestamp, JudgesSingle};
+ghost use Rattle.stix_objects.specs.Conditions.{SecondIsEarlier, SecondIsNotLater};
+ghost use Rattle.stix_objects.specs.Properties.{IsTimestampAt};
+
+use crate::Rule;
+use crate::form::Precision;
+use stix_json::{Json, text_at, text_of};
+use stix_times::laws::is_before;
+use stix_times::{Instant, TimeRefusal, read, read_millis};
+
+/// What a value breaks of a timestamp.
+pub(crate) fn judge_timestamp(precision: Precision, value: &Json) -> Option<Rule>
+    ensures { JudgesSingle (timestamp precision) (data_of value.now) result }
+{
+    let Some(text) = text_of(value) else {
+        return Some(Rule::WrongKind);
+    };
+    judge_timestamp_text(precision, text)
+}
+
+fn judge_timestamp_text(precision: Precision, text: &str) -> Option<Rule>
+    ensures { JudgesTimestamp precision text.now result }
+{
+    match precision {
+        Precision::Any => judge_time(text),
+        Precision::Millis => judge_millis(text),
+    }
+}
+
+fn judge_time(text: &str) -> Option<Rule>
+    ensures { JudgesTimestamp Any text.now result }
+{
+    match read(text) {
+        Ok(_) => None,
+        Err(_) => Some(Rule::BadTime),
+    }
+}
+
+fn judge_millis(text: &str) -> Option<Rule>
+    ensures { JudgesTimestamp Millis text.now result }
+{
+    match read_millis(text) {
+        Ok(_) => None,
+        Err(TimeRefusal::NotMillis) => Some(Rule::NotMillis),
+        Err(TimeRefusal::Shape { .. }) => Some(Rule::BadTime),
+        Err(TimeRefusal::NoSuchDay) => Some(Rule::BadTime),
+        Err(TimeRefusal::TooFine) => Some(Rule::BadTime),
+    }
+}
+
+/// The instant that a text names in that precision.
+fn instant_of(precision: Precision, text: &str) -> Option<Instant>
+    ensures some { IfSome result (IsTimestampOf precision text.now) }
+    ensures only { (instant : ℤ) → IsTimestampOf precision text.now instant → result ≡ Some instant }
+{
+    match precision {
+        Precision::Any => time_of(text),
+        Precision::Millis => millis_of(text),
+    }
+}
+
+fn time_of(text: &str) -> Option<Instant>
+    ensures some { IfSome result (IsTimestampOf Any text.now) }
+    ensures only { (instant : ℤ) → IsTimestampOf Any text.now instant → result ≡ Some instant }
+{
+    match read(text) {
+        Ok(instant) => Some(instant),
+        Err(_) => None,
+    }
+}
+
+fn millis_of(text: &str) -> Option<Instant>
+    ensures some { IfSome result (IsTimestampOf Millis text.now) }
+    ensures only { (instant : ℤ) → IsTimestampOf Millis text.now instant → result ≡ Some instant }
+{
+    match read_millis(text) {
+        Ok(instant) => Some(instant),
+        Err(_) => None,
+    }
+}
+
+/// The instant of a property that is a timestamp in that precision. Takes no memory.
+pub fn timestamp_at(object: &Json, precision: Precision, name: &str) -> Option<Instant>
+    ensures { FindsExactly (IsTimestampAt precision name.now (data_of object.now)) result }
+{
+    instant_at(object, precision, name)
+}
+
+/// The same.
+fn instant_at(object: &Json, precision: Precision, name: &str) -> Option<Instant>
+    ensures there { IfSome result (IsTimestampAt precision name.now (data_of object.now)) }
+    ensures only { (instant : ℤ) → IsTimestampAt precision name.now (data_of object.now) instant
+        → result ≡ Some instant }
+{
+    instant_of(precision, text_at(object, name)?)
+}
+
+/// Whether both properties are timestamps, and the second is earlier than the first.
+pub(crate) fn second_is_earlier(
+    object: &Json,
+    precision: Precision,
+    first: &str,
+    second: &str,
+) -> bool
+    ensures { IsTrue result ↔ SecondIsEarlier precision first.now second.now (data_of object.now) }
+{
+    let Some(from) = instant_at(object, precision, first) else {
+        return false;
+    };
+    match instant_at(object, precision, second) {
+        Some(to) => is_before(to, from),
+        None => false,
+    }
+}
+
+/// Whether both properties are timestamps, and the second isn't later than the first.
+pub(crate) fn second_is_not_later(
+    object: &Json,
+    precision: Precision,
+    first: &str,
+    second: &str,
+) -> bool
+    ensures { IsTrue result ↔ SecondIsNotLater precision first.now second.now (data_of object.now) }
+{
+    let Some(from) = instant_at(object, precision, first) else {
+        return false;
+    };
+    match instant_at(object, precision, second) {
+        Some(to) => !is_before(from, to),
+        None => false,
+    }
+}

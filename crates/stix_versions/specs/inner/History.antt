@@ -1,0 +1,16 @@
+-- For private clauses: what is kept of all versions before a place, and a break that is told where a test says so.
+use Rattle.std.specs.Prelude.{ℕ, List, [], ◌∷◌, Bool, if◌then◌else◌}
+use Rattle.serde_json.specs.Data.{Data}
+use Rattle.stix_versions.specs.declared.version_break.VersionBreak.{VersionBreak}
+use Rattle.stix_versions.specs.declared.versions.History.{History}
+use Rattle.stix_versions.specs.inner.FirstVersions.{AreCreatedBefore}
+use Rattle.stix_versions.specs.inner.Twins.{AreTwinsBefore}
+
+-- what is kept of the versions before the place
+pub record AreVersionsBefore (objects : List Data) (end : ℕ) (seen : History) : Type 0 where
+  pub created : AreCreatedBefore objects end seen.created
+  pub twins : AreTwinsBefore objects end seen.twins
+
+-- the break where the test says so
+abbrev pub where_so : Bool → VersionBreak → List VersionBreak
+where_so broken break = if broken then break ∷ [] else []
