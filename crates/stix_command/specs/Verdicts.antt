@@ -2,7 +2,7 @@
 use Rattle.std.specs.Prelude.{◌≡◌, ◌≢◌, ℕ, List, [], length}
 use Rattle.serde_json.specs.Data.{Data}
 use Rattle.stix_json.specs.declared.value.Json.{Json}
-use Rattle.stix_json.specs.declared.refusal.JsonRefusal.TheVariants as tree_refusal
+use Rattle.stix_json.specs.declared.refusal.JsonRefusal.TheVariants as json_refusal
 use Rattle.stix_json.specs.DataOf.{data_of}
 use Rattle.stix_json.specs.Reading.{IsJsonOf, IsJsonRefusedAs}
 use Rattle.stix_bundles.specs.declared.refusal.BundleRefusal.TheVariants.{NotBundle, Breaks, NoMemory}
@@ -10,7 +10,7 @@ use Rattle.stix_bundles.specs.Bundle.{IsBundle, IsBundleRefused}
 use Rattle.stix_versions.specs.Versions.{AreVersionBreaks}
 use Rattle.stix_versions.specs.Markings.{AreMarkingBreaks}
 use Rattle.match_log.specs.declared.end.InputRule.{InputRule}
-use Rattle.match_log.specs.declared.end.InputRule.TheVariants.{NotYet, InputTooLong, Json as NoTree, Bundle as NoBundle}
+use Rattle.match_log.specs.declared.end.InputRule.TheVariants.{NotYet, InputTooLong, Json as NoJson, Bundle as NoBundle}
 use Rattle.stix_command.specs.declared.verdict.Verdict.{Verdict}
 use Rattle.stix_command.specs.declared.verdict.Verdict.TheVariants.{Sound, Broken, Unfit, Refused}
 
@@ -18,7 +18,7 @@ use Rattle.stix_command.specs.declared.verdict.Verdict.TheVariants.{Sound, Broke
 abbrev pub IsNotBundleFor : Data → InputRule → Type 0
 IsNotBundleFor d NotYet = ⊥
 IsNotBundleFor d InputTooLong = ⊥
-IsNotBundleFor d (NoTree refusal) = ⊥
+IsNotBundleFor d (NoJson refusal) = ⊥
 IsNotBundleFor d (NoBundle (NotBundle path)) = IsBundleRefused d (NotBundle path)
 IsNotBundleFor d (NoBundle (Breaks breaks)) = ⊥
 IsNotBundleFor d (NoBundle NoMemory) = ⊥
@@ -37,20 +37,20 @@ IsBundleJudged d (Unfit versions markings) = (objects : List Data) × IsBundle d
 IsBundleJudged d (Broken breaks) = IsBundleRefused d (Breaks breaks)
 IsBundleJudged d (Refused rule) = IsNotBundleFor d rule
 
--- some bytes are a tree of which that is known
-abbrev pub HasTree : List ℕ → (Data → Type 0) → Type 0
-HasTree bytes P = (tree : Json) × IsJsonOf bytes tree × P (data_of tree)
+-- some bytes are a JSON value of which that is known
+abbrev pub HasJson : List ℕ → (Data → Type 0) → Type 0
+HasJson bytes P = (value : Json) × IsJsonOf bytes value × P (data_of value)
 
--- why bytes are refused, of which there aren't too many: they are no tree, or it is no bundle
+-- why bytes are refused, of which there aren't too many: they are no JSON value, or it is no bundle
 abbrev pub IsRefusedFor : List ℕ → InputRule → Type 0
 IsRefusedFor bytes NotYet = ⊥
 IsRefusedFor bytes InputTooLong = ⊥
-IsRefusedFor bytes (NoTree refusal) = (refusal ≢ tree_refusal.NoMemory) × IsJsonRefusedAs bytes refusal
-IsRefusedFor bytes (NoBundle refusal) = HasTree bytes (λ d. IsNotBundleFor d (NoBundle refusal))
+IsRefusedFor bytes (NoJson refusal) = (refusal ≢ json_refusal.NoMemory) × IsJsonRefusedAs bytes refusal
+IsRefusedFor bytes (NoBundle refusal) = HasJson bytes (λ d. IsNotBundleFor d (NoBundle refusal))
 
 -- what bytes are
 abbrev pub IsJudged : List ℕ → Verdict → Type 0
-IsJudged bytes (Sound count) = HasTree bytes (λ d. IsBundleJudged d (Sound count))
-IsJudged bytes (Broken breaks) = HasTree bytes (λ d. IsBundleJudged d (Broken breaks))
-IsJudged bytes (Unfit versions markings) = HasTree bytes (λ d. IsBundleJudged d (Unfit versions markings))
+IsJudged bytes (Sound count) = HasJson bytes (λ d. IsBundleJudged d (Sound count))
+IsJudged bytes (Broken breaks) = HasJson bytes (λ d. IsBundleJudged d (Broken breaks))
+IsJudged bytes (Unfit versions markings) = HasJson bytes (λ d. IsBundleJudged d (Unfit versions markings))
 IsJudged bytes (Refused rule) = IsRefusedFor bytes rule

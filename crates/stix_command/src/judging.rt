@@ -1,5 +1,5 @@
 ghost use Rattle.std.specs.Prelude.{◌≡◌, ◌≢◌, IfOk};
-ghost use Rattle.stix_json.specs.declared.refusal.JsonRefusal.TheVariants as tree_refusal;
+ghost use Rattle.stix_json.specs.declared.refusal.JsonRefusal.TheVariants as json_refusal;
 ghost use Rattle.stix_bundles.specs.Objects.{data_in};
 ghost use Rattle.stix_json.specs.DataOf.{data_of};
 ghost use Rattle.stix_json.specs.Reading.{IsJsonRefusedAs};
@@ -18,14 +18,14 @@ pub fn judge(alloc: Global, bytes: &[u8]) -> Result<Verdict, NoMemory>
     ensures { IfOk result (IsJudged bytes.now) }
 {
     match read_json(alloc, bytes) {
-        Ok(tree) => judge_tree(alloc, tree),
+        Ok(value) => judge_value(alloc, value),
         Err(refusal) => refuse(refusal),
     }
 }
 
-/// The verdict on bytes that are refused as a tree.
+/// The verdict on bytes that are refused as JSON.
 fn refuse(refusal: JsonRefusal) -> Result<Verdict, NoMemory>
-    ensures { IfOk result (λ verdict. (refusal ≢ tree_refusal.NoMemory) × (verdict ≡ Verdict.Refused (InputRule.Json refusal))) }
+    ensures { IfOk result (λ verdict. (refusal ≢ json_refusal.NoMemory) × (verdict ≡ Verdict.Refused (InputRule.Json refusal))) }
 {
     match &refusal {
         JsonRefusal::NoMemory => Err(NoMemory),
@@ -38,11 +38,11 @@ fn refuse(refusal: JsonRefusal) -> Result<Verdict, NoMemory>
     }
 }
 
-/// What a tree is, as a bundle.
-fn judge_tree(alloc: Global, tree: Json) -> Result<Verdict, NoMemory>
-    ensures { IfOk result (IsBundleJudged (data_of tree)) }
+/// What a value is, as a bundle.
+fn judge_value(alloc: Global, value: Json) -> Result<Verdict, NoMemory>
+    ensures { IfOk result (IsBundleJudged (data_of value)) }
 {
-    match read_bundle(alloc, tree) {
+    match read_bundle(alloc, value) {
         Ok(bundle) => judge_bundle(alloc, &bundle),
         Err(BundleRefusal::Breaks(breaks)) => Ok(Verdict::Broken(breaks)),
         Err(BundleRefusal::NotBundle { path }) => {

@@ -4,12 +4,12 @@ ghost use Rattle.std.specs.Prelude.{◌≡◌, ℕ, List};
 ghost use Rattle.stix_command.specs.declared.verdict.Verdict.{Verdict};
 ghost use Rattle.stix_command.specs.Verdicts.{IsJudged};
 
-use stix_objects::laws::one_list;
+use stix_bundles::laws::one_reading;
 
 /// Some bytes have one verdict. So what a check writes, and its status, are functions of the bytes.
 pub fn one_verdict()
     ensures { (bytes : List ℕ) (first second : Verdict) → IsJudged bytes first → IsJudged bytes second → first ≡ second }
 {
     stix_versions::laws::one_list();
-    one_list();
+    one_reading();
 }
