@@ -20,7 +20,7 @@ mod stop;
 mod take;
 
 pub use class::Class;
-pub use comparison::{CheckTree, ComparisonTree, TestTree};
+pub use comparison::{CheckTree, ComparisonTree, Conjunction, Operand, TestTree};
 pub use laws::{fronts, one_pattern};
 pub use parse_pattern::parse;
 pub use path::{PathTree, StepTree};

@@ -9,6 +9,7 @@ use crate::make::{make_both, make_either, make_qualified, make_then};
 use crate::parse_comparison::cor;
 use crate::take::{eat, take};
 use crate::{Class, PatternTree, Qualifier, Stop};
+use flow_values::Items;
 use pattern_tokens::{Token, TokenKind};
 use std::alloc::Global;
 
@@ -81,13 +82,15 @@ fn ands<'a>(alloc: Global, tokens: &'a [Token]) -> Result<(PatternTree, &'a [Tok
     ensures ok { IfOk result (λ x. Found IsAnds wants_ands done tokens.now (shape x.0) x.1.now) }
     ensures err { IfErr result (λ e. Refused IsAnds wants_ands tokens.now e) }
 {
-    let (mut left, mut rest) = unit(alloc, tokens)?;
+    let (first, mut rest) = unit(alloc, tokens)?;
+    let mut others = Items::new(alloc);
     while let Some((_, after)) = eat(rest, Class::Only(TokenKind::And)) {
-        let (right, next) = unit(alloc, after)?;
-        left = make_both(alloc, left, right)?;
-        rest = next;
+        let (next, left) = unit(alloc, after)?;
+        others.push(next)?;
+        rest = left;
     }
-    Ok((left, rest))
+    let tree = make_both(alloc, first, others)?;
+    Ok((tree, rest))
 }
 
 /// `ors = ands { OR ands }`
@@ -96,13 +99,15 @@ fn ors<'a>(alloc: Global, tokens: &'a [Token]) -> Result<(PatternTree, &'a [Toke
     ensures ok { IfOk result (λ x. Found IsOrs wants_ors done tokens.now (shape x.0) x.1.now) }
     ensures err { IfErr result (λ e. Refused IsOrs wants_ors tokens.now e) }
 {
-    let (mut left, mut rest) = ands(alloc, tokens)?;
+    let (first, mut rest) = ands(alloc, tokens)?;
+    let mut others = Items::new(alloc);
     while let Some((_, after)) = eat(rest, Class::Only(TokenKind::Or)) {
-        let (right, next) = ands(alloc, after)?;
-        left = make_either(alloc, left, right)?;
-        rest = next;
+        let (next, left) = ands(alloc, after)?;
+        others.push(next)?;
+        rest = left;
     }
-    Ok((left, rest))
+    let tree = make_either(alloc, first, others)?;
+    Ok((tree, rest))
 }
 
 /// `pattern = ors { FOLLOWEDBY ors }`
@@ -111,13 +116,15 @@ fn whole<'a>(alloc: Global, tokens: &'a [Token]) -> Result<(PatternTree, &'a [To
     ensures ok { IfOk result (λ x. Found IsPattern wants_pattern done tokens.now (shape x.0) x.1.now) }
     ensures err { IfErr result (λ e. Refused IsPattern wants_pattern tokens.now e) }
 {
-    let (mut left, mut rest) = ors(alloc, tokens)?;
+    let (first, mut rest) = ors(alloc, tokens)?;
+    let mut others = Items::new(alloc);
     while let Some((_, after)) = eat(rest, Class::Only(TokenKind::FollowedBy)) {
-        let (right, next) = ors(alloc, after)?;
-        left = make_then(alloc, left, right)?;
-        rest = next;
+        let (next, left) = ors(alloc, after)?;
+        others.push(next)?;
+        rest = left;
     }
-    Ok((left, rest))
+    let tree = make_then(alloc, first, others)?;
+    Ok((tree, rest))
 }
 
 /// The syntax tree that all of the tokens spell, or the first that doesn't fit.

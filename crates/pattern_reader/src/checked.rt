@@ -4,8 +4,8 @@ ghost use Rattle.pattern_grammar.specs.Place.{GivesTree};
 ghost use Rattle.pattern_grammar.specs.Tree.{Tree, shape};
 
 use pattern_faults::pattern_fault;
-use pattern_lexer::tokens;
 use pattern_grammar::{PatternTree, read_tree};
+use pattern_lexer::tokens;
 use pattern_tokens::PatternRefusal;
 use std::alloc::Global;
 
