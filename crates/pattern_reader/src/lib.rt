@@ -4,6 +4,7 @@
 
 mod brackets;
 mod checked;
+pub mod laws;
 mod read;
 mod width;
 

@@ -1,4 +1,4 @@
-ghost use Rattle.std.specs.Prelude.{◌≡◌, ◌≤◌, IfOk, IfErr};
+ghost use Rattle.std.specs.Prelude.{◌≡◌, ◌≤◌, ◌⊎◌, IfOk, IfErr};
 ghost use Rattle.pattern_reader.specs.Read.{IsReadAs, IsRefusedAs, Gives};
 ghost use Rattle.pattern_reader.specs.Width.{leaves, IsTooWide};
 ghost use Rattle.pattern_types.specs.declared.pattern.Pattern.{Pattern};
@@ -24,7 +24,7 @@ use std::alloc::Global;
 /// first; a value that is refused, by place; TooWide.
 pub fn read_pattern(alloc: Global, text: &str) -> Result<Pattern, PatternRefusal>
     ensures ok { IfOk result (IsReadAs text.now) }
-    ensures err { IfErr result (IsRefusedAs text.now) }
+    ensures err { IfErr result (λ refusal. (refusal ≡ PatternRefusal.NoMemory) ⊎ IsRefusedAs text.now refusal) }
     ensures only { (pattern : Pattern) → IsReadAs text.now pattern → Gives pattern result }
 {
     let tree = match checked_tree(alloc, text) {
@@ -39,7 +39,7 @@ pub fn read_pattern(alloc: Global, text: &str) -> Result<Pattern, PatternRefusal
 fn pattern_in(alloc: Global, text: &str, tree: &PatternTree) -> Result<Pattern, PatternRefusal>
     requires { IsSound text.now (shape tree.now) }
     ensures ok { IfOk result (IsReadAs text.now) }
-    ensures err { IfErr result (IsRefusedAs text.now) }
+    ensures err { IfErr result (λ refusal. (refusal ≡ PatternRefusal.NoMemory) ⊎ IsRefusedAs text.now refusal) }
     ensures only { (pattern : Pattern) → MeansPattern text.now (shape tree.now) (meant pattern)
         → (¬ IsTooWide (meant pattern)) → Gives pattern result }
 {

@@ -10,14 +10,14 @@ returns-then-has_many_brackets-clause-err c =
     let spelled = c.requires.spelled in
     let sound = sound_all c.args.text.now spelled.tokens (c.sound_tokens.ensures c.args.text.now spelled.tokens c.utf8.text spelled.of_text) in
     let m = of_pattern c.args.text.now spelled.of_tokens.spells sound c.requires.faultless in
-    inr (
+    inr (inr (
       refl,
       record {
         pattern = m.0;
         spelled = record { tree = shape c.args.tree.now; sound = c.requires; means = m.1 };
         wide = inr (subst (λ (n : ℕ). 1_024 < n) (sym (leaves_of c.args.text.now m.1)) (c.has_many_brackets.ensures.0 c.if-has_many_brackets.true));
       },
-    )
+    ))
 
 pub returns-then-has_many_brackets-clause-only : goal.returns-then-has_many_brackets-clause-only
 returns-then-has_many_brackets-clause-only c = λ pattern means narrow.
