@@ -2,6 +2,7 @@ ghost use Rattle.std.specs.Prelude.{List, IfOk, IfErr};
 ghost use Rattle.pattern_grammar.specs.Grammar.{IsPattern, IsOrs, IsAnds, IsUnit, IsStart, IsQualifier};
 ghost use Rattle.pattern_grammar.specs.Tree.{Tree, shape};
 ghost use Rattle.pattern_grammar.specs.Answer.{Misfit, Gives};
+ghost use Rattle.pattern_grammar.specs.Depth.{IsShallow};
 ghost use Rattle.pattern_grammar.specs.Machine.{wants_pattern, wants_ors, wants_ands, wants_unit, wants_start, wants_qualifier};
 ghost use Rattle.pattern_grammar.specs.Reading.{Found, Refused, Lacks, done};
 
@@ -127,8 +128,10 @@ fn whole<'a>(alloc: Global, tokens: &'a [Token]) -> Result<(PatternTree, &'a [To
     Ok((tree, rest))
 }
 
-/// The syntax tree that all of the tokens spell, or the first that doesn't fit.
+/// The syntax tree that all of the tokens spell, or the first that doesn't fit. No token but the last may
+/// be one too many, so that the parser calls itself no deeper than the limits count.
 pub fn parse<'a>(alloc: Global, tokens: &'a [Token]) -> Result<PatternTree, Stop<'a>>
+    requires { IsShallow tokens.now }
     ensures ok { IfOk result (λ p. IsPattern tokens.now (shape p)) }
     ensures err { IfErr result (λ e. Misfit tokens.now e) }
     ensures only { (p : Tree) → IsPattern tokens.now p → Gives p result }

@@ -1,5 +1,5 @@
 -- A text has one reading.
-use Rattle.std.proofs.Common.{◌≡◌, ◌⊎◌, inl, inr, ℕ, List, [], ◌∷◌, ◌++◌, length, Some, None, Result, Ok, Err, sym, subst, ◌∙◌, append_assoc, append-nil}
+use Rattle.std.proofs.Common.{◌≡◌, ◌⊎◌, inl, inr, ℕ, List, [], ◌∷◌, ◌++◌, length, Some, None, Result, Ok, Err, sym, subst, ◌∙◌, append_assoc, append-nil, ◌<◌, refl, arith}
 use Rattle.pattern_tokens.specs.declared.token.Token.{Token}
 use Rattle.pattern_tokens.specs.declared.refusal.PatternRefusal.{PatternRefusal}
 use Rattle.pattern_tokens.specs.declared.refusal.PatternRefusal.TheVariants.{TooLong, BadToken, LeftOut, BadNumber, BadTime, BadBytes, Syntax, TooDeep, BadCount, LongPath, BadAddress, EmptySpan, NoCommonRoot, TooWide, NoMemory}
@@ -78,3 +78,10 @@ not_refused reading pattern begins meaning text p refusal r (inr (e, w)) =
     let same = one_sound reading pattern text r.spelled.tree w.spelled.tree r.spelled.sound w.spelled.sound in
     let one = meaning text w.spelled.tree (meant p) w.pattern (subst (λ (t : Tree). MeansPattern text t (meant p)) same r.spelled.means) w.spelled.means in
     r.narrow (subst IsTooWide (sym one) w.wide)
+
+-- a text that is too long has no other refusal
+pub too_long : OneReading → (text : List ℕ) (refusal : PatternRefusal) → 65_536 < length text → IsRefusedAs text refusal → refusal ≡ TooLong
+too_long reading text refusal long (inl (inl x)) = let e = reading text (Err refusal) (Err TooLong) x (inl (refl, long)) in cc
+too_long reading text refusal long (inl (inr (inl x))) = let short = x.of_text.short in absurd (omega (arith, long, short))
+too_long reading text refusal long (inl (inr (inr x))) = let short = x.spelled.of_text.short in absurd (omega (arith, long, short))
+too_long reading text refusal long (inr (e, w)) = let short = w.spelled.sound.spelled.of_text.short in absurd (omega (arith, long, short))

@@ -1,4 +1,4 @@
-ghost use Rattle.std.specs.Prelude.{◌≡◌, ◌⊎◌, IfOk, IfErr};
+ghost use Rattle.std.specs.Prelude.{◌≡◌, ◌<◌, ◌⊎◌, IfOk, IfErr, IsErrAnd, length};
 ghost use Rattle.pattern_tokens.specs.declared.refusal.PatternRefusal.TheVariants as PatternRefusal;
 ghost use Rattle.pattern_reader.specs.Checked.{IsSound, IsUnsound};
 ghost use Rattle.pattern_grammar.specs.Place.{GivesTree};
@@ -15,6 +15,7 @@ use std::alloc::Global;
 pub fn checked_tree(alloc: Global, text: &str) -> Result<PatternTree, PatternRefusal>
     ensures ok { IfOk result (λ tree. IsSound text.now (shape tree)) }
     ensures err { IfErr result (λ refusal. (refusal ≡ PatternRefusal.NoMemory) ⊎ IsUnsound text.now refusal) }
+    ensures long { 65_536 < length text.now → IsErrAnd result (λ refusal. refusal ≡ PatternRefusal.TooLong) }
     ensures only { (tree : Tree) → IsSound text.now tree → GivesTree tree result }
 {
     let found = match tokens(alloc, text) {

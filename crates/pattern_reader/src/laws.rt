@@ -1,7 +1,8 @@
 //! What follows from the definitions: the contracts are the laws, and the functions do nothing.
 
-ghost use Rattle.std.specs.Prelude.{◌≡◌, ℕ, List};
+ghost use Rattle.std.specs.Prelude.{◌≡◌, ◌<◌, ℕ, List, length};
 ghost use Rattle.pattern_tokens.specs.declared.refusal.PatternRefusal.{PatternRefusal};
+ghost use Rattle.pattern_tokens.specs.declared.refusal.PatternRefusal.TheVariants as PatternRefusal;
 ghost use Rattle.pattern_types.specs.declared.pattern.Pattern.{Pattern};
 ghost use Rattle.pattern_meaning.specs.Meant.{meant};
 ghost use Rattle.pattern_grammar.specs.Tree.{Tree};
@@ -26,4 +27,12 @@ pub fn none_refused()
     pattern_grammar::one_pattern();
     pattern_grammar::fronts();
     pattern_meaning::laws::one_meaning();
+}
+
+/// A text of more than 65,536 bytes is refused as TooLong, and as nothing else.
+pub fn only_too_long()
+    ensures refused { (text : List ℕ) → 65_536 < length text → IsRefusedAs text PatternRefusal.TooLong }
+    ensures only { (text : List ℕ) (refusal : PatternRefusal) → 65_536 < length text → IsRefusedAs text refusal → refusal ≡ PatternRefusal.TooLong }
+{
+    pattern_lexer::laws::one_reading();
 }

@@ -1,4 +1,4 @@
-ghost use Rattle.std.specs.Prelude.{◌≡◌, ◌≤◌, ◌⊎◌, IfOk, IfErr};
+ghost use Rattle.std.specs.Prelude.{◌≡◌, ◌≢◌, ◌<◌, ◌≤◌, ◌⊎◌, IfOk, IfErr, IsErrAnd, length};
 ghost use Rattle.pattern_reader.specs.Read.{IsReadAs, IsRefusedAs, Gives};
 ghost use Rattle.pattern_reader.specs.Width.{leaves, IsTooWide};
 ghost use Rattle.pattern_types.specs.declared.pattern.Pattern.{Pattern};
@@ -24,7 +24,8 @@ use std::alloc::Global;
 /// first; a value that is refused, by place; TooWide.
 pub fn read_pattern(alloc: Global, text: &str) -> Result<Pattern, PatternRefusal>
     ensures ok { IfOk result (IsReadAs text.now) }
-    ensures err { IfErr result (λ refusal. (refusal ≡ PatternRefusal.NoMemory) ⊎ IsRefusedAs text.now refusal) }
+    ensures err { IfErr result (λ refusal. refusal ≢ PatternRefusal.NoMemory → IsRefusedAs text.now refusal) }
+    ensures long { 65_536 < length text.now → IsErrAnd result (λ refusal. refusal ≡ PatternRefusal.TooLong) }
     ensures only { (pattern : Pattern) → IsReadAs text.now pattern → Gives pattern result }
 {
     let tree = match checked_tree(alloc, text) {

@@ -1,5 +1,5 @@
 use Rattle.std.proofs.Common.{inr}
-use Rattle.pattern_grammar.proofs.Deep.{deep_empty, deep_spelled, syntax_at}
+use Rattle.pattern_grammar.proofs.Deep.{deep_empty, deep_spelled, syntax_at, through_shallow}
 use Rattle.pattern_grammar.proofs.read.refusal_through.Goals as goal
 
 pub returns-in-Err-Syntax-empty : goal.returns-in-Err-Syntax-empty
@@ -12,3 +12,6 @@ returns-in-Err-Syntax-len1-up c =
 
 pub returns-in-Ok : goal.returns-in-Ok
 returns-in-Ok c = inr (deep_spelled _ _ _ _ _ c.in-Ok.ensures.ok c.requires.deep c.start_of-in-Ok.ensures)
+
+pub parse-requires : goal.parse-requires
+parse-requires c = through_shallow c.args.tokens.now c.args.before c.requires.deep
