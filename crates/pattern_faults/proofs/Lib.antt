@@ -1,3 +1,6 @@
 mod Earliest
 mod Meanings
 mod Parts
+mod Chains
+mod Joins
+mod RootSets

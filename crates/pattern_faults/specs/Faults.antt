@@ -67,13 +67,6 @@ HasRoot text (group first c) root = HasRoot text c root
 HasRoot text (all c d) root = HasRoot text c root × HasRoot text d root
 HasRoot text (any c d) root = HasRoot text c root ⊎ HasRoot text d root
 
--- a root kind that the candidates name is common to both comparisons
-abbrev pub SharesRoot : List ℕ → Comparison → Comparison → Comparison → Type 0
-SharesRoot text (test t) c d = (root : List ℕ) × At IsItself text t.path.root root × HasRoot text c root × HasRoot text d root
-SharesRoot text (group first e) c d = SharesRoot text e c d
-SharesRoot text (all e f) c d = SharesRoot text e c d ⊎ SharesRoot text f c d
-SharesRoot text (any e f) c d = SharesRoot text e c d ⊎ SharesRoot text f c d
-
 -- the first token
 abbrev pub first_of : Comparison → Token
 first_of (test t) = t.first

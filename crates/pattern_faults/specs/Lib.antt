@@ -1,2 +1,4 @@
 pub mod Order
 pub mod Faults
+pub mod Roots
+pub mod Judged

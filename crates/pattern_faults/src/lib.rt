@@ -3,11 +3,13 @@
 //! before it begins, parts of an `AND` that no object can meet. `pattern_fault` gives the first by place.
 #![tactic(auto)]
 
-mod comparison_faults;
 mod faults;
+mod judged;
 mod order;
+mod patterns;
 mod roots;
+mod test_faults;
 #[cfg(test)]
 mod tests;
 
-pub use comparison_faults::pattern_fault;
+pub use patterns::pattern_fault;

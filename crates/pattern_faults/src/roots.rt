@@ -1,57 +1,71 @@
-ghost use Rattle.std.specs.Prelude.{◌≡◌, ◌↔◌, ℕ, List, IsTrue};
-ghost use Rattle.pattern_faults.specs.Faults.{HasRoot, first_of, SharesRoot};
-ghost use Rattle.pattern_grammar.specs.Tree.{compared};
+ghost use Rattle.std.specs.Prelude.{◌≡◌, ◌↔◌, ◌⊎◌, ℕ, List, IfOk, IsTrue};
+ghost use Rattle.pattern_faults.specs.Roots.{Has, Is};
 
-use pattern_grammar::ComparisonTree;
-use pattern_tokens::{Token, text_of};
+use flow_values::NoMemory;
+use std::alloc::Global;
+use std::collections::BTreeSet;
 
-/// Whether the type of object is a root kind of the comparison.
-fn has_root(text: &str, tree: &ComparisonTree, root: &str) -> bool
-    ensures { IsTrue result ↔ HasRoot text.now (compared tree.now) root.now }
+/// The set of one name, or of none.
+pub(crate) fn of_name<'a>(
+    alloc: Global,
+    name: Option<&'a str>,
+) -> Result<BTreeSet<&'a str>, NoMemory>
+    ensures { IfOk result (λ names. (other : List ℕ) → Has names other ↔ Is name.entry other) }
 {
-    match tree {
-        ComparisonTree::Test(test) => match text_of(text, test.path.root) {
-            Some(part) => part == root,
-            None => false,
-        },
-        ComparisonTree::Group(_, inside) => has_root(text, inside, root),
-        ComparisonTree::All(left, right) => {
-            has_root(text, left, root) && has_root(text, right, root)
-        }
-        ComparisonTree::Any(left, right) => {
-            has_root(text, left, root) || has_root(text, right, root)
-        }
+    match name {
+        Some(name) => alone(alloc, name),
+        None => Ok(BTreeSet::new(alloc)),
     }
 }
 
-/// Whether a type of object that the candidates name is a root kind of both comparisons.
-pub(crate) fn shares_root(
-    text: &str,
-    candidates: &ComparisonTree,
-    left: &ComparisonTree,
-    right: &ComparisonTree,
-) -> bool
-    ensures { IsTrue result ↔ SharesRoot text.now (compared candidates.now) (compared left.now) (compared right.now) }
+/// The set of one name.
+fn alone<'a>(alloc: Global, name: &'a str) -> Result<BTreeSet<&'a str>, NoMemory>
+    ensures { IfOk result (λ names. (other : List ℕ) → Has names other ↔ (other ≡ name.now)) }
 {
-    match candidates {
-        ComparisonTree::Test(test) => match text_of(text, test.path.root) {
-            Some(root) => has_root(text, left, root) && has_root(text, right, root),
-            None => false,
-        },
-        ComparisonTree::Group(_, inside) => shares_root(text, inside, left, right),
-        ComparisonTree::All(first, second) | ComparisonTree::Any(first, second) => {
-            shares_root(text, first, left, right) || shares_root(text, second, left, right)
-        }
-    }
+    let mut names = BTreeSet::new(alloc);
+    names.insert(name)?;
+    Ok(names)
 }
 
-/// The first token of a comparison.
-pub(crate) fn first_token(tree: &ComparisonTree) -> Token
-    ensures { result ≡ first_of (compared tree.now) }
+/// The names that both have.
+pub(crate) fn common<'a>(
+    alloc: Global,
+    left: &BTreeSet<&'a str>,
+    right: &BTreeSet<&'a str>,
+) -> Result<BTreeSet<&'a str>, NoMemory>
+    ensures { IfOk result (λ names. (name : List ℕ) → Has names name ↔ (Has left.now name × Has right.now name)) }
 {
-    match tree {
-        ComparisonTree::Test(test) => test.first,
-        ComparisonTree::Group(first, _) => *first,
-        ComparisonTree::All(left, _) | ComparisonTree::Any(left, _) => first_token(left),
+    let names = left.intersection(right).copied().collect(alloc)?;
+    Ok(names)
+}
+
+/// The names that either has. The fewer are added to the more.
+pub(crate) fn either<'a>(
+    left: BTreeSet<&'a str>,
+    right: BTreeSet<&'a str>,
+) -> Result<BTreeSet<&'a str>, NoMemory>
+    ensures { IfOk result (λ names. (name : List ℕ) → Has names name ↔ (Has left.entry name ⊎ Has right.entry name)) }
+{
+    if left.len() < right.len() {
+        return with(right, left);
     }
+    with(left, right)
+}
+
+/// The names and those others.
+fn with<'a>(
+    mut names: BTreeSet<&'a str>,
+    mut others: BTreeSet<&'a str>,
+) -> Result<BTreeSet<&'a str>, NoMemory>
+    ensures { IfOk result (λ all. (name : List ℕ) → Has all name ↔ (Has names.entry name ⊎ Has others.entry name)) }
+{
+    names.append(&mut others)?;
+    Ok(names)
+}
+
+/// Whether there is no name.
+pub(crate) fn is_none(names: &BTreeSet<&str>) -> bool
+    ensures { IsTrue result ↔ ((name : List ℕ) → ¬ Has names.now name) }
+{
+    names.is_empty()
 }

@@ -1,12 +1,13 @@
 -- Reading up to the first token that is one too many.
-use Rattle.std.proofs.Common.{◌≡◌, ◌≤◌, ◌<◌, ◌+◌, ◌-◌, ℕ, List, [], ◌∷◌, ◌++◌, length, take, drop, Some, None, Bor, get_or, refl, sym, ap, ◌∙◌, arith, append_assoc, append-nil, length-append, length-take}
+use Rattle.std.proofs.Common.{◌≡◌, ◌≤◌, ◌<◌, ◌+◌, ◌-◌, ℕ, suc, add-one, List, [], ◌∷◌, ◌++◌, length, take, drop, Option, Some, None, option_map, Bool, true, false, Bor, get_or, refl, sym, ap, ◌∙◌, arith, append_assoc, append-nil, length-append, length-take}
 use Rattle.std.proofs.lemmas.List.{take-append-drop, take_rest}
 use Rattle.pattern_tokens.specs.declared.token.Token.{Token}
 use Rattle.pattern_grammar.specs.declared.stop.Stop.{Stop}
 use Rattle.pattern_grammar.specs.declared.stop.Stop.TheVariants.{Syntax}
 use Rattle.pattern_grammar.specs.Tree.{Tree}
 use Rattle.pattern_grammar.specs.Grammar.{IsPattern}
-use Rattle.pattern_grammar.specs.Depth.{deep_at, at_start}
+use Rattle.pattern_grammar.specs.declared.depth.Depth.{Depth}
+use Rattle.pattern_grammar.specs.Depth.{deep_at, at_start, is_deep, depth_after, IsShallow}
 use Rattle.pattern_grammar.specs.Answer.{MisfitAt, Misfit}
 use Rattle.pattern_grammar.specs.Place.{place, SyntaxAt, DeepAt}
 use Rattle.pattern_grammar.proofs.Completions.{front_whole}
@@ -54,3 +55,24 @@ syntax_at ts end n e r d m h k s = some_there r.now (at_syntax e r m h) k
     some_there : (us : List Token) → MisfitAt (take (n + 1) ts) us → 1 ≤ length us → SyntaxAt ts end (get_or us 0 d).from
     some_there [] g i = absurd (omega arith)
     some_there (u ∷ us) g i = syntax_cut end n g s
+
+-- tokens with none too many, and those through the first that is
+pub none_shallow : (ts : List Token) → deep_at at_start ts ≡ None → IsShallow ts
+none_shallow ts e = rw e tt
+
+later : (m : Option ℕ) (k : ℕ) → option_map (λ i. i + 1) m ≡ Some k → (i : ℕ) × (m ≡ Some i) × (k ≡ i + 1)
+later None k h = absurd (cc)
+later (Some i) k h = (i, refl, cc)
+
+through_first : (depth : Depth) (t : Token) (ts : List Token) (n : ℕ) (b : Bool) → is_deep depth t.kind ≡ b → deep_at depth (t ∷ ts) ≡ Some n → ((k : ℕ) → deep_at (depth_after depth t.kind) ts ≡ Some k → deep_at (depth_after depth t.kind) (take (k + 1) ts) ≡ Some k) → deep_at depth (take (suc n) (t ∷ ts)) ≡ Some n
+through_first depth t ts n true h e more = rw h (rw h at e)
+through_first depth t ts n false h e more =
+    let g = later (deep_at (depth_after depth t.kind) ts) n (rw h at e) in
+    rw (h, g.2) (ap (option_map (λ i. i + 1)) (more g.0 g.1))
+
+through : (depth : Depth) (ts : List Token) (n : ℕ) → deep_at depth ts ≡ Some n → deep_at depth (take (n + 1) ts) ≡ Some n
+through depth [] n e = absurd (cc)
+through depth (t ∷ ts) n e = rw add-one (through_first depth t ts n (is_deep depth t.kind) refl e (λ k h. through (depth_after depth t.kind) ts k h))
+
+pub through_shallow : (ts : List Token) (n : ℕ) → deep_at at_start ts ≡ Some n → IsShallow (take (n + 1) ts)
+through_shallow ts n e = rw (through at_start ts n e) (omega (arith, length-take (n + 1) ts))

@@ -14,3 +14,4 @@ mod Trees
 mod Prefixes
 mod Derived
 mod Deep
+mod Joined

@@ -1,6 +1,6 @@
 -- Which token is one too many: the `(` that opens while 64 are open, those of IN not counted, and the
 -- first token of the 65th qualifier.
-use Rattle.std.specs.Prelude.{ℕ, ◌+◌, ◌-◌, Bool, false, List, [], ◌∷◌, Option, Some, None, option_map, nat_le, if◌then◌else◌}
+use Rattle.std.specs.Prelude.{ℕ, ◌+◌, ◌-◌, Bool, false, List, [], ◌∷◌, Option, Some, None, option_map, IfSome, nat_le, ◌≤◌, length, if◌then◌else◌}
 use Rattle.pattern_tokens.specs.declared.token.Token.{Token}
 use Rattle.pattern_tokens.specs.declared.token.TokenKind.{TokenKind}
 use Rattle.pattern_tokens.specs.declared.token.TokenKind.TheVariants.{RoundOpen, RoundClose, Within, Repeats, Start, Among}
@@ -49,3 +49,7 @@ depth_after depth _ = depth
 abbrev pub deep_at : Depth → List Token → Option ℕ
 deep_at depth [] = None
 deep_at depth (t ∷ ts) = if is_deep depth t.kind then Some 0 else option_map (λ n. n + 1) (deep_at (depth_after depth t.kind) ts)
+
+-- no token but the last is one too many
+abbrev pub IsShallow : List Token → Type 0
+IsShallow ts = IfSome (deep_at at_start ts) (λ n. length ts ≤ n + 1)

@@ -33,7 +33,7 @@ pub record DeepAt (ts : List Token) (end at : ℕ) : Type 0 where
 abbrev pub IsMisread : List Token → ℕ → PatternRefusal → Type 0
 IsMisread ts end (Syntax at) = SyntaxAt ts end at
 IsMisread ts end (TooDeep at) = DeepAt ts end at
-IsMisread ts end NoMemory = Unit {0}
+IsMisread ts end NoMemory = ⊥
 IsMisread ts end TooLong = ⊥
 IsMisread ts end (BadToken at) = ⊥
 IsMisread ts end (LeftOut at word) = ⊥

@@ -1,9 +1,14 @@
--- Syntax trees without where they lie in memory.
+-- Syntax trees without where they lie in memory: chains of an operator go from the left.
+use Rattle.std.specs.Prelude.{List, [], ◌∷◌}
 use Rattle.pattern_tokens.specs.declared.token.Token.{Token}
 use Rattle.pattern_grammar.specs.declared.qualifier.Qualifier.{Qualifier}
 use Rattle.pattern_grammar.specs.declared.comparison.TestTree.{TestTree}
-use Rattle.pattern_grammar.specs.declared.comparison.ComparisonTree.{ComparisonTree, Test, Group', All', Any'}
-use Rattle.pattern_grammar.specs.declared.pattern.PatternTree.{PatternTree, Leaf, Both', Either', Then', Qualified'}
+use Rattle.pattern_grammar.specs.declared.comparison.ComparisonTree.{ComparisonTree, fold-ComparisonTree}
+use Rattle.pattern_grammar.specs.declared.comparison.Operand.TheOpen.{ComparisonTree-F, Conjunction-F, Operand-F}
+use Rattle.pattern_grammar.specs.declared.comparison.Conjunction.{Conjunction, fold-Conjunction}
+use Rattle.pattern_grammar.specs.declared.comparison.Operand.{Operand, fold-Operand}
+use Rattle.pattern_grammar.specs.declared.pattern.PatternTree.{PatternTree, fold-PatternTree}
+use Rattle.pattern_grammar.specs.declared.pattern.PatternTree.TheOpen.{PatternTree-F}
 
 -- what stands in the brackets of a pattern
 pub data Comparison : Type 0 where
@@ -20,15 +25,37 @@ pub data Tree : Type 0 where
   followed : Tree → Tree → Tree
   qualified : Tree → Qualifier → Tree
 
+-- joined from the left, one after another
+abbrev pub joined : {V : Type 0} → (V → V → V) → V → List V → V
+joined join first [] = first
+joined join first (next ∷ others) = joined join (join first next) others
+
+-- one level, whose parts are read already
+abbrev pub comparison_level : ComparisonTree-F Comparison Comparison Comparison → Comparison
+comparison_level tree = joined any tree.first tree.others
+
+abbrev pub conjunction_level : Conjunction-F Comparison Comparison Comparison → Comparison
+conjunction_level tree = joined all tree.first tree.others
+
+abbrev pub operand_level : Operand-F Comparison Comparison Comparison → Comparison
+operand_level (Operand-F.Test t) = test t
+operand_level (Operand-F.Group round inside) = group round inside.value
+
 abbrev pub compared : ComparisonTree → Comparison
-compared (Test t) = test t
-compared (Group' round a c) = group round (compared c)
-compared (All' a l b r) = all (compared l) (compared r)
-compared (Any' a l b r) = any (compared l) (compared r)
+compared = fold-ComparisonTree Comparison Comparison Comparison operand_level comparison_level conjunction_level
+
+abbrev pub conjunction : Conjunction → Comparison
+conjunction = fold-Conjunction Comparison Comparison Comparison operand_level comparison_level conjunction_level
+
+abbrev pub operand : Operand → Comparison
+operand = fold-Operand Comparison Comparison Comparison operand_level comparison_level conjunction_level
+
+abbrev pub pattern_level : PatternTree-F Tree → Tree
+pattern_level (PatternTree-F.Leaf c) = leaf (compared c)
+pattern_level (PatternTree-F.Both first others) = joined both first.value others
+pattern_level (PatternTree-F.Either first others) = joined either first.value others
+pattern_level (PatternTree-F.Then first others) = joined followed first.value others
+pattern_level (PatternTree-F.Qualified part qualifier) = qualified part.value qualifier
 
 abbrev pub shape : PatternTree → Tree
-shape (Leaf c) = leaf (compared c)
-shape (Both' a p b q) = both (shape p) (shape q)
-shape (Either' a p b q) = either (shape p) (shape q)
-shape (Then' a p b q) = followed (shape p) (shape q)
-shape (Qualified' a p q) = qualified (shape p) q
+shape = fold-PatternTree Tree pattern_level

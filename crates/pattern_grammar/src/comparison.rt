@@ -28,15 +28,33 @@ pub struct TestTree {
     pub check: CheckTree,
 }
 
-/// What stands in the brackets of a pattern (STIX 2.1, section 9.6): tests, joined from the left.
+/// What stands in the brackets of a pattern (STIX 2.1, section 9.6): conjunctions, joined by `OR`. A
+/// chain is a list, so that a tree nests no deeper than its parentheses.
+#[cycle(comparison)]
 #[derive(Debug, Drop)]
-pub enum ComparisonTree {
+pub struct ComparisonTree {
+    /// The first conjunction.
+    pub first: Conjunction,
+    /// Those after it.
+    pub others: Items<Conjunction>,
+}
+
+/// Operands, joined by `AND`.
+#[cycle(comparison)]
+#[derive(Debug, Drop)]
+pub struct Conjunction {
+    /// The first operand.
+    pub first: Operand,
+    /// Those after it.
+    pub others: Items<Operand>,
+}
+
+/// What `AND` joins.
+#[cycle(comparison)]
+#[derive(Debug, Drop)]
+pub enum Operand {
     /// One test.
     Test(TestTree),
     /// Parentheses, with the first of them.
     Group(Token, Box<ComparisonTree>),
-    /// `AND` between comparisons.
-    All(Box<ComparisonTree>, Box<ComparisonTree>),
-    /// `OR` between comparisons.
-    Any(Box<ComparisonTree>, Box<ComparisonTree>),
 }

@@ -1,75 +1,62 @@
-ghost use Rattle.std.specs.Prelude.{◌≡◌, IfOk};
-ghost use Rattle.pattern_grammar.specs.Tree.{compared, shape, all, any, group, both, either, followed, qualified};
+ghost use Rattle.std.specs.Prelude.{◌≡◌, map, IfOk};
+ghost use Rattle.pattern_grammar.specs.Tree.{joined, compared, operand, group, shape, both, either, followed, qualified};
 
-use crate::{ComparisonTree, PatternTree, Qualifier};
-use flow_values::NoMemory;
+use crate::{ComparisonTree, Operand, PatternTree, Qualifier};
+use flow_values::{Items, NoMemory};
 use pattern_tokens::Token;
 use std::alloc::Global;
-
-/// Both comparisons.
-pub(crate) fn make_all(
-    alloc: Global,
-    left: ComparisonTree,
-    right: ComparisonTree,
-) -> Result<ComparisonTree, NoMemory>
-    ensures { IfOk result (λ c. compared c ≡ all (compared left) (compared right)) }
-{
-    Ok(ComparisonTree::All(Box::new(alloc, left)?, Box::new(alloc, right)?))
-}
-
-/// One of two comparisons.
-pub(crate) fn make_any(
-    alloc: Global,
-    left: ComparisonTree,
-    right: ComparisonTree,
-) -> Result<ComparisonTree, NoMemory>
-    ensures { IfOk result (λ c. compared c ≡ any (compared left) (compared right)) }
-{
-    Ok(ComparisonTree::Any(Box::new(alloc, left)?, Box::new(alloc, right)?))
-}
 
 /// A comparison in parentheses.
 pub(crate) fn make_group(
     alloc: Global,
     round: Token,
     inside: ComparisonTree,
-) -> Result<ComparisonTree, NoMemory>
-    ensures { IfOk result (λ c. compared c ≡ group round (compared inside)) }
+) -> Result<Operand, NoMemory>
+    ensures { IfOk result (λ c. operand c ≡ group round (compared inside)) }
 {
-    Ok(ComparisonTree::Group(round, Box::new(alloc, inside)?))
+    Ok(Operand::Group(round, Box::new(alloc, inside)?))
 }
 
-/// Both patterns.
+/// Patterns joined by `AND`: the first, and those after it.
 pub(crate) fn make_both(
     alloc: Global,
-    left: PatternTree,
-    right: PatternTree,
+    first: PatternTree,
+    others: Items<PatternTree>,
 ) -> Result<PatternTree, NoMemory>
-    ensures { IfOk result (λ p. shape p ≡ both (shape left) (shape right)) }
+    ensures { IfOk result (λ p. shape p ≡ joined both (shape first) (map shape others)) }
 {
-    Ok(PatternTree::Both(Box::new(alloc, left)?, Box::new(alloc, right)?))
+    if others.is_empty() {
+        return Ok(first);
+    }
+    Ok(PatternTree::Both(Box::new(alloc, first)?, others))
 }
 
-/// One of two patterns.
+/// Patterns joined by `OR`: the first, and those after it.
 pub(crate) fn make_either(
     alloc: Global,
-    left: PatternTree,
-    right: PatternTree,
+    first: PatternTree,
+    others: Items<PatternTree>,
 ) -> Result<PatternTree, NoMemory>
-    ensures { IfOk result (λ p. shape p ≡ either (shape left) (shape right)) }
+    ensures { IfOk result (λ p. shape p ≡ joined either (shape first) (map shape others)) }
 {
-    Ok(PatternTree::Either(Box::new(alloc, left)?, Box::new(alloc, right)?))
+    if others.is_empty() {
+        return Ok(first);
+    }
+    Ok(PatternTree::Either(Box::new(alloc, first)?, others))
 }
 
-/// A pattern, and one no earlier.
+/// Patterns joined by `FOLLOWEDBY`: the first, and those after it.
 pub(crate) fn make_then(
     alloc: Global,
-    left: PatternTree,
-    right: PatternTree,
+    first: PatternTree,
+    others: Items<PatternTree>,
 ) -> Result<PatternTree, NoMemory>
-    ensures { IfOk result (λ p. shape p ≡ followed (shape left) (shape right)) }
+    ensures { IfOk result (λ p. shape p ≡ joined followed (shape first) (map shape others)) }
 {
-    Ok(PatternTree::Then(Box::new(alloc, left)?, Box::new(alloc, right)?))
+    if others.is_empty() {
+        return Ok(first);
+    }
+    Ok(PatternTree::Then(Box::new(alloc, first)?, others))
 }
 
 /// A pattern and a qualifier.

@@ -1,14 +1,15 @@
 ghost use Rattle.std.specs.Prelude.{IfOk, IfErr};
 ghost use Rattle.pattern_grammar.specs.Grammar.{IsTest, IsCand, IsCor};
-ghost use Rattle.pattern_grammar.specs.Tree.{compared, test};
+ghost use Rattle.pattern_grammar.specs.Tree.{compared, conjunction, operand, test};
 ghost use Rattle.pattern_grammar.specs.Machine.{wants_test, wants_cand, wants_cor};
 ghost use Rattle.pattern_grammar.specs.Reading.{Found, Refused, Lacks, LacksTestWord, done};
 
-use crate::make::{make_all, make_any, make_group};
+use crate::make::make_group;
 use crate::parse_check::check;
 use crate::parse_path::path;
 use crate::take::{eat, take};
-use crate::{CheckTree, Class, ComparisonTree, Stop, TestTree};
+use crate::{CheckTree, Class, ComparisonTree, Conjunction, Operand, Stop, TestTree};
+use flow_values::Items;
 use pattern_tokens::{Token, TokenKind};
 use std::alloc::Global;
 
@@ -82,33 +83,34 @@ fn plain_test<'a>(alloc: Global, tokens: &'a [Token]) -> Result<(TestTree, &'a [
 
 /// `test = "(" cor ")" | [NOT] EXISTS path | path [NOT] compare`
 #[cycle(comparison)]
-fn test<'a>(alloc: Global, tokens: &'a [Token]) -> Result<(ComparisonTree, &'a [Token]), Stop<'a>>
-    ensures ok { IfOk result (λ x. Found IsTest wants_test done tokens.now (compared x.0) x.1.now) }
+fn test<'a>(alloc: Global, tokens: &'a [Token]) -> Result<(Operand, &'a [Token]), Stop<'a>>
+    ensures ok { IfOk result (λ x. Found IsTest wants_test done tokens.now (operand x.0) x.1.now) }
     ensures err { IfErr result (λ e. Refused IsTest wants_test tokens.now e) }
 {
     if let Some((open, inside)) = eat(tokens, Class::Only(TokenKind::RoundOpen)) {
         let (tree, close) = cor(alloc, inside)?;
         let (_, rest) = take(close, Class::Only(TokenKind::RoundClose))?;
-        let tree = make_group(alloc, open, tree)?;
-        return Ok((tree, rest));
+        let operand = make_group(alloc, open, tree)?;
+        return Ok((operand, rest));
     }
     let (test, rest) = plain_test(alloc, tokens)?;
-    Ok((ComparisonTree::Test(test), rest))
+    Ok((Operand::Test(test), rest))
 }
 
 /// `cand = test { AND test }`
 #[cycle(comparison)]
-fn cand<'a>(alloc: Global, tokens: &'a [Token]) -> Result<(ComparisonTree, &'a [Token]), Stop<'a>>
-    ensures ok { IfOk result (λ x. Found IsCand wants_cand done tokens.now (compared x.0) x.1.now) }
+fn cand<'a>(alloc: Global, tokens: &'a [Token]) -> Result<(Conjunction, &'a [Token]), Stop<'a>>
+    ensures ok { IfOk result (λ x. Found IsCand wants_cand done tokens.now (conjunction x.0) x.1.now) }
     ensures err { IfErr result (λ e. Refused IsCand wants_cand tokens.now e) }
 {
-    let (mut left, mut rest) = test(alloc, tokens)?;
+    let (first, mut rest) = test(alloc, tokens)?;
+    let mut others = Items::new(alloc);
     while let Some((_, after)) = eat(rest, Class::Only(TokenKind::And)) {
-        let (right, next) = test(alloc, after)?;
-        left = make_all(alloc, left, right)?;
-        rest = next;
+        let (next, left) = test(alloc, after)?;
+        others.push(next)?;
+        rest = left;
     }
-    Ok((left, rest))
+    Ok((Conjunction { first, others }, rest))
 }
 
 /// `cor = cand { OR cand }`
@@ -120,11 +122,12 @@ pub(crate) fn cor<'a>(
     ensures ok { IfOk result (λ x. Found IsCor wants_cor done tokens.now (compared x.0) x.1.now) }
     ensures err { IfErr result (λ e. Refused IsCor wants_cor tokens.now e) }
 {
-    let (mut left, mut rest) = cand(alloc, tokens)?;
+    let (first, mut rest) = cand(alloc, tokens)?;
+    let mut others = Items::new(alloc);
     while let Some((_, after)) = eat(rest, Class::Only(TokenKind::Or)) {
-        let (right, next) = cand(alloc, after)?;
-        left = make_any(alloc, left, right)?;
-        rest = next;
+        let (next, left) = cand(alloc, after)?;
+        others.push(next)?;
+        rest = left;
     }
-    Ok((left, rest))
+    Ok((ComparisonTree { first, others }, rest))
 }

@@ -2,6 +2,7 @@ ghost use Rattle.std.specs.Prelude.{List, IfOk, IfErr};
 ghost use Rattle.pattern_grammar.specs.Grammar.{IsPattern, IsOrs, IsAnds, IsUnit, IsStart, IsQualifier};
 ghost use Rattle.pattern_grammar.specs.Tree.{Tree, shape};
 ghost use Rattle.pattern_grammar.specs.Answer.{Misfit, Gives};
+ghost use Rattle.pattern_grammar.specs.Depth.{IsShallow};
 ghost use Rattle.pattern_grammar.specs.Machine.{wants_pattern, wants_ors, wants_ands, wants_unit, wants_start, wants_qualifier};
 ghost use Rattle.pattern_grammar.specs.Reading.{Found, Refused, Lacks, done};
 
@@ -9,6 +10,7 @@ use crate::make::{make_both, make_either, make_qualified, make_then};
 use crate::parse_comparison::cor;
 use crate::take::{eat, take};
 use crate::{Class, PatternTree, Qualifier, Stop};
+use flow_values::Items;
 use pattern_tokens::{Token, TokenKind};
 use std::alloc::Global;
 
@@ -81,13 +83,15 @@ fn ands<'a>(alloc: Global, tokens: &'a [Token]) -> Result<(PatternTree, &'a [Tok
     ensures ok { IfOk result (λ x. Found IsAnds wants_ands done tokens.now (shape x.0) x.1.now) }
     ensures err { IfErr result (λ e. Refused IsAnds wants_ands tokens.now e) }
 {
-    let (mut left, mut rest) = unit(alloc, tokens)?;
+    let (first, mut rest) = unit(alloc, tokens)?;
+    let mut others = Items::new(alloc);
     while let Some((_, after)) = eat(rest, Class::Only(TokenKind::And)) {
-        let (right, next) = unit(alloc, after)?;
-        left = make_both(alloc, left, right)?;
-        rest = next;
+        let (next, left) = unit(alloc, after)?;
+        others.push(next)?;
+        rest = left;
     }
-    Ok((left, rest))
+    let tree = make_both(alloc, first, others)?;
+    Ok((tree, rest))
 }
 
 /// `ors = ands { OR ands }`
@@ -96,13 +100,15 @@ fn ors<'a>(alloc: Global, tokens: &'a [Token]) -> Result<(PatternTree, &'a [Toke
     ensures ok { IfOk result (λ x. Found IsOrs wants_ors done tokens.now (shape x.0) x.1.now) }
     ensures err { IfErr result (λ e. Refused IsOrs wants_ors tokens.now e) }
 {
-    let (mut left, mut rest) = ands(alloc, tokens)?;
+    let (first, mut rest) = ands(alloc, tokens)?;
+    let mut others = Items::new(alloc);
     while let Some((_, after)) = eat(rest, Class::Only(TokenKind::Or)) {
-        let (right, next) = ands(alloc, after)?;
-        left = make_either(alloc, left, right)?;
-        rest = next;
+        let (next, left) = ands(alloc, after)?;
+        others.push(next)?;
+        rest = left;
     }
-    Ok((left, rest))
+    let tree = make_either(alloc, first, others)?;
+    Ok((tree, rest))
 }
 
 /// `pattern = ors { FOLLOWEDBY ors }`
@@ -111,17 +117,21 @@ fn whole<'a>(alloc: Global, tokens: &'a [Token]) -> Result<(PatternTree, &'a [To
     ensures ok { IfOk result (λ x. Found IsPattern wants_pattern done tokens.now (shape x.0) x.1.now) }
     ensures err { IfErr result (λ e. Refused IsPattern wants_pattern tokens.now e) }
 {
-    let (mut left, mut rest) = ors(alloc, tokens)?;
+    let (first, mut rest) = ors(alloc, tokens)?;
+    let mut others = Items::new(alloc);
     while let Some((_, after)) = eat(rest, Class::Only(TokenKind::FollowedBy)) {
-        let (right, next) = ors(alloc, after)?;
-        left = make_then(alloc, left, right)?;
-        rest = next;
+        let (next, left) = ors(alloc, after)?;
+        others.push(next)?;
+        rest = left;
     }
-    Ok((left, rest))
+    let tree = make_then(alloc, first, others)?;
+    Ok((tree, rest))
 }
 
-/// The syntax tree that all of the tokens spell, or the first that doesn't fit.
+/// The syntax tree that all of the tokens spell, or the first that doesn't fit. No token but the last may
+/// be one too many, so that the parser calls itself no deeper than the limits count.
 pub fn parse<'a>(alloc: Global, tokens: &'a [Token]) -> Result<PatternTree, Stop<'a>>
+    requires { IsShallow tokens.now }
     ensures ok { IfOk result (λ p. IsPattern tokens.now (shape p)) }
     ensures err { IfErr result (λ e. Misfit tokens.now e) }
     ensures only { (p : Tree) → IsPattern tokens.now p → Gives p result }

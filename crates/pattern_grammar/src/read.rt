@@ -1,7 +1,8 @@
-ghost use Rattle.std.specs.Prelude.{◌≡◌, ◌<◌, length, IfOk, IfErr, Some};
+ghost use Rattle.std.specs.Prelude.{◌≡◌, ◌<◌, ◌⊎◌, length, IfOk, IfErr, Some};
 ghost use Rattle.pattern_grammar.specs.Depth.{deep_at, at_start};
 ghost use Rattle.pattern_grammar.specs.Place.{place, IsMisread, IsTreeOf, GivesTree};
 ghost use Rattle.pattern_grammar.specs.Tree.{Tree, shape};
+ghost use Rattle.pattern_tokens.specs.declared.refusal.PatternRefusal.TheVariants as PatternRefusal;
 
 use crate::depth::first_deep;
 use crate::{PatternTree, Stop, parse};
@@ -12,7 +13,7 @@ use std::alloc::Global;
 /// TooDeep, whichever stands first.
 pub fn read_tree(alloc: Global, tokens: &[Token], end: usize) -> Result<PatternTree, PatternRefusal>
     ensures ok { IfOk result (λ tree. IsTreeOf tokens.now (shape tree)) }
-    ensures err { IfErr result (λ refusal. IsMisread tokens.now end refusal) }
+    ensures err { IfErr result (λ refusal. (refusal ≡ PatternRefusal.NoMemory) ⊎ IsMisread tokens.now end refusal) }
     ensures only { (tree : Tree) → IsTreeOf tokens.now tree → GivesTree tree result }
 {
     if let Some(before) = first_deep(tokens) {
@@ -31,7 +32,7 @@ pub fn read_tree(alloc: Global, tokens: &[Token], end: usize) -> Result<PatternT
 fn refusal_through(alloc: Global, tokens: &[Token], before: usize, end: usize) -> PatternRefusal
     requires within { before < length tokens.now }
     requires deep { deep_at at_start tokens.now ≡ Some before }
-    ensures { IsMisread tokens.now end result }
+    ensures { (result ≡ PatternRefusal.NoMemory) ⊎ IsMisread tokens.now end result }
 {
     match parse(alloc, &tokens[..before + 1]) {
         Err(Stop::Memory) => return PatternRefusal::NoMemory,

@@ -1,5 +1,6 @@
-ghost use Rattle.std.specs.Prelude.{◌≡◌, ◌<◌, ◌≤◌, ◌⊎◌, List, Result, IfOk, IfErr, length, drop};
+ghost use Rattle.std.specs.Prelude.{◌≡◌, ◌<◌, ◌≤◌, ◌⊎◌, List, Result, IfOk, IfErr, IsErrAnd, length, drop};
 ghost use Rattle.pattern_tokens.specs.declared.refusal.PatternRefusal.{PatternRefusal};
+ghost use Rattle.pattern_tokens.specs.declared.refusal.PatternRefusal.TheVariants as PatternRefusal;
 ghost use Rattle.pattern_tokens.specs.declared.token.Token.{Token};
 ghost use Rattle.pattern_lexer.specs.Reading.{TokensOf, IsFault, IsRefused, Reads, Agrees};
 ghost use Rattle.pattern_lexer.specs.Steps.{ArePassed, StandsAt};
@@ -19,6 +20,7 @@ const MAX_TEXT: usize = 65_536;
 pub fn tokens(alloc: Global, text: &str) -> Result<Items<Token>, PatternRefusal>
     ensures ok { IfOk result (TokensOf text.now) }
     ensures err { IfErr result (λ refusal. (refusal ≡ PatternRefusal.NoMemory) ⊎ IsRefused text.now refusal) }
+    ensures long { 65_536 < length text.now → IsErrAnd result (λ refusal. refusal ≡ PatternRefusal.TooLong) }
     ensures only { (other : Result (List Token) PatternRefusal) → Reads text.now other → Agrees result other }
 {
     if text.len() > MAX_TEXT {

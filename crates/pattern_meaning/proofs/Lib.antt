@@ -1,3 +1,4 @@
+mod Joins
 mod Lists
 mod Bytes
 mod Rows

@@ -64,10 +64,3 @@ mutual
   pub data AnyParts (text : List ℕ) : Comparison → Formulas → Type 0 where
     any_first : {c : Comparison} {f : Formula} → IsNoAny c → Means text c f → AnyParts text c (more f none)
     any_more : {c d : Comparison} {fs : Formulas} {f : Formula} → AnyParts text c fs → Means text d f → AnyParts text (any c d) (put fs f)
-
--- how many comparisons there are
-abbrev pub size : Comparison → ℕ
-size (test t) = 1
-size (group a c) = size c + 1
-size (all c d) = size c + size d + 1
-size (any c d) = size c + size d + 1

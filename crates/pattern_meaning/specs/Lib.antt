@@ -1,3 +1,4 @@
 pub mod Meaning
 pub mod Formula
 pub mod Meant
+pub mod Operators

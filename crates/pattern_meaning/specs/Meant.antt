@@ -42,11 +42,3 @@ pub data MeansPattern (text : List ℕ) : Tree → Meant → Type 0 where
   means_either : {p q : Tree} {m n : Meant} → MeansPattern text p m → MeansPattern text q n → MeansPattern text (either p q) (an_either m n)
   means_then : {p q : Tree} {m n : Meant} → MeansPattern text p m → MeansPattern text q n → MeansPattern text (followed p q) (a_then m n)
   means_limited : {p : Tree} {q : Qualifier} {m : Meant} {l : Limit} → MeansPattern text p m → IsLimitOf text q l → MeansPattern text (qualified p q) (a_limited m l)
-
--- how many patterns and operators there are
-abbrev pub patterns_in : Tree → ℕ
-patterns_in (leaf c) = 1
-patterns_in (both p q) = patterns_in p + patterns_in q + 1
-patterns_in (either p q) = patterns_in p + patterns_in q + 1
-patterns_in (followed p q) = patterns_in p + patterns_in q + 1
-patterns_in (qualified p q) = patterns_in p + 1

@@ -1,6 +1,7 @@
-ghost use Rattle.std.specs.Prelude.{◌≡◌, IfOk, MatchOption};
-ghost use Rattle.pattern_meaning.specs.Meant.{Meant, meant, a_both, an_either, a_then, a_limited, MeansPattern};
-ghost use Rattle.pattern_grammar.specs.Tree.{shape};
+ghost use Rattle.std.specs.Prelude.{◌≡◌, map, IfOk, MatchOption};
+ghost use Rattle.pattern_meaning.specs.Meant.{Meant, meant, a_limited, MeansPattern};
+ghost use Rattle.pattern_meaning.specs.Operators.{tree_by, meant_by};
+ghost use Rattle.pattern_grammar.specs.Tree.{Tree, joined, shape};
 
 use crate::leaves::leaf_of;
 use crate::limits::{Limit, limit_of};
@@ -9,25 +10,30 @@ use pattern_grammar::PatternTree;
 use pattern_types::Pattern;
 use std::alloc::Global;
 
-/// Both patterns.
-fn both(alloc: Global, left: Pattern, right: Pattern) -> Result<Pattern, NoMemory>
-    ensures { IfOk result (λ p. meant p ≡ a_both (meant left) (meant right)) }
-{
-    Ok(Pattern::Both(Box::new(alloc, left)?, Box::new(alloc, right)?))
+/// An operator on observations.
+#[derive(Clone, Copy)]
+enum Operator {
+    Both,
+    Either,
+    Then,
 }
 
-/// One of two patterns.
-fn either(alloc: Global, left: Pattern, right: Pattern) -> Result<Pattern, NoMemory>
-    ensures { IfOk result (λ p. meant p ≡ an_either (meant left) (meant right)) }
+/// Two patterns, joined.
+fn join(
+    alloc: Global,
+    operator: Operator,
+    left: Pattern,
+    right: Pattern,
+) -> Result<Pattern, NoMemory>
+    ensures { IfOk result (λ p. meant p ≡ meant_by operator (meant left) (meant right)) }
 {
-    Ok(Pattern::Either(Box::new(alloc, left)?, Box::new(alloc, right)?))
-}
-
-/// A pattern, and one no earlier.
-fn followed(alloc: Global, left: Pattern, right: Pattern) -> Result<Pattern, NoMemory>
-    ensures { IfOk result (λ p. meant p ≡ a_then (meant left) (meant right)) }
-{
-    Ok(Pattern::Then(Box::new(alloc, left)?, Box::new(alloc, right)?))
+    let left = Box::new(alloc, left)?;
+    let right = Box::new(alloc, right)?;
+    match operator {
+        Operator::Both => Ok(Pattern::Both(left, right)),
+        Operator::Either => Ok(Pattern::Either(left, right)),
+        Operator::Then => Ok(Pattern::Then(left, right)),
+    }
 }
 
 /// A pattern that is limited.
@@ -42,23 +48,26 @@ fn limited(alloc: Global, part: Pattern, limit: Limit) -> Result<Pattern, NoMemo
     }
 }
 
-/// What two patterns mean.
+/// What a chain of an operator means, of which the first pattern means this one.
 #[cycle(patterns)]
-fn sides_of(
+fn chain_of(
     alloc: Global,
     text: &str,
-    left: &PatternTree,
-    right: &PatternTree,
-) -> Result<Option<(Pattern, Pattern)>, NoMemory>
-    ensures { IfOk result (λ found. MatchOption found ((m n : Meant) → MeansPattern text.now (shape left.now) m → ¬ MeansPattern text.now (shape right.now) n) (λ x. MeansPattern text.now (shape left.now) (meant x.0) × MeansPattern text.now (shape right.now) (meant x.1))) }
+    operator: Operator,
+    others: &[PatternTree],
+    first: Pattern,
+) -> Result<Option<Pattern>, NoMemory>
+    ensures { IfOk result (λ found. (p : Tree) → MeansPattern text.now p (meant first)
+        → MatchOption found ((other : Meant) → ¬ MeansPattern text.now (joined (tree_by operator) p (map shape others.now)) other) (λ whole. MeansPattern text.now (joined (tree_by operator) p (map shape others.now)) (meant whole))) }
 {
-    let Some(first) = pattern_of(alloc, text, left)? else {
-        return Ok(None);
-    };
-    let Some(second) = pattern_of(alloc, text, right)? else {
-        return Ok(None);
-    };
-    Ok(Some((first, second)))
+    let mut whole = first;
+    for other in others {
+        let Some(next) = pattern_of(alloc, text, other)? else {
+            return Ok(None);
+        };
+        whole = join(alloc, operator, whole, next)?;
+    }
+    Ok(Some(whole))
 }
 
 /// What a pattern's syntax tree means.
@@ -75,16 +84,16 @@ pub fn pattern_of(
             Some(leaf) => Ok(Some(Pattern::Leaf(leaf))),
             None => Ok(None),
         },
-        PatternTree::Both(left, right) => match sides_of(alloc, text, left, right)? {
-            Some((first, second)) => Ok(Some(both(alloc, first, second)?)),
+        PatternTree::Both(first, others) => match pattern_of(alloc, text, first)? {
+            Some(first) => chain_of(alloc, text, Operator::Both, others.as_slice(), first),
             None => Ok(None),
         },
-        PatternTree::Either(left, right) => match sides_of(alloc, text, left, right)? {
-            Some((first, second)) => Ok(Some(either(alloc, first, second)?)),
+        PatternTree::Either(first, others) => match pattern_of(alloc, text, first)? {
+            Some(first) => chain_of(alloc, text, Operator::Either, others.as_slice(), first),
             None => Ok(None),
         },
-        PatternTree::Then(left, right) => match sides_of(alloc, text, left, right)? {
-            Some((first, second)) => Ok(Some(followed(alloc, first, second)?)),
+        PatternTree::Then(first, others) => match pattern_of(alloc, text, first)? {
+            Some(first) => chain_of(alloc, text, Operator::Then, others.as_slice(), first),
             None => Ok(None),
         },
         PatternTree::Qualified(inside, qualifier) => match limit_of(text, *qualifier) {

@@ -1,3 +1,4 @@
 mod Only
 mod Existing
 mod Widths
+mod OneReading

@@ -1,5 +1,5 @@
 -- A text that has a sound tree is read as it, unless memory runs out.
-use Rattle.std.proofs.Common.{◌≡◌, inl, inr, ℕ, List, Option, Some, None, Result, Ok, Err, sym, subst, ◌∙◌}
+use Rattle.std.proofs.Common.{◌≡◌, ◌≢◌, ◌⊎◌, IfErr, inl, inr, ℕ, List, Option, Some, None, Result, Ok, Err, sym, subst, ◌∙◌}
 use Rattle.pattern_tokens.specs.declared.token.Token.{Token}
 use Rattle.pattern_tokens.specs.declared.refusal.PatternRefusal.{PatternRefusal}
 use Rattle.pattern_tokens.specs.declared.refusal.PatternRefusal.TheVariants.{NoMemory}
@@ -27,3 +27,12 @@ tree_of text found slice tree e only s =
 pub not_faulty : (text : List ℕ) (read tree : Tree) (o : Option PatternRefusal) (refusal : PatternRefusal) → IsEarliestOf (FaultOf text read) o → o ≡ Some refusal → read ≡ tree → ((r : PatternRefusal) → ¬ FaultOf text tree r) → refusal ≡ NoMemory
 not_faulty text read tree None refusal h e p none = absurd (cc)
 not_faulty text read tree (Some r) refusal h e p none = absurd (none r (subst (λ (t : Tree). FaultOf text t r) p h.one))
+
+-- a refusal that is no want of memory
+pub told : {P : Type 0} (refusal : PatternRefusal) → (refusal ≡ NoMemory) ⊎ P → refusal ≢ NoMemory → P
+told refusal (inl e) named = absurd (named e)
+told refusal (inr p) named = p
+
+pub if_told : {T : Type 0} (P : PatternRefusal → Type 0) (r : Result T PatternRefusal) → IfErr r (λ refusal. (refusal ≡ NoMemory) ⊎ P refusal) → IfErr r (λ refusal. refusal ≢ NoMemory → P refusal)
+if_told P (Ok x) h = tt
+if_told P (Err refusal) h = told refusal h

@@ -1,8 +1,7 @@
 -- Which texts have a syntax tree that nothing is wrong with, and why the others are refused.
-use Rattle.std.specs.Prelude.{◌≡◌, ℕ, ◌⊎◌, List, length}
+use Rattle.std.specs.Prelude.{ℕ, ◌⊎◌, List, length}
 use Rattle.pattern_tokens.specs.declared.token.Token.{Token}
 use Rattle.pattern_tokens.specs.declared.refusal.PatternRefusal.{PatternRefusal}
-use Rattle.pattern_tokens.specs.declared.refusal.PatternRefusal.TheVariants.{NoMemory}
 use Rattle.pattern_lexer.specs.Reading.{TokensOf, IsRefused}
 use Rattle.pattern_grammar.specs.Tree.{Tree}
 use Rattle.pattern_grammar.specs.Place.{IsTreeOf, IsMisread}
@@ -32,6 +31,6 @@ pub record IsFaulty (text : List ℕ) (refusal : PatternRefusal) : Type 0 where
   pub spelled : IsSpelled text tree
   pub earliest : IsEarliest (FaultOf text tree) refusal
 
--- why a text is refused: by its tokens, by their order, by their values; or memory ran out
+-- why a text is refused: by its tokens, by their order, by their values
 abbrev pub IsUnsound : List ℕ → PatternRefusal → Type 0
-IsUnsound text refusal = (refusal ≡ NoMemory) ⊎ (IsRefused text refusal ⊎ (IsUnspelled text refusal ⊎ IsFaulty text refusal))
+IsUnsound text refusal = IsRefused text refusal ⊎ (IsUnspelled text refusal ⊎ IsFaulty text refusal)

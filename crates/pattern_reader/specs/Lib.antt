@@ -1,3 +1,4 @@
 pub mod Checked
+pub mod Brackets
 pub mod Width
 pub mod Read

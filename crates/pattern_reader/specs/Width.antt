@@ -1,20 +1,32 @@
 -- How wide a pattern is: how many observations a held thing of it can have.
 use Rattle.std.specs.Prelude.{ℕ, ◌+◌, ◌*◌, ◌<◌, ◌⊎◌, max}
-use Rattle.pattern_types.specs.declared.pattern.Pattern.{Pattern}
-use Rattle.pattern_types.specs.declared.pattern.Pattern.TheVariants.{Leaf, Both', Either', Then', Within', Between', Repeats'}
-use Rattle.pattern_types.specs.Leaves.{leaves}
+use Rattle.pattern_meaning.specs.declared.limits.Limit.{Limit}
+use Rattle.pattern_meaning.specs.declared.limits.Limit.TheVariants as limit
+use Rattle.pattern_meaning.specs.Meant.{Meant, a_leaf, a_both, an_either, a_then, a_limited}
+
+-- how many times as wide a qualifier makes a pattern
+abbrev pub times : Limit → ℕ → ℕ
+times (limit.Within seconds) width = width
+times (limit.Between begins ends) width = width
+times (limit.Repeats count) width = count * width
 
 -- a leaf is 1 wide, both sides of AND and FOLLOWEDBY are as wide as the two, one of two as the wider,
 -- and a repeated pattern so many times as wide
-abbrev pub width : Pattern → ℕ
-width (Leaf leaf) = 1
-width (Both' at left and_at right) = width left + width right
-width (Either' at left or_at right) = max (width left) (width right)
-width (Then' at left then_at right) = width left + width right
-width (Within' at part seconds) = width part
-width (Between' at part start stop) = width part
-width (Repeats' at part count) = count * width part
+abbrev pub width : Meant → ℕ
+width (a_leaf formula) = 1
+width (a_both left right) = width left + width right
+width (an_either left right) = max (width left) (width right)
+width (a_then left right) = width left + width right
+width (a_limited part limit) = times limit (width part)
+
+-- how many leaves there are
+abbrev pub leaves : Meant → ℕ
+leaves (a_leaf formula) = 1
+leaves (a_both left right) = leaves left + leaves right
+leaves (an_either left right) = leaves left + leaves right
+leaves (a_then left right) = leaves left + leaves right
+leaves (a_limited part limit) = leaves part
 
 -- TooWide: the width passes 64, or the leaves pass 1,024
-abbrev pub IsTooWide : Pattern → Type 0
+abbrev pub IsTooWide : Meant → Type 0
 IsTooWide pattern = (64 < width pattern) ⊎ (1_024 < leaves pattern)

@@ -1,11 +1,12 @@
-ghost use Rattle.std.specs.Prelude.{◌≡◌, IfOk, IfErr};
+ghost use Rattle.std.specs.Prelude.{◌≡◌, ◌<◌, ◌⊎◌, IfOk, IfErr, IsErrAnd, length};
+ghost use Rattle.pattern_tokens.specs.declared.refusal.PatternRefusal.TheVariants as PatternRefusal;
 ghost use Rattle.pattern_reader.specs.Checked.{IsSound, IsUnsound};
 ghost use Rattle.pattern_grammar.specs.Place.{GivesTree};
 ghost use Rattle.pattern_grammar.specs.Tree.{Tree, shape};
 
 use pattern_faults::pattern_fault;
-use pattern_lexer::tokens;
 use pattern_grammar::{PatternTree, read_tree};
+use pattern_lexer::tokens;
 use pattern_tokens::PatternRefusal;
 use std::alloc::Global;
 
@@ -13,7 +14,8 @@ use std::alloc::Global;
 /// refusal: of its tokens, then of their order, then of their values.
 pub fn checked_tree(alloc: Global, text: &str) -> Result<PatternTree, PatternRefusal>
     ensures ok { IfOk result (λ tree. IsSound text.now (shape tree)) }
-    ensures err { IfErr result (λ refusal. IsUnsound text.now refusal) }
+    ensures err { IfErr result (λ refusal. (refusal ≡ PatternRefusal.NoMemory) ⊎ IsUnsound text.now refusal) }
+    ensures long { 65_536 < length text.now → IsErrAnd result (λ refusal. refusal ≡ PatternRefusal.TooLong) }
     ensures only { (tree : Tree) → IsSound text.now tree → GivesTree tree result }
 {
     let found = match tokens(alloc, text) {

@@ -2,7 +2,9 @@
 //! why the text is none, with its place. `checked_tree` gives the syntax tree alone.
 #![tactic(auto)]
 
+mod brackets;
 mod checked;
+pub mod laws;
 mod read;
 mod width;
 
@@ -10,7 +12,6 @@ pub use checked::checked_tree;
 pub use pattern_tokens::PatternRefusal;
 pub use pattern_types::{Check, Constant, Leaf, Path, Pattern, Step, Test, leaf_count};
 pub use read::read_pattern;
-pub use width::is_too_wide;
 
 #[cfg(test)]
 mod tests;

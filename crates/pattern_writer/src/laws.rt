@@ -1,9 +1,11 @@
 //! What follows from the definitions: the contract is the law, and the function does nothing.
 
-ghost use Rattle.std.specs.Prelude.{◌≡◌, ◌≤◌, ℕ, List, length};
+ghost use Rattle.std.specs.Prelude.{◌≡◌, ◌<◌, ◌≤◌, ℕ, List, length};
 ghost use Rattle.pattern_meaning.specs.Meant.{Meant, meant};
+ghost use Rattle.pattern_tokens.specs.declared.refusal.PatternRefusal.{PatternRefusal};
+ghost use Rattle.pattern_tokens.specs.declared.refusal.PatternRefusal.TheVariants as PatternRefusal;
 ghost use Rattle.pattern_types.specs.declared.pattern.Pattern.{Pattern};
-ghost use Rattle.pattern_reader.specs.Read.{IsReadAs};
+ghost use Rattle.pattern_reader.specs.Read.{IsReadAs, IsRefusedAs};
 ghost use Rattle.pattern_writer.specs.Canonical.{IsCanonical};
 
 use pattern_tokens::one_meaning;
@@ -17,11 +19,14 @@ pub fn one_text()
     one_canonical_text();
 }
 
-/// The canonical text of a pattern that some text is read as is read as that pattern, unless it has more
-/// than 65,536 bytes.
+/// The canonical text of a pattern that some text is read as is read as that pattern; one of more than
+/// 65,536 bytes is refused as TooLong, and as nothing else.
 pub fn reads_back()
-    ensures { (pattern : Pattern) (text canonical : List ℕ) → IsReadAs text pattern
+    ensures back { (pattern : Pattern) (text canonical : List ℕ) → IsReadAs text pattern
         → IsCanonical (meant pattern) canonical → length canonical ≤ 65_536 → IsReadAs canonical pattern }
+    ensures long { (canonical : List ℕ) (refusal : PatternRefusal) → 65_536 < length canonical
+        → IsRefusedAs canonical refusal → refusal ≡ PatternRefusal.TooLong }
 {
     one_meaning();
+    pattern_reader::laws::only_too_long();
 }

@@ -1,6 +1,7 @@
 use Rattle.pattern_tokens.specs.declared.token.TokenKind.TheVariants.{RoundClose}
 use Rattle.pattern_grammar.specs.declared.class.Class.TheVariants.{Only}
 use Rattle.pattern_grammar.proofs.Exits.{passed, refused_at, refused_in}
+use Rattle.pattern_grammar.proofs.Joined.{joined_more}
 use Rattle.pattern_grammar.proofs.Chain.{stuck_first, stuck_later, found_first, found_later}
 use Rattle.pattern_grammar.proofs.Comparisons.{bracket_stuck, bracket_unclosed, bracket_found, test_brackets, cand_chain, cor_chain}
 use Rattle.pattern_grammar.proofs.parse_comparison.+comparison.Goals as goal
@@ -12,28 +13,28 @@ pub test-returns-in_err-rest-clause-err : goal.test-returns-in_err-rest-clause-e
 test-returns-in_err-rest-clause-err t c = passed _ _ _ c.from_residual-in_err-rest.ensures.1 (refused_at (Only RoundClose) _ _ c.in_err-rest.ensures.err (bracket_unclosed test_brackets _ c.in-Some.ensures.some c.in_ok-tree.ensures.ok))
 
 pub test-returns-in-Some-clause-ok : goal.test-returns-in-Some-clause-ok
-test-returns-in-Some-clause-ok t c = rw c.in_ok-tree-2.ensures (bracket_found test_brackets _ _ c.in-Some.ensures.some c.in_ok-tree.ensures.ok c.in_ok-rest.ensures.ok)
+test-returns-in-Some-clause-ok t c = rw c.in_ok-operand.ensures (bracket_found test_brackets _ _ c.in-Some.ensures.some c.in_ok-tree.ensures.ok c.in_ok-rest.ensures.ok)
 
-pub cand-returns-in_err-left-clause-err : goal.cand-returns-in_err-left-clause-err
-cand-returns-in_err-left-clause-err t c = passed _ _ _ c.from_residual.ensures.1 (refused_in _ c.in_err-left.ensures.err (λ r. stuck_first cand_chain))
+pub cand-returns-in_err-first-clause-err : goal.cand-returns-in_err-first-clause-err
+cand-returns-in_err-first-clause-err t c = passed _ _ _ c.from_residual.ensures.1 (refused_in _ c.in_err-first.ensures.err (λ r. stuck_first cand_chain))
 
 pub cand-loop-after-init : goal.cand-loop-after-init
-cand-loop-after-init t c = found_first cand_chain c.in_ok-left.ensures.ok
+cand-loop-after-init t c = rw c.new-others.ensures (found_first cand_chain c.in_ok-first.ensures.ok)
 
-pub cand-returns-in_err-right-clause-err : goal.cand-returns-in_err-right-clause-err
-cand-returns-in_err-right-clause-err t c = passed _ _ _ c.from_residual-in_err-right.ensures.1 (refused_in _ c.in_err-right.ensures.err (λ r. stuck_later cand_chain _ c.loop-after.invariant c.in-Some.ensures.some))
+pub cand-returns-in_err-next-clause-err : goal.cand-returns-in_err-next-clause-err
+cand-returns-in_err-next-clause-err t c = passed _ _ _ c.from_residual-in_err-next.ensures.1 (refused_in _ c.in_err-next.ensures.err (λ r. stuck_later cand_chain _ c.loop-after.invariant c.in-Some.ensures.some))
 
 pub cand-loop-after-preserved : goal.cand-loop-after-preserved
-cand-loop-after-preserved t c = rw c.in_ok-left-2.ensures (found_later cand_chain _ c.loop-after.invariant c.in-Some.ensures.some c.in_ok-right.ensures.ok)
+cand-loop-after-preserved t c = rw (c.in_ok-push.ensures.ok, joined_more) (found_later cand_chain _ c.loop-after.invariant c.in-Some.ensures.some c.in_ok-next.ensures.ok)
 
-pub cor-returns-in_err-left-clause-err : goal.cor-returns-in_err-left-clause-err
-cor-returns-in_err-left-clause-err t c = passed _ _ _ c.from_residual.ensures.1 (refused_in _ c.in_err-left.ensures.err (λ r. stuck_first cor_chain))
+pub cor-returns-in_err-first-clause-err : goal.cor-returns-in_err-first-clause-err
+cor-returns-in_err-first-clause-err t c = passed _ _ _ c.from_residual.ensures.1 (refused_in _ c.in_err-first.ensures.err (λ r. stuck_first cor_chain))
 
 pub cor-loop-after-init : goal.cor-loop-after-init
-cor-loop-after-init t c = found_first cor_chain c.in_ok-left.ensures.ok
+cor-loop-after-init t c = rw c.new-others.ensures (found_first cor_chain c.in_ok-first.ensures.ok)
 
-pub cor-returns-in_err-right-clause-err : goal.cor-returns-in_err-right-clause-err
-cor-returns-in_err-right-clause-err t c = passed _ _ _ c.from_residual-in_err-right.ensures.1 (refused_in _ c.in_err-right.ensures.err (λ r. stuck_later cor_chain _ c.loop-after.invariant c.in-Some.ensures.some))
+pub cor-returns-in_err-next-clause-err : goal.cor-returns-in_err-next-clause-err
+cor-returns-in_err-next-clause-err t c = passed _ _ _ c.from_residual-in_err-next.ensures.1 (refused_in _ c.in_err-next.ensures.err (λ r. stuck_later cor_chain _ c.loop-after.invariant c.in-Some.ensures.some))
 
 pub cor-loop-after-preserved : goal.cor-loop-after-preserved
-cor-loop-after-preserved t c = rw c.in_ok-left-2.ensures (found_later cor_chain _ c.loop-after.invariant c.in-Some.ensures.some c.in_ok-right.ensures.ok)
+cor-loop-after-preserved t c = rw (c.in_ok-push.ensures.ok, joined_more) (found_later cor_chain _ c.loop-after.invariant c.in-Some.ensures.some c.in_ok-next.ensures.ok)

@@ -1,6 +1,7 @@
 use Rattle.pattern_tokens.specs.declared.token.TokenKind.TheVariants.{RoundClose}
 use Rattle.pattern_grammar.specs.declared.class.Class.TheVariants.{Only}
 use Rattle.pattern_grammar.proofs.Exits.{passed, refused_at, refused_in}
+use Rattle.pattern_grammar.proofs.Joined.{joined_more}
 use Rattle.pattern_grammar.proofs.Chain.{stuck_first, stuck_later, stuck_further, found_first, found_later, found_further}
 use Rattle.pattern_grammar.proofs.Comparisons.{bracket_stuck, bracket_unclosed, bracket_found}
 use Rattle.pattern_grammar.proofs.Patterns.{start_brackets, unit_first, unit_stuck, unit_qualifiers, qualifier_shorter, ands_chain, ors_chain, pattern_chain}
@@ -30,38 +31,38 @@ unit-loop-tree-smaller t c = qualifier_shorter c.in_ok-limit.ensures.ok
 pub unit-loop-tree-preserved : goal.unit-loop-tree-preserved
 unit-loop-tree-preserved t c = rw c.in_ok-tree-2.ensures (found_further unit_qualifiers _ c.loop-tree.invariant c.in-Some.ensures.some c.in_ok-limit.ensures.ok)
 
-pub ands-returns-in_err-left-clause-err : goal.ands-returns-in_err-left-clause-err
-ands-returns-in_err-left-clause-err t c = passed _ _ _ c.from_residual.ensures.1 (refused_in _ c.in_err-left.ensures.err (λ r. stuck_first ands_chain))
+pub ands-returns-in_err-first-clause-err : goal.ands-returns-in_err-first-clause-err
+ands-returns-in_err-first-clause-err t c = passed _ _ _ c.from_residual.ensures.1 (refused_in _ c.in_err-first.ensures.err (λ r. stuck_first ands_chain))
 
 pub ands-loop-after-init : goal.ands-loop-after-init
-ands-loop-after-init t c = found_first ands_chain c.in_ok-left.ensures.ok
+ands-loop-after-init t c = rw c.new-others.ensures (found_first ands_chain c.in_ok-first.ensures.ok)
 
-pub ands-returns-in_err-right-clause-err : goal.ands-returns-in_err-right-clause-err
-ands-returns-in_err-right-clause-err t c = passed _ _ _ c.from_residual-in_err-right.ensures.1 (refused_in _ c.in_err-right.ensures.err (λ r. stuck_later ands_chain _ c.loop-after.invariant c.in-Some.ensures.some))
+pub ands-returns-in_err-next-clause-err : goal.ands-returns-in_err-next-clause-err
+ands-returns-in_err-next-clause-err t c = passed _ _ _ c.from_residual-in_err-next.ensures.1 (refused_in _ c.in_err-next.ensures.err (λ r. stuck_later ands_chain _ c.loop-after.invariant c.in-Some.ensures.some))
 
 pub ands-loop-after-preserved : goal.ands-loop-after-preserved
-ands-loop-after-preserved t c = rw c.in_ok-left-2.ensures (found_later ands_chain _ c.loop-after.invariant c.in-Some.ensures.some c.in_ok-right.ensures.ok)
+ands-loop-after-preserved t c = rw (c.in_ok-push.ensures.ok, joined_more) (found_later ands_chain _ c.loop-after.invariant c.in-Some.ensures.some c.in_ok-next.ensures.ok)
 
-pub ors-returns-in_err-left-clause-err : goal.ors-returns-in_err-left-clause-err
-ors-returns-in_err-left-clause-err t c = passed _ _ _ c.from_residual.ensures.1 (refused_in _ c.in_err-left.ensures.err (λ r. stuck_first ors_chain))
+pub ors-returns-in_err-first-clause-err : goal.ors-returns-in_err-first-clause-err
+ors-returns-in_err-first-clause-err t c = passed _ _ _ c.from_residual.ensures.1 (refused_in _ c.in_err-first.ensures.err (λ r. stuck_first ors_chain))
 
 pub ors-loop-after-init : goal.ors-loop-after-init
-ors-loop-after-init t c = found_first ors_chain c.in_ok-left.ensures.ok
+ors-loop-after-init t c = rw c.new-others.ensures (found_first ors_chain c.in_ok-first.ensures.ok)
 
-pub ors-returns-in_err-right-clause-err : goal.ors-returns-in_err-right-clause-err
-ors-returns-in_err-right-clause-err t c = passed _ _ _ c.from_residual-in_err-right.ensures.1 (refused_in _ c.in_err-right.ensures.err (λ r. stuck_later ors_chain _ c.loop-after.invariant c.in-Some.ensures.some))
+pub ors-returns-in_err-next-clause-err : goal.ors-returns-in_err-next-clause-err
+ors-returns-in_err-next-clause-err t c = passed _ _ _ c.from_residual-in_err-next.ensures.1 (refused_in _ c.in_err-next.ensures.err (λ r. stuck_later ors_chain _ c.loop-after.invariant c.in-Some.ensures.some))
 
 pub ors-loop-after-preserved : goal.ors-loop-after-preserved
-ors-loop-after-preserved t c = rw c.in_ok-left-2.ensures (found_later ors_chain _ c.loop-after.invariant c.in-Some.ensures.some c.in_ok-right.ensures.ok)
+ors-loop-after-preserved t c = rw (c.in_ok-push.ensures.ok, joined_more) (found_later ors_chain _ c.loop-after.invariant c.in-Some.ensures.some c.in_ok-next.ensures.ok)
 
-pub whole-returns-in_err-left-clause-err : goal.whole-returns-in_err-left-clause-err
-whole-returns-in_err-left-clause-err t c = passed _ _ _ c.from_residual.ensures.1 (refused_in _ c.in_err-left.ensures.err (λ r. stuck_first pattern_chain))
+pub whole-returns-in_err-first-clause-err : goal.whole-returns-in_err-first-clause-err
+whole-returns-in_err-first-clause-err t c = passed _ _ _ c.from_residual.ensures.1 (refused_in _ c.in_err-first.ensures.err (λ r. stuck_first pattern_chain))
 
 pub whole-loop-after-init : goal.whole-loop-after-init
-whole-loop-after-init t c = found_first pattern_chain c.in_ok-left.ensures.ok
+whole-loop-after-init t c = rw c.new-others.ensures (found_first pattern_chain c.in_ok-first.ensures.ok)
 
-pub whole-returns-in_err-right-clause-err : goal.whole-returns-in_err-right-clause-err
-whole-returns-in_err-right-clause-err t c = passed _ _ _ c.from_residual-in_err-right.ensures.1 (refused_in _ c.in_err-right.ensures.err (λ r. stuck_later pattern_chain _ c.loop-after.invariant c.in-Some.ensures.some))
+pub whole-returns-in_err-next-clause-err : goal.whole-returns-in_err-next-clause-err
+whole-returns-in_err-next-clause-err t c = passed _ _ _ c.from_residual-in_err-next.ensures.1 (refused_in _ c.in_err-next.ensures.err (λ r. stuck_later pattern_chain _ c.loop-after.invariant c.in-Some.ensures.some))
 
 pub whole-loop-after-preserved : goal.whole-loop-after-preserved
-whole-loop-after-preserved t c = rw c.in_ok-left-2.ensures (found_later pattern_chain _ c.loop-after.invariant c.in-Some.ensures.some c.in_ok-right.ensures.ok)
+whole-loop-after-preserved t c = rw (c.in_ok-push.ensures.ok, joined_more) (found_later pattern_chain _ c.loop-after.invariant c.in-Some.ensures.some c.in_ok-next.ensures.ok)

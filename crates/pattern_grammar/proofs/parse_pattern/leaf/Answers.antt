@@ -3,6 +3,7 @@ use Rattle.pattern_grammar.specs.declared.class.Class.TheVariants.{Only}
 use Rattle.pattern_grammar.proofs.Exits.{passed, refused_at, refused_in}
 use Rattle.pattern_grammar.proofs.Comparisons.{bracket_stuck, bracket_unclosed, bracket_found}
 use Rattle.pattern_grammar.proofs.Patterns.{leaf_none, leaf_brackets}
+use Rattle.pattern_grammar.proofs.Joined.{leaf_shape}
 use Rattle.pattern_grammar.proofs.parse_pattern.leaf.Goals as goal
 
 pub returns-in_err-inside-clause-err : goal.returns-in_err-inside-clause-err
@@ -15,4 +16,4 @@ pub returns-in_err-rest-clause-err : goal.returns-in_err-rest-clause-err
 returns-in_err-rest-clause-err c = passed _ _ _ c.from_residual-in_err-rest.ensures.1 (refused_at (Only SquareClose) _ _ c.in_err-rest.ensures.err (bracket_unclosed leaf_brackets _ c.in_ok-inside.ensures.ok c.in_ok-tree.ensures.ok))
 
 pub returns-clause-ok : goal.returns-clause-ok
-returns-clause-ok c = bracket_found leaf_brackets _ _ c.in_ok-inside.ensures.ok c.in_ok-tree.ensures.ok c.in_ok-rest.ensures.ok
+returns-clause-ok c = rw leaf_shape (bracket_found leaf_brackets _ _ c.in_ok-inside.ensures.ok c.in_ok-tree.ensures.ok c.in_ok-rest.ensures.ok)

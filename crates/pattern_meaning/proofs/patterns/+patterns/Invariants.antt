@@ -1,10 +1,8 @@
-use Rattle.std.proofs.Common.{◌+◌, ◌*◌}
-use Rattle.pattern_grammar.specs.Tree.{shape}
-use Rattle.pattern_meaning.specs.Meant.{patterns_in}
+use Rattle.std.proofs.Common.{map, take}
+use Rattle.pattern_grammar.specs.Tree.{Tree, joined, shape}
+use Rattle.pattern_meaning.specs.Meant.{meant, MeansPattern}
+use Rattle.pattern_meaning.specs.Operators.{tree_by}
 use Rattle.pattern_meaning.proofs.patterns.+patterns.Given as goal
 
-abbrev pub decreases-pattern_of : goal.decreases-pattern_of
-decreases-pattern_of l = 2 * patterns_in (shape l.tree.now)
-
-abbrev pub decreases-sides_of : goal.decreases-sides_of
-decreases-sides_of l = 2 * patterns_in (shape l.left.now) + 2 * patterns_in (shape l.right.now) + 1
+abbrev pub invariant-chain_of-loop-other : goal.invariant-chain_of-loop-other
+invariant-chain_of-loop-other l = (p : Tree) → MeansPattern l.text p (meant l.initial.whole) → MeansPattern l.text (joined (tree_by l.operator) p (map shape (take l.other-index l.others))) (meant l.whole)

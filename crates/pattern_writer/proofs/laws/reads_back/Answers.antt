@@ -1,5 +1,5 @@
 use Rattle.pattern_writer.proofs.Spelling.{reads_back}
 use Rattle.pattern_writer.proofs.laws.reads_back.Goals as goal
 
-pub returns : goal.returns
-returns c = reads_back c.one_meaning.ensures.moment
+pub returns-clause-back : goal.returns-clause-back
+returns-clause-back c = reads_back c.one_meaning.ensures.moment

@@ -1,0 +1,5 @@
+use Rattle.pattern_lexer.proofs.Readings.{one_reading}
+use Rattle.pattern_lexer.proofs.laws.one_reading.Goals as goal
+
+pub returns : goal.returns
+returns c = one_reading
