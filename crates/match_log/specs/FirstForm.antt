@@ -20,7 +20,7 @@ abbrev pub pattern_of : FirstForm → Pattern
 pattern_of form = pattern.Leaf (leaf.Test (record {
   path = record { kind = form.kind; steps = step.Name form.property ∷ [] };
   negated = false;
-  check = check.Equal (constant.Words form.words);
+  check = check.Equal (constant.String form.words);
 }))
 
 -- what a `Comparison` lends, as a comparison

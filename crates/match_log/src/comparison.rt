@@ -25,7 +25,7 @@ pub(crate) fn first_form(pattern: &Pattern) -> Option<Comparison<'_>>
     let Pattern::Leaf(Leaf::Test(test)) = pattern else {
         return None;
     };
-    let Check::Equal(Constant::Words(words)) = &test.check else {
+    let Check::Equal(Constant::String(words)) = &test.check else {
         return None;
     };
     let [Step::Name(property)] = test.path.steps.as_slice() else {

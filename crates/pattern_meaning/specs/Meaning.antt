@@ -44,12 +44,12 @@ pub record IsPathOf (text : List ℕ) (tree : PathTree) (path : Path) : Type 0 w
   pub steps : Each (IsStepOf text) tree.steps path.steps
 
 abbrev pub IsConstantOf : List ℕ → Token → Constant → Type 0
-IsConstantOf text token (constant.Whole whole) = (token.kind ≡ kind.Number) × At IsWholeText text token whole
-IsConstantOf text token (constant.Words words) = (token.kind ≡ kind.Words) × At IsWordsText text token words
-IsConstantOf text token (constant.Truth truth) = ((token.kind ≡ kind.TrueWord) × (truth ≡ true)) ⊎ ((token.kind ≡ kind.FalseWord) × (truth ≡ false))
-IsConstantOf text token (constant.Hexed bytes) = (token.kind ≡ kind.Hex) × At IsHexText text token bytes
-IsConstantOf text token (constant.Based bytes) = (token.kind ≡ kind.Base) × At IsBaseText text token bytes
-IsConstantOf text token (constant.Moment instant) = (token.kind ≡ kind.Time) × At IsMomentText text token instant
+IsConstantOf text token (constant.Integer whole) = (token.kind ≡ kind.Number) × At IsWholeText text token whole
+IsConstantOf text token (constant.String words) = (token.kind ≡ kind.Words) × At IsWordsText text token words
+IsConstantOf text token (constant.Boolean truth) = ((token.kind ≡ kind.TrueWord) × (truth ≡ true)) ⊎ ((token.kind ≡ kind.FalseWord) × (truth ≡ false))
+IsConstantOf text token (constant.Hex bytes) = (token.kind ≡ kind.Hex) × At IsHexText text token bytes
+IsConstantOf text token (constant.Binary bytes) = (token.kind ≡ kind.Base) × At IsBaseText text token bytes
+IsConstantOf text token (constant.Timestamp instant) = (token.kind ≡ kind.Time) × At IsMomentText text token instant
 
 -- what is asked of a value
 abbrev pub IsCheckOf : List ℕ → CheckTree → Check → Type 0

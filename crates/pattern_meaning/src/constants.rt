@@ -12,23 +12,23 @@ pub fn constant_of(alloc: Global, text: &str, token: Token) -> Result<Option<Con
     ensures { IfOk result (λ found. MatchOption found ((other : Constant) → ¬ IsConstantOf text.now token other) (IsConstantOf text.now token)) }
 {
     match token.kind {
-        TokenKind::Number => Ok(whole_at(text, token).map(|whole| Constant::Whole(whole))),
+        TokenKind::Number => Ok(whole_at(text, token).map(|whole| Constant::Integer(whole))),
         TokenKind::Time => match moment_at(text, token) {
-            Some(instant) => Ok(Some(Constant::Moment(instant))),
+            Some(instant) => Ok(Some(Constant::Timestamp(instant))),
             None => Ok(None),
         },
-        TokenKind::TrueWord => Ok(Some(Constant::Truth(true))),
-        TokenKind::FalseWord => Ok(Some(Constant::Truth(false))),
+        TokenKind::TrueWord => Ok(Some(Constant::Boolean(true))),
+        TokenKind::FalseWord => Ok(Some(Constant::Boolean(false))),
         TokenKind::Words => match words_at(alloc, text, token)? {
-            Some(words) => Ok(Some(Constant::Words(words))),
+            Some(words) => Ok(Some(Constant::String(words))),
             None => Ok(None),
         },
         TokenKind::Hex => match hex_at(alloc, text, token)? {
-            Some(bytes) => Ok(Some(Constant::Hexed(bytes))),
+            Some(bytes) => Ok(Some(Constant::Hex(bytes))),
             None => Ok(None),
         },
         TokenKind::Base => match base_at(alloc, text, token)? {
-            Some(bytes) => Ok(Some(Constant::Based(bytes))),
+            Some(bytes) => Ok(Some(Constant::Binary(bytes))),
             None => Ok(None),
         },
         _ => Ok(None),

@@ -32,8 +32,8 @@ fn is_joined(leaf: &Option<Leaf>) -> bool {
     };
     first.path.kind.as_str() == "a"
         && first.path.steps.len() == 2
-        && matches!(&first.check, Check::Equal(Constant::Whole(5)))
-        && matches!(&second.check, Check::Less(Constant::Hexed(_)))
+        && matches!(&first.check, Check::Equal(Constant::Integer(5)))
+        && matches!(&second.check, Check::Less(Constant::Hex(_)))
 }
 
 #[test]

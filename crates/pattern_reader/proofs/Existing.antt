@@ -94,13 +94,13 @@ count_or_not text t (inl (suc n, p)) = inl (suc n, record { whole = p.whole; low
 
 -- constants and names
 a_constant : (text : List ℕ) (t : Token) (k : TokenKind) → t.kind ≡ k → is_constant k ≡ true → IsSound text t → (c : constant_type.Constant) × IsConstantOf text t c
-a_constant text t kind.Number e h s = let v = valued text t kind.Number e s in (constant.Whole v.0, (e, record { cut = s.cut; is = v.1 }))
-a_constant text t kind.Words e h s = let v = valued text t kind.Words e s in (constant.Words v.0, (e, record { cut = s.cut; is = v.1 }))
-a_constant text t kind.Hex e h s = let v = valued text t kind.Hex e s in (constant.Hexed v.0, (e, record { cut = s.cut; is = v.1 }))
-a_constant text t kind.Base e h s = let v = valued text t kind.Base e s in (constant.Based v.0, (e, record { cut = s.cut; is = v.1 }))
-a_constant text t kind.Time e h s = let v = valued text t kind.Time e s in (constant.Moment v.0, (e, record { cut = s.cut; is = v.1 }))
-a_constant text t kind.TrueWord e h s = (constant.Truth true, inl (e, refl))
-a_constant text t kind.FalseWord e h s = (constant.Truth false, inr (e, refl))
+a_constant text t kind.Number e h s = let v = valued text t kind.Number e s in (constant.Integer v.0, (e, record { cut = s.cut; is = v.1 }))
+a_constant text t kind.Words e h s = let v = valued text t kind.Words e s in (constant.String v.0, (e, record { cut = s.cut; is = v.1 }))
+a_constant text t kind.Hex e h s = let v = valued text t kind.Hex e s in (constant.Hex v.0, (e, record { cut = s.cut; is = v.1 }))
+a_constant text t kind.Base e h s = let v = valued text t kind.Base e s in (constant.Binary v.0, (e, record { cut = s.cut; is = v.1 }))
+a_constant text t kind.Time e h s = let v = valued text t kind.Time e s in (constant.Timestamp v.0, (e, record { cut = s.cut; is = v.1 }))
+a_constant text t kind.TrueWord e h s = (constant.Boolean true, inl (e, refl))
+a_constant text t kind.FalseWord e h s = (constant.Boolean false, inr (e, refl))
 a_constant text t _ e h s = absurd (cc)
 
 ordered_constant : (k : TokenKind) → is_ordered k ≡ true → is_constant k ≡ true

@@ -5,16 +5,16 @@ use stix_times::Instant;
 #[derive(Debug, Drop)]
 pub enum Constant {
     /// An integer, as `5`.
-    Whole(i64),
+    Integer(i64),
     /// A text, as `'a'`: its characters without the quotes, and `'` and `\` without the backslash that
     /// is written before them.
-    Words(Text),
+    String(Text),
     /// `true` or `false`.
-    Truth(bool),
+    Boolean(bool),
     /// The bytes of a hexadecimal text, as `h'ff00'`.
-    Hexed(Items<u8>),
+    Hex(Items<u8>),
     /// The bytes of a base64 text, as `b'/w=='`.
-    Based(Items<u8>),
+    Binary(Items<u8>),
     /// A timestamp, as `t'2026-01-01T00:00:00Z'`.
-    Moment(Instant),
+    Timestamp(Instant),
 }

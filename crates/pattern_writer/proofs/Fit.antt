@@ -12,7 +12,7 @@ use Rattle.pattern_types.specs.declared.path.Step.{Step}
 use Rattle.pattern_types.specs.declared.path.Step.TheVariants as step
 use Rattle.pattern_types.specs.declared.path.Path.{Path}
 use Rattle.pattern_types.specs.declared.constant.Constant.{Constant}
-use Rattle.pattern_types.specs.declared.constant.Constant.TheVariants.{Whole, Words, Truth, Hexed, Based, Moment}
+use Rattle.pattern_types.specs.declared.constant.Constant.TheVariants.{Integer, String, Boolean, Hex, Binary, Timestamp}
 use Rattle.pattern_types.specs.declared.check.Check.{Check}
 use Rattle.pattern_types.specs.declared.check.Check.TheVariants as check
 use Rattle.pattern_types.specs.declared.leaf.Test.{Test}
@@ -43,26 +43,26 @@ pub record FitPath (path : Path) : Type 0 where
   pub steps : FitSteps path.steps
 
 abbrev pub FitConstant : Constant → Type 0
-FitConstant (Whole whole) = FitsIn64Bits whole
-FitConstant (Words words) = Unit {0}
-FitConstant (Truth truth) = Unit {0}
-FitConstant (Hexed bytes) = IsBytes bytes
-FitConstant (Based bytes) = IsBytes bytes × All (λ c. c ≢ 39) (encode_of standard bytes)
-FitConstant (Moment instant) = Unit {0}
+FitConstant (Integer whole) = FitsIn64Bits whole
+FitConstant (String words) = Unit {0}
+FitConstant (Boolean truth) = Unit {0}
+FitConstant (Hex bytes) = IsBytes bytes
+FitConstant (Binary bytes) = IsBytes bytes × All (λ c. c ≢ 39) (encode_of standard bytes)
+FitConstant (Timestamp instant) = Unit {0}
 
 -- the kind of a constant's token
 abbrev pub kind_of : Constant → TokenKind
-kind_of (Whole whole) = kind.Number
-kind_of (Words words) = kind.Words
-kind_of (Truth true) = kind.TrueWord
-kind_of (Truth false) = kind.FalseWord
-kind_of (Hexed bytes) = kind.Hex
-kind_of (Based bytes) = kind.Base
-kind_of (Moment instant) = kind.Time
+kind_of (Integer whole) = kind.Number
+kind_of (String words) = kind.Words
+kind_of (Boolean true) = kind.TrueWord
+kind_of (Boolean false) = kind.FalseWord
+kind_of (Hex bytes) = kind.Hex
+kind_of (Binary bytes) = kind.Base
+kind_of (Timestamp instant) = kind.Time
 
 -- truths have no order
 abbrev pub FitOrdered : Constant → Type 0
-FitOrdered (Truth truth) = ⊥
+FitOrdered (Boolean truth) = ⊥
 FitOrdered c = FitConstant c
 
 abbrev pub FitConstants : List Constant → Type 0

@@ -23,7 +23,7 @@ use Rattle.pattern_types.specs.declared.path.Step.{Step}
 use Rattle.pattern_types.specs.declared.path.Step.TheVariants as step
 use Rattle.pattern_types.specs.declared.path.Path.{Path}
 use Rattle.pattern_types.specs.declared.constant.Constant.{Constant}
-use Rattle.pattern_types.specs.declared.constant.Constant.TheVariants.{Whole, Words, Truth, Hexed, Based, Moment}
+use Rattle.pattern_types.specs.declared.constant.Constant.TheVariants.{Integer, String, Boolean, Hex, Binary, Timestamp}
 use Rattle.pattern_types.specs.declared.check.Check.{Check}
 use Rattle.pattern_types.specs.declared.check.Check.TheVariants as check
 use Rattle.pattern_meaning.specs.Meaning.{Each, IsStepOf, IsPathOf, IsConstantOf, IsCheckOf}
@@ -88,12 +88,12 @@ same_symbols kind.Base text symbols e h f =
 same_symbols _ text symbols e h f = absurd (cc)
 
 pub fit_constant : (whole : List ℕ) (t : Token) (c : Constant) → Lexed whole t → IsConstantOf whole t c → FitConstant c
-fit_constant whole t (Whole z) x h = h.1.is.fits
-fit_constant whole t (Words w) x h = tt
-fit_constant whole t (Truth b) x h = tt
-fit_constant whole t (Hexed bytes) x h = (decode_of-ok h.1.is.0 bytes h.1.is.2).3
-fit_constant whole t (Based bytes) x h = (h.1.is.0, same_symbols t.kind (text_at whole t) (encode_of standard bytes) h.0 x.is h.1.is.1)
-fit_constant whole t (Moment i) x h = tt
+fit_constant whole t (Integer z) x h = h.1.is.fits
+fit_constant whole t (String w) x h = tt
+fit_constant whole t (Boolean b) x h = tt
+fit_constant whole t (Hex bytes) x h = (decode_of-ok h.1.is.0 bytes h.1.is.2).3
+fit_constant whole t (Binary bytes) x h = (h.1.is.0, same_symbols t.kind (text_at whole t) (encode_of standard bytes) h.0 x.is h.1.is.1)
+fit_constant whole t (Timestamp i) x h = tt
 
 lexed_more : (whole : List ℕ) (ts : List Token) (t : Token) → AllLexed whole ts → Lexed whole t → AllLexed whole (ts ++ t ∷ [])
 lexed_more whole [] t x h = (h, tt)
@@ -134,13 +134,13 @@ no_truth : (t : Token) (k : TokenKind) → IsA Ordered t → is_in Ordered k ≡
 no_truth t k h e f = let g : is_in Ordered k ≡ true = ap (is_in Ordered) (sym f) ∙ h in let d = sym e ∙ g in cc
 
 fit_ordered : (whole : List ℕ) (t : Token) (c : Constant) → IsA Ordered t → Lexed whole t → IsConstantOf whole t c → FitOrdered c
-fit_ordered whole t (Whole z) o x h = fit_constant whole t (Whole z) x h
-fit_ordered whole t (Words w) o x h = tt
-fit_ordered whole t (Truth b) o x (inl h) = no_truth t kind.TrueWord o refl h.0
-fit_ordered whole t (Truth b) o x (inr h) = no_truth t kind.FalseWord o refl h.0
-fit_ordered whole t (Hexed bytes) o x h = fit_constant whole t (Hexed bytes) x h
-fit_ordered whole t (Based bytes) o x h = fit_constant whole t (Based bytes) x h
-fit_ordered whole t (Moment i) o x h = tt
+fit_ordered whole t (Integer z) o x h = fit_constant whole t (Integer z) x h
+fit_ordered whole t (String w) o x h = tt
+fit_ordered whole t (Boolean b) o x (inl h) = no_truth t kind.TrueWord o refl h.0
+fit_ordered whole t (Boolean b) o x (inr h) = no_truth t kind.FalseWord o refl h.0
+fit_ordered whole t (Hex bytes) o x h = fit_constant whole t (Hex bytes) x h
+fit_ordered whole t (Binary bytes) o x h = fit_constant whole t (Binary bytes) x h
+fit_ordered whole t (Timestamp i) o x h = tt
 
 -- an operator of the one class is none of the other
 no_order : (t : Token) (k : TokenKind) → IsA Equality t → is_in Equality k ≡ false → t.kind ≡ k → ⊥

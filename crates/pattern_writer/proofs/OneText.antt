@@ -7,7 +7,7 @@ use Rattle.pattern_types.specs.declared.path.Step.{Step}
 use Rattle.pattern_types.specs.declared.path.Step.TheVariants as step
 use Rattle.pattern_types.specs.declared.path.Path.{Path}
 use Rattle.pattern_types.specs.declared.constant.Constant.{Constant}
-use Rattle.pattern_types.specs.declared.constant.Constant.TheVariants.{Whole, Words, Truth, Hexed, Based, Moment}
+use Rattle.pattern_types.specs.declared.constant.Constant.TheVariants.{Integer, String, Boolean, Hex, Binary, Timestamp}
 use Rattle.pattern_types.specs.declared.check.Check.{Check}
 use Rattle.pattern_types.specs.declared.check.Check.TheVariants as check
 use Rattle.pattern_meaning.specs.Meaning.{Each}
@@ -80,12 +80,12 @@ time : OneMoment → (i : ℤ) → One (IsTimeText i)
 time u i a b h k = h.2 ∙ ap (quoted (codes "t")) (u h.0 k.0 i h.1 k.1) ∙ sym k.2
 
 constant : OneMoment → (c : Constant) → One (IsConstantText c)
-constant u (Whole z) = λ a b h k. h ∙ sym k
-constant u (Words w) = λ a b h k. h ∙ sym k
-constant u (Truth t) = λ a b h k. h ∙ sym k
-constant u (Hexed bytes) = λ a b h k. h ∙ sym k
-constant u (Based bytes) = λ a b h k. h ∙ sym k
-constant u (Moment i) = time u i
+constant u (Integer z) = λ a b h k. h ∙ sym k
+constant u (String w) = λ a b h k. h ∙ sym k
+constant u (Boolean t) = λ a b h k. h ∙ sym k
+constant u (Hex bytes) = λ a b h k. h ∙ sym k
+constant u (Binary bytes) = λ a b h k. h ∙ sym k
+constant u (Timestamp i) = time u i
 
 words : (w : List ℕ) → One (AreWords w)
 words w a b h k = h ∙ sym k

@@ -17,7 +17,7 @@ use Rattle.pattern_grammar.specs.Tree.{Comparison, test}
 use Rattle.pattern_grammar.specs.Grammar.{IsPath, AreConstants, constants_one, constants_more, IsCheck, check_equality, check_order, check_among, check_textual, IsTest, test_exists, test_not_exists, test_compare, test_not_compare}
 use Rattle.pattern_types.specs.declared.path.Path.{Path}
 use Rattle.pattern_types.specs.declared.constant.Constant.{Constant as Value}
-use Rattle.pattern_types.specs.declared.constant.Constant.TheVariants.{Whole, Words, Truth, Hexed, Based, Moment}
+use Rattle.pattern_types.specs.declared.constant.Constant.TheVariants.{Integer, String, Boolean, Hex, Binary, Timestamp}
 use Rattle.pattern_types.specs.declared.check.Check.{Check}
 use Rattle.pattern_types.specs.declared.check.Check.TheVariants as check
 use Rattle.pattern_types.specs.declared.leaf.Test.{Test}
@@ -44,29 +44,29 @@ MeansCheck c whole tree = IsCheckOf whole tree c
 
 -- every constant is one of the class
 constant_in : (c : Value) → is_in Constant (kind_of c) ≡ true
-constant_in (Whole z) = refl
-constant_in (Words w) = refl
-constant_in (Truth true) = refl
-constant_in (Truth false) = refl
-constant_in (Hexed b) = refl
-constant_in (Based b) = refl
-constant_in (Moment i) = refl
+constant_in (Integer z) = refl
+constant_in (String w) = refl
+constant_in (Boolean true) = refl
+constant_in (Boolean false) = refl
+constant_in (Hex b) = refl
+constant_in (Binary b) = refl
+constant_in (Timestamp i) = refl
 
 ordered_in : (c : Value) → FitOrdered c → is_in Ordered (kind_of c) ≡ true
-ordered_in (Whole z) h = refl
-ordered_in (Words w) h = refl
-ordered_in (Truth b) h = absurd h
-ordered_in (Hexed b) h = refl
-ordered_in (Based b) h = refl
-ordered_in (Moment i) h = refl
+ordered_in (Integer z) h = refl
+ordered_in (String w) h = refl
+ordered_in (Boolean b) h = absurd h
+ordered_in (Hex b) h = refl
+ordered_in (Binary b) h = refl
+ordered_in (Timestamp i) h = refl
 
 ordered_fit : (c : Value) → FitOrdered c → FitConstant c
-ordered_fit (Whole z) h = h
-ordered_fit (Words w) h = h
-ordered_fit (Truth b) h = absurd h
-ordered_fit (Hexed b) h = h
-ordered_fit (Based b) h = h
-ordered_fit (Moment i) h = h
+ordered_fit (Integer z) h = h
+ordered_fit (String w) h = h
+ordered_fit (Boolean b) h = absurd h
+ordered_fit (Hex b) h = h
+ordered_fit (Binary b) h = h
+ordered_fit (Timestamp i) h = h
 
 -- an operator and what follows it
 operated : (class other : Class) (k : TokenKind) (operator : List ℕ) (text : List ℕ) (IsT : List ℕ → Token → Type 0) (EndsT : List ℕ → Type 0) → Written (IsOne class) (MeansOne k operator) Stops operator → Written (IsOne other) IsT EndsT text → Written (IsPair (IsOne class) (IsOne other)) (MeanPair (MeansOne k operator) IsT) EndsT (operator ++ 32 ∷ text)

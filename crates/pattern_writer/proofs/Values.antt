@@ -16,7 +16,7 @@ use Rattle.pattern_grammar.specs.declared.class.Class.{Class}
 use Rattle.pattern_grammar.specs.declared.class.Class.TheVariants.{Name}
 use Rattle.pattern_grammar.specs.Class.{is_in}
 use Rattle.pattern_types.specs.declared.constant.Constant.{Constant}
-use Rattle.pattern_types.specs.declared.constant.Constant.TheVariants.{Whole, Words, Truth, Hexed, Based, Moment}
+use Rattle.pattern_types.specs.declared.constant.Constant.TheVariants.{Integer, String, Boolean, Hex, Binary, Timestamp}
 use Rattle.pattern_meaning.specs.Meaning.{IsNameOf, IsConstantOf}
 use Rattle.pattern_writer.specs.Path.{IsNameText}
 use Rattle.pattern_writer.specs.Constant.{IsTimeText, IsConstantText}
@@ -68,23 +68,23 @@ time class i text among h =
     (lettered class kind.Time 116 inside among (inside, record { spelled = refl; unquoted = u }) (i, moment) (record { number = λ e. cc; equal = λ e. cc; less = λ e. cc }) (omega arith) (omega arith) u))
 
 pub constant : (class : Class) (c : Constant) (text : List ℕ) → is_in class (kind_of c) ≡ true → FitConstant c → IsConstantText c text → Written (IsOne class) (λ (whole : List ℕ) (t : Token). IsConstantOf whole t c) Ends text
-constant class (Whole z) text among fit h =
-    as_text (sym h) (as_tree (IsOne class) (λ (whole : List ℕ) (t : Token). IsConstantOf whole t (Whole z)) (λ whole ts t i s. (t, i, (s.kind, at IsWholeText whole t kind.Number (signed_decimal z) z s (whole_text z fit))))
+constant class (Integer z) text among fit h =
+    as_text (sym h) (as_tree (IsOne class) (λ (whole : List ℕ) (t : Token). IsConstantOf whole t (Integer z)) (λ whole ts t i s. (t, i, (s.kind, at IsWholeText whole t kind.Number (signed_decimal z) z s (whole_text z fit))))
     (number class z (signed_decimal z) among (whole_text z fit) (whole_shape z fit)))
-constant class (Words w) text among fit h =
-    before Ends (λ after e. tt) (as_text (sym h) (as_tree (IsOne class) (λ (whole : List ℕ) (t : Token). IsConstantOf whole t (Words w)) (λ whole ts t i s. (t, i, (s.kind, at IsWordsText whole t kind.Words (words_text w) w s refl))) (words class w among)))
-constant class (Truth true) text among fit h =
-    before Ends ends_stops (as_text (sym h) (as_tree (IsOne class) (λ (whole : List ℕ) (t : Token). IsConstantOf whole t (Truth true)) (λ whole ts t i s. (t, i, inl (s.kind, refl))) (literal class kind.TrueWord (codes "true") among refl tt refl (λ e. cc))))
-constant class (Truth false) text among fit h =
-    before Ends ends_stops (as_text (sym h) (as_tree (IsOne class) (λ (whole : List ℕ) (t : Token). IsConstantOf whole t (Truth false)) (λ whole ts t i s. (t, i, inr (s.kind, refl))) (literal class kind.FalseWord (codes "false") among refl tt refl (λ e. cc))))
-constant class (Hexed bytes) text among fit h =
+constant class (String w) text among fit h =
+    before Ends (λ after e. tt) (as_text (sym h) (as_tree (IsOne class) (λ (whole : List ℕ) (t : Token). IsConstantOf whole t (String w)) (λ whole ts t i s. (t, i, (s.kind, at IsWordsText whole t kind.Words (words_text w) w s refl))) (words class w among)))
+constant class (Boolean true) text among fit h =
+    before Ends ends_stops (as_text (sym h) (as_tree (IsOne class) (λ (whole : List ℕ) (t : Token). IsConstantOf whole t (Boolean true)) (λ whole ts t i s. (t, i, inl (s.kind, refl))) (literal class kind.TrueWord (codes "true") among refl tt refl (λ e. cc))))
+constant class (Boolean false) text among fit h =
+    before Ends ends_stops (as_text (sym h) (as_tree (IsOne class) (λ (whole : List ℕ) (t : Token). IsConstantOf whole t (Boolean false)) (λ whole ts t i s. (t, i, inr (s.kind, refl))) (literal class kind.FalseWord (codes "false") among refl tt refl (λ e. cc))))
+constant class (Hex bytes) text among fit h =
     let digits = encode_lower bytes in
     let hex : IsHexText (quoted (codes "h") digits) bytes = (digits, refl, decode_of-encode_lower bytes fit) in
-    before Ends (λ after e. tt) (as_text (sym h) (as_tree (IsOne class) (λ (whole : List ℕ) (t : Token). IsConstantOf whole t (Hexed bytes)) (λ whole ts t i s. (t, i, (s.kind, at IsHexText whole t kind.Hex (quoted (codes "h") digits) bytes s hex)))
+    before Ends (λ after e. tt) (as_text (sym h) (as_tree (IsOne class) (λ (whole : List ℕ) (t : Token). IsConstantOf whole t (Hex bytes)) (λ whole ts t i s. (t, i, (s.kind, at IsHexText whole t kind.Hex (quoted (codes "h") digits) bytes s hex)))
     (lettered class kind.Hex 104 digits among (digits, record { spelled = refl; unquoted = hex_plain bytes }) (bytes, hex) (record { number = λ e. cc; equal = λ e. cc; less = λ e. cc }) (omega arith) (omega arith) (hex_plain bytes))))
-constant class (Based bytes) text among fit h =
+constant class (Binary bytes) text among fit h =
     let symbols = encode_of standard bytes in
     let base : IsBaseText (quoted (codes "b") symbols) bytes = (fit.0, refl) in
-    before Ends (λ after e. tt) (as_text (sym h) (as_tree (IsOne class) (λ (whole : List ℕ) (t : Token). IsConstantOf whole t (Based bytes)) (λ whole ts t i s. (t, i, (s.kind, at IsBaseText whole t kind.Base (quoted (codes "b") symbols) bytes s base)))
+    before Ends (λ after e. tt) (as_text (sym h) (as_tree (IsOne class) (λ (whole : List ℕ) (t : Token). IsConstantOf whole t (Binary bytes)) (λ whole ts t i s. (t, i, (s.kind, at IsBaseText whole t kind.Base (quoted (codes "b") symbols) bytes s base)))
     (lettered class kind.Base 98 symbols among (symbols, record { spelled = refl; unquoted = fit.1 }) (bytes, base) (record { number = λ e. cc; equal = λ e. cc; less = λ e. cc }) (omega arith) (omega arith) fit.1)))
-constant class (Moment i) text among fit h = before Ends (λ after e. tt) (time class i text among h)
+constant class (Timestamp i) text among fit h = before Ends (λ after e. tt) (time class i text among h)

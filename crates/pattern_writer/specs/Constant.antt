@@ -7,7 +7,7 @@ use Rattle.base64.specs.GeneralPurpose.{encode_of}
 use Rattle.stix_times.specs.Writing.{IsCanonicalTextOf}
 use Rattle.pattern_tokens.specs.Values.{quoted, IsWordsText}
 use Rattle.pattern_types.specs.declared.constant.Constant.{Constant}
-use Rattle.pattern_types.specs.declared.constant.Constant.TheVariants.{Whole, Words, Truth, Hexed, Based, Moment}
+use Rattle.pattern_types.specs.declared.constant.Constant.TheVariants.{Integer, String, Boolean, Hex, Binary, Timestamp}
 
 -- t'..', with no more digits of a second than the instant needs
 abbrev pub IsTimeText : ℤ → List ℕ → Type 0
@@ -16,9 +16,9 @@ IsTimeText instant text = (time : List ℕ) × IsCanonicalTextOf time instant ×
 -- a number has no `+`, words have a backslash before `'` and `\` alone, bytes have lower case digits
 -- or padded base64
 abbrev pub IsConstantText : Constant → List ℕ → Type 0
-IsConstantText (Whole whole) text = text ≡ signed_decimal whole
-IsConstantText (Words words) text = IsWordsText text words
-IsConstantText (Truth truth) text = text ≡ (if truth then codes "true" else codes "false")
-IsConstantText (Hexed bytes) text = text ≡ quoted (codes "h") (encode_lower bytes)
-IsConstantText (Based bytes) text = text ≡ quoted (codes "b") (encode_of standard bytes)
-IsConstantText (Moment instant) text = IsTimeText instant text
+IsConstantText (Integer whole) text = text ≡ signed_decimal whole
+IsConstantText (String words) text = IsWordsText text words
+IsConstantText (Boolean truth) text = text ≡ (if truth then codes "true" else codes "false")
+IsConstantText (Hex bytes) text = text ≡ quoted (codes "h") (encode_lower bytes)
+IsConstantText (Binary bytes) text = text ≡ quoted (codes "b") (encode_of standard bytes)
+IsConstantText (Timestamp instant) text = IsTimeText instant text

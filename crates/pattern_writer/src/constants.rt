@@ -37,7 +37,7 @@ pub(crate) fn write_time(instant: Instant, out: &mut Text) -> Result<(), NoMemor
 
 /// Writes `true` or `false`.
 fn write_truth(truth: bool, out: &mut Text) -> Result<(), NoMemory>
-    ensures { OnOk result (Adds (IsConstantText (Constant.Truth truth)) out.old out.new) }
+    ensures { OnOk result (Adds (IsConstantText (Constant.Boolean truth)) out.old out.new) }
 {
     out.push(if truth { "true" } else { "false" })
 }
@@ -67,12 +67,12 @@ pub(crate) fn write_constant(
     ensures { OnOk result (Adds (IsConstantText constant.now) out.old out.new) }
 {
     match constant {
-        Constant::Whole(whole) => out.push(itoa::Buffer::new().format(*whole)),
-        Constant::Words(words) => write_words(words.as_str(), out),
-        Constant::Truth(truth) => write_truth(*truth, out),
-        Constant::Hexed(bytes) => write_hex(alloc, bytes.as_slice(), out),
-        Constant::Based(bytes) => write_base(alloc, bytes.as_slice(), out),
-        Constant::Moment(instant) => write_time(*instant, out),
+        Constant::Integer(whole) => out.push(itoa::Buffer::new().format(*whole)),
+        Constant::String(words) => write_words(words.as_str(), out),
+        Constant::Boolean(truth) => write_truth(*truth, out),
+        Constant::Hex(bytes) => write_hex(alloc, bytes.as_slice(), out),
+        Constant::Binary(bytes) => write_base(alloc, bytes.as_slice(), out),
+        Constant::Timestamp(instant) => write_time(*instant, out),
     }
 }
 

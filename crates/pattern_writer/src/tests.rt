@@ -18,9 +18,9 @@ fn constants(alloc: Global) -> Result<Items<Constant>, NoMemory> {
     let mut bytes = Vec::new(alloc);
     bytes.push(255u8)?;
     let mut values = Items::new(alloc);
-    values.push(Constant::Whole(-5))?;
-    values.push(Constant::Truth(true))?;
-    values.push(Constant::Hexed(Items::from_vec(bytes)))?;
+    values.push(Constant::Integer(-5))?;
+    values.push(Constant::Boolean(true))?;
+    values.push(Constant::Hex(Items::from_vec(bytes)))?;
     Ok(values)
 }
 
