@@ -2,6 +2,7 @@ ghost use Rattle.std.specs.Prelude.{◌≡◌, ◌≢◌, IfOk};
 ghost use Rattle.stix_json.specs.declared.refusal.JsonRefusal.TheVariants as json_refusal;
 ghost use Rattle.stix_bundles.specs.Objects.{data_in};
 ghost use Rattle.stix_json.specs.DataOf.{data_of};
+ghost use Rattle.stix_json.specs.Ordered.{IsOrdered};
 ghost use Rattle.stix_json.specs.Reading.{IsJsonRefusedAs};
 ghost use Rattle.stix_command.specs.Verdicts.{IsJudged, IsBundleJudged, AreJudged};
 
@@ -40,6 +41,7 @@ fn refuse(refusal: JsonRefusal) -> Result<Verdict, NoMemory>
 
 /// What a value is, as a bundle.
 fn judge_value(alloc: Global, value: Json) -> Result<Verdict, NoMemory>
+    requires { IsOrdered (data_of value) }
     ensures { IfOk result (IsBundleJudged (data_of value)) }
 {
     match read_bundle(alloc, value) {
