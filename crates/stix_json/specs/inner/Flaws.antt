@@ -1,5 +1,5 @@
 -- For private clauses: the first flaw of a value and the first value past the last level, by recursion. The lemmas of
--- proofs/Walks.antt say that these are the first in walk order.
+-- proofs/WalkLemmas.antt say that these are the first in walk order.
 use Rattle.std.specs.Prelude.{◌≡◌, ⊤, ℕ, zero, suc, ◌+◌, List, [], ◌∷◌, ◌++◌, nat_le, if◌then◌else◌, ℤ, unsigned_abs, Option, Some, None, option_map}
 use Rattle.std.specs.Option.{option_or}
 use Rattle.serde_json.specs.Data.{Num, Data, null, boolean, number, string, array, object, Items, no_items, item, Members, no_members, member}
