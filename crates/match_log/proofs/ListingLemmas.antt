@@ -3,7 +3,7 @@ use Rattle.std.proofs.Common.{◌≡◌, ℕ, ◌+◌, List, [], ◌∷◌, ◌+
 use Rattle.std.proofs.lemmas.List.{append-nil}
 use Rattle.std.specs.List.{flat_map}
 use Rattle.std.proofs.lemmas.Grind.{flat_map-append}
-use Rattle.match_log.specs.Listing.{FirstEntry, holding_from, holding, line_text, listing_text, last_or_zero}
+use Rattle.match_log.specs.Listing.{FirstEntry, holding_from, holding, binding_text, listing_text, last_or_zero}
 use Rattle.match_log.specs.inner.Tally.{last_time, entry_text}
 
 -- the number of a row, if it holds
@@ -27,12 +27,12 @@ holding-append rows row = holding_from-append 1 rows row ∙ ap (λ k. holding r
 
 pub listing_text-append : (rows : List FirstEntry) (row : FirstEntry) → listing_text (rows ++ row ∷ []) ≡ listing_text rows ++ entry_text (length rows + 1) row
 listing_text-append rows row =
-    ap (flat_map line_text) (holding-append rows row)
-    ∙ flat_map-append line_text (holding rows) (number_of (length rows + 1) row)
+    ap (flat_map binding_text) (holding-append rows row)
+    ∙ flat_map-append binding_text (holding rows) (number_of (length rows + 1) row)
     ∙ ap (λ text. listing_text rows ++ text) (go row.holds)
   where
-    go : (holds : Bool) → flat_map line_text (if holds then (length rows + 1) ∷ [] else []) ≡ (if holds then line_text (length rows + 1) else [])
-    go true = append-nil (line_text (length rows + 1))
+    go : (holds : Bool) → flat_map binding_text (if holds then (length rows + 1) ∷ [] else []) ≡ (if holds then binding_text (length rows + 1) else [])
+    go true = append-nil (binding_text (length rows + 1))
     go false = refl
 
 pub last_or_zero-append : (ns : List ℕ) (n : ℕ) → last_or_zero (ns ++ n ∷ []) ≡ n

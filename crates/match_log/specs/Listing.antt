@@ -17,11 +17,11 @@ abbrev pub holding : List FirstEntry → List ℕ
 holding rows = holding_from 1 rows
 
 -- n: n
-abbrev pub line_text : ℕ → List ℕ
-line_text n = decimal n ++ (codes ": " ++ (decimal n ++ codes "\n"))
+abbrev pub binding_text : ℕ → List ℕ
+binding_text n = decimal n ++ (codes ": " ++ (decimal n ++ codes "\n"))
 
 abbrev pub listing_text : List FirstEntry → List ℕ
-listing_text rows = flat_map line_text (holding rows)
+listing_text rows = flat_map binding_text (holding rows)
 
 -- the last of some numbers, or 0
 abbrev pub last_or_zero : List ℕ → ℕ

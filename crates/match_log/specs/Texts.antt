@@ -47,8 +47,8 @@ rule_text (Bundle refusal) = bundle_text refusal
 abbrev pub line_of_text : List ℕ → List ℕ → List ℕ
 line_of_text number what = codes "line " ++ (number ++ (codes " refused: " ++ (what ++ codes "\n")))
 
-abbrev pub line_text : ℕ → List ℕ → List ℕ
-line_text line what = line_of_text (decimal line) what
+abbrev pub refused_line_text : ℕ → List ℕ → List ℕ
+refused_line_text line what = line_of_text (decimal line) what
 
 abbrev pub input_refusal_text : ℕ → InputRule → List ℕ
-input_refusal_text line rule = line_text line (rule_text rule)
+input_refusal_text line rule = refused_line_text line (rule_text rule)

@@ -3,7 +3,7 @@ ghost use Rattle.serde_json.specs.Data.{Data};
 ghost use Rattle.flow_edges.specs.Faults.{Rose};
 ghost use Rattle.flow_edges.specs.Flow.{written_with};
 ghost use Rattle.match_log.specs.FirstForm.{form_of};
-ghost use Rattle.match_log.specs.Listing.{line_text};
+ghost use Rattle.match_log.specs.Listing.{binding_text};
 ghost use Rattle.match_log.specs.Reading.{IsInOrder, IsNext};
 ghost use Rattle.match_log.specs.Matching.{IsEntryOf};
 
@@ -49,7 +49,7 @@ pub(crate) fn write_binding<O: Sink>(
     number: u64,
     output: &mut O,
 ) -> Result<(), MatchEnd>
-    ensures ok { OnOk result (O.written output.new ≡ written_with (line_text number) (O.written output.old)) }
+    ensures ok { OnOk result (O.written output.new ≡ written_with (binding_text number) (O.written output.old)) }
     ensures failed { result ≡ Err MatchEnd.WriteFault → Rose (O.faults output.old) (O.faults output.new) }
     ensures end { IfErr result (λ end. (end ≡ MatchEnd.WriteFault) ⊎ (end ≡ MatchEnd.NoMemory)) }
     ensures quiet { result ≢ Err MatchEnd.WriteFault → O.faults output.new ≡ O.faults output.old }

@@ -2,7 +2,7 @@ ghost use Rattle.std.specs.Prelude.{◌≡◌, ◌++◌};
 ghost use Rattle.flow_edges.specs.Faults.{Causes};
 ghost use Rattle.flow_edges.specs.Flow.{WritesWhole};
 ghost use Rattle.match_log.specs.inner.Reason.{broken_words, reason_text, path_lead};
-ghost use Rattle.match_log.specs.Texts.{at_path, line_text, line_of_text, input_refusal_text};
+ghost use Rattle.match_log.specs.Texts.{at_path, refused_line_text, line_of_text, input_refusal_text};
 
 use crate::InputRule;
 use crate::reason::Reason;
@@ -20,7 +20,7 @@ pub fn write_input_refusal<S: Sink>(line: u64, rule: &InputRule, sink: &mut S) -
 }
 
 fn write_reason<S: Sink>(line: u64, said: Reason<'_>, sink: &mut S) -> Result<(), Fault>
-    ensures text { WritesWhole (line_text line (reason_text said.entry)) (S.written sink.old) (S.written sink.new) result }
+    ensures text { WritesWhole (refused_line_text line (reason_text said.entry)) (S.written sink.old) (S.written sink.new) result }
     ensures causes { Causes (S.faults sink.old) (S.faults sink.new) result }
 {
     let mut buffer = Buffer::new();

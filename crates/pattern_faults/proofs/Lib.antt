@@ -1,6 +1,6 @@
-mod Earliest
-mod Meanings
-mod Parts
-mod Chains
-mod Joins
-mod RootSets
+mod EarliestLemmas
+mod TokenValueLemmas
+mod RefusalOfLemmas
+mod ChainLemmas
+mod OperatorLemmas
+mod RootSetLemmas

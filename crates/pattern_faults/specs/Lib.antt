@@ -1,4 +1,4 @@
 pub mod Order
-pub mod Faults
+pub mod Refusals
 pub mod Roots
-pub mod Judged
+pub mod inner

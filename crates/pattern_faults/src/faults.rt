@@ -1,7 +1,7 @@
 ghost use Rattle.std.specs.Prelude.{◌↔◌, [], ◌∷◌, IsTrue};
 ghost use Rattle.pattern_faults.specs.Order.{IsEarliestOf};
 ghost use Rattle.pattern_tokens.specs.Numbers.{IsCount};
-ghost use Rattle.pattern_faults.specs.Faults.{IsBadCount, IsSpan, IsEmptySpan, FaultOfSteps, IsLongPath, FaultOfPath, FaultOfQualifier};
+ghost use Rattle.pattern_faults.specs.Refusals.{IsBadCount, IsSpan, IsEmptySpan, RefusalOfSteps, IsLongPath, RefusalOfPath, RefusalOfQualifier};
 
 use crate::order::earlier_of;
 use pattern_grammar::{PathTree, Qualifier, StepTree};
@@ -50,7 +50,7 @@ fn span_fault(text: &str, start: Token, from: Token, to: Token) -> Option<Patter
 
 /// Whether a qualifier is refused.
 pub(crate) fn qualifier_fault(text: &str, qualifier: Qualifier) -> Option<PatternRefusal>
-    ensures { IsEarliestOf (FaultOfQualifier text.now qualifier) result }
+    ensures { IsEarliestOf (RefusalOfQualifier text.now qualifier) result }
 {
     match qualifier {
         Qualifier::Within(number) => count_fault(text, number),
@@ -61,7 +61,7 @@ pub(crate) fn qualifier_fault(text: &str, qualifier: Qualifier) -> Option<Patter
 
 /// Whether a step of a path is refused.
 fn step_fault(text: &str, step: StepTree) -> Option<PatternRefusal>
-    ensures { IsEarliestOf (FaultOfSteps text.now (step ∷ [])) result }
+    ensures { IsEarliestOf (RefusalOfSteps text.now (step ∷ [])) result }
 {
     match step {
         StepTree::Index(index) if index.kind == TokenKind::Number => match place_at(text, index) {
@@ -74,7 +74,7 @@ fn step_fault(text: &str, step: StepTree) -> Option<PatternRefusal>
 
 /// The first step of a path that is refused.
 fn steps_fault(text: &str, steps: &[StepTree]) -> Option<PatternRefusal>
-    ensures { IsEarliestOf (FaultOfSteps text.now steps.now) result }
+    ensures { IsEarliestOf (RefusalOfSteps text.now steps.now) result }
 {
     let mut found = None;
     for step in steps {
@@ -96,7 +96,7 @@ fn length_fault(path: &PathTree) -> Option<PatternRefusal>
 
 /// The first refusal of a path.
 pub(crate) fn path_fault(text: &str, path: &PathTree) -> Option<PatternRefusal>
-    ensures { IsEarliestOf (FaultOfPath text.now path.now) result }
+    ensures { IsEarliestOf (RefusalOfPath text.now path.now) result }
 {
     earlier_of(length_fault(path), steps_fault(text, path.steps.as_slice()))
 }

@@ -1,8 +1,8 @@
 ghost use Rattle.std.specs.Prelude.{◌≡◌, ◌↔◌, List, ℕ, IfOk};
-ghost use Rattle.pattern_faults.specs.Faults.{HasRoot, first_of, IsRootless};
+ghost use Rattle.pattern_faults.specs.Refusals.{HasRoot, first_of, IsRootless};
 ghost use Rattle.pattern_faults.specs.Order.{IsEarliestOf};
 ghost use Rattle.pattern_faults.specs.Roots.{Has};
-ghost use Rattle.pattern_faults.specs.Judged.{IsJudged};
+ghost use Rattle.pattern_faults.specs.inner.Judgement.{IsJudged};
 ghost use Rattle.pattern_grammar.specs.Tree.{Comparison, test, all, any, compared, conjunction, operand};
 
 use crate::order::earlier_of;

@@ -1,7 +1,7 @@
 ghost use Rattle.std.specs.Prelude.{map, IfOk};
 ghost use Rattle.pattern_faults.specs.Order.{IsEarliestOf};
-ghost use Rattle.pattern_faults.specs.Faults.{FaultOf};
-ghost use Rattle.pattern_faults.specs.Judged.{IsJoin};
+ghost use Rattle.pattern_faults.specs.Refusals.{RefusalOf};
+ghost use Rattle.pattern_faults.specs.inner.Judgement.{IsJoin};
 ghost use Rattle.pattern_grammar.specs.Tree.{Tree, joined, shape};
 
 use crate::faults::qualifier_fault;
@@ -20,12 +20,12 @@ fn chain_fault(
     first: Option<PatternRefusal>,
     others: &[PatternTree],
 ) -> Result<Option<PatternRefusal>, NoMemory>
-    ensures { IfOk result (λ found. (join : Tree → Tree → Tree) (p : Tree) → IsJoin join → IsEarliestOf (FaultOf text.now p) first
-        → IsEarliestOf (FaultOf text.now (joined join p (map shape others.now))) found) }
+    ensures { IfOk result (λ found. (join : Tree → Tree → Tree) (p : Tree) → IsJoin join → IsEarliestOf (RefusalOf text.now p) first
+        → IsEarliestOf (RefusalOf text.now (joined join p (map shape others.now))) found) }
 {
     let mut found = first;
     for other in others {
-        let next = pattern_fault(alloc, text, other)?;
+        let next = first_refusal(alloc, text, other)?;
         found = earlier_of(found, next);
     }
     Ok(found)
@@ -34,12 +34,12 @@ fn chain_fault(
 /// The first refusal of a pattern by the values of its tokens: BadCount, LongPath, BadAddress, EmptySpan
 /// or NoCommonRoot, by place; `None` where no value is refused.
 #[cycle(patterns)]
-pub fn pattern_fault(
+pub fn first_refusal(
     alloc: Global,
     text: &str,
     tree: &PatternTree,
 ) -> Result<Option<PatternRefusal>, NoMemory>
-    ensures { IfOk result (λ found. IsEarliestOf (FaultOf text.now (shape tree.now)) found) }
+    ensures { IfOk result (λ found. IsEarliestOf (RefusalOf text.now (shape tree.now)) found) }
 {
     match tree {
         PatternTree::Leaf(inside) => {
@@ -49,11 +49,11 @@ pub fn pattern_fault(
         PatternTree::Both(first, others)
         | PatternTree::Either(first, others)
         | PatternTree::Then(first, others) => {
-            let of_first = pattern_fault(alloc, text, first)?;
+            let of_first = first_refusal(alloc, text, first)?;
             chain_fault(alloc, text, of_first, others.as_slice())
         }
         PatternTree::Qualified(inside, qualifier) => {
-            let of_inside = pattern_fault(alloc, text, inside)?;
+            let of_inside = first_refusal(alloc, text, inside)?;
             let of_qualifier = qualifier_fault(text, *qualifier);
             Ok(earlier_of(of_inside, of_qualifier))
         }

@@ -1,6 +1,6 @@
 ghost use Rattle.std.specs.Prelude.{◌↔◌, IsTrue, IfOk};
 ghost use Rattle.pattern_faults.specs.Order.{IsEarliestOf};
-ghost use Rattle.pattern_faults.specs.Faults.{IsAddress, FaultOfCheck, FaultOfTest};
+ghost use Rattle.pattern_faults.specs.Refusals.{IsAddress, RefusalOfCheck, RefusalOfTest};
 
 use crate::faults::path_fault;
 use crate::order::earlier_of;
@@ -27,7 +27,7 @@ fn check_fault(
     text: &str,
     check: &CheckTree,
 ) -> Result<Option<PatternRefusal>, NoMemory>
-    ensures { IfOk result (λ found. IsEarliestOf (FaultOfCheck text.now check.now) found) }
+    ensures { IfOk result (λ found. IsEarliestOf (RefusalOfCheck text.now check.now) found) }
 {
     let CheckTree::Textual { operator, words } = check else {
         return Ok(None);
@@ -48,7 +48,7 @@ pub(crate) fn test_fault(
     text: &str,
     test: &TestTree,
 ) -> Result<Option<PatternRefusal>, NoMemory>
-    ensures { IfOk result (λ found. IsEarliestOf (FaultOfTest text.now test.now) found) }
+    ensures { IfOk result (λ found. IsEarliestOf (RefusalOfTest text.now test.now) found) }
 {
     let of_path = path_fault(text, &test.path);
     let of_check = check_fault(alloc, text, &test.check)?;

@@ -1,4 +1,4 @@
-use crate::pattern_fault;
+use crate::first_refusal;
 use flow_values::{Items, NoMemory};
 use pattern_grammar::read_tree;
 use pattern_tokens::TokenKind::{
@@ -42,7 +42,7 @@ fn refuses_a_count(rt: HostRuntime) -> Result<(), Fail> {
     )?;
     match read_tree(alloc, tokens.as_slice(), text.len()) {
         Ok(tree) => {
-            let found = pattern_fault(alloc, text, &tree)?;
+            let found = first_refusal(alloc, text, &tree)?;
             assert_eq!(rt; found, Some(PatternRefusal::BadCount { at: 17 }));
         }
         Err(_) => assert!(rt; false, "no tree"),

@@ -6,7 +6,7 @@ use Rattle.pattern_grammar.specs.declared.stop.Stop.TheVariants.{Memory, Syntax}
 use Rattle.pattern_grammar.specs.declared.pattern.PatternTree.{PatternTree}
 use Rattle.pattern_grammar.specs.Tree.{Tree, shape}
 use Rattle.pattern_grammar.specs.Grammar.{IsPattern}
-use Rattle.pattern_grammar.specs.Reading.{Front}
+use Rattle.pattern_grammar.specs.inner.Reading.{Front}
 use Rattle.pattern_grammar.specs.Fronts.{FrontOf, line, pattern}
 
 -- the tokens begin a pattern: they are a front of its line

@@ -4,30 +4,30 @@ use Rattle.std.specs.Prelude.{List, [], ◌∷◌, ◌++◌}
 use Rattle.pattern_tokens.specs.declared.token.Token.{Token}
 use Rattle.pattern_tokens.specs.declared.token.TokenKind.{TokenKind}
 use Rattle.pattern_tokens.specs.declared.token.TokenKind.TheVariants.{SquareOpen, SquareClose, RoundOpen, RoundClose, Dot, Colon, Comma, And, Or, Not, FollowedBy, Within, Seconds, Repeats, Times, Start, Stop, Among, Exists, Number, Words, Time}
-use Rattle.pattern_grammar.specs.declared.class.Class.{Class}
-use Rattle.pattern_grammar.specs.declared.class.Class.TheVariants.{Only, Root, Name, Index, Equality, Order, Textual, Ordered, Constant}
-use Rattle.pattern_grammar.specs.Class.{IsA}
+use Rattle.pattern_grammar.specs.declared.class.TokenClass.{TokenClass}
+use Rattle.pattern_grammar.specs.declared.class.TokenClass.TheVariants.{Only, Root, Name, Index, Equality, Order, Textual, Ordered, Constant}
+use Rattle.pattern_grammar.specs.TokenClass.{IsA}
 
 -- the names of the lines
-pub data Line : Type 0 where
-  pattern : Line
-  ors : Line
-  ands : Line
-  unit : Line
-  qualifier : Line
-  cor : Line
-  cand : Line
-  test : Line
-  compare : Line
-  path : Line
+pub data GrammarLine : Type 0 where
+  pattern : GrammarLine
+  ors : GrammarLine
+  ands : GrammarLine
+  unit : GrammarLine
+  qualifier : GrammarLine
+  cor : GrammarLine
+  cand : GrammarLine
+  test : GrammarLine
+  compare : GrammarLine
+  path : GrammarLine
 
 infixr 20 ◌then◌
 infixr 10 ◌or◌
 -- what stands in a line: a token of a class, another line, one part after another, a choice, a part
 -- that is repeated, a part that may be absent
 pub data Part : Type 0 where
-  one : Class → Part
-  line : Line → Part
+  one : TokenClass → Part
+  line : GrammarLine → Part
   ◌then◌ : Part → Part → Part
   ◌or◌ : Part → Part → Part
   many : Part → Part
@@ -37,7 +37,7 @@ pub data Part : Type 0 where
 abbrev pub token : TokenKind → Part
 token kind = one (Only kind)
 
-abbrev pub rule : Line → Part
+abbrev pub rule : GrammarLine → Part
 rule pattern = line ors then many (token FollowedBy then line ors)
 rule ors = line ands then many (token Or then line ands)
 rule ands = line unit then many (token And then line unit)
@@ -61,8 +61,8 @@ rule path = one Root then token Colon then one Name then many ((token Dot then o
 
 -- the tokens are derived from the part
 pub data Derives : Part → List Token → Type 0 where
-  is_one : {class : Class} (t : Token) → IsA class t → Derives (one class) (t ∷ [])
-  is_line : {l : Line} {ts : List Token} → Derives (rule l) ts → Derives (line l) ts
+  is_one : {class : TokenClass} (t : Token) → IsA class t → Derives (one class) (t ∷ [])
+  is_line : {l : GrammarLine} {ts : List Token} → Derives (rule l) ts → Derives (line l) ts
   is_both : {a b : Part} {ts us : List Token} → Derives a ts → Derives b us → Derives (a then b) (ts ++ us)
   is_left : {a b : Part} {ts : List Token} → Derives a ts → Derives (a or b) ts
   is_right : {a b : Part} {ts : List Token} → Derives b ts → Derives (a or b) ts
@@ -74,9 +74,9 @@ pub data Derives : Part → List Token → Type 0 where
 -- the tokens are a front of the part
 pub data FrontOf : Part → List Token → Type 0 where
   -- of a token: nothing, or the token
-  before_one : {class : Class} → FrontOf (one class) []
-  after_one : {class : Class} (t : Token) → IsA class t → FrontOf (one class) (t ∷ [])
-  of_line : {l : Line} {ts : List Token} → FrontOf (rule l) ts → FrontOf (line l) ts
+  before_one : {class : TokenClass} → FrontOf (one class) []
+  after_one : {class : TokenClass} (t : Token) → IsA class t → FrontOf (one class) (t ∷ [])
+  of_line : {l : GrammarLine} {ts : List Token} → FrontOf (rule l) ts → FrontOf (line l) ts
   -- of parts in sequence: a front of the first, or the first and a front of what follows it
   in_first : {a b : Part} {ts : List Token} → FrontOf a ts → FrontOf (a then b) ts
   in_second : {a b : Part} {ts us : List Token} → Derives a ts → FrontOf b us → FrontOf (a then b) (ts ++ us)

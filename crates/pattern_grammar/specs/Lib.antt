@@ -1,9 +1,8 @@
-pub mod Class
+pub mod TokenClass
 pub mod Tree
 pub mod Grammar
-pub mod Machine
-pub mod Reading
 pub mod Fronts
 pub mod Answer
 pub mod Depth
 pub mod Place
+pub mod inner

@@ -1,11 +1,11 @@
 ghost use Rattle.std.specs.Prelude.{◌≡◌};
-ghost use Rattle.pattern_grammar.specs.Class.{is_in};
+ghost use Rattle.pattern_grammar.specs.TokenClass.{is_in};
 
 use pattern_tokens::TokenKind;
 
 /// The kinds of tokens that may stand at a place of the grammar.
 #[derive(Clone, Copy, Debug, PartialEq, Eq)]
-pub enum Class {
+pub enum TokenClass {
     /// This one.
     Only(TokenKind),
     /// A type of object: Word, HyphenWord.
@@ -30,31 +30,31 @@ pub enum Class {
     Stepping,
 }
 
-impl Class {
+impl TokenClass {
     /// Whether a token of the kind is of the class.
     pub fn holds(self, kind: TokenKind) -> bool
         ensures { result ≡ is_in self kind }
     {
         match self {
-            Class::Only(wanted) => kind == wanted,
-            Class::Root => matches!(kind, TokenKind::Word | TokenKind::HyphenWord),
-            Class::Name => matches!(kind, TokenKind::Word | TokenKind::Words),
-            Class::Index => matches!(kind, TokenKind::Number | TokenKind::Star),
-            Class::Equality => matches!(kind, TokenKind::Equal | TokenKind::Differ),
-            Class::Order => matches!(
+            TokenClass::Only(wanted) => kind == wanted,
+            TokenClass::Root => matches!(kind, TokenKind::Word | TokenKind::HyphenWord),
+            TokenClass::Name => matches!(kind, TokenKind::Word | TokenKind::Words),
+            TokenClass::Index => matches!(kind, TokenKind::Number | TokenKind::Star),
+            TokenClass::Equality => matches!(kind, TokenKind::Equal | TokenKind::Differ),
+            TokenClass::Order => matches!(
                 kind,
                 TokenKind::Less
                     | TokenKind::LessEqual
                     | TokenKind::Greater
                     | TokenKind::GreaterEqual
             ),
-            Class::Textual => {
+            TokenClass::Textual => {
                 matches!(
                     kind,
                     TokenKind::Like | TokenKind::Subset | TokenKind::Superset
                 )
             }
-            Class::Ordered => matches!(
+            TokenClass::Ordered => matches!(
                 kind,
                 TokenKind::Number
                     | TokenKind::Words
@@ -62,7 +62,7 @@ impl Class {
                     | TokenKind::Base
                     | TokenKind::Time
             ),
-            Class::Constant => matches!(
+            TokenClass::Constant => matches!(
                 kind,
                 TokenKind::Number
                     | TokenKind::Words
@@ -72,13 +72,13 @@ impl Class {
                     | TokenKind::TrueWord
                     | TokenKind::FalseWord
             ),
-            Class::Qualifying => {
+            TokenClass::Qualifying => {
                 matches!(
                     kind,
                     TokenKind::Within | TokenKind::Repeats | TokenKind::Start
                 )
             }
-            Class::Stepping => matches!(kind, TokenKind::Dot | TokenKind::SquareOpen),
+            TokenClass::Stepping => matches!(kind, TokenKind::Dot | TokenKind::SquareOpen),
         }
     }
 }

@@ -19,7 +19,7 @@ mod read;
 mod stop;
 mod take;
 
-pub use class::Class;
+pub use class::TokenClass;
 pub use comparison::{CheckTree, ComparisonTree, Conjunction, Operand, TestTree};
 pub use laws::{fronts, one_language, one_pattern};
 pub use parse_pattern::parse;

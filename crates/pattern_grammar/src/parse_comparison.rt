@@ -1,14 +1,14 @@
 ghost use Rattle.std.specs.Prelude.{IfOk, IfErr};
 ghost use Rattle.pattern_grammar.specs.Grammar.{IsTest, IsCand, IsCor};
 ghost use Rattle.pattern_grammar.specs.Tree.{compared, conjunction, operand, test};
-ghost use Rattle.pattern_grammar.specs.Machine.{wants_test, wants_cand, wants_cor};
-ghost use Rattle.pattern_grammar.specs.Reading.{Found, Refused, Lacks, LacksTestWord, done};
+ghost use Rattle.pattern_grammar.specs.inner.Machine.{wants_test, wants_cand, wants_cor};
+ghost use Rattle.pattern_grammar.specs.inner.Reading.{Found, Refused, Lacks, LacksTestWord, done};
 
 use crate::make::make_group;
 use crate::parse_check::check;
 use crate::parse_path::path;
 use crate::take::{eat, take};
-use crate::{CheckTree, Class, ComparisonTree, Conjunction, Operand, Stop, TestTree};
+use crate::{CheckTree, ComparisonTree, Conjunction, Operand, Stop, TestTree, TokenClass};
 use flow_values::Items;
 use pattern_tokens::{Token, TokenKind};
 use std::alloc::Global;
@@ -23,7 +23,7 @@ fn compared_test<'a>(
     ensures err { IfErr result (λ e. Refused IsTest wants_test tokens.now e) }
 {
     let (path, rest) = path(alloc, tokens)?;
-    if let Some((_, rest)) = eat(rest, Class::Only(TokenKind::Not)) {
+    if let Some((_, rest)) = eat(rest, TokenClass::Only(TokenKind::Not)) {
         let (check, rest) = check(alloc, rest)?;
         return Ok((
             TestTree {
@@ -49,11 +49,11 @@ fn compared_test<'a>(
 
 /// `[NOT] EXISTS path | path [NOT] compare`
 fn plain_test<'a>(alloc: Global, tokens: &'a [Token]) -> Result<(TestTree, &'a [Token]), Stop<'a>>
-    requires { Lacks (Class.Only TokenKind.RoundOpen) tokens.now }
+    requires { Lacks (TokenClass.Only TokenKind.RoundOpen) tokens.now }
     ensures ok { IfOk result (λ x. Found IsTest wants_test done tokens.now (test x.0) x.1.now) }
     ensures err { IfErr result (λ e. Refused IsTest wants_test tokens.now e) }
 {
-    if let Some((first, rest)) = eat(tokens, Class::Only(TokenKind::Exists)) {
+    if let Some((first, rest)) = eat(tokens, TokenClass::Only(TokenKind::Exists)) {
         let (path, rest) = path(alloc, rest)?;
         return Ok((
             TestTree {
@@ -65,8 +65,8 @@ fn plain_test<'a>(alloc: Global, tokens: &'a [Token]) -> Result<(TestTree, &'a [
             rest,
         ));
     }
-    if let Some((first, rest)) = eat(tokens, Class::Only(TokenKind::Not)) {
-        let (_, rest) = take(rest, Class::Only(TokenKind::Exists))?;
+    if let Some((first, rest)) = eat(tokens, TokenClass::Only(TokenKind::Not)) {
+        let (_, rest) = take(rest, TokenClass::Only(TokenKind::Exists))?;
         let (path, rest) = path(alloc, rest)?;
         return Ok((
             TestTree {
@@ -87,9 +87,9 @@ fn test<'a>(alloc: Global, tokens: &'a [Token]) -> Result<(Operand, &'a [Token])
     ensures ok { IfOk result (λ x. Found IsTest wants_test done tokens.now (operand x.0) x.1.now) }
     ensures err { IfErr result (λ e. Refused IsTest wants_test tokens.now e) }
 {
-    if let Some((open, inside)) = eat(tokens, Class::Only(TokenKind::RoundOpen)) {
+    if let Some((open, inside)) = eat(tokens, TokenClass::Only(TokenKind::RoundOpen)) {
         let (tree, close) = cor(alloc, inside)?;
-        let (_, rest) = take(close, Class::Only(TokenKind::RoundClose))?;
+        let (_, rest) = take(close, TokenClass::Only(TokenKind::RoundClose))?;
         let operand = make_group(alloc, open, tree)?;
         return Ok((operand, rest));
     }
@@ -105,7 +105,7 @@ fn cand<'a>(alloc: Global, tokens: &'a [Token]) -> Result<(Conjunction, &'a [Tok
 {
     let (first, mut rest) = test(alloc, tokens)?;
     let mut others = Items::new(alloc);
-    while let Some((_, after)) = eat(rest, Class::Only(TokenKind::And)) {
+    while let Some((_, after)) = eat(rest, TokenClass::Only(TokenKind::And)) {
         let (next, left) = test(alloc, after)?;
         others.push(next)?;
         rest = left;
@@ -124,7 +124,7 @@ pub(crate) fn cor<'a>(
 {
     let (first, mut rest) = cand(alloc, tokens)?;
     let mut others = Items::new(alloc);
-    while let Some((_, after)) = eat(rest, Class::Only(TokenKind::Or)) {
+    while let Some((_, after)) = eat(rest, TokenClass::Only(TokenKind::Or)) {
         let (next, left) = cand(alloc, after)?;
         others.push(next)?;
         rest = left;

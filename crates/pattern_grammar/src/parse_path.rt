@@ -1,10 +1,10 @@
 ghost use Rattle.std.specs.Prelude.{IfOk, IfErr};
 ghost use Rattle.pattern_grammar.specs.Grammar.{IsPath, IsStep};
-ghost use Rattle.pattern_grammar.specs.Machine.{wants_path, wants_step};
-ghost use Rattle.pattern_grammar.specs.Reading.{Found, Refused, done};
+ghost use Rattle.pattern_grammar.specs.inner.Machine.{wants_path, wants_step};
+ghost use Rattle.pattern_grammar.specs.inner.Reading.{Found, Refused, done};
 
 use crate::take::{eat, take};
-use crate::{Class, PathTree, StepTree, Stop};
+use crate::{PathTree, StepTree, Stop, TokenClass};
 use flow_values::Items;
 use pattern_tokens::{Token, TokenKind};
 use std::alloc::Global;
@@ -14,13 +14,13 @@ pub(crate) fn step<'a>(tokens: &'a [Token]) -> Result<(StepTree, &'a [Token]), S
     ensures ok { IfOk result (λ x. Found IsStep wants_step done tokens.now x.0 x.1.now) }
     ensures err { IfErr result (λ e. Refused IsStep wants_step tokens.now e) }
 {
-    if let Some((_, rest)) = eat(tokens, Class::Only(TokenKind::Dot)) {
-        let (name, rest) = take(rest, Class::Name)?;
+    if let Some((_, rest)) = eat(tokens, TokenClass::Only(TokenKind::Dot)) {
+        let (name, rest) = take(rest, TokenClass::Name)?;
         return Ok((StepTree::Name(name), rest));
     }
-    let (_, inside) = take(tokens, Class::Only(TokenKind::SquareOpen))?;
-    let (index, close) = take(inside, Class::Index)?;
-    let (_, rest) = take(close, Class::Only(TokenKind::SquareClose))?;
+    let (_, inside) = take(tokens, TokenClass::Only(TokenKind::SquareOpen))?;
+    let (index, close) = take(inside, TokenClass::Index)?;
+    let (_, rest) = take(close, TokenClass::Only(TokenKind::SquareClose))?;
     Ok((StepTree::Index(index), rest))
 }
 
@@ -32,12 +32,12 @@ pub(crate) fn path<'a>(
     ensures ok { IfOk result (λ x. Found IsPath wants_path done tokens.now x.0 x.1.now) }
     ensures err { IfErr result (λ e. Refused IsPath wants_path tokens.now e) }
 {
-    let (root, colon) = take(tokens, Class::Root)?;
-    let (_, first) = take(colon, Class::Only(TokenKind::Colon))?;
-    let (name, mut rest) = take(first, Class::Name)?;
+    let (root, colon) = take(tokens, TokenClass::Root)?;
+    let (_, first) = take(colon, TokenClass::Only(TokenKind::Colon))?;
+    let (name, mut rest) = take(first, TokenClass::Name)?;
     let mut steps = Items::new(alloc);
     steps.push(StepTree::Name(name))?;
-    while let Some(_) = eat(rest, Class::Stepping) {
+    while let Some(_) = eat(rest, TokenClass::Stepping) {
         let (next, after) = step(rest)?;
         steps.push(next)?;
         rest = after;

@@ -3,13 +3,13 @@ ghost use Rattle.pattern_grammar.specs.Grammar.{IsPattern, IsOrs, IsAnds, IsUnit
 ghost use Rattle.pattern_grammar.specs.Tree.{Tree, shape};
 ghost use Rattle.pattern_grammar.specs.Answer.{Misfit, Gives};
 ghost use Rattle.pattern_grammar.specs.Depth.{IsShallow};
-ghost use Rattle.pattern_grammar.specs.Machine.{wants_pattern, wants_ors, wants_ands, wants_unit, wants_start, wants_qualifier};
-ghost use Rattle.pattern_grammar.specs.Reading.{Found, Refused, Lacks, done};
+ghost use Rattle.pattern_grammar.specs.inner.Machine.{wants_pattern, wants_ors, wants_ands, wants_unit, wants_start, wants_qualifier};
+ghost use Rattle.pattern_grammar.specs.inner.Reading.{Found, Refused, Lacks, done};
 
 use crate::make::{make_both, make_either, make_qualified, make_then};
 use crate::parse_comparison::cor;
 use crate::take::{eat, take};
-use crate::{Class, PatternTree, Qualifier, Stop};
+use crate::{PatternTree, Qualifier, Stop, TokenClass};
 use flow_values::Items;
 use pattern_tokens::{Token, TokenKind};
 use std::alloc::Global;
@@ -19,32 +19,32 @@ fn qualifier<'a>(tokens: &'a [Token]) -> Result<(Qualifier, &'a [Token]), Stop<'
     ensures ok { IfOk result (λ x. Found IsQualifier wants_qualifier done tokens.now x.0 x.1.now) }
     ensures err { IfErr result (λ e. Refused IsQualifier wants_qualifier tokens.now e) }
 {
-    if let Some((_, rest)) = eat(tokens, Class::Only(TokenKind::Within)) {
-        let (number, rest) = take(rest, Class::Only(TokenKind::Number))?;
-        let (_, rest) = take(rest, Class::Only(TokenKind::Seconds))?;
+    if let Some((_, rest)) = eat(tokens, TokenClass::Only(TokenKind::Within)) {
+        let (number, rest) = take(rest, TokenClass::Only(TokenKind::Number))?;
+        let (_, rest) = take(rest, TokenClass::Only(TokenKind::Seconds))?;
         return Ok((Qualifier::Within(number), rest));
     }
-    if let Some((_, rest)) = eat(tokens, Class::Only(TokenKind::Repeats)) {
-        let (number, rest) = take(rest, Class::Only(TokenKind::Number))?;
-        let (_, rest) = take(rest, Class::Only(TokenKind::Times))?;
+    if let Some((_, rest)) = eat(tokens, TokenClass::Only(TokenKind::Repeats)) {
+        let (number, rest) = take(rest, TokenClass::Only(TokenKind::Number))?;
+        let (_, rest) = take(rest, TokenClass::Only(TokenKind::Times))?;
         return Ok((Qualifier::Repeats(number), rest));
     }
-    let (start, rest) = take(tokens, Class::Only(TokenKind::Start))?;
-    let (from, rest) = take(rest, Class::Only(TokenKind::Time))?;
-    let (_, rest) = take(rest, Class::Only(TokenKind::Stop))?;
-    let (to, rest) = take(rest, Class::Only(TokenKind::Time))?;
+    let (start, rest) = take(tokens, TokenClass::Only(TokenKind::Start))?;
+    let (from, rest) = take(rest, TokenClass::Only(TokenKind::Time))?;
+    let (_, rest) = take(rest, TokenClass::Only(TokenKind::Stop))?;
+    let (to, rest) = take(rest, TokenClass::Only(TokenKind::Time))?;
     Ok((Qualifier::Between { start, from, to }, rest))
 }
 
 /// `"[" cor "]"`
 fn leaf<'a>(alloc: Global, tokens: &'a [Token]) -> Result<(PatternTree, &'a [Token]), Stop<'a>>
-    requires { Lacks (Class.Only TokenKind.RoundOpen) tokens.now }
+    requires { Lacks (TokenClass.Only TokenKind.RoundOpen) tokens.now }
     ensures ok { IfOk result (λ x. Found IsStart wants_start done tokens.now (shape x.0) x.1.now) }
     ensures err { IfErr result (λ e. Refused IsStart wants_start tokens.now e) }
 {
-    let (_, inside) = take(tokens, Class::Only(TokenKind::SquareOpen))?;
+    let (_, inside) = take(tokens, TokenClass::Only(TokenKind::SquareOpen))?;
     let (tree, close) = cor(alloc, inside)?;
-    let (_, rest) = take(close, Class::Only(TokenKind::SquareClose))?;
+    let (_, rest) = take(close, TokenClass::Only(TokenKind::SquareClose))?;
     Ok((PatternTree::Leaf(tree), rest))
 }
 
@@ -54,9 +54,9 @@ fn start<'a>(alloc: Global, tokens: &'a [Token]) -> Result<(PatternTree, &'a [To
     ensures ok { IfOk result (λ x. Found IsStart wants_start done tokens.now (shape x.0) x.1.now) }
     ensures err { IfErr result (λ e. Refused IsStart wants_start tokens.now e) }
 {
-    if let Some((_, inside)) = eat(tokens, Class::Only(TokenKind::RoundOpen)) {
+    if let Some((_, inside)) = eat(tokens, TokenClass::Only(TokenKind::RoundOpen)) {
         let (tree, close) = whole(alloc, inside)?;
-        let (_, rest) = take(close, Class::Only(TokenKind::RoundClose))?;
+        let (_, rest) = take(close, TokenClass::Only(TokenKind::RoundClose))?;
         return Ok((tree, rest));
     }
     leaf(alloc, tokens)
@@ -69,7 +69,7 @@ fn unit<'a>(alloc: Global, tokens: &'a [Token]) -> Result<(PatternTree, &'a [Tok
     ensures err { IfErr result (λ e. Refused IsUnit wants_unit tokens.now e) }
 {
     let (mut tree, mut rest) = start(alloc, tokens)?;
-    while let Some(_) = eat(rest, Class::Qualifying) {
+    while let Some(_) = eat(rest, TokenClass::Qualifying) {
         let (limit, next) = qualifier(rest)?;
         tree = make_qualified(alloc, tree, limit)?;
         rest = next;
@@ -85,7 +85,7 @@ fn ands<'a>(alloc: Global, tokens: &'a [Token]) -> Result<(PatternTree, &'a [Tok
 {
     let (first, mut rest) = unit(alloc, tokens)?;
     let mut others = Items::new(alloc);
-    while let Some((_, after)) = eat(rest, Class::Only(TokenKind::And)) {
+    while let Some((_, after)) = eat(rest, TokenClass::Only(TokenKind::And)) {
         let (next, left) = unit(alloc, after)?;
         others.push(next)?;
         rest = left;
@@ -102,7 +102,7 @@ fn ors<'a>(alloc: Global, tokens: &'a [Token]) -> Result<(PatternTree, &'a [Toke
 {
     let (first, mut rest) = ands(alloc, tokens)?;
     let mut others = Items::new(alloc);
-    while let Some((_, after)) = eat(rest, Class::Only(TokenKind::Or)) {
+    while let Some((_, after)) = eat(rest, TokenClass::Only(TokenKind::Or)) {
         let (next, left) = ands(alloc, after)?;
         others.push(next)?;
         rest = left;
@@ -119,7 +119,7 @@ fn whole<'a>(alloc: Global, tokens: &'a [Token]) -> Result<(PatternTree, &'a [To
 {
     let (first, mut rest) = ors(alloc, tokens)?;
     let mut others = Items::new(alloc);
-    while let Some((_, after)) = eat(rest, Class::Only(TokenKind::FollowedBy)) {
+    while let Some((_, after)) = eat(rest, TokenClass::Only(TokenKind::FollowedBy)) {
         let (next, left) = ors(alloc, after)?;
         others.push(next)?;
         rest = left;

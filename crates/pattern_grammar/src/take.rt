@@ -1,12 +1,12 @@
 ghost use Rattle.std.specs.Prelude.{◌≡◌, IfSome, IfNone, IfOk, IfErr, MatchBool};
-ghost use Rattle.pattern_grammar.specs.Reading.{Begins, Lacks, IsAt};
+ghost use Rattle.pattern_grammar.specs.inner.Reading.{BeginsLine, Lacks, IsAt};
 
-use crate::{Class, Stop};
+use crate::{Stop, TokenClass};
 use pattern_tokens::Token;
 
 /// The first token and those after it, where it is of the class.
-pub(crate) fn eat<'a>(tokens: &'a [Token], class: Class) -> Option<(Token, &'a [Token])>
-    ensures some { IfSome result (λ x. Begins class x.0 tokens.now x.1.now) }
+pub(crate) fn eat<'a>(tokens: &'a [Token], class: TokenClass) -> Option<(Token, &'a [Token])>
+    ensures some { IfSome result (λ x. BeginsLine class x.0 tokens.now x.1.now) }
     ensures none { IfNone result (Lacks class tokens.now) }
 {
     match tokens {
@@ -16,8 +16,11 @@ pub(crate) fn eat<'a>(tokens: &'a [Token], class: Class) -> Option<(Token, &'a [
 }
 
 /// The first token, which is to be of the class, and those after it.
-pub(crate) fn take<'a>(tokens: &'a [Token], class: Class) -> Result<(Token, &'a [Token]), Stop<'a>>
-    ensures ok { IfOk result (λ x. Begins class x.0 tokens.now x.1.now) }
+pub(crate) fn take<'a>(
+    tokens: &'a [Token],
+    class: TokenClass,
+) -> Result<(Token, &'a [Token]), Stop<'a>>
+    ensures ok { IfOk result (λ x. BeginsLine class x.0 tokens.now x.1.now) }
     ensures err { IfErr result (λ e. IsAt class tokens.now e) }
 {
     match tokens {

@@ -4,7 +4,7 @@ ghost use Rattle.pattern_tokens.specs.Values.{HasValue, IsHexText, IsBaseText};
 ghost use Rattle.pattern_tokens.specs.Table.{IsToken};
 ghost use Rattle.pattern_tokens.specs.Spans.{IsCut, text_at};
 ghost use Rattle.pattern_lexer.specs.Reading.{RunsOn, IsLeftOut};
-ghost use Rattle.pattern_lexer.specs.Steps.{worthless_refusal};
+ghost use Rattle.pattern_lexer.specs.inner.Steps.{worthless_refusal};
 
 use flow_values::NoMemory;
 use pattern_tokens::{

@@ -1,6 +1,6 @@
 ghost use Rattle.std.specs.Prelude.{IfSome, IfNone};
 ghost use Rattle.pattern_lexer.specs.Reading.{HasNoToken};
-ghost use Rattle.pattern_lexer.specs.Steps.{Begins};
+ghost use Rattle.pattern_lexer.specs.inner.Steps.{BeginsToken};
 
 use crate::marks::first_mark;
 use crate::names::first_name;
@@ -17,7 +17,7 @@ pub struct First<'a> {
 
 /// The longest token that begins the bytes.
 pub fn first_of(bytes: &[u8]) -> Option<First<'_>>
-    ensures some { IfSome result (λ found. Begins bytes.now found.kind found.after.now) }
+    ensures some { IfSome result (λ found. BeginsToken bytes.now found.kind found.after.now) }
     ensures none { IfNone result (HasNoToken bytes.now) }
 {
     match bytes.first()? {

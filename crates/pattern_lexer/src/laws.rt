@@ -3,13 +3,13 @@
 ghost use Rattle.std.specs.Prelude.{◌≡◌, ℕ, List, Result, All, IsUtf8};
 ghost use Rattle.pattern_tokens.specs.declared.token.Token.{Token};
 ghost use Rattle.pattern_tokens.specs.declared.refusal.PatternRefusal.{PatternRefusal};
-ghost use Rattle.pattern_tokens.specs.Sound.{IsSound};
+ghost use Rattle.pattern_tokens.specs.Placement.{LiesInText};
 ghost use Rattle.pattern_lexer.specs.Reading.{TokensOf, Reads};
 
 /// The tokens of a text lie in it, cut between characters, and each stands for something.
 pub fn sound_tokens()
     ensures { (text : List ℕ) (tokens : List Token) → IsUtf8 text → TokensOf text tokens
-        → All (IsSound text) tokens }
+        → All (LiesInText text) tokens }
 {}
 
 /// A text has tokens or a refusal of them, and one of these: a text of more than 65,536 bytes has no

@@ -3,11 +3,11 @@ ghost use Rattle.pattern_tokens.specs.declared.refusal.PatternRefusal.{PatternRe
 ghost use Rattle.pattern_tokens.specs.declared.refusal.PatternRefusal.TheVariants as PatternRefusal;
 ghost use Rattle.pattern_tokens.specs.declared.token.Token.{Token};
 ghost use Rattle.pattern_lexer.specs.Reading.{TokensOf, IsFault, IsRefused, Reads, Agrees};
-ghost use Rattle.pattern_lexer.specs.Steps.{ArePassed, StandsAt};
+ghost use Rattle.pattern_lexer.specs.inner.Steps.{ArePassed, StandsAt};
 
 use crate::faults::{has_value, left_word, runs_on, worthless};
 use crate::first::first_of;
-use crate::runs::{Class, split_run};
+use crate::runs::{CharacterClass, split_run};
 use flow_values::Items;
 use pattern_tokens::{PatternRefusal, Token};
 use std::alloc::Global;
@@ -41,7 +41,7 @@ fn past_blanks(text: &str, at: usize) -> usize
     requires { at ≤ length text.now }
     ensures { ArePassed text.now at result }
 {
-    let (_blanks, rest) = split_run(&text.as_bytes()[at..], Class::Blank);
+    let (_blanks, rest) = split_run(&text.as_bytes()[at..], CharacterClass::Blank);
     text.len() - rest.len()
 }
 

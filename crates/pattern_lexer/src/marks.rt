@@ -1,6 +1,6 @@
 ghost use Rattle.std.specs.Prelude.{◌≡◌, ◌≢◌, ◌∷◌, ℕ, List, Some, IsSome, IfSome, IfNone};
 ghost use Rattle.pattern_lexer.specs.Reading.{HasNoToken};
-ghost use Rattle.pattern_lexer.specs.Steps.{Begins, StartsAsMark, single_kind, double_kind};
+ghost use Rattle.pattern_lexer.specs.inner.Steps.{BeginsToken, StartsAsMark, single_kind, double_kind};
 
 use crate::first::First;
 use crate::runs::behind;
@@ -9,7 +9,7 @@ use pattern_tokens::TokenKind;
 /// The longest mark that begins the bytes.
 pub fn first_mark(bytes: &[u8]) -> Option<First<'_>>
     requires { StartsAsMark bytes.now }
-    ensures some { IfSome result (λ found. Begins bytes.now found.kind found.after.now) }
+    ensures some { IfSome result (λ found. BeginsToken bytes.now found.kind found.after.now) }
     ensures none { IfNone result (HasNoToken bytes.now) }
 {
     let (first, more) = bytes.split_first()?;

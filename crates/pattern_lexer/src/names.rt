@@ -1,22 +1,22 @@
 ghost use Rattle.std.specs.Prelude.{◌≡◌, IfSome, IfNone, Contains};
 ghost use Rattle.pattern_tokens.specs.Word.{IsWordStart, HasAt, keywords};
 ghost use Rattle.pattern_tokens.specs.Table.{IsToken};
-ghost use Rattle.pattern_lexer.specs.Steps.{Begins, IsName};
+ghost use Rattle.pattern_lexer.specs.inner.Steps.{BeginsToken, IsName};
 
 use crate::first::First;
 use crate::quoted::first_lettered;
-use crate::runs::{Class, split_run};
+use crate::runs::{CharacterClass, split_run};
 use pattern_tokens::TokenKind;
 
 /// The token of the bytes that begin with a letter or `_`.
 pub fn first_name(bytes: &[u8]) -> First<'_>
     requires { HasAt 0 IsWordStart bytes.now }
-    ensures { Begins bytes.now result.kind result.after.now }
+    ensures { BeginsToken bytes.now result.kind result.after.now }
 {
     if let Some(first) = first_lettered(bytes) {
         return first;
     }
-    let (name, after) = split_run(bytes, Class::NamePart);
+    let (name, after) = split_run(bytes, CharacterClass::NamePart);
     First {
         kind: kind_of_name(name),
         after,

@@ -2,16 +2,16 @@ ghost use Rattle.std.specs.Prelude.{◌≡◌, ◌≢◌, ◌∷◌, ◌++◌, �
 ghost use Rattle.pattern_tokens.specs.Word.{HasAt};
 ghost use Rattle.pattern_tokens.specs.Values.{escaped};
 ghost use Rattle.pattern_lexer.specs.Reading.{HasNoToken};
-ghost use Rattle.pattern_lexer.specs.Steps.{Begins, HasNoLettered, IsSpecial, letter_kind};
+ghost use Rattle.pattern_lexer.specs.inner.Steps.{BeginsToken, HasNoLettered, IsSpecial, letter_kind};
 
 use crate::first::First;
-use crate::runs::{Class, behind, split_run};
+use crate::runs::{CharacterClass, behind, split_run};
 use pattern_tokens::TokenKind;
 
 /// The text in quotes that begins with a `'`.
 pub fn first_words(bytes: &[u8]) -> Option<First<'_>>
     requires { HasAt 0 (λ c. c ≡ 39) bytes.now }
-    ensures some { IfSome result (λ found. Begins bytes.now found.kind found.after.now) }
+    ensures some { IfSome result (λ found. BeginsToken bytes.now found.kind found.after.now) }
     ensures none { IfNone result (HasNoToken bytes.now) }
 {
     let after = behind_words(behind(bytes, b'\'')?)?;
@@ -50,7 +50,7 @@ fn behind_special(bytes: &[u8]) -> Option<&[u8]>
 
 /// The bytes or the timestamp, a text in quotes behind a letter, that begins the bytes.
 pub fn first_lettered(bytes: &[u8]) -> Option<First<'_>>
-    ensures some { IfSome result (λ found. Begins bytes.now found.kind found.after.now) }
+    ensures some { IfSome result (λ found. BeginsToken bytes.now found.kind found.after.now) }
     ensures none { IfNone result (HasNoLettered bytes.now) }
 {
     let (letter, more) = bytes.split_first()?;
@@ -64,7 +64,7 @@ fn behind_unquoted(quoted: &[u8]) -> Option<&[u8]>
     ensures some { IfSome result (λ after. (inside : List ℕ) × All (λ c. c ≢ 39) inside × (quoted.now ≡ inside ++ 39 ∷ after.now)) }
     ensures none { IfNone result ((inside after : List ℕ) → All (λ c. c ≢ 39) inside → quoted.now ≢ inside ++ 39 ∷ after) }
 {
-    let (_inside, rest) = split_run(quoted, Class::Unquoted);
+    let (_inside, rest) = split_run(quoted, CharacterClass::Unquoted);
     behind(rest, b'\'')
 }
 

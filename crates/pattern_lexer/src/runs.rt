@@ -1,9 +1,9 @@
 ghost use Rattle.std.specs.Prelude.{◌≡◌, ◌≢◌, ◌∷◌, ◌↔◌, IsTrue, List, ℕ, IfSome, IfNone};
-ghost use Rattle.pattern_lexer.specs.Steps.{InClass, IsRun};
+ghost use Rattle.pattern_lexer.specs.inner.Steps.{InClass, IsRun};
 
 /// The bytes that stand together.
 #[derive(Clone, Copy)]
-pub enum Class {
+pub enum CharacterClass {
     /// Spaces and the ends of lines.
     Blank,
     /// The digits.
@@ -14,21 +14,23 @@ pub enum Class {
     Unquoted,
 }
 
-impl Class {
+impl CharacterClass {
     fn has(self, byte: u8) -> bool
         ensures { IsTrue result ↔ InClass self byte }
     {
         match self {
-            Class::Blank => matches!(byte, b' ' | b'\t' | b'\r' | b'\n'),
-            Class::Digit => byte.is_ascii_digit(),
-            Class::NamePart => byte.is_ascii_alphanumeric() || byte == b'_' || byte == b'-',
-            Class::Unquoted => byte != b'\'',
+            CharacterClass::Blank => matches!(byte, b' ' | b'\t' | b'\r' | b'\n'),
+            CharacterClass::Digit => byte.is_ascii_digit(),
+            CharacterClass::NamePart => byte.is_ascii_alphanumeric()
+                || byte == b'_'
+                || byte == b'-',
+            CharacterClass::Unquoted => byte != b'\'',
         }
     }
 }
 
 /// The longest front of the bytes that is of the class, and the rest.
-pub fn split_run(bytes: &[u8], class: Class) -> (&[u8], &[u8])
+pub fn split_run(bytes: &[u8], class: CharacterClass) -> (&[u8], &[u8])
     ensures { IsRun (InClass class) bytes.now result.0.now result.1.now }
 {
     let end = bytes

@@ -1,6 +1,6 @@
-mod Joins
-mod Lists
-mod Bytes
-mod Rows
-mod Spanned
-mod Unique
+mod OperatorLemmas
+mod EachLemmas
+mod ConstantLemmas
+mod LeafMeaningLemmas
+mod LimitLemmas
+mod OneMeaningLemmas

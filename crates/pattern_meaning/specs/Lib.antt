@@ -1,4 +1,4 @@
 pub mod Meaning
-pub mod Formula
-pub mod Meant
-pub mod Operators
+pub mod PlainLeaf
+pub mod PlainPattern
+pub mod inner

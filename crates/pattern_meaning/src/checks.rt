@@ -1,4 +1,5 @@
-ghost use Rattle.std.specs.Prelude.{IfOk, MatchOption};
+ghost use Rattle.std.specs.Prelude.{IfOk};
+ghost use Rattle.flow_values.specs.Answers.{FindsExactly};
 ghost use Rattle.pattern_meaning.specs.Meaning.{IsCheckOf, IsTestOf};
 ghost use Rattle.pattern_types.specs.declared.check.Check.{Check};
 ghost use Rattle.pattern_types.specs.declared.leaf.Test.{Test};
@@ -18,7 +19,7 @@ fn comparison_of(
     operator: Token,
     token: Token,
 ) -> Result<Option<Check>, NoMemory>
-    ensures { IfOk result (λ found. MatchOption found ((other : Check) → ¬ IsCheckOf text.now (CheckTree.Compare operator token) other) (IsCheckOf text.now (CheckTree.Compare operator token))) }
+    ensures { IfOk result (λ found. FindsExactly (IsCheckOf text.now (CheckTree.Compare operator token)) found) }
 {
     let Some(value) = constant_of(alloc, text, token)? else {
         return Ok(None);
@@ -41,7 +42,7 @@ fn textual_of(
     operator: Token,
     token: Token,
 ) -> Result<Option<Check>, NoMemory>
-    ensures { IfOk result (λ found. MatchOption found ((other : Check) → ¬ IsCheckOf text.now (CheckTree.Textual operator token) other) (IsCheckOf text.now (CheckTree.Textual operator token))) }
+    ensures { IfOk result (λ found. FindsExactly (IsCheckOf text.now (CheckTree.Textual operator token)) found) }
 {
     let Some(words) = words_at(alloc, text, token)? else {
         return Ok(None);
@@ -56,7 +57,7 @@ fn textual_of(
 
 /// What a check asks of a value.
 fn check_of(alloc: Global, text: &str, check: &CheckTree) -> Result<Option<Check>, NoMemory>
-    ensures { IfOk result (λ found. MatchOption found ((other : Check) → ¬ IsCheckOf text.now check.now other) (IsCheckOf text.now check.now)) }
+    ensures { IfOk result (λ found. FindsExactly (IsCheckOf text.now check.now) found) }
 {
     match check {
         CheckTree::Compare { operator, constant } => {
@@ -73,7 +74,7 @@ fn check_of(alloc: Global, text: &str, check: &CheckTree) -> Result<Option<Check
 
 /// What a test means.
 pub fn test_of(alloc: Global, text: &str, tree: &TestTree) -> Result<Option<Test>, NoMemory>
-    ensures { IfOk result (λ found. MatchOption found ((other : Test) → ¬ IsTestOf text.now tree.now other) (IsTestOf text.now tree.now)) }
+    ensures { IfOk result (λ found. FindsExactly (IsTestOf text.now tree.now) found) }
 {
     let Some(path) = path_of(alloc, text, &tree.path)? else {
         return Ok(None);

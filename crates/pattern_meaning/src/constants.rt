@@ -1,4 +1,5 @@
-ghost use Rattle.std.specs.Prelude.{List, IfOk, MatchOption};
+ghost use Rattle.std.specs.Prelude.{List, IfOk};
+ghost use Rattle.flow_values.specs.Answers.{FindsExactly};
 ghost use Rattle.pattern_meaning.specs.Meaning.{IsConstantOf, Each};
 ghost use Rattle.pattern_types.specs.declared.constant.Constant.{Constant};
 
@@ -9,7 +10,7 @@ use std::alloc::Global;
 
 /// The constant that the token stands for.
 pub fn constant_of(alloc: Global, text: &str, token: Token) -> Result<Option<Constant>, NoMemory>
-    ensures { IfOk result (λ found. MatchOption found ((other : Constant) → ¬ IsConstantOf text.now token other) (IsConstantOf text.now token)) }
+    ensures { IfOk result (λ found. FindsExactly (IsConstantOf text.now token) found) }
 {
     match token.kind {
         TokenKind::Number => Ok(whole_at(text, token).map(|whole| Constant::Integer(whole))),
@@ -41,7 +42,7 @@ pub(crate) fn constants_of(
     text: &str,
     tokens: &[Token],
 ) -> Result<Option<Items<Constant>>, NoMemory>
-    ensures { IfOk result (λ found. MatchOption found ((other : List Constant) → ¬ Each (IsConstantOf text.now) tokens.now other) (Each (IsConstantOf text.now) tokens.now)) }
+    ensures { IfOk result (λ found. FindsExactly (Each (IsConstantOf text.now) tokens.now) found) }
 {
     let mut found = Items::new(alloc);
     for token in tokens {

@@ -1,5 +1,5 @@
 ghost use Rattle.std.specs.Prelude.{IfOk, MatchOption};
-ghost use Rattle.pattern_meaning.specs.Formula.{Formula, formula, Means};
+ghost use Rattle.pattern_meaning.specs.PlainLeaf.{PlainLeaf, plain_leaf, Means};
 ghost use Rattle.pattern_grammar.specs.Tree.{compared, conjunction, operand};
 
 use crate::checks::test_of;
@@ -11,7 +11,7 @@ use std::alloc::Global;
 /// What an operand means.
 #[cycle(leaves)]
 fn operand_leaf(alloc: Global, text: &str, tree: &Operand) -> Result<Option<Leaf>, NoMemory>
-    ensures { IfOk result (λ found. MatchOption found ((other : Formula) → ¬ Means text.now (operand tree.now) other) (λ leaf. Means text.now (operand tree.now) (formula leaf))) }
+    ensures { IfOk result (λ found. MatchOption found ((other : PlainLeaf) → ¬ Means text.now (operand tree.now) other) (λ leaf. Means text.now (operand tree.now) (plain_leaf leaf))) }
 {
     match tree {
         Operand::Test(test) => match test_of(alloc, text, test)? {
@@ -25,7 +25,7 @@ fn operand_leaf(alloc: Global, text: &str, tree: &Operand) -> Result<Option<Leaf
 /// What a conjunction means: its one operand, or all of its operands.
 #[cycle(leaves)]
 fn conjunction_leaf(alloc: Global, text: &str, tree: &Conjunction) -> Result<Option<Leaf>, NoMemory>
-    ensures { IfOk result (λ found. MatchOption found ((other : Formula) → ¬ Means text.now (conjunction tree.now) other) (λ leaf. Means text.now (conjunction tree.now) (formula leaf))) }
+    ensures { IfOk result (λ found. MatchOption found ((other : PlainLeaf) → ¬ Means text.now (conjunction tree.now) other) (λ leaf. Means text.now (conjunction tree.now) (plain_leaf leaf))) }
 {
     let Some(first) = operand_leaf(alloc, text, &tree.first)? else {
         return Ok(None);
@@ -47,7 +47,7 @@ fn conjunction_leaf(alloc: Global, text: &str, tree: &Conjunction) -> Result<Opt
 /// What a comparison means: its one conjunction, or any of its conjunctions.
 #[cycle(leaves)]
 pub fn leaf_of(alloc: Global, text: &str, tree: &ComparisonTree) -> Result<Option<Leaf>, NoMemory>
-    ensures { IfOk result (λ found. MatchOption found ((other : Formula) → ¬ Means text.now (compared tree.now) other) (λ leaf. Means text.now (compared tree.now) (formula leaf))) }
+    ensures { IfOk result (λ found. MatchOption found ((other : PlainLeaf) → ¬ Means text.now (compared tree.now) other) (λ leaf. Means text.now (compared tree.now) (plain_leaf leaf))) }
 {
     let Some(first) = conjunction_leaf(alloc, text, &tree.first)? else {
         return Ok(None);

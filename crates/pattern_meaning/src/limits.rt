@@ -1,5 +1,5 @@
-ghost use Rattle.std.specs.Prelude.{MatchOption};
-ghost use Rattle.pattern_meaning.specs.Meant.{IsLimitOf};
+ghost use Rattle.flow_values.specs.Answers.{FindsExactly};
+ghost use Rattle.pattern_meaning.specs.PlainPattern.{IsLimitOf};
 ghost use Rattle.pattern_meaning.specs.declared.limits.Limit.{Limit};
 
 use pattern_grammar::Qualifier;
@@ -19,7 +19,7 @@ pub enum Limit {
 
 /// The span between two times.
 fn span_of(text: &str, start: Token, from: Token, to: Token) -> Option<Limit>
-    ensures { MatchOption result ((other : Limit) → ¬ IsLimitOf text.now (Qualifier.Between start from to) other) (IsLimitOf text.now (Qualifier.Between start from to)) }
+    ensures { FindsExactly (IsLimitOf text.now (Qualifier.Between start from to)) result }
 {
     let Some(begins) = moment_at(text, from) else {
         return None;
@@ -32,7 +32,7 @@ fn span_of(text: &str, start: Token, from: Token, to: Token) -> Option<Limit>
 
 /// What a qualifier limits by, where its tokens stand for something.
 pub(crate) fn limit_of(text: &str, qualifier: Qualifier) -> Option<Limit>
-    ensures { MatchOption result ((other : Limit) → ¬ IsLimitOf text.now qualifier other) (IsLimitOf text.now qualifier) }
+    ensures { FindsExactly (IsLimitOf text.now qualifier) result }
 {
     match qualifier {
         Qualifier::Within(number) => match count_at(text, number) {

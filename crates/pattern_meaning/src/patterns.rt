@@ -1,6 +1,6 @@
 ghost use Rattle.std.specs.Prelude.{◌≡◌, map, IfOk, MatchOption};
-ghost use Rattle.pattern_meaning.specs.Meant.{Meant, meant, a_limited, MeansPattern};
-ghost use Rattle.pattern_meaning.specs.Operators.{tree_by, meant_by};
+ghost use Rattle.pattern_meaning.specs.PlainPattern.{PlainPattern, plain_pattern, a_limited, MeansPattern};
+ghost use Rattle.pattern_meaning.specs.inner.Operators.{tree_by, meant_by};
 ghost use Rattle.pattern_grammar.specs.Tree.{Tree, joined, shape};
 
 use crate::leaves::leaf_of;
@@ -25,7 +25,7 @@ fn join(
     left: Pattern,
     right: Pattern,
 ) -> Result<Pattern, NoMemory>
-    ensures { IfOk result (λ p. meant p ≡ meant_by operator (meant left) (meant right)) }
+    ensures { IfOk result (λ p. plain_pattern p ≡ meant_by operator (plain_pattern left) (plain_pattern right)) }
 {
     let left = Box::new(alloc, left)?;
     let right = Box::new(alloc, right)?;
@@ -38,7 +38,7 @@ fn join(
 
 /// A pattern that is limited.
 fn limited(alloc: Global, part: Pattern, limit: Limit) -> Result<Pattern, NoMemory>
-    ensures { IfOk result (λ p. meant p ≡ a_limited (meant part) limit) }
+    ensures { IfOk result (λ p. plain_pattern p ≡ a_limited (plain_pattern part) limit) }
 {
     let part = Box::new(alloc, part)?;
     match limit {
@@ -57,8 +57,8 @@ fn chain_of(
     others: &[PatternTree],
     first: Pattern,
 ) -> Result<Option<Pattern>, NoMemory>
-    ensures { IfOk result (λ found. (p : Tree) → MeansPattern text.now p (meant first)
-        → MatchOption found ((other : Meant) → ¬ MeansPattern text.now (joined (tree_by operator) p (map shape others.now)) other) (λ whole. MeansPattern text.now (joined (tree_by operator) p (map shape others.now)) (meant whole))) }
+    ensures { IfOk result (λ found. (p : Tree) → MeansPattern text.now p (plain_pattern first)
+        → MatchOption found ((other : PlainPattern) → ¬ MeansPattern text.now (joined (tree_by operator) p (map shape others.now)) other) (λ whole. MeansPattern text.now (joined (tree_by operator) p (map shape others.now)) (plain_pattern whole))) }
 {
     let mut whole = first;
     for other in others {
@@ -77,7 +77,7 @@ pub fn pattern_of(
     text: &str,
     tree: &PatternTree,
 ) -> Result<Option<Pattern>, NoMemory>
-    ensures { IfOk result (λ found. MatchOption found ((other : Meant) → ¬ MeansPattern text.now (shape tree.now) other) (λ p. MeansPattern text.now (shape tree.now) (meant p))) }
+    ensures { IfOk result (λ found. MatchOption found ((other : PlainPattern) → ¬ MeansPattern text.now (shape tree.now) other) (λ p. MeansPattern text.now (shape tree.now) (plain_pattern p))) }
 {
     match tree {
         PatternTree::Leaf(inside) => match leaf_of(alloc, text, inside)? {

@@ -1,4 +1,4 @@
-mod Only
-mod Existing
-mod Widths
-mod OneReading
+mod IsSoundLemmas
+mod MeaningExistsLemmas
+mod WidthLemmas
+mod IsReadAsLemmas

@@ -1,4 +1,4 @@
-pub mod Checked
+pub mod Soundness
 pub mod Brackets
 pub mod Width
 pub mod Read

@@ -2,7 +2,7 @@
 use Rattle.std.specs.Prelude.{ℕ, ◌+◌, ◌*◌, ◌<◌, ◌⊎◌, max}
 use Rattle.pattern_meaning.specs.declared.limits.Limit.{Limit}
 use Rattle.pattern_meaning.specs.declared.limits.Limit.TheVariants as limit
-use Rattle.pattern_meaning.specs.Meant.{Meant, a_leaf, a_both, an_either, a_then, a_limited}
+use Rattle.pattern_meaning.specs.PlainPattern.{PlainPattern, a_leaf, a_both, an_either, a_then, a_limited}
 
 -- how many times as wide a qualifier makes a pattern
 abbrev pub times : Limit → ℕ → ℕ
@@ -12,21 +12,21 @@ times (limit.Repeats count) width = count * width
 
 -- a leaf is 1 wide, both sides of AND and FOLLOWEDBY are as wide as the two, one of two as the wider,
 -- and a repeated pattern so many times as wide
-abbrev pub width : Meant → ℕ
-width (a_leaf formula) = 1
+abbrev pub width : PlainPattern → ℕ
+width (a_leaf plain_leaf) = 1
 width (a_both left right) = width left + width right
 width (an_either left right) = max (width left) (width right)
 width (a_then left right) = width left + width right
 width (a_limited part limit) = times limit (width part)
 
 -- how many leaves there are
-abbrev pub leaves : Meant → ℕ
-leaves (a_leaf formula) = 1
+abbrev pub leaves : PlainPattern → ℕ
+leaves (a_leaf plain_leaf) = 1
 leaves (a_both left right) = leaves left + leaves right
 leaves (an_either left right) = leaves left + leaves right
 leaves (a_then left right) = leaves left + leaves right
 leaves (a_limited part limit) = leaves part
 
 -- TooWide: the width passes 64, or the leaves pass 1,024
-abbrev pub IsTooWide : Meant → Type 0
+abbrev pub IsTooWide : PlainPattern → Type 0
 IsTooWide pattern = (64 < width pattern) ⊎ (1_024 < leaves pattern)

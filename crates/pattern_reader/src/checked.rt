@@ -1,10 +1,10 @@
 ghost use Rattle.std.specs.Prelude.{◌≡◌, ◌<◌, ◌⊎◌, IfOk, IfErr, IsErrAnd, length};
 ghost use Rattle.pattern_tokens.specs.declared.refusal.PatternRefusal.TheVariants as PatternRefusal;
-ghost use Rattle.pattern_reader.specs.Checked.{IsSound, IsUnsound};
+ghost use Rattle.pattern_reader.specs.Soundness.{IsSound, IsUnsound};
 ghost use Rattle.pattern_grammar.specs.Place.{GivesTree};
 ghost use Rattle.pattern_grammar.specs.Tree.{Tree, shape};
 
-use pattern_faults::pattern_fault;
+use pattern_faults::first_refusal;
 use pattern_grammar::{PatternTree, read_tree};
 use pattern_lexer::tokens;
 use pattern_tokens::PatternRefusal;
@@ -26,7 +26,7 @@ pub fn checked_tree(alloc: Global, text: &str) -> Result<PatternTree, PatternRef
         Ok(tree) => tree,
         Err(refusal) => return Err(refusal),
     };
-    match pattern_fault(alloc, text, &tree)? {
+    match first_refusal(alloc, text, &tree)? {
         None => Ok(tree),
         Some(refusal) => Err(refusal),
     }

@@ -4,15 +4,15 @@ ghost use Rattle.std.specs.Prelude.{◌≡◌, ◌<◌, ℕ, List, length};
 ghost use Rattle.pattern_tokens.specs.declared.refusal.PatternRefusal.{PatternRefusal};
 ghost use Rattle.pattern_tokens.specs.declared.refusal.PatternRefusal.TheVariants as PatternRefusal;
 ghost use Rattle.pattern_types.specs.declared.pattern.Pattern.{Pattern};
-ghost use Rattle.pattern_meaning.specs.Meant.{meant};
+ghost use Rattle.pattern_meaning.specs.PlainPattern.{plain_pattern};
 ghost use Rattle.pattern_grammar.specs.Tree.{Tree};
-ghost use Rattle.pattern_reader.specs.Checked.{IsSound};
+ghost use Rattle.pattern_reader.specs.Soundness.{IsSound};
 ghost use Rattle.pattern_reader.specs.Read.{IsReadAs, IsRefusedAs};
 
 /// A text has one sound tree at most, and is read as one pattern at most.
 pub fn one_pattern()
     ensures tree { (text : List ℕ) (p q : Tree) → IsSound text p → IsSound text q → p ≡ q }
-    ensures pattern { (text : List ℕ) (p q : Pattern) → IsReadAs text p → IsReadAs text q → meant p ≡ meant q }
+    ensures pattern { (text : List ℕ) (p q : Pattern) → IsReadAs text p → IsReadAs text q → plain_pattern p ≡ plain_pattern q }
 {
     pattern_lexer::laws::one_reading();
     pattern_grammar::one_pattern();

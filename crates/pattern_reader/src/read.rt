@@ -3,8 +3,8 @@ ghost use Rattle.pattern_reader.specs.Read.{IsReadAs, IsRefusedAs, Gives};
 ghost use Rattle.pattern_reader.specs.Width.{leaves, IsTooWide};
 ghost use Rattle.pattern_types.specs.declared.pattern.Pattern.{Pattern};
 ghost use Rattle.pattern_tokens.specs.declared.refusal.PatternRefusal.TheVariants as PatternRefusal;
-ghost use Rattle.pattern_reader.specs.Checked.{IsSound};
-ghost use Rattle.pattern_meaning.specs.Meant.{meant, MeansPattern};
+ghost use Rattle.pattern_reader.specs.Soundness.{IsSound};
+ghost use Rattle.pattern_meaning.specs.PlainPattern.{plain_pattern, MeansPattern};
 ghost use Rattle.pattern_grammar.specs.Tree.{shape};
 
 use crate::brackets::has_many_brackets;
@@ -41,8 +41,8 @@ fn pattern_in(alloc: Global, text: &str, tree: &PatternTree) -> Result<Pattern, 
     requires { IsSound text.now (shape tree.now) }
     ensures ok { IfOk result (IsReadAs text.now) }
     ensures err { IfErr result (λ refusal. (refusal ≡ PatternRefusal.NoMemory) ⊎ IsRefusedAs text.now refusal) }
-    ensures only { (pattern : Pattern) → MeansPattern text.now (shape tree.now) (meant pattern)
-        → (¬ IsTooWide (meant pattern)) → Gives pattern result }
+    ensures only { (pattern : Pattern) → MeansPattern text.now (shape tree.now) (plain_pattern pattern)
+        → (¬ IsTooWide (plain_pattern pattern)) → Gives pattern result }
 {
     one_meaning();
     sound_tokens();
@@ -57,9 +57,9 @@ fn pattern_in(alloc: Global, text: &str, tree: &PatternTree) -> Result<Pattern, 
 
 /// The pattern, unless it is too wide.
 fn narrow(pattern: Pattern) -> Result<Pattern, PatternRefusal>
-    requires { leaves (meant pattern) ≤ 1_024 }
-    ensures ok { IfOk result (λ same. (same ≡ pattern) × (¬ IsTooWide (meant pattern))) }
-    ensures err { IfErr result (λ refusal. (refusal ≡ PatternRefusal.TooWide) × IsTooWide (meant pattern)) }
+    requires { leaves (plain_pattern pattern) ≤ 1_024 }
+    ensures ok { IfOk result (λ same. (same ≡ pattern) × (¬ IsTooWide (plain_pattern pattern))) }
+    ensures err { IfErr result (λ refusal. (refusal ≡ PatternRefusal.TooWide) × IsTooWide (plain_pattern pattern)) }
 {
     if is_wide(&pattern) {
         return Err(PatternRefusal::TooWide);
@@ -70,7 +70,7 @@ fn narrow(pattern: Pattern) -> Result<Pattern, PatternRefusal>
 /// The pattern that a tree without faults means.
 fn meaning_of(alloc: Global, text: &str, tree: &PatternTree) -> Result<Pattern, NoMemory>
     requires { IsSound text.now (shape tree.now) }
-    ensures { IfOk result (λ pattern. MeansPattern text.now (shape tree.now) (meant pattern)) }
+    ensures { IfOk result (λ pattern. MeansPattern text.now (shape tree.now) (plain_pattern pattern)) }
 {
     sound_tokens();
     match pattern_of(alloc, text, tree)? {

@@ -1,6 +1,6 @@
 ghost use Rattle.std.specs.Prelude.{◌≡◌, ◌↔◌, ◌<◌, IsTrue, min};
 ghost use Rattle.pattern_reader.specs.Width.{width};
-ghost use Rattle.pattern_meaning.specs.Meant.{meant};
+ghost use Rattle.pattern_meaning.specs.PlainPattern.{plain_pattern};
 
 use pattern_types::Pattern;
 
@@ -9,7 +9,7 @@ const MOST_WIDE: u64 = 64;
 
 /// The width, or 65 where it is greater. It is worked out once for each part.
 fn width_up_to_most(pattern: &Pattern) -> u64
-    ensures { result ≡ min (width (meant pattern.now)) 65 }
+    ensures { result ≡ min (width (plain_pattern pattern.now)) 65 }
 {
     match pattern {
         Pattern::Leaf(_) => 1,
@@ -28,7 +28,7 @@ fn width_up_to_most(pattern: &Pattern) -> u64
 
 /// Whether a pattern is wider than 64. Takes no memory.
 pub(crate) fn is_wide(pattern: &Pattern) -> bool
-    ensures { IsTrue result ↔ (64 < width (meant pattern.now)) }
+    ensures { IsTrue result ↔ (64 < width (plain_pattern pattern.now)) }
 {
     width_up_to_most(pattern) > MOST_WIDE
 }

@@ -1,6 +1,6 @@
-mod Insides
-mod Escapes
-mod Tokens
-mod Texts
-mod OneValue
-mod Unescapes
+mod QuotedLemmas
+mod EscapesLemmas
+mod SpansLemmas
+mod ContainsLemmas
+mod HasValueLemmas
+mod UnescapedLemmas

@@ -3,7 +3,6 @@ pub mod Word
 pub mod Values
 pub mod Table
 pub mod Spans
-pub mod Sound
+pub mod Placement
 pub mod Numbers
-pub mod Escapes
-pub mod Shown
+pub mod inner

@@ -1,8 +1,8 @@
-ghost use Rattle.std.specs.Prelude.{◌≡◌, Some, None, OnOk, OnErr};
+ghost use Rattle.std.specs.Prelude.{◌≡◌, Some, None};
 ghost use Rattle.flow_edges.specs.Faults.{Causes};
-ghost use Rattle.flow_edges.specs.Flow.{written_with, WritesPrefix};
+ghost use Rattle.flow_edges.specs.Flow.{WritesWhole};
 ghost use Rattle.pattern_tokens.specs.Refusal.{refusal_text};
-ghost use Rattle.pattern_tokens.specs.Shown.{placed_text, shown_text};
+ghost use Rattle.pattern_tokens.specs.inner.RefusalPieces.{placed_text, shown_text};
 
 use crate::PatternRefusal;
 use flow_edges::{Sink, write_pieces, write_whole};
@@ -12,8 +12,7 @@ use itoa::Buffer;
 /// Writes the refusal, as `BadToken at 5`. After a `Fault` a prefix of the text was written. Takes no
 /// memory.
 pub fn write_refusal<S: Sink>(refusal: &PatternRefusal, sink: &mut S) -> Result<(), Fault>
-    ensures whole { OnOk result (S.written sink.new ≡ written_with (refusal_text refusal.now) (S.written sink.old)) }
-    ensures part { OnErr result (WritesPrefix (refusal_text refusal.now) (S.written sink.old) (S.written sink.new)) }
+    ensures text { WritesWhole (refusal_text refusal.now) (S.written sink.old) (S.written sink.new) result }
     ensures causes { Causes (S.faults sink.old) (S.faults sink.new) result }
 {
     write_shown(shown_of(*refusal), sink)
@@ -67,8 +66,7 @@ fn shown_of(refusal: PatternRefusal) -> Shown
 }
 
 fn write_shown<S: Sink>(shown: Shown, sink: &mut S) -> Result<(), Fault>
-    ensures whole { OnOk result (S.written sink.new ≡ written_with (shown_text shown) (S.written sink.old)) }
-    ensures part { OnErr result (WritesPrefix (shown_text shown) (S.written sink.old) (S.written sink.new)) }
+    ensures text { WritesWhole (shown_text shown) (S.written sink.old) (S.written sink.new) result }
     ensures causes { Causes (S.faults sink.old) (S.faults sink.new) result }
 {
     match shown.at {
@@ -82,8 +80,7 @@ fn write_shown<S: Sink>(shown: Shown, sink: &mut S) -> Result<(), Fault>
 }
 
 fn write_placed<'a, S: Sink>(name: &'a str, place: &'a str, sink: &mut S) -> Result<(), Fault>
-    ensures whole { OnOk result (S.written sink.new ≡ written_with (placed_text name.now place.now) (S.written sink.old)) }
-    ensures part { OnErr result (WritesPrefix (placed_text name.now place.now) (S.written sink.old) (S.written sink.new)) }
+    ensures text { WritesWhole (placed_text name.now place.now) (S.written sink.old) (S.written sink.new) result }
     ensures causes { Causes (S.faults sink.old) (S.faults sink.new) result }
 {
     write_pieces(sink, &[name.as_bytes(), b" at ", place.as_bytes()])

@@ -1,4 +1,5 @@
-ghost use Rattle.std.specs.Prelude.{◌≡◌, ℕ, ℤ, List, IfOk, IfSome, IfNone, MatchOption};
+ghost use Rattle.std.specs.Prelude.{◌≡◌, ℕ, ℤ, List, IfOk, IfSome, IfNone};
+ghost use Rattle.flow_values.specs.Answers.{FindsExactly};
 ghost use Rattle.pattern_tokens.specs.Spans.{IsCut, text_at, At, IsItself};
 ghost use Rattle.pattern_tokens.specs.Values.{IsWholeText, IsWordsText, IsHexText, IsBaseText, IsMomentText};
 
@@ -39,7 +40,7 @@ pub fn moment_at(text: &str, token: Token) -> Option<Instant>
 
 /// The words that the token stands for.
 pub fn words_at(alloc: Global, text: &str, token: Token) -> Result<Option<Text>, NoMemory>
-    ensures { IfOk result (λ found. MatchOption found ((words : List ℕ) → ¬ At IsWordsText text.now token words) (At IsWordsText text.now token)) }
+    ensures { IfOk result (λ found. FindsExactly (At IsWordsText text.now token) found) }
 {
     match text_of(text, token) {
         Some(part) => words_of(alloc, part),
@@ -49,7 +50,7 @@ pub fn words_at(alloc: Global, text: &str, token: Token) -> Result<Option<Text>,
 
 /// The bytes that the token, a Hex, stands for.
 pub fn hex_at(alloc: Global, text: &str, token: Token) -> Result<Option<Items<u8>>, NoMemory>
-    ensures { IfOk result (λ found. MatchOption found ((bytes : List ℕ) → ¬ At IsHexText text.now token bytes) (At IsHexText text.now token)) }
+    ensures { IfOk result (λ found. FindsExactly (At IsHexText text.now token) found) }
 {
     match text_of(text, token) {
         Some(part) => hex_of(alloc, part),
@@ -59,7 +60,7 @@ pub fn hex_at(alloc: Global, text: &str, token: Token) -> Result<Option<Items<u8
 
 /// The bytes that the token, a Base, stands for.
 pub fn base_at(alloc: Global, text: &str, token: Token) -> Result<Option<Items<u8>>, NoMemory>
-    ensures { IfOk result (λ found. MatchOption found ((bytes : List ℕ) → ¬ At IsBaseText text.now token bytes) (At IsBaseText text.now token)) }
+    ensures { IfOk result (λ found. FindsExactly (At IsBaseText text.now token) found) }
 {
     match text_of(text, token) {
         Some(part) => base_of(alloc, part),

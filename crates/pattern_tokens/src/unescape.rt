@@ -1,12 +1,13 @@
-ghost use Rattle.std.specs.Prelude.{◌≡◌, ℕ, List, IfOk, IfSome, IfNone, MatchOption, IsTrue, ◌↔◌, Contains};
-ghost use Rattle.pattern_tokens.specs.Escapes.{IsEscapedText, BeginsEscaped, BeginsNone};
+ghost use Rattle.std.specs.Prelude.{◌≡◌, ℕ, List, IfOk, IfSome, IfNone, IsTrue, ◌↔◌, Contains};
+ghost use Rattle.flow_values.specs.Answers.{FindsExactly};
+ghost use Rattle.pattern_tokens.specs.inner.Escapes.{IsEscapedText, BeginsEscaped, BeginsNone};
 
 use flow_values::{NoMemory, Text};
 use std::alloc::Global;
 
 /// What the text stands for that has a backslash before each `'` and `\`.
 pub fn unescaped(alloc: Global, text: &str) -> Result<Option<Text>, NoMemory>
-    ensures { IfOk result (λ words. MatchOption words ((other : List ℕ) → ¬ IsEscapedText text.now other) (IsEscapedText text.now)) }
+    ensures { IfOk result (λ words. FindsExactly (IsEscapedText text.now) words) }
 {
     let mut words = Text::new(alloc);
     let mut rest = text;

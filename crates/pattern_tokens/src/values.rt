@@ -1,5 +1,6 @@
-ghost use Rattle.std.specs.Prelude.{◌≡◌, ◌≢◌, ◌++◌, ℕ, ℤ, List, codes, IfOk, IfSome, IfNone, MatchOption, IsTrue, ◌↔◌};
+ghost use Rattle.std.specs.Prelude.{◌≡◌, ◌≢◌, ◌++◌, ℕ, ℤ, List, codes, IfOk, IfSome, IfNone, IsTrue, ◌↔◌};
 ghost use Rattle.std.specs.Str.Parse.{without_leading_sign};
+ghost use Rattle.flow_values.specs.Answers.{FindsExactly};
 ghost use Rattle.pattern_tokens.specs.Values.{HasNoLeadingZero, IsWholeText, IsWordsText, IsHexText, IsBaseText, IsMomentText};
 
 use crate::unescape::unescaped;
@@ -23,7 +24,7 @@ pub fn whole_of(text: &str) -> Option<i64>
 
 /// The text of a Words' text, without the quotes and the backslashes before `'` and `\`.
 pub fn words_of(alloc: Global, text: &str) -> Result<Option<Text>, NoMemory>
-    ensures { IfOk result (λ words. MatchOption words ((other : List ℕ) → ¬ IsWordsText text.now other) (IsWordsText text.now)) }
+    ensures { IfOk result (λ words. FindsExactly (IsWordsText text.now) words) }
 {
     match inside(text, "'") {
         Some(inside) => unescaped(alloc, inside),
@@ -33,7 +34,7 @@ pub fn words_of(alloc: Global, text: &str) -> Result<Option<Text>, NoMemory>
 
 /// The bytes of a Hex's text, where it is pairs of hexadecimal digits.
 pub fn hex_of(alloc: Global, text: &str) -> Result<Option<Items<u8>>, NoMemory>
-    ensures { IfOk result (λ bytes. MatchOption bytes ((other : List ℕ) → ¬ IsHexText text.now other) (IsHexText text.now)) }
+    ensures { IfOk result (λ bytes. FindsExactly (IsHexText text.now) bytes) }
 {
     let Some(digits) = inside(text, "h'") else {
         return Ok(None);
@@ -47,7 +48,7 @@ pub fn hex_of(alloc: Global, text: &str) -> Result<Option<Items<u8>>, NoMemory>
 
 /// The bytes of a Base's text, where it is standard padded base64.
 pub fn base_of(alloc: Global, text: &str) -> Result<Option<Items<u8>>, NoMemory>
-    ensures { IfOk result (λ bytes. MatchOption bytes ((other : List ℕ) → ¬ IsBaseText text.now other) (IsBaseText text.now)) }
+    ensures { IfOk result (λ bytes. FindsExactly (IsBaseText text.now) bytes) }
 {
     let Some(symbols) = inside(text, "b'") else {
         return Ok(None);

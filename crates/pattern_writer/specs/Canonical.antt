@@ -1,14 +1,14 @@
 -- The canonical text of a pattern (STIX 2.1, sections 9.2 to 9.7): one space between words, and the
 -- parentheses that the pattern needs.
 use Rattle.std.specs.Prelude.{ℕ, List, codes}
-use Rattle.pattern_meaning.specs.Meant.{Meant, a_leaf, a_both, an_either, a_then, a_limited}
+use Rattle.pattern_meaning.specs.PlainPattern.{PlainPattern, a_leaf, a_both, an_either, a_then, a_limited}
 use Rattle.pattern_writer.specs.Parts.{IsBetween, AreSides, IsWithin}
 use Rattle.pattern_writer.specs.Leaf.{IsFormulaText}
 use Rattle.pattern_writer.specs.Limit.{IsLimitText}
 
 -- how tightly it binds: a leaf or a qualified pattern, AND, OR, FOLLOWEDBY
-abbrev pub level : Meant → ℕ
-level (a_leaf formula) = 3
+abbrev pub level : PlainPattern → ℕ
+level (a_leaf plain_leaf) = 3
 level (a_both left right) = 2
 level (an_either left right) = 1
 level (a_then left right) = 0
@@ -16,8 +16,8 @@ level (a_limited part limit) = 3
 
 -- operators go from the left: the left side may bind as they do, the right side binds more tightly; a
 -- qualifier follows what binds most
-abbrev pub IsCanonical : Meant → List ℕ → Type 0
-IsCanonical (a_leaf formula) text = IsBetween (codes "[") (codes "]") (IsFormulaText formula) text
+abbrev pub IsCanonical : PlainPattern → List ℕ → Type 0
+IsCanonical (a_leaf plain_leaf) text = IsBetween (codes "[") (codes "]") (IsFormulaText plain_leaf) text
 IsCanonical (a_both left right) text = AreSides (IsWithin 2 (level left) (IsCanonical left)) (codes " AND ") (IsWithin 3 (level right) (IsCanonical right)) text
 IsCanonical (an_either left right) text = AreSides (IsWithin 1 (level left) (IsCanonical left)) (codes " OR ") (IsWithin 2 (level right) (IsCanonical right)) text
 IsCanonical (a_then left right) text = AreSides (IsWithin 0 (level left) (IsCanonical left)) (codes " FOLLOWEDBY ") (IsWithin 1 (level right) (IsCanonical right)) text

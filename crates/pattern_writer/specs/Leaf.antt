@@ -1,29 +1,29 @@
 -- How what stands in the brackets of a pattern is written (STIX 2.1, section 9.6).
 use Rattle.std.specs.Prelude.{◌≡◌, ℕ, List, [], ◌∷◌, codes}
-use Rattle.pattern_meaning.specs.Formula.{Formula, one, every, some, Formulas, none, more}
+use Rattle.pattern_meaning.specs.PlainLeaf.{PlainLeaf, one, every, some, PlainLeaves, none, more}
 use Rattle.pattern_writer.specs.Parts.{joined, IsWithin}
 use Rattle.pattern_writer.specs.Check.{IsTestText}
 
 -- how tightly it binds: a test, AND, OR
-abbrev pub binds : Formula → ℕ
+abbrev pub binds : PlainLeaf → ℕ
 binds (one test) = 2
 binds (every parts) = 1
 binds (some parts) = 0
 
 abbrev mutual
   -- the parts of AND are tests, those of OR tests or AND, and others stand in parentheses
-  pub IsFormulaText : Formula → List ℕ → Type 0
+  pub IsFormulaText : PlainLeaf → List ℕ → Type 0
   IsFormulaText (one test) text = IsTestText test text
   IsFormulaText (every parts) text = (texts : List (List ℕ)) × AreTextsOf parts 2 texts × (text ≡ joined (codes " AND ") texts)
   IsFormulaText (some parts) text = (texts : List (List ℕ)) × AreTextsOf parts 1 texts × (text ≡ joined (codes " OR ") texts)
 
   -- a text of each part, that binds no less than this
-  pub AreTextsOf : Formulas → ℕ → List (List ℕ) → Type 0
+  pub AreTextsOf : PlainLeaves → ℕ → List (List ℕ) → Type 0
   AreTextsOf none least [] = Unit {0}
   AreTextsOf none least (text ∷ texts) = ⊥
   AreTextsOf (more part parts) least [] = ⊥
   AreTextsOf (more part parts) least (text ∷ texts) = IsWithin least (binds part) (IsFormulaText part) text × AreTextsOf parts least texts
 
 -- the parts, with this between each two
-abbrev pub AreParts : ℕ → List ℕ → Formulas → List ℕ → Type 0
+abbrev pub AreParts : ℕ → List ℕ → PlainLeaves → List ℕ → Type 0
 AreParts least between parts text = (texts : List (List ℕ)) × AreTextsOf parts least texts × (text ≡ joined between texts)

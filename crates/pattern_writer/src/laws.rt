@@ -1,7 +1,7 @@
 //! What follows from the definitions: the contract is the law, and the function does nothing.
 
 ghost use Rattle.std.specs.Prelude.{◌≡◌, ◌<◌, ◌≤◌, ℕ, List, length};
-ghost use Rattle.pattern_meaning.specs.Meant.{Meant, meant};
+ghost use Rattle.pattern_meaning.specs.PlainPattern.{PlainPattern, plain_pattern};
 ghost use Rattle.pattern_tokens.specs.declared.refusal.PatternRefusal.{PatternRefusal};
 ghost use Rattle.pattern_tokens.specs.declared.refusal.PatternRefusal.TheVariants as PatternRefusal;
 ghost use Rattle.pattern_types.specs.declared.pattern.Pattern.{Pattern};
@@ -13,7 +13,7 @@ use stix_times::laws::one_canonical_text;
 
 /// A pattern has one canonical text.
 pub fn one_text()
-    ensures { (pattern : Meant) (first second : List ℕ) → IsCanonical pattern first
+    ensures { (pattern : PlainPattern) (first second : List ℕ) → IsCanonical pattern first
         → IsCanonical pattern second → first ≡ second }
 {
     one_canonical_text();
@@ -23,7 +23,7 @@ pub fn one_text()
 /// 65,536 bytes is refused as TooLong, and as nothing else.
 pub fn reads_back()
     ensures back { (pattern : Pattern) (text canonical : List ℕ) → IsReadAs text pattern
-        → IsCanonical (meant pattern) canonical → length canonical ≤ 65_536 → IsReadAs canonical pattern }
+        → IsCanonical (plain_pattern pattern) canonical → length canonical ≤ 65_536 → IsReadAs canonical pattern }
     ensures long { (canonical : List ℕ) (refusal : PatternRefusal) → 65_536 < length canonical
         → IsRefusedAs canonical refusal → refusal ≡ PatternRefusal.TooLong }
 {

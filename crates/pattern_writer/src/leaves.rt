@@ -1,5 +1,5 @@
 ghost use Rattle.std.specs.Prelude.{◌≡◌, OnOk};
-ghost use Rattle.pattern_meaning.specs.Formula.{formula, listed};
+ghost use Rattle.pattern_meaning.specs.PlainLeaf.{plain_leaf, listed};
 ghost use Rattle.pattern_writer.specs.Parts.{IsWithin, Adds};
 ghost use Rattle.pattern_writer.specs.Leaf.{binds, IsFormulaText, AreParts};
 
@@ -11,7 +11,7 @@ use std::alloc::Global;
 
 /// How tightly what is written for a leaf binds. Takes no memory.
 fn tightness(leaf: &Leaf) -> u8
-    ensures { result ≡ binds (formula leaf.now) }
+    ensures { result ≡ binds (plain_leaf leaf.now) }
 {
     match leaf {
         Leaf::Test(_) => 2,
@@ -23,7 +23,7 @@ fn tightness(leaf: &Leaf) -> u8
 /// Writes a leaf, in parentheses where it binds less tightly.
 #[cycle(leaves)]
 fn write_part(alloc: Global, least: u8, leaf: &Leaf, out: &mut Text) -> Result<(), NoMemory>
-    ensures { OnOk result (Adds (IsWithin least (binds (formula leaf.now)) (IsFormulaText (formula leaf.now))) out.old out.new) }
+    ensures { OnOk result (Adds (IsWithin least (binds (plain_leaf leaf.now)) (IsFormulaText (plain_leaf leaf.now))) out.old out.new) }
 {
     if least <= tightness(leaf) {
         return write_leaf(alloc, leaf, out);
@@ -54,7 +54,7 @@ fn write_parts(
 /// Writes what stands in the brackets of a pattern.
 #[cycle(leaves)]
 pub(crate) fn write_leaf(alloc: Global, leaf: &Leaf, out: &mut Text) -> Result<(), NoMemory>
-    ensures { OnOk result (Adds (IsFormulaText (formula leaf.now)) out.old out.new) }
+    ensures { OnOk result (Adds (IsFormulaText (plain_leaf leaf.now)) out.old out.new) }
 {
     match leaf {
         Leaf::Test(test) => write_test(alloc, test, out),

@@ -1,9 +1,9 @@
 ghost use Rattle.std.specs.Prelude.{◌≡◌, ◌+◌, ◌<◌, OnOk, IfOk, codes};
-ghost use Rattle.pattern_meaning.specs.Meant.{meant};
+ghost use Rattle.pattern_meaning.specs.PlainPattern.{plain_pattern};
 ghost use Rattle.pattern_writer.specs.Parts.{AreSides, IsBetween, IsWithin, Adds};
 ghost use Rattle.pattern_writer.specs.Leaf.{IsFormulaText};
 ghost use Rattle.pattern_writer.specs.Canonical.{level, IsCanonical};
-ghost use Rattle.pattern_meaning.specs.Formula.{formula};
+ghost use Rattle.pattern_meaning.specs.PlainLeaf.{plain_leaf};
 
 use crate::leaves::write_leaf;
 use crate::limits::{write_seconds, write_span, write_times};
@@ -13,7 +13,7 @@ use std::alloc::Global;
 
 /// How tightly what is written for a pattern binds. Takes no memory.
 fn tightness(pattern: &Pattern) -> u8
-    ensures { result ≡ level (meant pattern.now) }
+    ensures { result ≡ level (plain_pattern pattern.now) }
 {
     match pattern {
         Pattern::Leaf(_)
@@ -28,7 +28,7 @@ fn tightness(pattern: &Pattern) -> u8
 
 /// Writes a leaf in its brackets.
 fn write_brackets(alloc: Global, leaf: &Leaf, out: &mut Text) -> Result<(), NoMemory>
-    ensures { OnOk result (Adds (IsBetween (codes "[") (codes "]") (IsFormulaText (formula leaf.now))) out.old out.new) }
+    ensures { OnOk result (Adds (IsBetween (codes "[") (codes "]") (IsFormulaText (plain_leaf leaf.now))) out.old out.new) }
 {
     out.push("[")?;
     write_leaf(alloc, leaf, out)?;
@@ -38,7 +38,7 @@ fn write_brackets(alloc: Global, leaf: &Leaf, out: &mut Text) -> Result<(), NoMe
 /// Writes a pattern, in parentheses where it binds less tightly.
 #[cycle(patterns)]
 fn write_part(alloc: Global, least: u8, pattern: &Pattern, out: &mut Text) -> Result<(), NoMemory>
-    ensures { OnOk result (Adds (IsWithin least (level (meant pattern.now)) (IsCanonical (meant pattern.now))) out.old out.new) }
+    ensures { OnOk result (Adds (IsWithin least (level (plain_pattern pattern.now)) (IsCanonical (plain_pattern pattern.now))) out.old out.new) }
 {
     if least <= tightness(pattern) {
         return write(alloc, pattern, out);
@@ -59,7 +59,7 @@ fn write_sides(
     out: &mut Text,
 ) -> Result<(), NoMemory>
     requires { binds < 3 }
-    ensures { OnOk result (Adds (AreSides (IsWithin binds (level (meant left.now)) (IsCanonical (meant left.now))) operator.now (IsWithin (binds + 1) (level (meant right.now)) (IsCanonical (meant right.now)))) out.old out.new) }
+    ensures { OnOk result (Adds (AreSides (IsWithin binds (level (plain_pattern left.now)) (IsCanonical (plain_pattern left.now))) operator.now (IsWithin (binds + 1) (level (plain_pattern right.now)) (IsCanonical (plain_pattern right.now)))) out.old out.new) }
 {
     write_part(alloc, binds, left, out)?;
     out.push(operator)?;
@@ -69,7 +69,7 @@ fn write_sides(
 /// Writes a pattern.
 #[cycle(patterns)]
 fn write(alloc: Global, pattern: &Pattern, out: &mut Text) -> Result<(), NoMemory>
-    ensures { OnOk result (Adds (IsCanonical (meant pattern.now)) out.old out.new) }
+    ensures { OnOk result (Adds (IsCanonical (plain_pattern pattern.now)) out.old out.new) }
 {
     match pattern {
         Pattern::Leaf(leaf) => write_brackets(alloc, leaf, out),
@@ -96,7 +96,7 @@ fn write(alloc: Global, pattern: &Pattern, out: &mut Text) -> Result<(), NoMemor
 
 /// The canonical text of a pattern.
 pub fn write_pattern(alloc: Global, pattern: &Pattern) -> Result<Text, NoMemory>
-    ensures { IfOk result (λ text. IsCanonical (meant pattern.now) text) }
+    ensures { IfOk result (λ text. IsCanonical (plain_pattern pattern.now) text) }
 {
     let mut text = Text::new(alloc);
     write(alloc, pattern, &mut text)?;

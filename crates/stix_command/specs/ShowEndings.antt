@@ -2,7 +2,7 @@
 use Rattle.std.specs.Prelude.{◌≡◌, ℕ, List, [], ◌++◌, codes}
 use Rattle.flow_edges.specs.Flow.{written_with, WritesPrefix}
 use Rattle.pattern_types.specs.declared.pattern.Pattern.{Pattern}
-use Rattle.pattern_meaning.specs.Meant.{meant}
+use Rattle.pattern_meaning.specs.PlainPattern.{plain_pattern}
 use Rattle.pattern_reader.specs.Read.{IsReadAs}
 use Rattle.pattern_writer.specs.Canonical.{IsCanonical}
 use Rattle.stix_command.specs.declared.showing.ShowEnding.{ShowEnding}
@@ -15,7 +15,7 @@ pub record IsLineOf (text line : List ℕ) : Type 0 where
   pub pattern : Pattern
   pub read : IsReadAs text pattern
   pub written : List ℕ
-  pub canonical : IsCanonical (meant pattern) written
+  pub canonical : IsCanonical (plain_pattern pattern) written
   pub line_is : line ≡ written ++ codes "\n"
 
 abbrev pub EndsShow : List ℕ → Streams → Streams → ShowEnding → Type 0

@@ -4,7 +4,7 @@ use Rattle.serde_json.specs.Data.{Data}
 use Rattle.flow_edges.specs.Flow.{written_with}
 use Rattle.flow_lines.specs.Lines.{Lined}
 use Rattle.match_log.specs.FirstForm.{FirstForm}
-use Rattle.match_log.specs.Listing.{FirstEntry, holding, line_text, listing_text, last_or_zero}
+use Rattle.match_log.specs.Listing.{FirstEntry, holding, binding_text, listing_text, last_or_zero}
 use Rattle.match_log.specs.Reading.{LogEnd, Reads, IsNext}
 use Rattle.match_log.specs.Matching.{IsEntryOf}
 use Rattle.match_log.specs.declared.tally.Tally.{Tally}
@@ -26,7 +26,7 @@ pub record IsTally (tally : Tally) (rows : List FirstEntry) : Type 0 where
 
 -- what is written for a row, which has the number n
 abbrev pub entry_text : ℕ → FirstEntry → List ℕ
-entry_text n row = if row.holds then line_text n else []
+entry_text n row = if row.holds then binding_text n else []
 
 -- a line adds a row to the log, and its text is written
 pub record AddsEntry (form : FirstForm) (before after : Tally) (bytes : List ℕ) (written written_after : Option (List ℕ)) : Type 0 where

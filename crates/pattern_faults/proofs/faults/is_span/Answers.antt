@@ -1,5 +1,5 @@
 use Rattle.std.proofs.Common.{inl, inr}
-use Rattle.pattern_faults.proofs.Meanings.{span_is, no_span}
+use Rattle.pattern_faults.proofs.TokenValueLemmas.{span_is, no_span}
 use Rattle.pattern_faults.proofs.faults.is_span.Goals as goal
 
 pub returns-in_default : goal.returns-in_default

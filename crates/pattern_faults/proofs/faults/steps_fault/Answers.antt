@@ -1,5 +1,5 @@
 use Rattle.std.proofs.lemmas.List.{take_more}
-use Rattle.pattern_faults.proofs.Meanings.{steps_more}
+use Rattle.pattern_faults.proofs.TokenValueLemmas.{steps_more}
 use Rattle.pattern_faults.proofs.faults.steps_fault.Goals as goal
 
 pub loop-step-preserved : goal.loop-step-preserved

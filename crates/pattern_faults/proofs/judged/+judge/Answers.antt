@@ -1,7 +1,7 @@
 use Rattle.std.proofs.lemmas.List.{take_more}
 use Rattle.pattern_grammar.specs.declared.comparison.ComparisonTree.{out-ComparisonTree}
 use Rattle.pattern_grammar.specs.Tree.{operand, conjunction, compared}
-use Rattle.pattern_faults.proofs.Chains.{test_operand, group_operand, grouped, conjunction_more, conjunction_judged, comparison_more, comparison_judged}
+use Rattle.pattern_faults.proofs.ChainLemmas.{test_operand, group_operand, grouped, conjunction_more, conjunction_judged, comparison_more, comparison_judged}
 use Rattle.pattern_faults.proofs.judged.+judge.Goals as goal
 
 pub judge_operand-returns-in-Test : goal.judge_operand-returns-in-Test

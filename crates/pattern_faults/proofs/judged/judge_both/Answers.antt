@@ -1,5 +1,5 @@
 use Rattle.std.proofs.Common.{List, ℕ}
-use Rattle.pattern_faults.proofs.Parts.{all_fault, same_both}
+use Rattle.pattern_faults.proofs.RefusalOfLemmas.{all_fault, same_both}
 use Rattle.pattern_faults.proofs.judged.judge_both.Goals as goal
 
 pub returns : goal.returns

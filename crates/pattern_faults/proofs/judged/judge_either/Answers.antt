@@ -1,4 +1,4 @@
-use Rattle.pattern_faults.proofs.Parts.{any_fault, same_either}
+use Rattle.pattern_faults.proofs.RefusalOfLemmas.{any_fault, same_either}
 use Rattle.pattern_faults.proofs.judged.judge_either.Goals as goal
 
 pub returns : goal.returns

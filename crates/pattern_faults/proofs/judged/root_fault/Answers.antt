@@ -1,4 +1,4 @@
-use Rattle.pattern_faults.proofs.Parts.{rooted, rootless}
+use Rattle.pattern_faults.proofs.RefusalOfLemmas.{rooted, rootless}
 use Rattle.pattern_faults.proofs.judged.root_fault.Goals as goal
 
 pub returns-then-is_none : goal.returns-then-is_none

@@ -1,4 +1,4 @@
-use Rattle.pattern_faults.proofs.RootSets.{alone_name}
+use Rattle.pattern_faults.proofs.RootSetLemmas.{alone_name}
 use Rattle.pattern_faults.proofs.roots.alone.Goals as goal
 
 pub returns : goal.returns

@@ -3,7 +3,7 @@ use Rattle.std.specs.Ordering.{nat_cmp}
 use Rattle.std.specs.Cmp.Lexicographic.{slice_cmp}
 use Rattle.std.proofs.lemmas.Iterator.Adapters.{fact_from_collect}
 use Rattle.std.proofs.lemmas.Iterator.Consumers.{YieldsList-from_copied, YieldsList-from_rest}
-use Rattle.pattern_faults.proofs.RootSets.{common_names}
+use Rattle.pattern_faults.proofs.RootSetLemmas.{common_names}
 use Rattle.pattern_faults.proofs.roots.common.Goals as goal
 
 pub returns : goal.returns

@@ -1,4 +1,4 @@
-use Rattle.pattern_faults.proofs.RootSets.{no_names}
+use Rattle.pattern_faults.proofs.RootSetLemmas.{no_names}
 use Rattle.pattern_faults.proofs.roots.is_none.Goals as goal
 
 pub returns : goal.returns

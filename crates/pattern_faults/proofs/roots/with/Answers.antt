@@ -1,4 +1,4 @@
-use Rattle.pattern_faults.proofs.RootSets.{joined_names}
+use Rattle.pattern_faults.proofs.RootSetLemmas.{joined_names}
 use Rattle.pattern_faults.proofs.roots.with.Goals as goal
 
 pub returns : goal.returns

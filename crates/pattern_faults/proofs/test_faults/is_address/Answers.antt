@@ -1,4 +1,4 @@
-use Rattle.pattern_faults.proofs.Meanings.{address_is}
+use Rattle.pattern_faults.proofs.TokenValueLemmas.{address_is}
 use Rattle.pattern_faults.proofs.test_faults.is_address.Goals as goal
 
 pub returns : goal.returns

@@ -1,4 +1,4 @@
-use Rattle.pattern_grammar.proofs.Derived.{front_completes, completes_front}
+use Rattle.pattern_grammar.proofs.DerivesLemmas.{front_completes, completes_front}
 use Rattle.pattern_grammar.proofs.laws.fronts.Goals as goal
 
 pub returns-clause-goes_on : goal.returns-clause-goes_on

@@ -1,4 +1,4 @@
-use Rattle.pattern_grammar.proofs.Derived.{derive_pattern, spell_pattern}
+use Rattle.pattern_grammar.proofs.DerivesLemmas.{derive_pattern, spell_pattern}
 use Rattle.pattern_grammar.proofs.laws.one_language.Goals as goal
 
 pub returns-clause-derived : goal.returns-clause-derived

@@ -1,4 +1,4 @@
-use Rattle.pattern_grammar.proofs.Trees.{one_tree}
+use Rattle.pattern_grammar.proofs.OneTreeLemmas.{one_tree}
 use Rattle.pattern_grammar.proofs.laws.one_pattern.Goals as goal
 
 pub returns : goal.returns

@@ -1,7 +1,7 @@
 use Rattle.pattern_tokens.specs.declared.token.TokenKind.TheVariants.{Among, RoundOpen, RoundClose}
-use Rattle.pattern_grammar.specs.declared.class.Class.TheVariants.{Only}
-use Rattle.pattern_grammar.proofs.Exits.{passed, refused_at, refused_in}
-use Rattle.pattern_grammar.proofs.Checks.{check_none, among_open, among_stuck, among_unclosed, among_found}
+use Rattle.pattern_grammar.specs.declared.class.TokenClass.TheVariants.{Only}
+use Rattle.pattern_grammar.proofs.ExitLemmas.{passed, refused_at, refused_in}
+use Rattle.pattern_grammar.proofs.CheckLemmas.{check_none, among_open, among_stuck, among_unclosed, among_found}
 use Rattle.pattern_grammar.proofs.parse_check.among.Goals as goal
 
 pub returns-in_err-open-clause-err : goal.returns-in_err-open-clause-err

@@ -1,7 +1,7 @@
 use Rattle.pattern_tokens.specs.declared.token.TokenKind.TheVariants.{Words}
-use Rattle.pattern_grammar.specs.declared.class.Class.TheVariants.{Only, Ordered, Constant}
-use Rattle.pattern_grammar.proofs.Exits.{passed, refused_at}
-use Rattle.pattern_grammar.proofs.Checks.{equality_stuck, equality_found, order_stuck, order_found, textual_stuck, textual_found}
+use Rattle.pattern_grammar.specs.declared.class.TokenClass.TheVariants.{Only, Ordered, Constant}
+use Rattle.pattern_grammar.proofs.ExitLemmas.{passed, refused_at}
+use Rattle.pattern_grammar.proofs.CheckLemmas.{equality_stuck, equality_found, order_stuck, order_found, textual_stuck, textual_found}
 use Rattle.pattern_grammar.proofs.parse_check.check.Goals as goal
 
 pub returns-in_err-constant-clause-err : goal.returns-in_err-constant-clause-err

@@ -1,6 +1,6 @@
-use Rattle.pattern_grammar.specs.declared.class.Class.TheVariants.{Constant}
-use Rattle.pattern_grammar.proofs.Exits.{passed, refused_at}
-use Rattle.pattern_grammar.proofs.Checks.{constants_none, constants_begun, constants_stuck, constants_further}
+use Rattle.pattern_grammar.specs.declared.class.TokenClass.TheVariants.{Constant}
+use Rattle.pattern_grammar.proofs.ExitLemmas.{passed, refused_at}
+use Rattle.pattern_grammar.proofs.CheckLemmas.{constants_none, constants_begun, constants_stuck, constants_further}
 use Rattle.pattern_grammar.proofs.parse_check.constants.Goals as goal
 
 pub returns-in_err-first-clause-err : goal.returns-in_err-first-clause-err

@@ -1,9 +1,9 @@
 use Rattle.pattern_tokens.specs.declared.token.TokenKind.TheVariants.{RoundClose}
-use Rattle.pattern_grammar.specs.declared.class.Class.TheVariants.{Only}
-use Rattle.pattern_grammar.proofs.Exits.{passed, refused_at, refused_in}
-use Rattle.pattern_grammar.proofs.Joined.{joined_more}
-use Rattle.pattern_grammar.proofs.Chain.{stuck_first, stuck_later, found_first, found_later}
-use Rattle.pattern_grammar.proofs.Comparisons.{bracket_stuck, bracket_unclosed, bracket_found, test_brackets, cand_chain, cor_chain}
+use Rattle.pattern_grammar.specs.declared.class.TokenClass.TheVariants.{Only}
+use Rattle.pattern_grammar.proofs.ExitLemmas.{passed, refused_at, refused_in}
+use Rattle.pattern_grammar.proofs.JoinedLemmas.{joined_more}
+use Rattle.pattern_grammar.proofs.ChainLemmas.{stuck_first, stuck_later, found_first, found_later}
+use Rattle.pattern_grammar.proofs.TestLemmas.{bracket_stuck, bracket_unclosed, bracket_found, test_brackets, cand_chain, cor_chain}
 use Rattle.pattern_grammar.proofs.parse_comparison.+comparison.Goals as goal
 
 pub test-returns-in_err-tree-clause-err : goal.test-returns-in_err-tree-clause-err

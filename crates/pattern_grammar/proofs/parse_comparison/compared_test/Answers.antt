@@ -1,5 +1,5 @@
-use Rattle.pattern_grammar.proofs.Exits.{passed, refused_in}
-use Rattle.pattern_grammar.proofs.Comparisons.{compare_no_path, compare_not_stuck, compare_not_found, compare_stuck, compare_found}
+use Rattle.pattern_grammar.proofs.ExitLemmas.{passed, refused_in}
+use Rattle.pattern_grammar.proofs.TestLemmas.{compare_no_path, compare_not_stuck, compare_not_found, compare_stuck, compare_found}
 use Rattle.pattern_grammar.proofs.parse_comparison.compared_test.Goals as goal
 
 pub returns-in_err-path-clause-err : goal.returns-in_err-path-clause-err

@@ -1,7 +1,7 @@
 use Rattle.pattern_tokens.specs.declared.token.TokenKind.TheVariants.{Exists}
-use Rattle.pattern_grammar.specs.declared.class.Class.TheVariants.{Only}
-use Rattle.pattern_grammar.proofs.Exits.{passed, refused_at, refused_in}
-use Rattle.pattern_grammar.proofs.Comparisons.{exists_stuck, exists_found, not_stuck, not_exists_stuck, not_exists_found}
+use Rattle.pattern_grammar.specs.declared.class.TokenClass.TheVariants.{Only}
+use Rattle.pattern_grammar.proofs.ExitLemmas.{passed, refused_at, refused_in}
+use Rattle.pattern_grammar.proofs.TestLemmas.{exists_stuck, exists_found, not_stuck, not_exists_stuck, not_exists_found}
 use Rattle.pattern_grammar.proofs.parse_comparison.plain_test.Goals as goal
 
 pub returns-in_err-path-clause-err : goal.returns-in_err-path-clause-err

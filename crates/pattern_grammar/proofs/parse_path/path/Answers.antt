@@ -1,8 +1,8 @@
 use Rattle.pattern_tokens.specs.declared.token.TokenKind.TheVariants.{Colon}
-use Rattle.pattern_grammar.specs.declared.class.Class.TheVariants.{Only, Root, Name}
-use Rattle.pattern_grammar.proofs.Exits.{passed, refused_at, refused_in}
-use Rattle.pattern_grammar.proofs.Chain.{stuck_further, found_further}
-use Rattle.pattern_grammar.proofs.Paths.{path_none, path_root, path_colon, path_begun, path_steps, step_shorter}
+use Rattle.pattern_grammar.specs.declared.class.TokenClass.TheVariants.{Only, Root, Name}
+use Rattle.pattern_grammar.proofs.ExitLemmas.{passed, refused_at, refused_in}
+use Rattle.pattern_grammar.proofs.ChainLemmas.{stuck_further, found_further}
+use Rattle.pattern_grammar.proofs.PathLemmas.{path_none, path_root, path_colon, path_begun, path_steps, step_shorter}
 use Rattle.pattern_grammar.proofs.parse_path.path.Goals as goal
 
 pub returns-in_err-root-clause-err : goal.returns-in_err-root-clause-err

@@ -1,7 +1,7 @@
 use Rattle.pattern_tokens.specs.declared.token.TokenKind.TheVariants.{SquareOpen, SquareClose}
-use Rattle.pattern_grammar.specs.declared.class.Class.TheVariants.{Only, Name, Index}
-use Rattle.pattern_grammar.proofs.Exits.{passed, refused_at}
-use Rattle.pattern_grammar.proofs.Paths.{step_none, step_dot, step_named, step_square, step_unclosed, step_indexed}
+use Rattle.pattern_grammar.specs.declared.class.TokenClass.TheVariants.{Only, Name, Index}
+use Rattle.pattern_grammar.proofs.ExitLemmas.{passed, refused_at}
+use Rattle.pattern_grammar.proofs.PathLemmas.{step_none, step_dot, step_named, step_square, step_unclosed, step_indexed}
 use Rattle.pattern_grammar.proofs.parse_path.step.Goals as goal
 
 pub returns-in_err-name-clause-err : goal.returns-in_err-name-clause-err

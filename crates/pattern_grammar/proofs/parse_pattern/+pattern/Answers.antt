@@ -1,10 +1,10 @@
 use Rattle.pattern_tokens.specs.declared.token.TokenKind.TheVariants.{RoundClose}
-use Rattle.pattern_grammar.specs.declared.class.Class.TheVariants.{Only}
-use Rattle.pattern_grammar.proofs.Exits.{passed, refused_at, refused_in}
-use Rattle.pattern_grammar.proofs.Joined.{joined_more}
-use Rattle.pattern_grammar.proofs.Chain.{stuck_first, stuck_later, stuck_further, found_first, found_later, found_further}
-use Rattle.pattern_grammar.proofs.Comparisons.{bracket_stuck, bracket_unclosed, bracket_found}
-use Rattle.pattern_grammar.proofs.Patterns.{start_brackets, unit_first, unit_stuck, unit_qualifiers, qualifier_shorter, ands_chain, ors_chain, pattern_chain}
+use Rattle.pattern_grammar.specs.declared.class.TokenClass.TheVariants.{Only}
+use Rattle.pattern_grammar.proofs.ExitLemmas.{passed, refused_at, refused_in}
+use Rattle.pattern_grammar.proofs.JoinedLemmas.{joined_more}
+use Rattle.pattern_grammar.proofs.ChainLemmas.{stuck_first, stuck_later, stuck_further, found_first, found_later, found_further}
+use Rattle.pattern_grammar.proofs.TestLemmas.{bracket_stuck, bracket_unclosed, bracket_found}
+use Rattle.pattern_grammar.proofs.PatternLemmas.{start_brackets, unit_first, unit_stuck, unit_qualifiers, qualifier_shorter, ands_chain, ors_chain, pattern_chain}
 use Rattle.pattern_grammar.proofs.parse_pattern.+pattern.Goals as goal
 
 pub start-returns-in_err-tree-clause-err : goal.start-returns-in_err-tree-clause-err

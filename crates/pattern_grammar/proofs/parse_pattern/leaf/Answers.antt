@@ -1,9 +1,9 @@
 use Rattle.pattern_tokens.specs.declared.token.TokenKind.TheVariants.{SquareOpen, SquareClose}
-use Rattle.pattern_grammar.specs.declared.class.Class.TheVariants.{Only}
-use Rattle.pattern_grammar.proofs.Exits.{passed, refused_at, refused_in}
-use Rattle.pattern_grammar.proofs.Comparisons.{bracket_stuck, bracket_unclosed, bracket_found}
-use Rattle.pattern_grammar.proofs.Patterns.{leaf_none, leaf_brackets}
-use Rattle.pattern_grammar.proofs.Joined.{leaf_shape}
+use Rattle.pattern_grammar.specs.declared.class.TokenClass.TheVariants.{Only}
+use Rattle.pattern_grammar.proofs.ExitLemmas.{passed, refused_at, refused_in}
+use Rattle.pattern_grammar.proofs.TestLemmas.{bracket_stuck, bracket_unclosed, bracket_found}
+use Rattle.pattern_grammar.proofs.PatternLemmas.{leaf_none, leaf_brackets}
+use Rattle.pattern_grammar.proofs.JoinedLemmas.{leaf_shape}
 use Rattle.pattern_grammar.proofs.parse_pattern.leaf.Goals as goal
 
 pub returns-in_err-inside-clause-err : goal.returns-in_err-inside-clause-err

@@ -1,7 +1,7 @@
 use Rattle.std.proofs.Common.{sym, ◌∙◌}
-use Rattle.pattern_grammar.proofs.Exits.{passed}
-use Rattle.pattern_grammar.proofs.Ends.{misfit_in, misfit_rest, spells_whole, gives_none, gives_exit, unspelled_rest}
-use Rattle.pattern_grammar.proofs.Trees.{one_tree}
+use Rattle.pattern_grammar.proofs.ExitLemmas.{passed}
+use Rattle.pattern_grammar.proofs.EndsAtLemmas.{misfit_in, misfit_rest, spells_whole, gives_none, gives_exit, unspelled_rest}
+use Rattle.pattern_grammar.proofs.OneTreeLemmas.{one_tree}
 use Rattle.pattern_grammar.proofs.parse_pattern.parse.Goals as goal
 
 pub returns-in_err-tree-clause-err : goal.returns-in_err-tree-clause-err

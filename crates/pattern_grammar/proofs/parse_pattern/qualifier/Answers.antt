@@ -1,7 +1,7 @@
 use Rattle.pattern_tokens.specs.declared.token.TokenKind.TheVariants.{Number, Seconds, Times, Start, Time, Stop}
-use Rattle.pattern_grammar.specs.declared.class.Class.TheVariants.{Only}
-use Rattle.pattern_grammar.proofs.Exits.{passed, refused_at}
-use Rattle.pattern_grammar.proofs.Patterns.{qualifier_none, within_stuck, within_unended, within_found, repeats_stuck, repeats_unended, repeats_found, between_stuck, between_unstopped, between_unended, between_found}
+use Rattle.pattern_grammar.specs.declared.class.TokenClass.TheVariants.{Only}
+use Rattle.pattern_grammar.proofs.ExitLemmas.{passed, refused_at}
+use Rattle.pattern_grammar.proofs.PatternLemmas.{qualifier_none, within_stuck, within_unended, within_found, repeats_stuck, repeats_unended, repeats_found, between_stuck, between_unstopped, between_unended, between_found}
 use Rattle.pattern_grammar.proofs.parse_pattern.qualifier.Goals as goal
 
 pub returns-in_err-number-clause-err : goal.returns-in_err-number-clause-err

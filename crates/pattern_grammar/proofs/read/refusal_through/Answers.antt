@@ -1,5 +1,5 @@
 use Rattle.std.proofs.Common.{inr}
-use Rattle.pattern_grammar.proofs.Deep.{deep_empty, deep_spelled, syntax_at, through_shallow}
+use Rattle.pattern_grammar.proofs.DepthLemmas.{deep_empty, deep_spelled, syntax_at, through_shallow}
 use Rattle.pattern_grammar.proofs.read.refusal_through.Goals as goal
 
 pub returns-in-Err-Syntax-empty : goal.returns-in-Err-Syntax-empty

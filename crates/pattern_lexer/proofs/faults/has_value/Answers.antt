@@ -2,7 +2,7 @@ use Rattle.std.proofs.Common.{◌↔◌, IsTrue, subst, sym}
 use Rattle.pattern_tokens.specs.declared.token.TokenKind.TheVariants.{Hex, Base}
 use Rattle.pattern_tokens.specs.Values.{HasValue, IsMomentText}
 use Rattle.pattern_tokens.specs.Spans.{text_at}
-use Rattle.pattern_lexer.proofs.Values.{has_one, at_kind}
+use Rattle.pattern_lexer.proofs.TokenValueLemmas.{has_one, at_kind}
 use Rattle.pattern_lexer.proofs.faults.has_value.Goals as goal
 
 pub returns-in-Time : goal.returns-in-Time

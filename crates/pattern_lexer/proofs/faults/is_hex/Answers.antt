@@ -1,5 +1,5 @@
 use Rattle.pattern_tokens.specs.Values.{IsHexText}
-use Rattle.pattern_lexer.proofs.Values.{has_found}
+use Rattle.pattern_lexer.proofs.TokenValueLemmas.{has_found}
 use Rattle.pattern_lexer.proofs.faults.is_hex.Goals as goal
 
 pub returns : goal.returns

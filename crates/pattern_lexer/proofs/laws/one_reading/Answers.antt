@@ -1,4 +1,4 @@
-use Rattle.pattern_lexer.proofs.Readings.{one_reading}
+use Rattle.pattern_lexer.proofs.TokensOfLemmas.{one_reading}
 use Rattle.pattern_lexer.proofs.laws.one_reading.Goals as goal
 
 pub returns : goal.returns

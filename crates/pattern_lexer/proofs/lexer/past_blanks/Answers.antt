@@ -1,4 +1,4 @@
-use Rattle.pattern_lexer.proofs.Standing.{passed}
+use Rattle.pattern_lexer.proofs.AreTokensLemmas.{passed}
 use Rattle.pattern_lexer.proofs.lexer.past_blanks.Goals as goal
 
 pub returns : goal.returns

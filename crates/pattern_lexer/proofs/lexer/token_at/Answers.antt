@@ -1,7 +1,7 @@
 use Rattle.std.proofs.Common.{inr, subst, sym, ◌∙◌, drop}
 use Rattle.std.proofs.lemmas.Bool.{false≢true}
 use Rattle.pattern_lexer.specs.Reading.{IsFault}
-use Rattle.pattern_lexer.proofs.Standing.{placed, stands, stands_for_nothing}
+use Rattle.pattern_lexer.proofs.AreTokensLemmas.{placed, stands, stands_for_nothing}
 use Rattle.pattern_lexer.proofs.lexer.token_at.Goals as goal
 
 pub has_value-requires-clause-cut : goal.has_value-requires-clause-cut

@@ -1,9 +1,9 @@
 use Rattle.std.proofs.Common.{◌≡◌, ◌⊎◌, sym, subst}
 use Rattle.pattern_tokens.specs.declared.refusal.PatternRefusal.TheVariants.{NoMemory}
 use Rattle.pattern_lexer.specs.Reading.{IsRefused}
-use Rattle.pattern_lexer.specs.Steps.{ReadUpTo}
-use Rattle.pattern_lexer.proofs.Standing.{read_nothing, read_one, read_all, read_refusal}
-use Rattle.pattern_lexer.proofs.Readings.{only_tokens, passed_on, only_passed_on}
+use Rattle.pattern_lexer.specs.inner.Steps.{ReadUpTo}
+use Rattle.pattern_lexer.proofs.AreTokensLemmas.{read_nothing, read_one, read_all, read_refusal}
+use Rattle.pattern_lexer.proofs.TokensOfLemmas.{only_tokens, passed_on, only_passed_on}
 use Rattle.pattern_lexer.proofs.lexer.tokens.Goals as goal
 
 pub loop-at-init : goal.loop-at-init

@@ -1,5 +1,5 @@
 use Rattle.std.proofs.Common.{length, ◌-◌, ◌≤◌}
-use Rattle.pattern_lexer.specs.Steps.{ReadUpTo}
+use Rattle.pattern_lexer.specs.inner.Steps.{ReadUpTo}
 use Rattle.pattern_lexer.proofs.lexer.tokens.Given as goal
 
 abbrev pub invariant-loop-at : goal.invariant-loop-at

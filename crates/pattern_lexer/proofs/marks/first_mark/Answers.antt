@@ -1,5 +1,5 @@
 use Rattle.std.proofs.Common.{sym}
-use Rattle.pattern_lexer.proofs.Longest.{single_first, double_first, no_mark}
+use Rattle.pattern_lexer.proofs.LongestTokenLemmas.{single_first, double_first, no_mark}
 use Rattle.pattern_lexer.proofs.marks.first_mark.Goals as goal
 
 pub returns-in-Some-clause-some : goal.returns-in-Some-clause-some

@@ -1,4 +1,4 @@
-use Rattle.pattern_lexer.proofs.Longest.{name_first, run_name}
+use Rattle.pattern_lexer.proofs.LongestTokenLemmas.{name_first, run_name}
 use Rattle.pattern_lexer.proofs.names.first_name.Goals as goal
 
 pub kind_of_name-requires : goal.kind_of_name-requires

@@ -1,7 +1,7 @@
 use Rattle.std.proofs.Common.{subst}
 use Rattle.std.specs.Char.{IsAsciiDigit}
-use Rattle.pattern_lexer.specs.Steps.{IsRun}
-use Rattle.pattern_lexer.proofs.Longest.{number_first, no_number, is_none, is_some}
+use Rattle.pattern_lexer.specs.inner.Steps.{IsRun}
+use Rattle.pattern_lexer.proofs.LongestTokenLemmas.{number_first, no_number, is_none, is_some}
 use Rattle.pattern_lexer.proofs.numbers.first_number.Goals as goal
 
 pub returns-then-is_empty-clause-none : goal.returns-then-is_empty-clause-none

@@ -1,4 +1,4 @@
-use Rattle.pattern_lexer.proofs.Longest.{unquoted_some, unquoted_none}
+use Rattle.pattern_lexer.proofs.LongestTokenLemmas.{unquoted_some, unquoted_none}
 use Rattle.pattern_lexer.proofs.quoted.behind_unquoted.Goals as goal
 
 pub returns-clause-some : goal.returns-clause-some

@@ -1,6 +1,6 @@
 use Rattle.std.proofs.Common.{rules}
 use Rattle.std.proofs.lemmas.List.{nil_from_length}
-use Rattle.pattern_lexer.proofs.Escaping.{plain_read, special_read, no_more, no_special}
+use Rattle.pattern_lexer.proofs.EscapedTextLemmas.{plain_read, special_read, no_more, no_special}
 use Rattle.pattern_lexer.proofs.quoted.behind_words.Goals as goal
 
 pub returns-in_err-rest-in-92-clause-none : goal.returns-in_err-rest-in-92-clause-none

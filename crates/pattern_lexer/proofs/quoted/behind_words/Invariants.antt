@@ -1,5 +1,5 @@
 use Rattle.std.proofs.Common.{length}
-use Rattle.pattern_lexer.proofs.Escaping.{ReadInside}
+use Rattle.pattern_lexer.proofs.EscapedTextLemmas.{ReadInside}
 use Rattle.pattern_lexer.proofs.quoted.behind_words.Given as goal
 
 abbrev pub invariant-loop-first : goal.invariant-loop-first

@@ -1,5 +1,5 @@
 use Rattle.std.proofs.Common.{sym}
-use Rattle.pattern_lexer.proofs.Longest.{letter_first}
+use Rattle.pattern_lexer.proofs.LongestTokenLemmas.{letter_first}
 use Rattle.pattern_lexer.proofs.quoted.first_lettered.Goals as goal
 
 pub returns-clause-some : goal.returns-clause-some

@@ -1,4 +1,4 @@
-use Rattle.pattern_lexer.proofs.Longest.{words_first, no_words}
+use Rattle.pattern_lexer.proofs.LongestTokenLemmas.{words_first, no_words}
 use Rattle.pattern_lexer.proofs.quoted.first_words.Goals as goal
 
 pub returns-in_err-after-clause-none : goal.returns-in_err-after-clause-none

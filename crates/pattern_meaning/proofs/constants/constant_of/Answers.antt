@@ -1,4 +1,4 @@
-use Rattle.pattern_meaning.proofs.Bytes.{no_hex, no_time}
+use Rattle.pattern_meaning.proofs.ConstantLemmas.{no_hex, no_time}
 use Rattle.pattern_meaning.proofs.constants.constant_of.Goals as goal
 
 pub returns-in-None : goal.returns-in-None

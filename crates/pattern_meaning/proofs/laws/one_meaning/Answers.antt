@@ -1,4 +1,4 @@
-use Rattle.pattern_meaning.proofs.Unique.{one_meant}
+use Rattle.pattern_meaning.proofs.OneMeaningLemmas.{one_meant}
 use Rattle.pattern_meaning.proofs.laws.one_meaning.Goals as goal
 
 pub returns : goal.returns

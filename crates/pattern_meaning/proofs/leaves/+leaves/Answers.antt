@@ -1,7 +1,7 @@
 use Rattle.std.proofs.lemmas.List.{take_more}
 use Rattle.pattern_grammar.specs.declared.comparison.ComparisonTree.{out-ComparisonTree}
 use Rattle.pattern_grammar.specs.Tree.{operand, conjunction}
-use Rattle.pattern_meaning.proofs.Rows.{group_leaf, group_operand, test_leaf, all_further, any_further, conjunction_none, conjunction_none_at, conjunction_only, conjunction_begun, conjunction_whole, comparison_none, comparison_none_at, comparison_only, comparison_begun, comparison_whole, not_so}
+use Rattle.pattern_meaning.proofs.LeafMeaningLemmas.{group_leaf, group_operand, test_leaf, all_further, any_further, conjunction_none, conjunction_none_at, conjunction_only, conjunction_begun, conjunction_whole, comparison_none, comparison_none_at, comparison_only, comparison_begun, comparison_whole, not_so}
 use Rattle.pattern_meaning.proofs.leaves.+leaves.Goals as goal
 
 pub operand_leaf-returns-in-Some : goal.operand_leaf-returns-in-Some

@@ -1,7 +1,7 @@
 use Rattle.std.proofs.Common.{map, take}
 use Rattle.pattern_grammar.specs.declared.comparison.ComparisonTree.{out-ComparisonTree}
 use Rattle.pattern_grammar.specs.Tree.{joined, all, any, operand, conjunction}
-use Rattle.pattern_meaning.specs.Formula.{listed, AllParts, AnyParts}
+use Rattle.pattern_meaning.specs.PlainLeaf.{listed, AllParts, AnyParts}
 use Rattle.pattern_meaning.proofs.leaves.+leaves.Given as goal
 
 abbrev pub invariant-conjunction_leaf-loop-other : goal.invariant-conjunction_leaf-loop-other

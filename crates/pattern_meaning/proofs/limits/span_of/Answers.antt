@@ -1,5 +1,5 @@
 use Rattle.std.proofs.Common.{inl, inr}
-use Rattle.pattern_meaning.proofs.Spanned.{no_span}
+use Rattle.pattern_meaning.proofs.LimitLemmas.{no_span}
 use Rattle.pattern_meaning.proofs.limits.span_of.Goals as goal
 
 pub returns-in_default : goal.returns-in_default

@@ -1,6 +1,6 @@
 use Rattle.std.proofs.lemmas.List.{take_more}
 use Rattle.pattern_meaning.specs.Meaning.{IsStepOf}
-use Rattle.pattern_meaning.proofs.Lists.{each_none, each_step}
+use Rattle.pattern_meaning.proofs.EachLemmas.{each_none, each_step}
 use Rattle.pattern_meaning.proofs.paths.steps_of.Goals as goal
 
 pub returns-in_default : goal.returns-in_default

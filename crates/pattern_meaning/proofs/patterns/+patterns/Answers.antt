@@ -2,8 +2,8 @@ use Rattle.std.proofs.Common.{map}
 use Rattle.std.proofs.lemmas.List.{take_more, take_all}
 use Rattle.pattern_grammar.specs.Tree.{shape, both, either, followed}
 use Rattle.pattern_meaning.specs.declared.patterns.Operator.TheVariants as operator
-use Rattle.pattern_meaning.specs.Meant.{means_leaf, means_limited}
-use Rattle.pattern_meaning.proofs.Joins.{first_means, part_means, means_more, applied, leaf_lacks, shape_leaf, shape_both, shape_either, shape_then, shape_qualified}
+use Rattle.pattern_meaning.specs.PlainPattern.{means_leaf, means_limited}
+use Rattle.pattern_meaning.proofs.OperatorLemmas.{first_means, part_means, means_more, applied, leaf_lacks, shape_leaf, shape_both, shape_either, shape_then, shape_qualified}
 use Rattle.pattern_meaning.proofs.patterns.+patterns.Goals as goal
 
 pub chain_of-returns-in_default : goal.chain_of-returns-in_default

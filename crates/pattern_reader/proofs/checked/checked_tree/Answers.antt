@@ -1,5 +1,5 @@
 use Rattle.std.proofs.Common.{Ok}
-use Rattle.pattern_reader.proofs.Only.{no_tokens, tree_of, not_faulty}
+use Rattle.pattern_reader.proofs.IsSoundLemmas.{no_tokens, tree_of, not_faulty}
 use Rattle.pattern_reader.proofs.checked.checked_tree.Goals as goal
 
 pub returns-in-Err-clause-only : goal.returns-in-Err-clause-only
@@ -12,4 +12,4 @@ pub returns-in-None-clause-only : goal.returns-in-None-clause-only
 returns-in-None-clause-only c = λ tree s. c.in-Ok-read_tree.ensures.only tree (tree_of _ _ _ tree c.as_slice.ensures c.in-Ok.ensures.only s)
 
 pub returns-clause-only : goal.returns-clause-only
-returns-clause-only c = λ tree s. not_faulty _ _ tree _ _ c.in_ok-pattern_fault.ensures c.in-Some.is (c.in-Ok-read_tree.ensures.only tree (tree_of _ _ _ tree c.as_slice.ensures c.in-Ok.ensures.only s)) s.faultless
+returns-clause-only c = λ tree s. not_faulty _ _ tree _ _ c.in_ok-first_refusal.ensures c.in-Some.is (c.in-Ok-read_tree.ensures.only tree (tree_of _ _ _ tree c.as_slice.ensures c.in-Ok.ensures.only s)) s.faultless

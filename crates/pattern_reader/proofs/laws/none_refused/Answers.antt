@@ -1,4 +1,4 @@
-use Rattle.pattern_reader.proofs.OneReading.{not_refused}
+use Rattle.pattern_reader.proofs.IsReadAsLemmas.{not_refused}
 use Rattle.pattern_reader.proofs.laws.none_refused.Goals as goal
 
 pub returns : goal.returns

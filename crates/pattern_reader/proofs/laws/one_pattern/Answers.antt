@@ -1,4 +1,4 @@
-use Rattle.pattern_reader.proofs.OneReading.{one_sound, one_read}
+use Rattle.pattern_reader.proofs.IsReadAsLemmas.{one_sound, one_read}
 use Rattle.pattern_reader.proofs.laws.one_pattern.Goals as goal
 
 pub returns-clause-tree : goal.returns-clause-tree

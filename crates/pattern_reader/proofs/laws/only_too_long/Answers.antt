@@ -1,5 +1,5 @@
 use Rattle.std.proofs.Common.{inl, refl}
-use Rattle.pattern_reader.proofs.OneReading.{too_long}
+use Rattle.pattern_reader.proofs.IsReadAsLemmas.{too_long}
 use Rattle.pattern_reader.proofs.laws.only_too_long.Goals as goal
 
 pub returns-clause-refused : goal.returns-clause-refused

@@ -1,4 +1,4 @@
-use Rattle.pattern_reader.proofs.Existing.{sound_all, of_pattern}
+use Rattle.pattern_reader.proofs.MeaningExistsLemmas.{sound_all, of_pattern}
 use Rattle.pattern_reader.proofs.read.meaning_of.Goals as goal
 
 pub unreachable-requires : goal.unreachable-requires

@@ -1,8 +1,8 @@
 use Rattle.std.proofs.Common.{inr, refl, sym, subst, ◌<◌, ℕ}
 use Rattle.pattern_grammar.specs.Tree.{shape}
-use Rattle.pattern_meaning.specs.Meant.{meant}
-use Rattle.pattern_reader.proofs.Existing.{sound_all, of_pattern}
-use Rattle.pattern_reader.proofs.Widths.{leaves_of, few, gives}
+use Rattle.pattern_meaning.specs.PlainPattern.{plain_pattern}
+use Rattle.pattern_reader.proofs.MeaningExistsLemmas.{sound_all, of_pattern}
+use Rattle.pattern_reader.proofs.WidthLemmas.{leaves_of, few, gives}
 use Rattle.pattern_reader.proofs.read.pattern_in.Goals as goal
 
 pub returns-then-has_many_brackets-clause-err : goal.returns-then-has_many_brackets-clause-err
@@ -27,4 +27,4 @@ pub narrow-requires : goal.narrow-requires
 narrow-requires c = few _ _ _ c.has_many_brackets.ensures c.if-has_many_brackets.false (leaves_of c.args.text.now c.in-Ok.ensures)
 
 pub returns-in-Ok-clause-only : goal.returns-in-Ok-clause-only
-returns-in-Ok-clause-only c = λ pattern means narrow. gives c.in-Ok.pattern pattern _ (c.one_meaning.ensures c.args.text.now (shape c.args.tree.now) (meant c.in-Ok.pattern) (meant pattern) c.in-Ok.ensures means) narrow c.narrow.ensures.ok c.narrow.ensures.err
+returns-in-Ok-clause-only c = λ pattern means narrow. gives c.in-Ok.pattern pattern _ (c.one_meaning.ensures c.args.text.now (shape c.args.tree.now) (plain_pattern c.in-Ok.pattern) (plain_pattern pattern) c.in-Ok.ensures means) narrow c.narrow.ensures.ok c.narrow.ensures.err

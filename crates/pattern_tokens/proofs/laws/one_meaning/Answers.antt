@@ -1,5 +1,5 @@
-use Rattle.pattern_tokens.proofs.Escapes.{one_words, one_moment}
-use Rattle.pattern_tokens.proofs.OneValue.{one_whole, one_hex, one_base}
+use Rattle.pattern_tokens.proofs.EscapesLemmas.{one_words, one_moment}
+use Rattle.pattern_tokens.proofs.HasValueLemmas.{one_whole, one_hex, one_base}
 use Rattle.pattern_tokens.proofs.laws.one_meaning.Goals as goal
 
 pub returns-clause-words : goal.returns-clause-words

@@ -1,5 +1,5 @@
 use Rattle.pattern_tokens.specs.Values.{IsHexText}
-use Rattle.pattern_tokens.proofs.Tokens.{found_at}
+use Rattle.pattern_tokens.proofs.SpansLemmas.{found_at}
 use Rattle.pattern_tokens.proofs.spans.hex_at.Goals as goal
 
 pub returns-in-Some : goal.returns-in-Some

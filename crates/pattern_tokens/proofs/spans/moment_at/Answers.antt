@@ -2,7 +2,7 @@ use Rattle.std.proofs.Common.{ℤ, List, ℕ, Option, Some, None, IfNone}
 use Rattle.pattern_tokens.specs.declared.token.Token.{Token}
 use Rattle.pattern_tokens.specs.Values.{IsMomentText}
 use Rattle.pattern_tokens.specs.Spans.{At, IsItself}
-use Rattle.pattern_tokens.proofs.Tokens.{no_value}
+use Rattle.pattern_tokens.proofs.SpansLemmas.{no_value}
 use Rattle.pattern_tokens.proofs.spans.moment_at.Goals as goal
 
 none_at : (text : List ℕ) (token : Token) (part : List ℕ) (o : Option ℤ) → At IsItself text token part → IfNone o ((i : ℤ) → ¬ IsMomentText part i) → IfNone o ((i : ℤ) → ¬ At IsMomentText text token i)

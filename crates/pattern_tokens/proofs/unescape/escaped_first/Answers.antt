@@ -1,6 +1,6 @@
 use Rattle.std.proofs.Common.{None, lit<}
 use Rattle.std.proofs.lemmas.Str.Pattern.{strip_prefix_char}
-use Rattle.pattern_tokens.proofs.Unescapes.{begins_none}
+use Rattle.pattern_tokens.proofs.UnescapedLemmas.{begins_none}
 use Rattle.pattern_tokens.proofs.unescape.escaped_first.Goals as goal
 
 pub returns-in_err-more-clause-none : goal.returns-in_err-more-clause-none

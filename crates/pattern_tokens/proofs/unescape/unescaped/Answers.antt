@@ -1,7 +1,7 @@
 use Rattle.std.proofs.Common.{◌≡◌, ◌++◌, flat_map, ap, sym, ◌∙◌, rules}
 use Rattle.std.proofs.lemmas.Bool.{false≢true}
 use Rattle.pattern_tokens.specs.Values.{escaped}
-use Rattle.pattern_tokens.proofs.Unescapes.{parts, no_parts, none_in, one_more, all_read, none_escaped, quote_before, quote_after}
+use Rattle.pattern_tokens.proofs.UnescapedLemmas.{parts, no_parts, none_in, one_more, all_read, none_escaped, quote_before, quote_after}
 use Rattle.pattern_tokens.proofs.unescape.unescaped.Goals as goal
 
 pub returns-in_default-escaped_first : goal.returns-in_default-escaped_first

@@ -1,6 +1,6 @@
 use Rattle.std.proofs.Common.{◌++◌, ap, sym, ◌∙◌, lit<}
 use Rattle.std.proofs.lemmas.Str.Pattern.{strip_suffix_char}
-use Rattle.pattern_tokens.proofs.Insides.{found, missing}
+use Rattle.pattern_tokens.proofs.QuotedLemmas.{found, missing}
 use Rattle.pattern_tokens.proofs.values.inside.Goals as goal
 
 pub returns-clause-some : goal.returns-clause-some

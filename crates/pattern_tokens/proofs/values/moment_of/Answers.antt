@@ -1,4 +1,4 @@
-use Rattle.pattern_tokens.proofs.Insides.{no_moment}
+use Rattle.pattern_tokens.proofs.QuotedLemmas.{no_moment}
 use Rattle.pattern_tokens.proofs.values.moment_of.Goals as goal
 
 pub returns-clause-none : goal.returns-clause-none

@@ -1,5 +1,5 @@
 use Rattle.pattern_tokens.specs.Word.{keywords}
-use Rattle.pattern_tokens.proofs.Texts.{contains_text}
+use Rattle.pattern_tokens.proofs.ContainsLemmas.{contains_text}
 use Rattle.pattern_tokens.proofs.word.is_keyword.Goals as goal
 
 pub returns : goal.returns

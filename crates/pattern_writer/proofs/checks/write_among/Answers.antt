@@ -1,7 +1,7 @@
 use Rattle.std.specs.Prelude.{codes}
 use Rattle.pattern_writer.specs.Path.{IsPathText}
 use Rattle.pattern_writer.specs.Check.{operator_text, AreAmong}
-use Rattle.pattern_writer.proofs.Adding.{ok_sides}
+use Rattle.pattern_writer.proofs.AddingLemmas.{ok_sides}
 use Rattle.pattern_writer.proofs.checks.write_among.Goals as goal
 
 pub returns : goal.returns

@@ -1,7 +1,7 @@
 use Rattle.pattern_writer.specs.Path.{IsPathText}
 use Rattle.pattern_writer.specs.Constant.{IsConstantText}
 use Rattle.pattern_writer.specs.Check.{operator_text}
-use Rattle.pattern_writer.proofs.Adding.{ok_sides}
+use Rattle.pattern_writer.proofs.AddingLemmas.{ok_sides}
 use Rattle.pattern_writer.proofs.checks.write_comparison.Goals as goal
 
 pub returns : goal.returns

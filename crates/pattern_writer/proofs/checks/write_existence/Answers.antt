@@ -2,7 +2,7 @@ use Rattle.std.proofs.Common.{◌++◌}
 use Rattle.std.specs.Prelude.{codes}
 use Rattle.pattern_writer.specs.Path.{IsPathText}
 use Rattle.pattern_writer.specs.Check.{not_text}
-use Rattle.pattern_writer.proofs.Adding.{two_added, ok_after}
+use Rattle.pattern_writer.proofs.AddingLemmas.{two_added, ok_after}
 use Rattle.pattern_writer.proofs.checks.write_existence.Goals as goal
 
 pub returns : goal.returns

@@ -1,6 +1,6 @@
 use Rattle.pattern_writer.specs.Path.{IsPathText}
 use Rattle.pattern_writer.specs.Check.{operator_text, AreWords}
-use Rattle.pattern_writer.proofs.Adding.{ok_sides}
+use Rattle.pattern_writer.proofs.AddingLemmas.{ok_sides}
 use Rattle.pattern_writer.proofs.checks.write_textual.Goals as goal
 
 pub returns : goal.returns

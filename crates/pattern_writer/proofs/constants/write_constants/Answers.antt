@@ -1,6 +1,6 @@
 use Rattle.std.specs.Prelude.{codes}
 use Rattle.pattern_writer.specs.Constant.{IsConstantText}
-use Rattle.pattern_writer.proofs.Adding.{adds_next}
+use Rattle.pattern_writer.proofs.AddingLemmas.{adds_next}
 use Rattle.pattern_writer.proofs.constants.write_constants.Goals as goal
 
 pub loop-index-preserved : goal.loop-index-preserved

@@ -1,4 +1,4 @@
-use Rattle.pattern_writer.proofs.Times.{utf8_time, read_back}
+use Rattle.pattern_writer.proofs.TimesLemmas.{utf8_time, read_back}
 use Rattle.pattern_writer.proofs.constants.write_time.Goals as goal
 
 pub unwrap-time-requires : goal.unwrap-time-requires

@@ -1,4 +1,4 @@
-use Rattle.pattern_writer.proofs.OneText.{canonical_once}
+use Rattle.pattern_writer.proofs.OneTextLemmas.{canonical_once}
 use Rattle.pattern_writer.proofs.laws.one_text.Goals as goal
 
 pub returns : goal.returns

@@ -1,4 +1,4 @@
-use Rattle.pattern_writer.proofs.Spelling.{reads_back}
+use Rattle.pattern_writer.proofs.SpellingLemmas.{reads_back}
 use Rattle.pattern_writer.proofs.laws.reads_back.Goals as goal
 
 pub returns-clause-back : goal.returns-clause-back

@@ -1,6 +1,6 @@
 use Rattle.std.proofs.lemmas.List.{take_all}
-use Rattle.pattern_writer.proofs.Adding.{adds_next}
-use Rattle.pattern_writer.proofs.LeafTexts.{IsPart, adds_parts, ok_all, ok_any}
+use Rattle.pattern_writer.proofs.AddingLemmas.{adds_next}
+use Rattle.pattern_writer.proofs.LeafTextsLemmas.{IsPart, adds_parts, ok_all, ok_any}
 use Rattle.pattern_writer.proofs.leaves.+leaves.Goals as goal
 
 pub write_leaf-returns-in-All : goal.write_leaf-returns-in-All

@@ -1,6 +1,6 @@
 use Rattle.std.proofs.Common.{take}
 use Rattle.pattern_writer.specs.Parts.{AreJoined, Adds}
-use Rattle.pattern_writer.proofs.LeafTexts.{IsPart}
+use Rattle.pattern_writer.proofs.LeafTextsLemmas.{IsPart}
 use Rattle.pattern_writer.proofs.leaves.+leaves.Given as goal
 
 abbrev pub invariant-write_parts-loop-index : goal.invariant-write_parts-loop-index

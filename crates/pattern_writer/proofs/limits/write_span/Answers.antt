@@ -1,7 +1,7 @@
 use Rattle.std.specs.Prelude.{codes}
 use Rattle.pattern_writer.specs.Parts.{IsAfter}
 use Rattle.pattern_writer.specs.Constant.{IsTimeText}
-use Rattle.pattern_writer.proofs.Adding.{adds_after, ok_sides}
+use Rattle.pattern_writer.proofs.AddingLemmas.{adds_after, ok_sides}
 use Rattle.pattern_writer.proofs.limits.write_span.Goals as goal
 
 pub returns : goal.returns

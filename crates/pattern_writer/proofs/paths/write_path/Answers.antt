@@ -4,7 +4,7 @@ use Rattle.std.proofs.lemmas.Grind.{common_steps}
 use Rattle.pattern_types.specs.declared.path.Step.{Step}
 use Rattle.pattern_writer.specs.Path.{IsFirstText, IsStepText, AreStepsText}
 use Rattle.pattern_writer.specs.Parts.{AreJoined, Adds}
-use Rattle.pattern_writer.proofs.Adding.{ok_after, ok_sides, two_added}
+use Rattle.pattern_writer.proofs.AddingLemmas.{ok_after, ok_sides, two_added}
 use Rattle.pattern_writer.proofs.paths.write_path.Goals as goal
 
 -- a first step and the others are the steps

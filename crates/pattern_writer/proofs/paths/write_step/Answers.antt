@@ -1,6 +1,6 @@
 use Rattle.std.specs.Prelude.{codes}
 use Rattle.pattern_writer.specs.Path.{IsNameText}
-use Rattle.pattern_writer.proofs.Adding.{ok_after}
+use Rattle.pattern_writer.proofs.AddingLemmas.{ok_after}
 use Rattle.pattern_writer.proofs.paths.write_step.Goals as goal
 
 pub returns-in_ok-push-in-Name : goal.returns-in_ok-push-in-Name

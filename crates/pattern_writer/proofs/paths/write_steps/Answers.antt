@@ -1,5 +1,5 @@
 use Rattle.pattern_writer.specs.Path.{IsStepText}
-use Rattle.pattern_writer.proofs.Adding.{adds_next_bare}
+use Rattle.pattern_writer.proofs.AddingLemmas.{adds_next_bare}
 use Rattle.pattern_writer.proofs.paths.write_steps.Goals as goal
 
 pub loop-step-preserved : goal.loop-step-preserved

@@ -1,4 +1,4 @@
-use Rattle.pattern_writer.proofs.Characters.{other_character}
+use Rattle.pattern_writer.proofs.CharactersLemmas.{other_character}
 use Rattle.pattern_writer.proofs.words.write_character.Goals as goal
 
 pub returns : goal.returns

@@ -1,5 +1,5 @@
-use Rattle.pattern_writer.proofs.Adding.{two_added}
-use Rattle.pattern_writer.proofs.Characters.{escaped_more}
+use Rattle.pattern_writer.proofs.AddingLemmas.{two_added}
+use Rattle.pattern_writer.proofs.CharactersLemmas.{escaped_more}
 use Rattle.pattern_writer.proofs.words.write_characters.Goals as goal
 
 pub loop-character-preserved : goal.loop-character-preserved

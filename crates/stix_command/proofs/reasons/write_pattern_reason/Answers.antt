@@ -11,11 +11,11 @@ returns-in_err-write_whole-clause-text g c = writes_whole-err (pattern_reason c.
 
 pub returns-in_err-write_refusal-clause-text : goal.returns-in_err-write_refusal-clause-text
 returns-in_err-write_refusal-clause-text g c = writes_whole-err (pattern_reason c.args.refusal.now) _ _ c.from_residual-in_err-write_refusal.result c.from_residual-in_err-write_refusal.ensures.0
-    (after_part (codes "pattern refused: ") (refusal_text c.args.refusal.now ++ codes "\n") _ _ _ c.in_ok-write_whole.ensures.text (front_part (refusal_text c.args.refusal.now) (codes "\n") _ _ c.in_err-write_refusal.ensures.part))
+    (after_part (codes "pattern refused: ") (refusal_text c.args.refusal.now ++ codes "\n") _ _ _ c.in_ok-write_whole.ensures.text (front_part (refusal_text c.args.refusal.now) (codes "\n") _ _ c.in_err-write_refusal.ensures.text))
 
 pub returns-clause-text : goal.returns-clause-text
 returns-clause-text g c =
     elim c.write_whole-2.result as (λ r. WritesWhole (codes "\n") (g.S.Sink.written c.write_refusal.new.sink) (g.S.Sink.written c.write_whole-2.new.sink) r → WritesWhole (pattern_reason c.args.refusal.now) (g.S.Sink.written c.args.reasons.now) (g.S.Sink.written c.write_whole-2.new.sink) r) [
-      | Ok done ↦ λ h. after_whole (codes "pattern refused: ") (refusal_text c.args.refusal.now ++ codes "\n") _ _ _ c.in_ok-write_whole.ensures.text (after_whole (refusal_text c.args.refusal.now) (codes "\n") _ _ _ c.in_ok-write_refusal.ensures.whole h)
-      | Err fault ↦ λ h. after_part (codes "pattern refused: ") (refusal_text c.args.refusal.now ++ codes "\n") _ _ _ c.in_ok-write_whole.ensures.text (after_part (refusal_text c.args.refusal.now) (codes "\n") _ _ _ c.in_ok-write_refusal.ensures.whole h)
+      | Ok done ↦ λ h. after_whole (codes "pattern refused: ") (refusal_text c.args.refusal.now ++ codes "\n") _ _ _ c.in_ok-write_whole.ensures.text (after_whole (refusal_text c.args.refusal.now) (codes "\n") _ _ _ c.in_ok-write_refusal.ensures.text h)
+      | Err fault ↦ λ h. after_part (codes "pattern refused: ") (refusal_text c.args.refusal.now ++ codes "\n") _ _ _ c.in_ok-write_whole.ensures.text (after_part (refusal_text c.args.refusal.now) (codes "\n") _ _ _ c.in_ok-write_refusal.ensures.text h)
     ] c.write_whole-2.ensures.text

@@ -1,0 +1,74 @@
+-- Where reading ends, for a list of tokens as a whole.
+use Rattle.std.proofs.Common.{◌≡◌, true, false, List, [], ◌∷◌, ◌++◌, Option, Some, None, refl, sym, ap, ◌∙◌, append-nil, append_assoc, Result, Ok, Err, IsErrAnd, length, ◌==◌, arith}
+use Rattle.std.proofs.lemmas.Bool.{eqb-true}
+use Rattle.pattern_tokens.specs.declared.token.Token.{Token}
+use Rattle.pattern_grammar.specs.declared.stop.Stop.{Stop}
+use Rattle.pattern_grammar.specs.declared.stop.Stop.TheVariants.{Memory, Syntax}
+use Rattle.pattern_grammar.specs.declared.pattern.PatternTree.{PatternTree}
+use Rattle.pattern_grammar.specs.Tree.{Tree}
+use Rattle.pattern_grammar.specs.Grammar.{IsPattern}
+use Rattle.pattern_grammar.specs.inner.Machine.{Want, thens, reach, go, wants_pattern}
+use Rattle.pattern_grammar.specs.inner.Reading.{Found, Stuck, Refused, done}
+use Rattle.pattern_grammar.specs.Answer.{EndsAt, MisfitAt, Misfit, Gives}
+use Rattle.pattern_grammar.proofs.LeadsLemmas.{reach-append, go_is, leads_past}
+use Rattle.pattern_grammar.proofs.CompletionLemmas.{front_whole}
+use Rattle.pattern_grammar.proofs.MachineLemmas.{run_pattern}
+use Rattle.pattern_grammar.proofs.DerivesLemmas.{front_completes, completes_front}
+
+-- what is spelled leads to the end
+spelled_ends : {ts : List Token} {p : Tree} → IsPattern ts p → go (reach (Some (wants_pattern [])) ts) [] ≡ Some []
+spelled_ends x = (run_pattern x [] tt tt tt).go_on [] ∙ (leads_past thens [] tt).go_on []
+
+dead : (ts : List Token) → reach None ts ≡ None
+dead [] = refl
+dead (t ∷ ts) = dead ts
+
+-- past a token that may not stand there is nothing
+lost : (s : Option (List Want)) (t : Token) (r more : List Token) → go s (t ∷ r) ≡ None → reach s (t ∷ more) ≡ None
+lost s t r more h = ap (λ o. reach o more) (sym (go_is s t r) ∙ h) ∙ dead more
+
+-- a list that goes on where it may not isn't spelled
+no_more : (read : List Token) (t : Token) (r more : List Token) → go (reach (Some (wants_pattern [])) read) (t ∷ r) ≡ None → (p : Tree) → ¬ IsPattern (read ++ t ∷ more) p
+no_more read t r more h p x =
+    let e : reach (Some (wants_pattern [])) (read ++ t ∷ more) ≡ None = reach-append (Some (wants_pattern [])) read (t ∷ more) ∙ lost _ t r more h in
+    let g : go None [] ≡ Some [] = ap (λ s. go s []) (sym e) ∙ spelled_ends x in
+    absurd (cc)
+
+ends_at : (read rest : List Token) → go (reach (Some (wants_pattern [])) read) rest ≡ None → EndsAt read rest
+ends_at read [] h = λ p x. let g : None ≡ Some [] = sym h ∙ spelled_ends x in absurd (cc)
+ends_at read (t ∷ rest) h = λ x. let f = front_completes x in no_more read t rest f.more h f.value (rw append_assoc at f.spells)
+
+pub misfit : {ts rest : List Token} → Stuck IsPattern wants_pattern ts rest → MisfitAt ts rest
+misfit {rest = rest} s = record { read = s.read; all_are = s.all_are; front = completes_front s.front; ends = ends_at s.read rest (s.halts.stop []) }
+
+pub misfit_in : (ts : List Token) (e : Stop) → Refused IsPattern wants_pattern ts e → Misfit ts e
+misfit_in ts Memory h = tt
+misfit_in ts (Syntax r) h = misfit h
+
+-- tokens that are left don't fit
+pub misfit_rest : {ts : List Token} (rest : List Token) {p : Tree} → Found IsPattern wants_pattern done ts p rest → (length rest == 0) ≡ false → MisfitAt ts rest
+misfit_rest [] f h = absurd (cc)
+misfit_rest (t ∷ rest) {p} f h = record { read = f.read; all_are = f.all_are; front = completes_front (front_whole p f.spells); ends = ends_at f.read (t ∷ rest) (f.leads.go_on []) }
+
+none_left : (rest : List Token) → (length rest == 0) ≡ true → rest ≡ []
+none_left [] h = refl
+none_left (t ∷ rest) h = absurd (omega (arith, eqb-true _ _ h))
+
+pub spells_whole : {ts rest : List Token} {p : Tree} → Found IsPattern wants_pattern done ts p rest → (length rest == 0) ≡ true → IsPattern ts p
+spells_whole {rest = rest} f h = rw (f.all_are, none_left rest h, append-nil) f.spells
+
+-- what is refused isn't spelled
+misfit_unspelled : {ts rest : List Token} → MisfitAt ts rest → (p : Tree) → ¬ IsPattern ts p
+misfit_unspelled {rest = []} m p x = m.ends p (let e = m.all_are ∙ append-nil m.read in rw e at x)
+misfit_unspelled {rest = t ∷ rest} m p x = m.ends (completes_front (record { more = rest; value = p; spells = rw append_assoc (rw m.all_are at x) }))
+
+pub unspelled_rest : {ts : List Token} (rest : List Token) {p : Tree} → Found IsPattern wants_pattern done ts p rest → (length rest == 0) ≡ false → (q : Tree) → ¬ IsPattern ts q
+unspelled_rest rest f h q x = misfit_unspelled (misfit_rest rest f h) q x
+
+pub gives_none : (e : Stop) {ts : List Token} → Refused IsPattern wants_pattern ts e → (p : Tree) → IsPattern ts p → e ≡ Memory
+gives_none Memory h p x = refl
+gives_none (Syntax r) h p x = absurd (misfit_unspelled (misfit h) p x)
+
+pub gives_exit : (r : Result PatternTree Stop) (e : Stop) (p : Tree) → IsErrAnd r (λ y. y ≡ e) → e ≡ Memory → Gives p r
+gives_exit (Ok q) e p h g = absurd h
+gives_exit (Err y) e p h g = h ∙ g

@@ -1,0 +1,170 @@
+-- What is a front goes on to something derived, and what begins something derived is a front.
+use Rattle.std.proofs.Common.{◌≡◌, true, List, [], ◌∷◌, ◌++◌, ◌⊎◌, inl, inr, refl, append_assoc, ℕ, nat_eq, arith}
+use Rattle.std.proofs.lemmas.Bool.Decides.{nat_tests}
+use Rattle.pattern_tokens.specs.declared.token.Token.{Token}
+use Rattle.pattern_tokens.specs.declared.token.TokenKind.{TokenKind}
+use Rattle.pattern_tokens.specs.declared.token.TokenKind.TheVariants.{Word, Number, Equal, Less, Like, Within, Dot, Colon, Seconds, SquareOpen, SquareClose}
+use Rattle.pattern_grammar.specs.declared.class.TokenClass.{TokenClass}
+use Rattle.pattern_grammar.specs.declared.class.TokenClass.TheVariants.{Only, Root, Name, Index, Equality, Order, Textual, Ordered, Constant, Qualifying, Stepping}
+use Rattle.pattern_grammar.specs.TokenClass.{is_in, code}
+use Rattle.pattern_grammar.specs.Fronts.{GrammarLine, pattern, ors, ands, unit, qualifier, cor, cand, test, compare, path, Part, one, line, ◌then◌, ◌or◌, many, maybe, rule, Derives, is_one, is_line, is_both, is_left, is_right, no_more, one_more, absent, present, FrontOf, before_one, after_one, of_line, in_first, in_second, of_left, of_right, before_many, in_many, in_more, before_maybe, in_maybe}
+use Rattle.pattern_grammar.proofs.CompletionLemmas.{some}
+
+-- some kind of each class
+abbrev kind_in : TokenClass → TokenKind
+kind_in (Only kind) = kind
+kind_in Root = Word
+kind_in Name = Word
+kind_in Index = Number
+kind_in Equality = Equal
+kind_in Order = Less
+kind_in Textual = Like
+kind_in Ordered = Number
+kind_in Constant = Number
+kind_in Qualifying = Within
+kind_in Stepping = Dot
+
+same_self : (n : ℕ) → nat_eq n n ≡ true
+same_self n = grind (arith, nat_tests)
+
+kind_in-is : (class : TokenClass) → is_in class (kind_in class) ≡ true
+kind_in-is (Only kind) = same_self (code kind)
+kind_in-is Root = refl
+kind_in-is Name = refl
+kind_in-is Index = refl
+kind_in-is Equality = refl
+kind_in-is Order = refl
+kind_in-is Textual = refl
+kind_in-is Ordered = refl
+kind_in-is Constant = refl
+kind_in-is Qualifying = refl
+kind_in-is Stepping = refl
+
+-- tokens that are derived from the part
+record Some (a : Part) : Type 0 where
+  tokens : List Token
+  derived : Derives a tokens
+
+some_one : (class : TokenClass) → Some (one class)
+some_one class = record { tokens = some (kind_in class) ∷ []; derived = is_one (some (kind_in class)) (kind_in-is class) }
+
+some_both : {a b : Part} → Some a → Some b → Some (a then b)
+some_both x y = record { tokens = x.tokens ++ y.tokens; derived = is_both x.derived y.derived }
+
+some_left : {a b : Part} → Some a → Some (a or b)
+some_left x = record { tokens = x.tokens; derived = is_left x.derived }
+
+some_right : {a b : Part} → Some b → Some (a or b)
+some_right x = record { tokens = x.tokens; derived = is_right x.derived }
+
+some_many : {a : Part} → Some (many a)
+some_many = record { tokens = []; derived = no_more }
+
+some_maybe : {a : Part} → Some (maybe a)
+some_maybe = record { tokens = []; derived = absent }
+
+some_line : {l : GrammarLine} → Some (rule l) → Some (line l)
+some_line x = record { tokens = x.tokens; derived = is_line x.derived }
+
+-- each line, from the bottom up
+some_path : Some (line path)
+some_path = some_line (some_both (some_one Root) (some_both (some_one (Only Colon)) (some_both (some_one Name) some_many)))
+
+some_compare : Some (line compare)
+some_compare = some_line (some_left (some_both (some_one Equality) (some_one Constant)))
+
+some_test : Some (line test)
+some_test = some_line (some_right (some_right (some_both some_path (some_both some_maybe some_compare))))
+
+some_cand : Some (line cand)
+some_cand = some_line (some_both some_test some_many)
+
+some_cor : Some (line cor)
+some_cor = some_line (some_both some_cand some_many)
+
+some_qualifier : Some (line qualifier)
+some_qualifier = some_line (some_left (some_both (some_one (Only Within)) (some_both (some_one (Only Number)) (some_one (Only Seconds)))))
+
+some_unit : Some (line unit)
+some_unit = some_line (some_both (some_left (some_both (some_one (Only SquareOpen)) (some_both some_cor (some_one (Only SquareClose))))) some_many)
+
+some_ands : Some (line ands)
+some_ands = some_line (some_both some_unit some_many)
+
+some_ors : Some (line ors)
+some_ors = some_line (some_both some_ands some_many)
+
+some_pattern : Some (line pattern)
+some_pattern = some_line (some_both some_ors some_many)
+
+some_part : (a : Part) → Some a
+some_part (one class) = some_one class
+some_part (line pattern) = some_pattern
+some_part (line ors) = some_ors
+some_part (line ands) = some_ands
+some_part (line unit) = some_unit
+some_part (line qualifier) = some_qualifier
+some_part (line cor) = some_cor
+some_part (line cand) = some_cand
+some_part (line test) = some_test
+some_part (line compare) = some_compare
+some_part (line path) = some_path
+some_part (a then b) = some_both (some_part a) (some_part b)
+some_part (a or b) = some_left (some_part a)
+some_part (many a) = some_many
+some_part (maybe a) = some_maybe
+
+-- a front goes on to something derived
+pub record Completion (a : Part) (ts : List Token) : Type 0 where
+  pub more : List Token
+  pub derived : Derives a (ts ++ more)
+
+pub complete : {a : Part} {ts : List Token} → FrontOf a ts → Completion a ts
+complete (before_one {class}) = let x = some_one class in record { more = x.tokens; derived = x.derived }
+complete (after_one t h) = record { more = []; derived = is_one t h }
+complete (of_line x) = let h = complete x in record { more = h.more; derived = is_line h.derived }
+complete (in_first {a} {b} {ts} x) = let h = complete x in let y = some_part b in record { more = h.more ++ y.tokens; derived = rw (← append_assoc ts h.more y.tokens) (is_both h.derived y.derived) }
+complete (in_second {a} {b} {ts} {us} x y) = let h = complete y in record { more = h.more; derived = rw (append_assoc ts us h.more) (is_both x h.derived) }
+complete (of_left x) = let h = complete x in record { more = h.more; derived = is_left h.derived }
+complete (of_right x) = let h = complete x in record { more = h.more; derived = is_right h.derived }
+complete before_many = record { more = []; derived = no_more }
+complete (in_many {a} {ts} x) = let h = complete x in record { more = h.more ++ []; derived = rw (← append_assoc ts h.more []) (one_more h.derived no_more) }
+complete (in_more {a} {ts} {us} x y) = let h = complete y in record { more = h.more; derived = rw (append_assoc ts us h.more) (one_more x h.derived) }
+complete before_maybe = record { more = []; derived = absent }
+complete (in_maybe x) = let h = complete x in record { more = h.more; derived = present h.derived }
+
+-- where a cut of two joined lists falls
+record Inside (x ts : List Token) : Type 0 where
+  rest : List Token
+  x_is : x ≡ ts ++ rest
+
+record Beyond (x y ts more : List Token) : Type 0 where
+  front : List Token
+  ts_is : ts ≡ x ++ front
+  y_is : y ≡ front ++ more
+
+cut : (x y ts more : List Token) → x ++ y ≡ ts ++ more → Inside x ts ⊎ Beyond x y ts more
+cut [] y ts more e = inr (record { front = ts; ts_is = refl; y_is = e })
+cut (a ∷ x) y [] more e = inl (record { rest = a ∷ x; x_is = refl })
+cut (a ∷ x) y (t ∷ ts) more e =
+    let h : a ≡ t = cc in
+    let g : x ++ y ≡ ts ++ more = cc in
+    elim (cut x y ts more g) [ inl i ↦ inl (record { rest = i.rest; x_is = (let k = i.x_is in cc) }) | inr b ↦ inr (record { front = b.front; ts_is = (let k = b.ts_is in cc); y_is = b.y_is }) ]
+
+-- what begins something derived is a front
+pub front : {a : Part} {ws : List Token} → Derives a ws → (ts more : List Token) → ws ≡ ts ++ more → FrontOf a ts
+front (is_one t h) [] more e = before_one
+front (is_one t h) (u ∷ []) more e = let g : t ≡ u = cc in after_one u (rw (← g) h)
+front (is_one t h) (u ∷ v ∷ ts) more e = absurd (cc)
+front (is_line x) ts more e = of_line (front x ts more e)
+front (is_both {ts = x} {us = y} p q) ts more e =
+    elim (cut x y ts more e) [ inl i ↦ in_first (front p ts i.rest i.x_is) | inr b ↦ rw b.ts_is (in_second p (front q b.front more b.y_is)) ]
+front (is_left x) ts more e = of_left (front x ts more e)
+front (is_right x) ts more e = of_right (front x ts more e)
+front no_more [] more e = before_many
+front no_more (t ∷ ts) more e = absurd (cc)
+front (one_more {ts = x} {us = y} p q) ts more e =
+    elim (cut x y ts more e) [ inl i ↦ in_many (front p ts i.rest i.x_is) | inr b ↦ rw b.ts_is (in_more p (front q b.front more b.y_is)) ]
+front absent [] more e = before_maybe
+front absent (t ∷ ts) more e = absurd (cc)
+front (present x) ts more e = in_maybe (front x ts more e)

@@ -1,0 +1,100 @@
+-- Steps of the lexer: they serve its private functions alone.
+use Rattle.std.specs.Prelude.{◌≡◌, ◌≢◌, ℕ, ◌<◌, ◌≤◌, ◌⊎◌, ◌==◌, if◌then◌else◌, List, ◌∷◌, ◌++◌, length, drop, slice_range, All, Option, Some, None, IsSome}
+use Rattle.std.specs.Char.{IsAsciiDigit}
+use Rattle.pattern_tokens.specs.declared.token.Token.{Token}
+use Rattle.pattern_tokens.specs.declared.token.TokenKind.{TokenKind}
+use Rattle.pattern_tokens.specs.declared.token.TokenKind.TheVariants.{SquareOpen, SquareClose, RoundOpen, RoundClose, Dot, Colon, Comma, Star, Equal, Differ, Less, LessEqual, Greater, GreaterEqual, Number, Hex, Base, Time}
+use Rattle.pattern_tokens.specs.declared.refusal.PatternRefusal.{PatternRefusal}
+use Rattle.pattern_tokens.specs.declared.refusal.PatternRefusal.TheVariants.{BadNumber, BadTime, BadBytes}
+use Rattle.pattern_tokens.specs.Word.{IsWordStart, IsHyphenWordPart, HasAt}
+use Rattle.pattern_tokens.specs.Values.{HasValue}
+use Rattle.pattern_tokens.specs.Spans.{text_at}
+use Rattle.pattern_lexer.specs.Reading.{IsBlank, IsFirst, IsUsable, AreTokens}
+use Rattle.pattern_lexer.specs.declared.runs.CharacterClass.{CharacterClass}
+use Rattle.pattern_lexer.specs.declared.runs.CharacterClass.TheVariants.{Blank, Digit, NamePart, Unquoted}
+
+-- the bytes of a class
+abbrev pub InClass : CharacterClass → ℕ → Type 0
+InClass Blank c = IsBlank c
+InClass Digit c = IsAsciiDigit c
+InClass NamePart c = IsHyphenWordPart c
+InClass Unquoted c = c ≢ 39
+
+-- the longest front of the bytes for which the fact holds, and the rest
+pub record IsRun (P : ℕ → Type 0) (whole front after : List ℕ) : Type 0 where
+  pub spelled : whole ≡ front ++ after
+  pub all : All P front
+  pub ends : ¬ HasAt 0 P after
+
+-- a letter or `_`, then such, digits and `-`: each name and keyword
+pub record IsName (text : List ℕ) : Type 0 where
+  pub starts : HasAt 0 IsWordStart text
+  pub parts : All IsHyphenWordPart text
+
+-- a digit or a sign
+abbrev pub IsNumberStart : ℕ → Type 0
+IsNumberStart c = IsAsciiDigit c ⊎ (c ≡ 43) ⊎ (c ≡ 45)
+
+-- no letter, digit, sign or quote begins the text
+pub record StartsAsMark (whole : List ℕ) : Type 0 where
+  pub letter : ¬ HasAt 0 IsWordStart whole
+  pub number : ¬ HasAt 0 IsNumberStart whole
+  pub quote : ¬ HasAt 0 (λ c. c ≡ 39) whole
+
+-- the text's first token is of this kind, and the rest follows it
+abbrev pub BeginsToken : List ℕ → TokenKind → List ℕ → Type 0
+BeginsToken whole kind after = (text : List ℕ) × IsFirst whole kind text after
+
+-- the token stands at the place in the text, and has no fault
+pub record StandsAt (text : List ℕ) (at : ℕ) (token : Token) : Type 0 where
+  pub from : token.from ≡ at
+  pub ordered : token.from < token.to
+  pub within : token.to ≤ length text
+  pub first : IsFirst (drop at text) token.kind (text_at text token) (drop token.to text)
+  pub usable : IsUsable token.kind (text_at text token) (drop token.to text)
+  pub value : HasValue token.kind (text_at text token)
+
+-- the tokens stand in the text up to blanks that end at the place
+pub record ReadUpTo (text : List ℕ) (tokens : List Token) (at : ℕ) : Type 0 where
+  pub within : at ≤ length text
+  pub rest : List ℕ
+  pub blanks : List ℕ
+  pub stand : AreTokens 0 text tokens rest
+  pub blank : All IsBlank blanks
+  pub left : rest ≡ blanks ++ drop at text
+  pub ends : ¬ HasAt 0 IsBlank (drop at text)
+
+-- the kind of what a quote behind the letter opens: 104 is `h`, 98 is `b` and 116 is `t`
+abbrev pub letter_kind : ℕ → Option TokenKind
+letter_kind c = if c == 104 then Some Hex else if c == 98 then Some Base else if c == 116 then Some Time else None
+
+-- no text in quotes behind a letter that may stand there begins the text
+abbrev pub HasNoLettered : List ℕ → Type 0
+HasNoLettered whole = (letter : ℕ) (inside more : List ℕ) → IsSome (letter_kind letter) → All (λ c. c ≢ 39) inside
+    → whole ≢ letter ∷ 39 ∷ (inside ++ 39 ∷ more)
+
+-- the refusal of a token that stands for nothing
+abbrev pub worthless_refusal : TokenKind → ℕ → PatternRefusal
+worthless_refusal Number at = BadNumber at
+worthless_refusal Time at = BadTime at
+worthless_refusal _ at = BadBytes at
+
+-- blanks stand from the first place to the second, and none behind
+pub record ArePassed (text : List ℕ) (from to : ℕ) : Type 0 where
+  pub ordered : from ≤ to
+  pub within : to ≤ length text
+  pub blank : All IsBlank (slice_range text from to)
+  pub ends : ¬ HasAt 0 IsBlank (drop to text)
+
+-- `'` or `\`
+abbrev pub IsSpecial : ℕ → Type 0
+IsSpecial c = (c ≡ 39) ⊎ (c ≡ 92)
+
+-- the kind of the mark that is this byte
+abbrev pub single_kind : ℕ → Option TokenKind
+single_kind c =
+    if c == 91 then Some SquareOpen else if c == 93 then Some SquareClose else if c == 40 then Some RoundOpen else if c == 41 then Some RoundClose else if c == 46 then Some Dot else if c == 58 then Some Colon else if c == 44 then Some Comma else if c == 42 then Some Star else if c == 61 then Some Equal else if c == 60 then Some Less else if c == 62 then Some Greater else None
+
+-- the kind of the mark that is this byte and `=`
+abbrev pub double_kind : ℕ → Option TokenKind
+double_kind c = if c == 33 then Some Differ else if c == 60 then Some LessEqual else if c == 62 then Some GreaterEqual else None

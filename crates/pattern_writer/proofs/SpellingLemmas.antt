@@ -1,0 +1,73 @@
+-- The canonical text of a pattern that some text is read as is read as it.
+use Rattle.std.proofs.Common.{◌≡◌, ℕ, ℤ, ◌≤◌, List, [], length, refl, sym, subst, arith}
+use Rattle.pattern_lexer.specs.Reading.{AreTokens}
+use Rattle.pattern_tokens.specs.Values.{IsMomentText}
+use Rattle.pattern_grammar.specs.Grammar.{IsPattern}
+use Rattle.pattern_grammar.specs.Depth.{at_start}
+use Rattle.pattern_grammar.specs.Tree.{Tree}
+use Rattle.pattern_types.specs.declared.pattern.Pattern.{Pattern}
+use Rattle.pattern_meaning.specs.PlainPattern.{PlainPattern, plain_pattern, MeansPattern}
+use Rattle.pattern_reader.specs.Soundness.{IsSpelled}
+use Rattle.pattern_reader.specs.Read.{IsReadAs}
+use Rattle.pattern_writer.specs.Canonical.{level, IsCanonical}
+use Rattle.pattern_writer.proofs.FitLemmas.{FitMeant}
+use Rattle.pattern_writer.proofs.LongestLemmas.{Ends}
+use Rattle.pattern_writer.proofs.WrittenLemmas.{Written}
+use Rattle.pattern_writer.proofs.PatternLinesLemmas.{IsDeepLine, MeansTree, whole_pattern}
+use Rattle.pattern_writer.proofs.CuttingLemmas.{tokens_at, cut_pieces, stand_for}
+use Rattle.pattern_writer.proofs.LexedLemmas.{all_lexed}
+use Rattle.pattern_writer.proofs.FitPatternsLemmas.{fit_pattern}
+use Rattle.pattern_writer.proofs.FaultyLemmas.{faults_by_meaning}
+use Rattle.pattern_writer.proofs.DepthsLemmas.{none_shallow, shallow_none}
+use Rattle.pattern_writer.proofs.DepthLinesLemmas.{need, qualifiers_in, wrapped_least, pattern_deep}
+
+-- a text that is written so, and is neither too long nor too deep
+pub record Spelling (text : List ℕ) (m : PlainPattern) : Type 0 where
+  pub tree : Tree
+  pub spelled : IsSpelled text tree
+  pub means : MeansPattern text tree m
+
+spelling : (m : PlainPattern) (text : List ℕ) (n q : ℕ) → length text ≤ 65_536 → n ≤ 64 → q ≤ 64 → Written (IsDeepLine IsPattern n q) (MeansTree m) Ends text → Spelling text m
+spelling m text n q short low few w =
+    let ts = tokens_at 0 w.pieces in
+    let fit = w.fit [] tt in
+    let cut = cut_pieces 0 w.pieces fit in
+    let read = w.read text ts (stand_for text 0 w.pieces (omega arith) (sym w.spelled) fit) in
+    record {
+      tree = read.0;
+      spelled = record {
+        tokens = ts;
+        of_text = record { short = short; rest = cut.rest; stand = subst (λ (x : List ℕ). AreTokens 0 x ts cut.rest) w.spelled cut.stand; blank = cut.blank };
+        of_tokens = record { spells = read.1.0; shallow = none_shallow at_start ts (read.1.1.fits 0 0 (omega arith) (omega arith)) };
+      };
+      means = read.2;
+    }
+
+-- what is known of a pattern by a text that spells it
+fits : (m : PlainPattern) (text : List ℕ) (tree : Tree) → IsSpelled text tree → MeansPattern text tree m → FitMeant m
+fits m text tree s means = fit_pattern text s.tokens tree m s.of_tokens.spells (all_lexed text 0 text s.tokens s.of_text.rest (omega arith) refl s.of_text.stand) means
+
+limits : (m : PlainPattern) (text : List ℕ) (tree : Tree) → IsSpelled text tree → MeansPattern text tree m → (need m ≤ 64) × (qualifiers_in m ≤ 64)
+limits m text tree s means =
+    let deep = pattern_deep text s.of_tokens.spells means in
+    let low = deep.measured.needs 0 0 (omega arith) (omega arith) (shallow_none at_start s.tokens s.of_tokens.shallow) in
+    let a = low.0 in
+    let b = low.1 in
+    let g = deep.at_least in
+    let e = wrapped_least (level m) (need m) in
+    (omega (arith, a, g, e), omega (arith, b))
+
+pub reads_back : ((text : List ℕ) (i j : ℤ) → IsMomentText text i → IsMomentText text j → i ≡ j) → (p : Pattern) (text canonical : List ℕ) → IsReadAs text p → IsCanonical (plain_pattern p) canonical → length canonical ≤ 65_536 → IsReadAs canonical p
+reads_back one p text canonical r h short =
+    let m = plain_pattern p in
+    let sound = r.spelled.sound in
+    let low = limits m text r.spelled.tree sound.spelled r.spelled.means in
+    let again = spelling m canonical (need m) (qualifiers_in m) short low.0 low.1 (whole_pattern m canonical (fits m text r.spelled.tree sound.spelled r.spelled.means) h) in
+    record {
+      spelled = record {
+        tree = again.tree;
+        sound = record { spelled = again.spelled; faultless = faults_by_meaning one text canonical r.spelled.tree again.tree m r.spelled.means again.means sound.faultless };
+        means = again.means;
+      };
+      narrow = r.narrow;
+    }
