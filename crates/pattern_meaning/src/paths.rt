@@ -1,5 +1,4 @@
-ghost use Rattle.std.specs.Prelude.{◌≡◌, List, ℕ, IfOk};
-ghost use Rattle.flow_values.specs.Answers.{FindsExactly};
+ghost use Rattle.std.specs.Prelude.{◌≡◌, List, ℕ, IfOk, MatchOption};
 ghost use Rattle.pattern_meaning.specs.Meaning.{IsNameOf, IsStepOf, Each, IsPathOf};
 ghost use Rattle.pattern_types.specs.declared.path.Step.{Step};
 ghost use Rattle.pattern_types.specs.declared.path.Path.{Path};
@@ -12,7 +11,7 @@ use std::alloc::Global;
 
 /// The name that the token stands for.
 fn name_of(alloc: Global, text: &str, token: Token) -> Result<Option<Text>, NoMemory>
-    ensures { IfOk result (λ found. FindsExactly (IsNameOf text.now token) found) }
+    ensures { IfOk result (λ found. MatchOption found ((name : List ℕ) → ¬ IsNameOf text.now token name) (IsNameOf text.now token)) }
 {
     if token.kind == TokenKind::Words {
         return words_at(alloc, text, token);
@@ -28,7 +27,7 @@ fn name_of(alloc: Global, text: &str, token: Token) -> Result<Option<Text>, NoMe
 
 /// The step in brackets that the token stands for.
 fn place_of(text: &str, token: Token) -> Option<Step>
-    ensures { FindsExactly (IsStepOf text.now (StepTree.Index token)) result }
+    ensures { MatchOption result ((other : Step) → ¬ IsStepOf text.now (StepTree.Index token) other) (IsStepOf text.now (StepTree.Index token)) }
 {
     match token.kind {
         TokenKind::Number => match place_at(text, token) {
@@ -42,7 +41,7 @@ fn place_of(text: &str, token: Token) -> Option<Step>
 
 /// What a step means.
 fn step_of(alloc: Global, text: &str, step: StepTree) -> Result<Option<Step>, NoMemory>
-    ensures { IfOk result (λ found. FindsExactly (IsStepOf text.now step) found) }
+    ensures { IfOk result (λ found. MatchOption found ((other : Step) → ¬ IsStepOf text.now step other) (IsStepOf text.now step)) }
 {
     match step {
         StepTree::Name(token) => match name_of(alloc, text, token)? {
@@ -55,7 +54,7 @@ fn step_of(alloc: Global, text: &str, step: StepTree) -> Result<Option<Step>, No
 
 /// What the steps of a path mean.
 fn steps_of(alloc: Global, text: &str, steps: &[StepTree]) -> Result<Option<Items<Step>>, NoMemory>
-    ensures { IfOk result (λ found. FindsExactly (Each (IsStepOf text.now) steps.now) found) }
+    ensures { IfOk result (λ found. MatchOption found ((other : List Step) → ¬ Each (IsStepOf text.now) steps.now other) (Each (IsStepOf text.now) steps.now)) }
 {
     let mut found = Items::new(alloc);
     for step in steps {
@@ -69,7 +68,7 @@ fn steps_of(alloc: Global, text: &str, steps: &[StepTree]) -> Result<Option<Item
 
 /// What a path means.
 pub fn path_of(alloc: Global, text: &str, path: &PathTree) -> Result<Option<Path>, NoMemory>
-    ensures { IfOk result (λ found. FindsExactly (IsPathOf text.now path.now) found) }
+    ensures { IfOk result (λ found. MatchOption found ((other : Path) → ¬ IsPathOf text.now path.now other) (IsPathOf text.now path.now)) }
 {
     let Some(root) = text_of(text, path.root) else {
         return Ok(None);
