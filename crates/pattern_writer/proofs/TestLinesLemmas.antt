@@ -7,7 +7,7 @@ use Rattle.pattern_tokens.specs.declared.token.TokenKind.TheVariants as kind
 use Rattle.pattern_tokens.specs.Values.{HasValue, IsWordsText}
 use Rattle.pattern_tokens.specs.Table.{IsToken}
 use Rattle.pattern_tokens.specs.Spans.{At}
-use Rattle.pattern_grammar.specs.declared.class.TokenClass.{Class}
+use Rattle.pattern_grammar.specs.declared.class.TokenClass.{TokenClass}
 use Rattle.pattern_grammar.specs.declared.class.TokenClass.TheVariants.{Only, Equality, Order, Textual, Ordered, Constant}
 use Rattle.pattern_grammar.specs.TokenClass.{is_in}
 use Rattle.pattern_grammar.specs.declared.path.PathTree.{PathTree}
@@ -69,7 +69,7 @@ ordered_fit (Binary b) h = h
 ordered_fit (Timestamp i) h = h
 
 -- an operator and what follows it
-operated : (class other : Class) (k : TokenKind) (operator : List ℕ) (text : List ℕ) (IsT : List ℕ → Token → Type 0) (EndsT : List ℕ → Type 0) → Written (IsOne class) (MeansOne k operator) Stops operator → Written (IsOne other) IsT EndsT text → Written (IsPair (IsOne class) (IsOne other)) (MeanPair (MeansOne k operator) IsT) EndsT (operator ++ 32 ∷ text)
+operated : (class other : TokenClass) (k : TokenKind) (operator : List ℕ) (text : List ℕ) (IsT : List ℕ → Token → Type 0) (EndsT : List ℕ → Type 0) → Written (IsOne class) (MeansOne k operator) Stops operator → Written (IsOne other) IsT EndsT text → Written (IsPair (IsOne class) (IsOne other)) (MeanPair (MeansOne k operator) IsT) EndsT (operator ++ 32 ∷ text)
 operated class other k operator text IsT EndsT v w = pair (IsOne class) (IsOne other) (MeansOne k operator) IsT Stops EndsT operator (32 ∷ text) (λ after e. stop_space) v (spaced w)
 
 equality : (ts : List Token) (x : Token × Token) → IsPair (IsOne Equality) (IsOne Constant) ts x → IsCheck ts (check_tree.Compare x.0 x.1)
@@ -183,7 +183,7 @@ existence p false ptext w = before Ends ends_stops (as_tree IsTest (MeansTest (r
 existence p true ptext w = before Ends ends_stops (as_tree IsTest (MeansTest (record { path = p; negated = true; check = check.Exists })) (λ whole ts x i m. (test (record { first = x.0; path = x.1.1; negated = true; check = check_tree.Exists }), not_exists ts x i, (means_test (record { path = m.1.1; negated = refl; asks = tt }), tt)))
     (pair (IsOne (Only kind.Not)) (IsPair (IsOne (Only kind.Exists)) IsPath) (MeansOne kind.Not (codes "NOT")) (MeanPair (MeansOne kind.Exists (codes "EXISTS")) (MeansPath p)) Stops Stops (codes "NOT") (32 ∷ (codes "EXISTS" ++ 32 ∷ ptext)) (λ after e. stop_space) no (spaced (there p ptext w))))
 
-pub sign : (class : Class) (k : TokenKind) (operator : List ℕ) → is_in class k ≡ true → IsToken k operator → HasValue k operator → plain_test operator ≡ true → k ≢ kind.Number → Written (IsOne class) (MeansOne k operator) Stops operator
+pub sign : (class : TokenClass) (k : TokenKind) (operator : List ℕ) → is_in class k ≡ true → IsToken k operator → HasValue k operator → plain_test operator ≡ true → k ≢ kind.Number → Written (IsOne class) (MeansOne k operator) Stops operator
 sign class k operator among is value p n = literal class k operator among is value p n
 
 checked : (p : Path) (negated : Bool) (c : Check) (text : List ℕ) → FitPath p → FitCheck c → IsCheckedText p negated c text → Written IsTest (MeansTest (record { path = p; negated = negated; check = c })) Ends text

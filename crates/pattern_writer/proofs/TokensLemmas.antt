@@ -12,7 +12,7 @@ use Rattle.pattern_tokens.specs.Table.{IsToken}
 use Rattle.pattern_lexer.specs.Reading.{IsLeftOut, IsUsable}
 use Rattle.pattern_tokens.specs.declared.refusal.LeftWord.{LeftWord}
 use Rattle.pattern_tokens.specs.declared.refusal.LeftWord.TheVariants.{Matches, Fraction, DoubleEqual, LessGreater}
-use Rattle.pattern_grammar.specs.declared.class.TokenClass.{Class}
+use Rattle.pattern_grammar.specs.declared.class.TokenClass.{TokenClass}
 use Rattle.pattern_grammar.specs.declared.class.TokenClass.TheVariants.{Root}
 use Rattle.pattern_grammar.specs.TokenClass.{is_in}
 use Rattle.pattern_tokens.specs.Spans.{At, IsItself}
@@ -123,7 +123,7 @@ plain_literal (b ∷ bs) e =
     }
 
 -- marks and keywords before a stop
-pub literal : (class : Class) (k : TokenKind) (text : List ℕ) → is_in class k ≡ true → IsToken k text → HasValue k text → plain_test text ≡ true → k ≢ kind.Number → Written (IsOne class) (λ (whole : List ℕ) (t : Token). Stands whole t k text) Stops text
+pub literal : (class : TokenClass) (k : TokenKind) (text : List ℕ) → is_in class k ≡ true → IsToken k text → HasValue k text → plain_test text ≡ true → k ≢ kind.Number → Written (IsOne class) (λ (whole : List ℕ) (t : Token). Stands whole t k text) Stops text
 literal class k text among is value p n = token class k Stops text among (λ after h. fits_plain k text after is value (plain_literal text p) h (λ e. absurd (n e)))
 
 -- whatever follows
@@ -131,7 +131,7 @@ abbrev pub Anything : List ℕ → Type 0
 Anything after = Unit {0}
 
 -- the marks that any token may follow
-pub mark : (class : Class) (k : TokenKind) (m : ℕ) → is_in class k ≡ true → IsToken k (m ∷ []) → HasValue k (m ∷ []) → IsAlone m → IsFree k → m < 77 ⊎ (77 < m × (m < 128)) → Written (IsOne class) (λ (whole : List ℕ) (t : Token). Stands whole t k (m ∷ [])) Anything (m ∷ [])
+pub mark : (class : TokenClass) (k : TokenKind) (m : ℕ) → is_in class k ≡ true → IsToken k (m ∷ []) → HasValue k (m ∷ []) → IsAlone m → IsFree k → m < 77 ⊎ (77 < m × (m < 128)) → Written (IsOne class) (λ (whole : List ℕ) (t : Token). Stands whole t k (m ∷ [])) Anything (m ∷ [])
 mark class k m among is value alone free low = token class k Anything (m ∷ []) among (λ after h. record {
   first = record { spelled = refl; token = is; longest = longest_alone m after alone };
   usable = usable_free k (m ∷ []) after free (not_matches (m ∷ []) (other low));
@@ -176,7 +176,7 @@ root text h free = case h
     case (inr w) = itself kind.HyphenWord (token Root kind.HyphenWord Stops text refl (λ after e. fits_plain kind.HyphenWord text after w tt (plain_name text w.starts w.parts free) e (λ x. absurd (cc))))
 
 -- words in quotes
-pub words : (class : Class) (w : List ℕ) → is_in class kind.Words ≡ true → Written (IsOne class) (λ (whole : List ℕ) (t : Token). Stands whole t kind.Words (words_text w)) Anything (words_text w)
+pub words : (class : TokenClass) (w : List ℕ) → is_in class kind.Words ≡ true → Written (IsOne class) (λ (whole : List ℕ) (t : Token). Stands whole t kind.Words (words_text w)) Anything (words_text w)
 words class w among = token class kind.Words Anything (words_text w) among (λ after h. record {
   first = record { spelled = refl; token = (w, refl); longest = longest_words w after };
   usable = usable_free kind.Words (words_text w) after (record { number = λ e. cc; equal = λ e. cc; less = λ e. cc }) (not_matches (words_text w) (λ e. omega arith));
@@ -186,7 +186,7 @@ words class w among = token class kind.Words Anything (words_text w) among (λ a
 })
 
 -- what stands in quotes behind a letter
-pub lettered : (class : Class) (k : TokenKind) (l : ℕ) (inside : List ℕ) → is_in class k ≡ true → IsToken k (quoted (l ∷ []) inside) → HasValue k (quoted (l ∷ []) inside) → IsFree k → 77 < l → l < 128 → All (λ c. c ≢ 39) inside
+pub lettered : (class : TokenClass) (k : TokenKind) (l : ℕ) (inside : List ℕ) → is_in class k ≡ true → IsToken k (quoted (l ∷ []) inside) → HasValue k (quoted (l ∷ []) inside) → IsFree k → 77 < l → l < 128 → All (λ c. c ≢ 39) inside
     → Written (IsOne class) (λ (whole : List ℕ) (t : Token). Stands whole t k (quoted (l ∷ []) inside)) Anything (quoted (l ∷ []) inside)
 lettered class k l inside among is value free low high u = token class k Anything (quoted (l ∷ []) inside) among (λ after h. record {
   first = record { spelled = refl; token = is; longest = longest_lettered l inside after (λ e. omega arith) u };
@@ -197,6 +197,6 @@ lettered class k l inside among is value free low high u = token class k Anythin
 })
 
 -- a number
-pub number : (class : Class) (z : ℤ) (text : List ℕ) → is_in class kind.Number ≡ true → IsWholeText text z → IsNumeralShape text → Written (IsOne class) (λ (whole : List ℕ) (t : Token). Stands whole t kind.Number text) Ends text
+pub number : (class : TokenClass) (z : ℤ) (text : List ℕ) → is_in class kind.Number ≡ true → IsWholeText text z → IsNumeralShape text → Written (IsOne class) (λ (whole : List ℕ) (t : Token). Stands whole t kind.Number text) Ends text
 number class z text among is shape = token class kind.Number Ends text among (λ after e.
     fits_plain kind.Number text after is.number (z, is) (record { some = shape.some; plain = shape.plain; ascii = shape.ascii; free = not_matches text shape.first }) (ends_stops after e) (λ x. e))

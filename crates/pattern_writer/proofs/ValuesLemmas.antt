@@ -12,7 +12,7 @@ use Rattle.pattern_tokens.specs.declared.token.TokenKind.{TokenKind}
 use Rattle.pattern_tokens.specs.declared.token.TokenKind.TheVariants as kind
 use Rattle.pattern_tokens.specs.Values.{quoted, words_text, IsWholeText, IsWordsText, IsHexText, IsBaseText, IsMomentText}
 use Rattle.pattern_tokens.specs.Spans.{At}
-use Rattle.pattern_grammar.specs.declared.class.TokenClass.{Class}
+use Rattle.pattern_grammar.specs.declared.class.TokenClass.{TokenClass}
 use Rattle.pattern_grammar.specs.declared.class.TokenClass.TheVariants.{Name}
 use Rattle.pattern_grammar.specs.TokenClass.{is_in}
 use Rattle.pattern_types.specs.declared.constant.Constant.{Constant}
@@ -59,7 +59,7 @@ hex_plain (b ∷ bytes) =
     let low = slice_index lower_digits (b % 16) in
     All-cons (λ x. x ≢ 39) high (low ∷ encode_lower bytes) (no_quote_in lower_digits digits_plain (b / 16)) (All-cons (λ x. x ≢ 39) low (encode_lower bytes) (no_quote_in lower_digits digits_plain (b % 16)) (hex_plain bytes))
 
-pub time : (class : Class) (i : ℤ) (text : List ℕ) → is_in class kind.Time ≡ true → IsTimeText i text → Written (IsOne class) (λ (whole : List ℕ) (t : Token). (t.kind ≡ kind.Time) × At IsMomentText whole t i) Anything text
+pub time : (class : TokenClass) (i : ℤ) (text : List ℕ) → is_in class kind.Time ≡ true → IsTimeText i text → Written (IsOne class) (λ (whole : List ℕ) (t : Token). (t.kind ≡ kind.Time) × At IsMomentText whole t i) Anything text
 time class i text among h =
     let inside = h.0 in
     let moment : IsMomentText (quoted (codes "t") inside) i = (inside, refl, (h.1.0, h.1.1, (h.1.2.0, h.1.2.1))) in
@@ -67,7 +67,7 @@ time class i text among h =
     as_text (sym h.2) (as_tree (IsOne class) (λ (whole : List ℕ) (t : Token). (t.kind ≡ kind.Time) × At IsMomentText whole t i) (λ whole ts t o s. (t, o, (s.kind, at IsMomentText whole t kind.Time (quoted (codes "t") inside) i s moment)))
     (lettered class kind.Time 116 inside among (inside, record { spelled = refl; unquoted = u }) (i, moment) (record { number = λ e. cc; equal = λ e. cc; less = λ e. cc }) (omega arith) (omega arith) u))
 
-pub constant : (class : Class) (c : Constant) (text : List ℕ) → is_in class (kind_of c) ≡ true → FitConstant c → IsConstantText c text → Written (IsOne class) (λ (whole : List ℕ) (t : Token). IsConstantOf whole t c) Ends text
+pub constant : (class : TokenClass) (c : Constant) (text : List ℕ) → is_in class (kind_of c) ≡ true → FitConstant c → IsConstantText c text → Written (IsOne class) (λ (whole : List ℕ) (t : Token). IsConstantOf whole t c) Ends text
 constant class (Integer z) text among fit h =
     as_text (sym h) (as_tree (IsOne class) (λ (whole : List ℕ) (t : Token). IsConstantOf whole t (Integer z)) (λ whole ts t i s. (t, i, (s.kind, at IsWholeText whole t kind.Number (signed_decimal z) z s (whole_text z fit))))
     (number class z (signed_decimal z) among (whole_text z fit) (whole_shape z fit)))

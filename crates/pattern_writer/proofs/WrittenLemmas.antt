@@ -5,7 +5,7 @@ use Rattle.pattern_tokens.specs.declared.token.Token.{Token}
 use Rattle.pattern_tokens.specs.declared.token.TokenKind.{TokenKind}
 use Rattle.pattern_tokens.specs.Values.{HasValue}
 use Rattle.pattern_lexer.specs.Reading.{IsFirst, IsUsable}
-use Rattle.pattern_grammar.specs.declared.class.TokenClass.{Class}
+use Rattle.pattern_grammar.specs.declared.class.TokenClass.{TokenClass}
 use Rattle.pattern_grammar.specs.TokenClass.{is_in, IsA}
 use Rattle.pattern_writer.proofs.PiecesLemmas.{Piece, space, piece, printed, printed-append, Stands, Match, Split, split, split_tokens}
 
@@ -38,7 +38,7 @@ pub record Written {T : Type 0} (IsSpelled : List Token → T → Type 0) (Means
   pub read : (whole : List ℕ) (ts : List Token) → Match whole pieces ts → (tree : T) × IsSpelled ts tree × Means whole tree
 
 -- one token of a class
-pub data IsOne (class : Class) : List Token → Token → Type 0 where
+pub data IsOne (class : TokenClass) : List Token → Token → Type 0 where
   is_one : (t : Token) → IsA class t → IsOne class (t ∷ []) t
 
 -- two parts one after the other
@@ -84,7 +84,7 @@ as_tree IsT MeansT f w = record {
 }
 
 -- one token
-pub token : (class : Class) (kind : TokenKind) (Ends : List ℕ → Type 0) (text : List ℕ) → is_in class kind ≡ true → ((after : List ℕ) → Ends after → Fits kind text after)
+pub token : (class : TokenClass) (kind : TokenKind) (Ends : List ℕ → Type 0) (text : List ℕ) → is_in class kind ≡ true → ((after : List ℕ) → Ends after → Fits kind text after)
     → Written (IsOne class) (λ (whole : List ℕ) (t : Token). Stands whole t kind text) Ends text
 token class kind Ends text is fits = record {
   pieces = piece kind text ∷ [];
