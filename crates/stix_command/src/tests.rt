@@ -9,6 +9,9 @@ use std::test::Fail;
 const LOGIN: &str =
     "{\"type\":\"bundle\",\"id\":\"bundle--00000000-0000-4000-8000-000000000001\",\"objects\":[{\"type\":\"observed-data\",\"first_observed\":\"2021-06-10T00:00:00Z\",\"object_refs\":[\"user-account--00000000-0000-4000-8000-000000000001\"]},{\"type\":\"user-account\",\"id\":\"user-account--00000000-0000-4000-8000-000000000001\",\"account_login\":\"a\"}]}\n";
 
+/// A pattern that holds for it.
+const PATTERN: &str = "[user-account:account_login = 'a']";
+
 /// What a run answered, and what it wrote.
 #[derive(Drop)]
 struct Outcome {
@@ -40,13 +43,12 @@ fn run_with_faults(alloc: Global, words: &[&str], read: u64, write: u64) -> Resu
 
 #[test]
 fn a_fault_in_mid_stream(rt: HostRuntime) -> Result<(), Fail> {
-    let pattern = "[user-account:account_login = 'a']";
     let rows: [(&[&str], u64, u64, u8, &str, &str); 8] = [
-        (&["match", pattern], 0, 0, 0, "1: 1\n2: 2\n", ""),
-        (&["match", pattern], 1, 0, 5, "", "read fault\n"),
-        (&["match", pattern], 5, 0, 5, "1: 1\n", "read fault\n"),
-        (&["match", pattern], 0, 1, 6, "", "write fault\n"),
-        (&["match", pattern], 0, 2, 6, "1: 1\n", "write fault\n"),
+        (&["match", PATTERN], 0, 0, 0, "1: 1\n2: 2\n", ""),
+        (&["match", PATTERN], 1, 0, 5, "", "read fault\n"),
+        (&["match", PATTERN], 5, 0, 5, "1: 1\n", "read fault\n"),
+        (&["match", PATTERN], 0, 1, 6, "", "write fault\n"),
+        (&["match", PATTERN], 0, 2, 6, "1: 1\n", "write fault\n"),
         (&["check"], 2, 0, 5, "", "read fault\n"),
         (&["show", "[a:b=1]"], 1, 0, 0, "[a:b = 1]\n", ""),
         (&["show", "[a:b=1]"], 0, 1, 6, "", "write fault\n"),
