@@ -1,4 +1,9 @@
 pub mod Meaning
-pub mod PlainLeaf
-pub mod PlainPattern
+pub mod LeafMeaning
+pub mod PatternMeaning
+pub mod Soundness
+pub mod ValueRefusal
+pub mod Refusals
+pub mod Roots
+pub mod Answer
 pub mod inner

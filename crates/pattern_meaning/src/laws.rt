@@ -2,7 +2,12 @@
 
 ghost use Rattle.std.specs.Prelude.{◌≡◌, ℕ, List};
 ghost use Rattle.pattern_grammar.specs.Tree.{Tree};
-ghost use Rattle.pattern_meaning.specs.PlainPattern.{PlainPattern, MeansPattern};
+ghost use Rattle.pattern_types.specs.PlainPattern.{PlainPattern};
+ghost use Rattle.pattern_meaning.specs.declared.refusal.ValueRefusal.{ValueRefusal};
+ghost use Rattle.pattern_meaning.specs.PatternMeaning.{MeansPattern};
+ghost use Rattle.pattern_meaning.specs.Soundness.{IsSoundPattern};
+ghost use Rattle.pattern_meaning.specs.ValueRefusal.{IsEarliest};
+ghost use Rattle.pattern_meaning.specs.Refusals.{RefusalOf};
 
 /// A syntax tree over a text means one pattern at most.
 pub fn one_meaning()
@@ -11,3 +16,17 @@ pub fn one_meaning()
 {
     pattern_tokens::one_meaning();
 }
+
+/// In a syntax tree that means a sound pattern no value is refused.
+pub fn none_refused()
+    ensures { (text : List ℕ) (tree : Tree) (pattern : PlainPattern) (refusal : ValueRefusal) → MeansPattern text tree pattern
+        → IsSoundPattern pattern → ¬ RefusalOf text tree refusal }
+{
+    pattern_tokens::one_meaning();
+}
+
+/// One refusal is the first.
+pub fn one_refusal()
+    ensures { (IsOne : ValueRefusal → Type 0) (first second : ValueRefusal) → IsEarliest IsOne first
+        → IsEarliest IsOne second → first ≡ second }
+{}

@@ -1,21 +1,21 @@
-//! What the syntax tree of a pattern's text means (STIX 2.1, section 9): `pattern_of` gives the pattern
-//! that it stands for, from the values of its tokens. `leaf_of`, `test_of`, `path_of` and `constant_of`
-//! give the parts of it; each answers `None` exactly where some token stands for nothing.
+//! What the syntax tree of a pattern's text means (STIX 2.1, section 9): `meaning_of` gives the pattern
+//! that it stands for by the values of its tokens, or the first value that may not stand where it does.
 #![tactic(auto)]
 
 mod checks;
 mod constants;
+mod judged;
 pub mod laws;
-mod leaves;
 mod limits;
+mod meaning;
+mod order;
 mod paths;
 mod patterns;
+mod refusal;
+mod roots;
 #[cfg(test)]
 mod tests;
 
-pub use checks::test_of;
-pub use constants::constant_of;
-pub use leaves::leaf_of;
-pub use limits::Limit;
-pub use paths::path_of;
-pub use patterns::pattern_of;
+pub use meaning::Meaning;
+pub use patterns::meaning_of;
+pub use refusal::ValueRefusal;

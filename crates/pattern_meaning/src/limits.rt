@@ -1,48 +1,32 @@
 ghost use Rattle.flow_values.specs.Answers.{FindsExactly};
-ghost use Rattle.pattern_meaning.specs.PlainPattern.{IsLimitOf};
-ghost use Rattle.pattern_meaning.specs.declared.limits.Limit.{Limit};
+ghost use Rattle.pattern_meaning.specs.Refusals.{IsSoundLimitOf};
+ghost use Rattle.pattern_types.specs.declared.limit.Limit.{Limit};
 
 use pattern_grammar::Qualifier;
-use pattern_tokens::{Token, count_at, moment_at};
-use stix_times::Instant;
+use pattern_tokens::{Token, count_at, moment_at, one_meaning};
+use pattern_types::Limit;
+use stix_times::laws::is_before;
 
-/// What a qualifier limits a pattern by.
-#[derive(Clone, Copy, Debug)]
-pub enum Limit {
-    /// `WITHIN x SECONDS`.
-    Within(u32),
-    /// `REPEATS n TIMES`.
-    Repeats(u32),
-    /// `START .. STOP ..`.
-    Between(Instant, Instant),
-}
-
-/// The span between two times.
+/// The span between two times, where the first is earlier.
 fn span_of(text: &str, start: Token, from: Token, to: Token) -> Option<Limit>
-    ensures { FindsExactly (IsLimitOf text.now (Qualifier.Between start from to)) result }
+    ensures { FindsExactly (IsSoundLimitOf text.now (Qualifier.Between start from to)) result }
 {
-    let Some(begins) = moment_at(text, from) else {
-        return None;
-    };
-    let Some(ends) = moment_at(text, to) else {
-        return None;
-    };
-    Some(Limit::Between(begins, ends))
+    one_meaning();
+    let begins = moment_at(text, from)?;
+    let ends = moment_at(text, to)?;
+    if is_before(begins, ends) {
+        return Some(Limit::Between(begins, ends));
+    }
+    None
 }
 
-/// What a qualifier limits by, where its tokens stand for something.
+/// What a qualifier limits by, where its numbers are in range and its span isn't empty.
 pub(crate) fn limit_of(text: &str, qualifier: Qualifier) -> Option<Limit>
-    ensures { FindsExactly (IsLimitOf text.now qualifier) result }
+    ensures { FindsExactly (IsSoundLimitOf text.now qualifier) result }
 {
     match qualifier {
-        Qualifier::Within(number) => match count_at(text, number) {
-            Some(seconds) => Some(Limit::Within(seconds)),
-            None => None,
-        },
-        Qualifier::Repeats(number) => match count_at(text, number) {
-            Some(times) => Some(Limit::Repeats(times)),
-            None => None,
-        },
+        Qualifier::Within(number) => count_at(text, number).map(|seconds| Limit::Within(seconds)),
+        Qualifier::Repeats(number) => count_at(text, number).map(|times| Limit::Repeats(times)),
         Qualifier::Between { start, from, to } => span_of(text, start, from, to),
     }
 }

@@ -1,1 +1,4 @@
 pub mod Leaves
+pub mod PlainLeaf
+pub mod PlainPattern
+pub mod Width

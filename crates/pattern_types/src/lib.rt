@@ -6,6 +6,7 @@ mod check;
 mod constant;
 mod leaf;
 mod leaves;
+mod limit;
 mod path;
 mod pattern;
 
@@ -13,5 +14,6 @@ pub use check::Check;
 pub use constant::Constant;
 pub use leaf::{Leaf, Test};
 pub use leaves::leaf_count;
+pub use limit::Limit;
 pub use path::{Path, Step};
 pub use pattern::Pattern;

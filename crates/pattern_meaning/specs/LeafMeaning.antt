@@ -1,41 +1,11 @@
--- What the comparison in the brackets of a pattern means: leaves without where they lie in memory.
-use Rattle.std.specs.Prelude.{ℕ, ◌+◌, List, [], ◌∷◌}
+-- What the comparison in the brackets of a pattern means.
+use Rattle.std.specs.Prelude.{ℕ, List}
 use Rattle.pattern_tokens.specs.declared.token.Token.{Token}
 use Rattle.pattern_grammar.specs.declared.comparison.TestTree.{TestTree}
 use Rattle.pattern_grammar.specs.Tree.{Comparison, test, group, all, any}
 use Rattle.pattern_types.specs.declared.leaf.Test.{Test as OneTest}
-use Rattle.pattern_types.specs.declared.leaf.Leaf.{Leaf, Test, All', Any', Row_of-Leaf, end_of-Leaf, more_of-Leaf}
+use Rattle.pattern_types.specs.PlainLeaf.{PlainLeaf, one, every, some, PlainLeaves, none, more, put}
 use Rattle.pattern_meaning.specs.Meaning.{IsTestOf}
-
-mutual
-  pub data PlainLeaf : Type 0 where
-    one : OneTest → PlainLeaf
-    every : PlainLeaves → PlainLeaf
-    some : PlainLeaves → PlainLeaf
-
-  pub data PlainLeaves : Type 0 where
-    none : PlainLeaves
-    more : PlainLeaf → PlainLeaves → PlainLeaves
-
--- one more at the end
-abbrev pub put : PlainLeaves → PlainLeaf → PlainLeaves
-put none f = more f none
-put (more g gs) f = more g (put gs f)
-
-abbrev mutual
-  pub plain_leaf : Leaf → PlainLeaf
-  plain_leaf (Test t) = one t
-  plain_leaf (All' s r) = every (plain_leaves r)
-  plain_leaf (Any' s r) = some (plain_leaves r)
-
-  pub plain_leaves : {m : _} → Row_of-Leaf m → PlainLeaves
-  plain_leaves end_of-Leaf = none
-  plain_leaves (more_of-Leaf l r) = more (plain_leaf l) (plain_leaves r)
-
--- those of a list of leaves
-abbrev pub listed : List Leaf → PlainLeaves
-listed [] = none
-listed (l ∷ ls) = more (plain_leaf l) (listed ls)
 
 -- comparisons that are no chain of AND, and none of OR
 abbrev pub IsNoAll : Comparison → Type 0
