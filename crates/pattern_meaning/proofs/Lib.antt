@@ -1,6 +1,5 @@
-mod OperatorLemmas
-mod EachLemmas
-mod ConstantLemmas
-mod LeafMeaningLemmas
 mod LimitLemmas
-mod OneMeaningLemmas
+mod EarliestLemmas
+mod OutcomeLemmas
+mod PartLemmas
+mod OperatorLemmas

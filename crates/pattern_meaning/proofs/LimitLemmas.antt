@@ -1,15 +1,29 @@
--- Two times of which one stands for nothing limit by nothing.
-use Rattle.std.proofs.Common.{◌⊎◌, inl, inr, ℕ, ℤ, List}
+-- What doesn't limit: two times of which one stands for nothing, or of which the first isn't earlier.
+use Rattle.std.proofs.Common.{◌≡◌, ◌↔◌, ℤ, ℕ, List, Bool, true, false, subst}
+use Rattle.std.specs.Prelude.{◌<ℤ◌}
 use Rattle.pattern_tokens.specs.declared.token.Token.{Token}
 use Rattle.pattern_tokens.specs.Values.{IsMomentText}
+use Rattle.pattern_tokens.specs.Spans.{text_at, At}
 use Rattle.pattern_grammar.specs.declared.qualifier.Qualifier.TheVariants as qualifier
-use Rattle.pattern_meaning.specs.declared.limits.Limit.{Limit}
-use Rattle.pattern_meaning.specs.declared.limits.Limit.TheVariants as limit
-use Rattle.pattern_tokens.specs.Spans.{At}
-use Rattle.pattern_meaning.specs.PlainPattern.{IsLimitOf}
+use Rattle.pattern_types.specs.declared.limit.Limit.{Limit}
+use Rattle.pattern_types.specs.declared.limit.Limit.TheVariants as limit
+use Rattle.pattern_meaning.specs.Refusals.{IsSoundLimitOf}
 
-pub no_span : (text : List ℕ) (start from to : Token) → ((i : ℤ) → ¬ At IsMomentText text from i) ⊎ ((i : ℤ) → ¬ At IsMomentText text to i) → (other : Limit) → ¬ IsLimitOf text (qualifier.Between start from to) other
-no_span text start from to h (limit.Within n) x = x
-no_span text start from to h (limit.Repeats n) x = x
-no_span text start from to (inl h) (limit.Between i j) x = h i x.0
-no_span text start from to (inr h) (limit.Between i j) x = h j x.1
+pub no_start : (text : List ℕ) (start from to : Token) → ((i : ℤ) → ¬ At IsMomentText text from i) → (other : Limit) → ¬ IsSoundLimitOf text (qualifier.Between start from to) other
+no_start text start from to h (limit.Within n) x = x.means
+no_start text start from to h (limit.Repeats n) x = x.means
+no_start text start from to h (limit.Between i j) x = h i x.means.0
+
+pub no_stop : (text : List ℕ) (start from to : Token) → ((i : ℤ) → ¬ At IsMomentText text to i) → (other : Limit) → ¬ IsSoundLimitOf text (qualifier.Between start from to) other
+no_stop text start from to h (limit.Within n) x = x.means
+no_stop text start from to h (limit.Repeats n) x = x.means
+no_stop text start from to h (limit.Between i j) x = h j x.means.1
+
+pub no_span : (text : List ℕ) (start from to : Token) (b e : ℤ) (r : Bool) → ((t : List ℕ) (i j : ℤ) → IsMomentText t i → IsMomentText t j → i ≡ j) → At IsMomentText text from b → At IsMomentText text to e
+    → (r ≡ true) ↔ (b <ℤ e) → r ≡ false → (other : Limit) → ¬ IsSoundLimitOf text (qualifier.Between start from to) other
+no_span text start from to b e r one x y h f (limit.Within n) z = z.means
+no_span text start from to b e r one x y h f (limit.Repeats n) z = z.means
+no_span text start from to b e r one x y h f (limit.Between i j) z =
+    let begins = one (text_at text from) i b z.means.0.is x.is in
+    let ends = one (text_at text to) j e z.means.1.is y.is in
+    let yes = h.1 (subst (λ (k : ℤ). k <ℤ e) begins (subst (λ (k : ℤ). i <ℤ k) ends z.sound)) in absurd (cc)

@@ -1,2 +1,4 @@
 pub mod Judgement
+pub mod Measure
 pub mod Operators
+pub mod Outcomes

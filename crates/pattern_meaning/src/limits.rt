@@ -1,7 +1,9 @@
+ghost use Rattle.std.specs.Prelude.{◌≡◌};
 ghost use Rattle.flow_values.specs.Answers.{FindsExactly};
-ghost use Rattle.pattern_meaning.specs.Refusals.{IsSoundLimitOf};
+ghost use Rattle.pattern_meaning.specs.Refusals.{IsSoundLimitOf, limit_refusal};
 ghost use Rattle.pattern_types.specs.declared.limit.Limit.{Limit};
 
+use crate::ValueRefusal;
 use pattern_grammar::Qualifier;
 use pattern_tokens::{Token, count_at, moment_at, one_meaning};
 use pattern_types::Limit;
@@ -12,8 +14,12 @@ fn span_of(text: &str, start: Token, from: Token, to: Token) -> Option<Limit>
     ensures { FindsExactly (IsSoundLimitOf text.now (Qualifier.Between start from to)) result }
 {
     one_meaning();
-    let begins = moment_at(text, from)?;
-    let ends = moment_at(text, to)?;
+    let Some(begins) = moment_at(text, from) else {
+        return None;
+    };
+    let Some(ends) = moment_at(text, to) else {
+        return None;
+    };
     if is_before(begins, ends) {
         return Some(Limit::Between(begins, ends));
     }
@@ -28,5 +34,17 @@ pub(crate) fn limit_of(text: &str, qualifier: Qualifier) -> Option<Limit>
         Qualifier::Within(number) => count_at(text, number).map(|seconds| Limit::Within(seconds)),
         Qualifier::Repeats(number) => count_at(text, number).map(|times| Limit::Repeats(times)),
         Qualifier::Between { start, from, to } => span_of(text, start, from, to),
+    }
+}
+
+/// The refusal of a qualifier that limits by nothing.
+pub(crate) fn limit_refusal(qualifier: Qualifier) -> ValueRefusal
+    ensures { result ≡ limit_refusal qualifier }
+{
+    match qualifier {
+        Qualifier::Within(number) | Qualifier::Repeats(number) => {
+            ValueRefusal::BadCount { at: number.from }
+        }
+        Qualifier::Between { start, .. } => ValueRefusal::EmptySpan { at: start.from },
     }
 }

@@ -1,5 +1,6 @@
-ghost use Rattle.std.specs.Prelude.{◌≡◌, ◌↔◌, ◌⊎◌, IsTrue};
-ghost use Rattle.pattern_meaning.specs.ValueRefusal.{rank_of, Precedes, IsEarliest, IsEarliestOf};
+ghost use Rattle.std.specs.Prelude.{◌≡◌, IsTrue, IsFalse};
+ghost use Rattle.pattern_meaning.specs.ValueRefusal.{rank_of, Precedes};
+ghost use Rattle.pattern_meaning.specs.inner.Outcomes.{IsFirstOfTwo};
 
 use crate::ValueRefusal;
 
@@ -17,27 +18,21 @@ fn rank(refusal: ValueRefusal) -> usize
     }
 }
 
+/// Whether the first refusal precedes the second.
+fn precedes(a: ValueRefusal, b: ValueRefusal) -> bool
+    ensures yes { IsTrue result → Precedes a b }
+    ensures no { IsFalse result → Precedes b a }
+{
+    a.at() < b.at() || a.at() == b.at() && rank(a) <= rank(b)
+}
+
 /// The first of two refusals.
 pub(crate) fn first_of_two(a: ValueRefusal, b: ValueRefusal) -> ValueRefusal
-    ensures { (IsA IsB : ValueRefusal → Type 0) → IsEarliest IsA a → IsEarliest IsB b → IsEarliest (λ refusal. IsA refusal ⊎ IsB refusal) result }
+    ensures { IsFirstOfTwo a b result }
 {
-    if (a.at(), rank(a)) <= (b.at(), rank(b)) {
+    if precedes(a, b) {
         a
     } else {
         b
-    }
-}
-
-/// The first of two refusals, where there are two.
-pub(crate) fn earlier_of(
-    a: Option<ValueRefusal>,
-    b: Option<ValueRefusal>,
-) -> Option<ValueRefusal>
-    ensures { (IsA IsB : ValueRefusal → Type 0) → IsEarliestOf IsA a → IsEarliestOf IsB b → IsEarliestOf (λ refusal. IsA refusal ⊎ IsB refusal) result }
-{
-    match (a, b) {
-        (None, b) => b,
-        (Some(a), None) => Some(a),
-        (Some(a), Some(b)) => Some(first_of_two(a, b)),
     }
 }

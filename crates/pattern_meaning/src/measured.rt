@@ -1,0 +1,129 @@
+ghost use Rattle.std.specs.Prelude.{◌≡◌, IfOk};
+ghost use Rattle.pattern_types.specs.PlainLeaf.{plain_leaf};
+ghost use Rattle.pattern_types.specs.PlainPattern.{plain_pattern, a_leaf, a_limited};
+ghost use Rattle.pattern_types.specs.Width.{width as width_of, brackets as brackets_of};
+ghost use Rattle.pattern_meaning.specs.inner.Operators.{meant_by};
+ghost use Rattle.pattern_meaning.specs.inner.Measure.{IsMeasured, Measures};
+
+use flow_values::NoMemory;
+use pattern_types::{Leaf, Limit, Pattern};
+use std::alloc::Global;
+
+/// The greatest width of a pattern.
+const MOST_WIDE: u64 = 64;
+
+/// The most pairs of brackets that a pattern may have.
+const MOST_BRACKETS: u64 = 1_024;
+
+/// An operator on observations.
+#[derive(Clone, Copy)]
+pub(crate) enum Operator {
+    Both,
+    Either,
+    Then,
+}
+
+/// A pattern that isn't too wide, with its width and how many pairs of brackets it has.
+#[derive(Drop)]
+pub(crate) struct Measured {
+    pub(crate) pattern: Pattern,
+    pub(crate) width: u64,
+    pub(crate) brackets: u64,
+}
+
+impl Measured {
+    /// The pattern, which has this measure, unless it is too wide.
+    fn within(pattern: Pattern, width: u64, brackets: u64) -> Option<Measured>
+        requires width { width ≡ width_of (plain_pattern pattern) }
+        requires brackets { brackets ≡ brackets_of (plain_pattern pattern) }
+        ensures { Measures (plain_pattern pattern) result }
+    {
+        if width > MOST_WIDE || brackets > MOST_BRACKETS {
+            return None;
+        }
+        Some(Measured {
+            pattern,
+            width,
+            brackets,
+        })
+    }
+
+    /// A pattern of one leaf.
+    pub(crate) fn leaf(leaf: Leaf) -> Measured
+        ensures pattern { plain_pattern result.pattern ≡ a_leaf (plain_leaf leaf) }
+        ensures measured { IsMeasured result }
+    {
+        Measured {
+            pattern: Pattern::Leaf(leaf),
+            width: 1,
+            brackets: 1,
+        }
+    }
+
+    /// Two patterns, joined, unless that is too wide.
+    pub(crate) fn joined(
+        alloc: Global,
+        operator: Operator,
+        left: Measured,
+        right: Measured,
+    ) -> Result<Option<Measured>, NoMemory>
+        requires left { IsMeasured left }
+        requires right { IsMeasured right }
+        ensures { IfOk result (Measures (meant_by operator (plain_pattern left.pattern) (plain_pattern right.pattern))) }
+    {
+        let width = match operator {
+            Operator::Both | Operator::Then => left.width + right.width,
+            Operator::Either => left.width.max(right.width),
+        };
+        let brackets = left.brackets + right.brackets;
+        let pattern = join(alloc, operator, left.pattern, right.pattern)?;
+        Ok(Measured::within(pattern, width, brackets))
+    }
+
+    /// A pattern that is limited, unless that is too wide.
+    pub(crate) fn limited(
+        alloc: Global,
+        part: Measured,
+        limit: Limit,
+    ) -> Result<Option<Measured>, NoMemory>
+        requires { IsMeasured part }
+        ensures { IfOk result (Measures (a_limited (plain_pattern part.pattern) limit)) }
+    {
+        let width = match limit {
+            Limit::Repeats(count) => u64::from(count) * part.width,
+            Limit::Within(_) | Limit::Between(_, _) => part.width,
+        };
+        let pattern = limit_to(alloc, part.pattern, limit)?;
+        Ok(Measured::within(pattern, width, part.brackets))
+    }
+}
+
+/// Two patterns, joined.
+fn join(
+    alloc: Global,
+    operator: Operator,
+    left: Pattern,
+    right: Pattern,
+) -> Result<Pattern, NoMemory>
+    ensures { IfOk result (λ p. plain_pattern p ≡ meant_by operator (plain_pattern left) (plain_pattern right)) }
+{
+    let left = Box::new(alloc, left)?;
+    let right = Box::new(alloc, right)?;
+    match operator {
+        Operator::Both => Ok(Pattern::Both(left, right)),
+        Operator::Either => Ok(Pattern::Either(left, right)),
+        Operator::Then => Ok(Pattern::Then(left, right)),
+    }
+}
+
+/// A pattern that is limited.
+fn limit_to(alloc: Global, part: Pattern, limit: Limit) -> Result<Pattern, NoMemory>
+    ensures { IfOk result (λ p. plain_pattern p ≡ a_limited (plain_pattern part) limit) }
+{
+    let part = Box::new(alloc, part)?;
+    match limit {
+        Limit::Within(seconds) => Ok(Pattern::Within(part, seconds)),
+        Limit::Repeats(times) => Ok(Pattern::Repeats(part, times)),
+        Limit::Between(begins, ends) => Ok(Pattern::Between(part, begins, ends)),
+    }
+}
