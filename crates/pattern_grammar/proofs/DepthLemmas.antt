@@ -64,6 +64,18 @@ later : (m : Option ℕ) (k : ℕ) → option_map (λ i. i + 1) m ≡ Some k →
 later None k h = absurd (cc)
 later (Some i) k h = (i, refl, cc)
 
+below_first : (depth : Depth) (t : Token) (ts : List Token) (n : ℕ) (b : Bool) → is_deep depth t.kind ≡ b → deep_at depth (t ∷ ts) ≡ Some n → ((k : ℕ) → deep_at (depth_after depth t.kind) ts ≡ Some k → k < length ts) → n < length (t ∷ ts)
+below_first depth t ts n true h e more = let g : Some 0 ≡ Some n = rw h at e in let z : 0 ≡ n = cc in omega arith
+below_first depth t ts n false h e more =
+    let g = later (deep_at (depth_after depth t.kind) ts) n (rw h at e) in
+    let k = more g.0 g.1 in
+    let z = g.2 in
+    omega arith
+
+pub deep_below : (depth : Depth) (ts : List Token) (n : ℕ) → deep_at depth ts ≡ Some n → n < length ts
+deep_below depth [] n e = absurd (cc)
+deep_below depth (t ∷ ts) n e = below_first depth t ts n (is_deep depth t.kind) refl e (λ k h. deep_below (depth_after depth t.kind) ts k h)
+
 through_first : (depth : Depth) (t : Token) (ts : List Token) (n : ℕ) (b : Bool) → is_deep depth t.kind ≡ b → deep_at depth (t ∷ ts) ≡ Some n → ((k : ℕ) → deep_at (depth_after depth t.kind) ts ≡ Some k → deep_at (depth_after depth t.kind) (take (k + 1) ts) ≡ Some k) → deep_at depth (take (suc n) (t ∷ ts)) ≡ Some n
 through_first depth t ts n true h e more = rw h (rw h at e)
 through_first depth t ts n false h e more =

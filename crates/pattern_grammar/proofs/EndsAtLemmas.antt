@@ -58,7 +58,7 @@ pub spells_whole : {ts rest : List Token} {p : Tree} → Found IsPattern wants_p
 spells_whole {rest = rest} f h = rw (f.all_are, none_left rest h, append-nil) f.spells
 
 -- what is refused isn't spelled
-misfit_unspelled : {ts rest : List Token} → MisfitAt ts rest → (p : Tree) → ¬ IsPattern ts p
+pub misfit_unspelled : {ts rest : List Token} → MisfitAt ts rest → (p : Tree) → ¬ IsPattern ts p
 misfit_unspelled {rest = []} m p x = m.ends p (let e = m.all_are ∙ append-nil m.read in rw e at x)
 misfit_unspelled {rest = t ∷ rest} m p x = m.ends (completes_front (record { more = rest; value = p; spells = rw append_assoc (rw m.all_are at x) }))
 

@@ -1,5 +1,5 @@
 -- What is a front goes on to something derived, and what begins something derived is a front.
-use Rattle.std.proofs.Common.{◌≡◌, true, List, [], ◌∷◌, ◌++◌, ◌⊎◌, inl, inr, refl, append_assoc, ℕ, nat_eq, arith}
+use Rattle.std.proofs.Common.{◌≡◌, true, List, [], ◌∷◌, ◌++◌, inl, inr, refl, append_assoc, ℕ, nat_eq, arith}
 use Rattle.std.proofs.lemmas.Bool.Decides.{nat_tests}
 use Rattle.pattern_tokens.specs.declared.token.Token.{Token}
 use Rattle.pattern_tokens.specs.declared.token.TokenKind.{TokenKind}
@@ -9,6 +9,7 @@ use Rattle.pattern_grammar.specs.declared.class.TokenClass.TheVariants.{Only, Ro
 use Rattle.pattern_grammar.specs.TokenClass.{is_in, code}
 use Rattle.pattern_grammar.specs.Fronts.{GrammarLine, pattern, ors, ands, unit, qualifier, cor, cand, test, compare, path, Part, one, line, ◌then◌, ◌or◌, many, maybe, rule, Derives, is_one, is_line, is_both, is_left, is_right, no_more, one_more, absent, present, FrontOf, before_one, after_one, of_line, in_first, in_second, of_left, of_right, before_many, in_many, in_more, before_maybe, in_maybe}
 use Rattle.pattern_grammar.proofs.CompletionLemmas.{some}
+use Rattle.pattern_grammar.proofs.CutLemmas.{cut}
 
 -- some kind of each class
 abbrev kind_in : TokenClass → TokenKind
@@ -133,24 +134,6 @@ complete (in_more {a} {ts} {us} x y) = let h = complete y in record { more = h.m
 complete before_maybe = record { more = []; derived = absent }
 complete (in_maybe x) = let h = complete x in record { more = h.more; derived = present h.derived }
 
--- where a cut of two joined lists falls
-record Inside (x ts : List Token) : Type 0 where
-  rest : List Token
-  x_is : x ≡ ts ++ rest
-
-record Beyond (x y ts more : List Token) : Type 0 where
-  front : List Token
-  ts_is : ts ≡ x ++ front
-  y_is : y ≡ front ++ more
-
-cut : (x y ts more : List Token) → x ++ y ≡ ts ++ more → Inside x ts ⊎ Beyond x y ts more
-cut [] y ts more e = inr (record { front = ts; ts_is = refl; y_is = e })
-cut (a ∷ x) y [] more e = inl (record { rest = a ∷ x; x_is = refl })
-cut (a ∷ x) y (t ∷ ts) more e =
-    let h : a ≡ t = cc in
-    let g : x ++ y ≡ ts ++ more = cc in
-    elim (cut x y ts more g) [ inl i ↦ inl (record { rest = i.rest; x_is = (let k = i.x_is in cc) }) | inr b ↦ inr (record { front = b.front; ts_is = (let k = b.ts_is in cc); y_is = b.y_is }) ]
-
 -- what begins something derived is a front
 pub front : {a : Part} {ws : List Token} → Derives a ws → (ts more : List Token) → ws ≡ ts ++ more → FrontOf a ts
 front (is_one t h) [] more e = before_one
@@ -158,13 +141,13 @@ front (is_one t h) (u ∷ []) more e = let g : t ≡ u = cc in after_one u (rw (
 front (is_one t h) (u ∷ v ∷ ts) more e = absurd (cc)
 front (is_line x) ts more e = of_line (front x ts more e)
 front (is_both {ts = x} {us = y} p q) ts more e =
-    elim (cut x y ts more e) [ inl i ↦ in_first (front p ts i.rest i.x_is) | inr b ↦ rw b.ts_is (in_second p (front q b.front more b.y_is)) ]
+    elim (cut x y ts more e) [ inl i ↦ in_first (front p ts i.between i.longer) | inr b ↦ rw b.longer (in_second p (front q b.between more b.left)) ]
 front (is_left x) ts more e = of_left (front x ts more e)
 front (is_right x) ts more e = of_right (front x ts more e)
 front no_more [] more e = before_many
 front no_more (t ∷ ts) more e = absurd (cc)
 front (one_more {ts = x} {us = y} p q) ts more e =
-    elim (cut x y ts more e) [ inl i ↦ in_many (front p ts i.rest i.x_is) | inr b ↦ rw b.ts_is (in_more p (front q b.front more b.y_is)) ]
+    elim (cut x y ts more e) [ inl i ↦ in_many (front p ts i.between i.longer) | inr b ↦ rw b.longer (in_more p (front q b.between more b.left)) ]
 front absent [] more e = before_maybe
 front absent (t ∷ ts) more e = absurd (cc)
 front (present x) ts more e = in_maybe (front x ts more e)

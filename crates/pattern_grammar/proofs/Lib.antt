@@ -1,6 +1,7 @@
 mod SameKindLemmas
 mod LeadsLemmas
 mod CompletionLemmas
+mod CutLemmas
 mod ExitLemmas
 mod ChainLemmas
 mod PathLemmas
@@ -14,4 +15,5 @@ mod OneTreeLemmas
 mod FrontOfLemmas
 mod DerivesLemmas
 mod DepthLemmas
+mod OneAnswerLemmas
 mod JoinedLemmas

@@ -1,8 +1,8 @@
 -- Where in a text its tokens are refused.
 use Rattle.std.specs.Prelude.{◌≡◌, ◌≤◌, ℕ, ◌+◌, List, [], ◌∷◌, length, take, drop, Some, None, IfSome, Result, Ok, Err}
 use Rattle.pattern_tokens.specs.declared.token.Token.{Token}
-use Rattle.pattern_tokens.specs.declared.refusal.PatternRefusal.{PatternRefusal}
-use Rattle.pattern_tokens.specs.declared.refusal.PatternRefusal.TheVariants.{TooLong, BadToken, LeftOut, BadNumber, BadTime, BadBytes, Syntax, TooDeep, BadCount, LongPath, BadAddress, EmptySpan, NoCommonRoot, TooWide, NoMemory}
+use Rattle.pattern_grammar.specs.declared.refusal.SyntaxRefusal.{SyntaxRefusal}
+use Rattle.pattern_grammar.specs.declared.refusal.SyntaxRefusal.TheVariants.{Syntax, TooDeep}
 use Rattle.pattern_grammar.specs.declared.pattern.PatternTree.{PatternTree}
 use Rattle.pattern_grammar.specs.Tree.{Tree, shape}
 use Rattle.pattern_grammar.specs.Grammar.{IsPattern}
@@ -30,29 +30,16 @@ pub record DeepAt (ts : List Token) (end at : ℕ) : Type 0 where
   pub here : at ≡ place (drop before ts) end
 
 -- why the tokens of a text of this length are no pattern's
-abbrev pub IsMisread : List Token → ℕ → PatternRefusal → Type 0
+abbrev pub IsMisread : List Token → ℕ → SyntaxRefusal → Type 0
 IsMisread ts end (Syntax at) = SyntaxAt ts end at
 IsMisread ts end (TooDeep at) = DeepAt ts end at
-IsMisread ts end NoMemory = ⊥
-IsMisread ts end TooLong = ⊥
-IsMisread ts end (BadToken at) = ⊥
-IsMisread ts end (LeftOut at word) = ⊥
-IsMisread ts end (BadNumber at) = ⊥
-IsMisread ts end (BadTime at) = ⊥
-IsMisread ts end (BadBytes at) = ⊥
-IsMisread ts end (BadCount at) = ⊥
-IsMisread ts end (LongPath at) = ⊥
-IsMisread ts end (BadAddress at) = ⊥
-IsMisread ts end (EmptySpan at) = ⊥
-IsMisread ts end (NoCommonRoot at) = ⊥
-IsMisread ts end TooWide = ⊥
 
 -- the tokens spell the tree, and none of them is one too many
 pub record IsTreeOf (ts : List Token) (tree : Tree) : Type 0 where
   pub spells : IsPattern ts tree
   pub shallow : deep_at at_start ts ≡ None
 
--- the result is this tree, unless memory ran out
-abbrev pub GivesTree : Tree → Result PatternTree PatternRefusal → Type 0
-GivesTree tree (Ok read) = shape read ≡ tree
-GivesTree tree (Err refusal) = refusal ≡ NoMemory
+-- what reading the tokens of a text of this length answers
+abbrev pub AnswersTree : List Token → ℕ → Result PatternTree SyntaxRefusal → Type 0
+AnswersTree ts end (Ok tree) = IsTreeOf ts (shape tree)
+AnswersTree ts end (Err refusal) = IsMisread ts end refusal

@@ -1,10 +1,12 @@
 //! What follows from the grammar: the contracts are the laws, and the functions do nothing.
 
-ghost use Rattle.std.specs.Prelude.{◌≡◌, ◌++◌, List};
+ghost use Rattle.std.specs.Prelude.{◌≡◌, ◌++◌, ℕ, List};
 ghost use Rattle.pattern_tokens.specs.declared.token.Token.{Token};
+ghost use Rattle.pattern_grammar.specs.declared.refusal.SyntaxRefusal.{SyntaxRefusal};
 ghost use Rattle.pattern_grammar.specs.Answer.{BeginsPattern, Completes};
 ghost use Rattle.pattern_grammar.specs.Fronts.{Derives, line, pattern};
 ghost use Rattle.pattern_grammar.specs.Grammar.{IsPattern};
+ghost use Rattle.pattern_grammar.specs.Place.{IsMisread, IsTreeOf};
 ghost use Rattle.pattern_grammar.specs.Tree.{Tree};
 
 /// Tokens begin a pattern exactly where some list that begins with them spells one.
@@ -16,6 +18,14 @@ pub fn fronts()
 /// A list of tokens spells one pattern at most.
 pub fn one_pattern()
     ensures { (ts : List Token) (p q : Tree) → IsPattern ts p → IsPattern ts q → p ≡ q }
+{}
+
+/// Tokens that spell a tree have no refusal, and others have one at most.
+pub fn one_answer()
+    ensures tree { (ts : List Token) (end : ℕ) (p : Tree) (refusal : SyntaxRefusal) → IsTreeOf ts p
+        → ¬ IsMisread ts end refusal }
+    ensures refusal { (ts : List Token) (end : ℕ) (first second : SyntaxRefusal) → IsMisread ts end first
+        → IsMisread ts end second → first ≡ second }
 {}
 
 /// The lines as they are written, of which fronts are made, and the relations that spell a tree are one

@@ -1,6 +1,6 @@
 //! The grammar of patterns (STIX 2.1, section 9) over tokens: `parse` gives the syntax tree that a
 //! list of tokens spells, or the first token that doesn't fit. `Grammar` of specs/ has one rule for
-//! each line of the grammar; `fronts`, `one_language` and `one_pattern` are laws about it.
+//! each line of the grammar; `fronts`, `one_language`, `one_pattern` and `one_answer` are laws about it.
 #![tactic(auto)]
 
 mod class;
@@ -16,17 +16,19 @@ mod path;
 mod pattern;
 mod qualifier;
 mod read;
+mod refusal;
 mod stop;
 mod take;
 
 pub use class::TokenClass;
 pub use comparison::{CheckTree, ComparisonTree, Conjunction, Operand, TestTree};
-pub use laws::{fronts, one_language, one_pattern};
+pub use laws::{fronts, one_answer, one_language, one_pattern};
 pub use parse_pattern::parse;
 pub use path::{PathTree, StepTree};
 pub use pattern::PatternTree;
 pub use qualifier::Qualifier;
 pub use read::read_tree;
+pub use refusal::SyntaxRefusal;
 pub use stop::Stop;
 
 #[cfg(test)]

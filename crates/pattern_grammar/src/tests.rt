@@ -1,10 +1,10 @@
-use crate::{PatternTree, read_tree};
+use crate::{PatternTree, SyntaxRefusal, read_tree};
 use flow_values::{Items, NoMemory};
 use pattern_tokens::TokenKind::{
     Among, Colon, Comma, Equal, Less, Not, Number, Or, RoundClose, RoundOpen, SquareClose,
     SquareOpen, TrueWord, Word,
 };
-use pattern_tokens::{PatternRefusal, Token, TokenKind};
+use pattern_tokens::{Token, TokenKind};
 use std::alloc::Global;
 use std::process::Abort;
 use std::test::Fail;
@@ -28,11 +28,12 @@ fn tokens_of(alloc: Global, kinds: &[TokenKind]) -> Result<Items<Token>, NoMemor
 fn reads_as(rt: &impl Abort, alloc: Global, kinds: &[TokenKind], wanted: Option<usize>) {
     match tokens_of(alloc, kinds) {
         Ok(tokens) => match read_tree(alloc, tokens.as_slice(), kinds.len()) {
-            Ok(_) => assert!(rt; wanted.is_none(), "spells a tree"),
-            Err(refusal) => {
+            Ok(Ok(_)) => assert!(rt; wanted.is_none(), "spells a tree"),
+            Ok(Err(refusal)) => {
                 let at = wanted.unwrap_or(0);
-                assert_eq!(rt; refusal, PatternRefusal::Syntax { at });
+                assert_eq!(rt; refusal, SyntaxRefusal::Syntax { at });
             }
+            Err(NoMemory) => assert!(rt; false, "no memory to read"),
         },
         Err(NoMemory) => assert!(rt; false, "no memory"),
     }
@@ -73,7 +74,7 @@ fn joins_from_the_left(rt: HostRuntime) -> Result<(), Fail> {
     let alloc = rt.alloc();
     let leaf = [SquareOpen, Word, Colon, Word, Equal, Number, SquareClose];
     let tokens = tokens_of(alloc, &leaf)?;
-    let tree = read_tree(alloc, tokens.as_slice(), 7);
-    assert!(rt; matches!(&tree, Ok(PatternTree::Leaf(_))), "no leaf");
+    let answer = read_tree(alloc, tokens.as_slice(), 7)?;
+    assert!(rt; matches!(&answer, Ok(PatternTree::Leaf(_))), "no leaf");
     Ok(())
 }

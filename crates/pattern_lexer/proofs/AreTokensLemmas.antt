@@ -1,5 +1,5 @@
 -- Tokens that stand one after another in a text, up to a place.
-use Rattle.std.proofs.Common.{◌≡◌, ◌↔◌, ℕ, Bool, false, IsTrue, ◌+◌, ◌-◌, ◌<◌, ◌≤◌, ◌⊎◌, inl, inr, List, [], ◌∷◌, ◌++◌, length, take, drop, All, IsUtf8, slice_range, refl, sym, ap, ◌∙◌, subst, arith, append_assoc, length-append, length-drop, length-take-le, take-append-drop, append-nil}
+use Rattle.std.proofs.Common.{◌≡◌, ◌↔◌, ℕ, Bool, false, IsTrue, ◌+◌, ◌-◌, ◌<◌, ◌≤◌, inl, inr, List, [], ◌∷◌, ◌++◌, length, take, drop, All, IsUtf8, slice_range, refl, sym, ap, ◌∙◌, subst, arith, append_assoc, length-append, length-drop, length-take-le, take-append-drop, append-nil}
 use Rattle.std.proofs.lemmas.List.{drop-drop, drop_at, drop_all, take_at}
 use Rattle.std.proofs.lemmas.Bool.{false≢true}
 use Rattle.std.proofs.lemmas.Slice.{between_to_end}
@@ -7,12 +7,11 @@ use Rattle.pattern_tokens.specs.declared.token.Token.{Token}
 use Rattle.pattern_tokens.specs.declared.token.TokenKind.{TokenKind}
 use Rattle.pattern_tokens.specs.declared.token.TokenKind.TheVariants.{Number, Words, Hex, Base, Time}
 use Rattle.pattern_tokens.specs.declared.refusal.LeftWord.{LeftWord}
-use Rattle.pattern_tokens.specs.declared.refusal.PatternRefusal.{PatternRefusal}
-use Rattle.pattern_tokens.specs.declared.refusal.PatternRefusal.TheVariants.{NoMemory}
+use Rattle.pattern_tokens.specs.declared.refusal.TokenRefusal.{TokenRefusal}
 use Rattle.pattern_tokens.specs.Word.{HasAt}
 use Rattle.pattern_tokens.specs.Spans.{IsCut, text_at}
 use Rattle.pattern_tokens.specs.Values.{HasValue}
-use Rattle.pattern_lexer.specs.Reading.{IsBlank, IsFirst, RunsOn, IsLeftOut, IsUsable, IsNext, AreTokens, TokensOf, IsFault, HasFault, IsRefused}
+use Rattle.pattern_lexer.specs.Reading.{IsBlank, IsFirst, RunsOn, IsLeftOut, IsUsable, IsNext, AreTokens, TokensOf, IsFault, HasFault}
 use Rattle.pattern_lexer.specs.inner.Steps.{IsRun, BeginsToken, ArePassed, StandsAt, ReadUpTo, worthless_refusal}
 use Rattle.pattern_lexer.proofs.TokenEdgeLemmas.{cuts, token_edges}
 
@@ -178,11 +177,10 @@ read_one text tokens at next token read stands p = record {
   ends = p.ends;
 }
 
-pub read_all : (text : List ℕ) (tokens : List Token) (at : ℕ) → length text ≤ 65_536 → length text ≤ at → ReadUpTo text tokens at → TokensOf text tokens
-read_all text tokens at short over read =
+pub read_all : (text : List ℕ) (tokens : List Token) (at : ℕ) → length text ≤ at → ReadUpTo text tokens at → TokensOf text tokens
+read_all text tokens at over read =
     let left : read.rest ≡ read.blanks = read.left ∙ ap (λ (xs : List ℕ). read.blanks ++ xs) (drop_all at text over) ∙ append-nil read.blanks in
     record {
-      short = short;
       rest = read.rest;
       stand = read.stand;
       blank = subst (λ (xs : List ℕ). All IsBlank xs) (sym left) read.blank;
@@ -195,11 +193,10 @@ not_blank (c ∷ rest) l none = none
 begins_there : (text : List ℕ) (at : ℕ) → at < length text → ¬ HasAt 0 IsBlank (drop at text) → HasAt 0 (λ c. ¬ IsBlank c) (drop at text)
 begins_there text at l ends = not_blank (drop at text) (let d = length-drop at text in omega arith) ends
 
-pub read_fault : (text : List ℕ) (tokens : List Token) (at : ℕ) (refusal : PatternRefusal) → length text ≤ 65_536 → at < length text → ReadUpTo text tokens at → IsFault at (drop at text) refusal → HasFault text refusal
-read_fault text tokens at refusal short l read fault =
+pub read_fault : (text : List ℕ) (tokens : List Token) (at : ℕ) (refusal : TokenRefusal) → at < length text → ReadUpTo text tokens at → IsFault at (drop at text) refusal → HasFault text refusal
+read_fault text tokens at refusal l read fault =
     let d : at ≡ length text - length (drop at text) = let n = length-drop at text in omega arith in
     record {
-      short = short;
       tokens = tokens;
       blanks = read.blanks;
       rest = drop at text;
@@ -208,7 +205,3 @@ read_fault text tokens at refusal short l read fault =
       begins = begins_there text at l read.ends;
       fault = subst (λ (n : ℕ). IsFault n (drop at text) refusal) d fault;
     }
-
-pub read_refusal : (text : List ℕ) (tokens : List Token) (at : ℕ) (refusal : PatternRefusal) → length text ≤ 65_536 → at < length text → ReadUpTo text tokens at → (refusal ≡ NoMemory) ⊎ IsFault at (drop at text) refusal → (refusal ≡ NoMemory) ⊎ IsRefused text refusal
-read_refusal text tokens at refusal short l read (inl e) = inl e
-read_refusal text tokens at refusal short l read (inr fault) = inr (inr (read_fault text tokens at refusal short l read fault))

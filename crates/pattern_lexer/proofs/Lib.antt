@@ -1,5 +1,4 @@
 mod TokenEdgeLemmas
-mod LiesInTextLemmas
 mod TokenShapeLemmas
 mod EscapedTextLemmas
 mod TokenLeadLemmas

@@ -1,17 +1,17 @@
 -- A text is read in one way.
-use Rattle.std.proofs.Common.{◌≡◌, ℕ, ◌-◌, ◌⊎◌, inl, inr, List, [], ◌∷◌, ◌++◌, length, All, Option, Some, None, Result, Ok, Err, IfErr, IsErrAnd, refl, sym, ap, ◌∙◌, subst, arith, append_assoc}
+use Rattle.std.proofs.Common.{◌≡◌, ℕ, ◌-◌, inl, inr, List, [], ◌∷◌, ◌++◌, length, All, Option, Some, None, Result, Ok, Err, refl, sym, ap, ◌∙◌, subst, arith, append_assoc}
 use Rattle.std.proofs.lemmas.List.Elements.{All-head, All-tail}
 use Rattle.pattern_tokens.specs.declared.token.Token.{Token}
 use Rattle.pattern_tokens.specs.declared.token.TokenKind.{TokenKind}
 use Rattle.pattern_tokens.specs.declared.token.TokenKind.TheVariants.{Word, Equal, Less, Number, Hex, Base, Time}
 use Rattle.pattern_tokens.specs.declared.refusal.LeftWord.{LeftWord}
 use Rattle.pattern_tokens.specs.declared.refusal.LeftWord.TheVariants.{Matches, Fraction, DoubleEqual, LessGreater}
-use Rattle.pattern_tokens.specs.declared.refusal.PatternRefusal.{PatternRefusal}
-use Rattle.pattern_tokens.specs.declared.refusal.PatternRefusal.TheVariants.{TooLong, BadToken, LeftOut, BadNumber, BadTime, BadBytes, Syntax, TooDeep, BadCount, LongPath, BadAddress, EmptySpan, NoCommonRoot, TooWide, NoMemory}
+use Rattle.pattern_tokens.specs.declared.refusal.TokenRefusal.{TokenRefusal}
+use Rattle.pattern_tokens.specs.declared.refusal.TokenRefusal.TheVariants.{BadToken, LeftOut, BadNumber, BadTime, BadBytes}
 use Rattle.pattern_tokens.specs.Word.{HasAt}
 use Rattle.pattern_tokens.specs.Table.{IsToken}
 use Rattle.pattern_tokens.specs.Values.{HasValue}
-use Rattle.pattern_lexer.specs.Reading.{IsBlank, IsFirst, RunsOn, IsLeftOut, IsUsable, IsNext, AreTokens, TokensOf, HasNoToken, IsEndless, IsUseless, IsWorthless, IsFault, HasFault, IsRefused, Reads, Agrees}
+use Rattle.pattern_lexer.specs.Reading.{IsBlank, IsFirst, RunsOn, IsLeftOut, IsUsable, IsNext, AreTokens, HasNoToken, IsEndless, IsUseless, IsWorthless, IsFault, HasFault, Reads}
 use Rattle.pattern_lexer.specs.inner.Steps.{worthless_refusal}
 use Rattle.pattern_lexer.proofs.OneKindLemmas.{kind_of, kind_is, one_first, carry, token_not_blank}
 
@@ -57,14 +57,13 @@ one_next at left t u a b x y =
     (same_token t u same.kind from (omega arith), same.after)
 
 -- why a token that begins a text is refused
-pub data Why : ℕ → List ℕ → PatternRefusal → Type 0 where
-  no_token : {place : ℕ} {whole : List ℕ} {refusal : PatternRefusal} → HasNoToken whole → refusal ≡ BadToken place → Why place whole refusal
-  endless : {place : ℕ} {whole : List ℕ} {refusal : PatternRefusal} → IsEndless whole → refusal ≡ BadToken place → Why place whole refusal
-  useless : {place : ℕ} {whole : List ℕ} {refusal : PatternRefusal} (word : LeftWord) → IsUseless whole word → refusal ≡ LeftOut place word → Why place whole refusal
-  worthless : {place : ℕ} {whole : List ℕ} {refusal : PatternRefusal} (kind : TokenKind) → IsWorthless whole kind → refusal ≡ worthless_refusal kind place → Why place whole refusal
+pub data Why : ℕ → List ℕ → TokenRefusal → Type 0 where
+  no_token : {place : ℕ} {whole : List ℕ} {refusal : TokenRefusal} → HasNoToken whole → refusal ≡ BadToken place → Why place whole refusal
+  endless : {place : ℕ} {whole : List ℕ} {refusal : TokenRefusal} → IsEndless whole → refusal ≡ BadToken place → Why place whole refusal
+  useless : {place : ℕ} {whole : List ℕ} {refusal : TokenRefusal} (word : LeftWord) → IsUseless whole word → refusal ≡ LeftOut place word → Why place whole refusal
+  worthless : {place : ℕ} {whole : List ℕ} {refusal : TokenRefusal} (kind : TokenKind) → IsWorthless whole kind → refusal ≡ worthless_refusal kind place → Why place whole refusal
 
-why : (place : ℕ) (whole : List ℕ) (refusal : PatternRefusal) → IsFault place whole refusal → Why place whole refusal
-why place whole TooLong h = absurd h
+why : (place : ℕ) (whole : List ℕ) (refusal : TokenRefusal) → IsFault place whole refusal → Why place whole refusal
 why place whole (BadToken at) (e, inl h) = no_token h (ap (λ (n : ℕ). BadToken n) e)
 why place whole (BadToken at) (e, inr h) = endless h (ap (λ (n : ℕ). BadToken n) e)
 why place whole (LeftOut at word) h = useless word h.1 (ap (λ (n : ℕ). LeftOut n word) h.0)
@@ -72,15 +71,6 @@ why place whole (BadNumber at) h = worthless Number h.1 (ap (λ (n : ℕ). BadNu
 why place whole (BadTime at) h = worthless Time h.1 (ap (λ (n : ℕ). BadTime n) h.0)
 why place whole (BadBytes at) (e, inl h) = worthless Hex h (ap (λ (n : ℕ). BadBytes n) e)
 why place whole (BadBytes at) (e, inr h) = worthless Base h (ap (λ (n : ℕ). BadBytes n) e)
-why place whole (Syntax at) h = absurd h
-why place whole (TooDeep at) h = absurd h
-why place whole (BadCount at) h = absurd h
-why place whole (LongPath at) h = absurd h
-why place whole (BadAddress at) h = absurd h
-why place whole (EmptySpan at) h = absurd h
-why place whole (NoCommonRoot at) h = absurd h
-why place whole TooWide h = absurd h
-why place whole NoMemory h = absurd h
 
 matches_word : (kind : TokenKind) (text : List ℕ) → IsToken kind text → text ≡ 77 ∷ 65 ∷ 84 ∷ 67 ∷ 72 ∷ 69 ∷ 83 ∷ [] → kind ≡ Word
 matches_word kind text token e = sym (kind_is kind text token) ∙ ap kind_of e
@@ -103,7 +93,7 @@ one_left LessGreater Fraction kind text after t x y = let h : Less ≡ Number = 
 one_left LessGreater DoubleEqual kind text after t x y = let h : Less ≡ Equal = sym (x.0) ∙ y.0 in absurd (cc)
 one_left LessGreater LessGreater kind text after t x y = refl
 
-one_why : (place : ℕ) (whole : List ℕ) (r s : PatternRefusal) → Why place whole r → Why place whole s → r ≡ s
+one_why : (place : ℕ) (whole : List ℕ) (r s : TokenRefusal) → Why place whole r → Why place whole s → r ≡ s
 one_why place whole r s (no_token h e) (no_token g f) = cc
 one_why place whole r s (no_token h e) (endless g f) = cc
 one_why place whole r s (no_token h e) (useless w g f) = absurd (h g.kind g.text g.after g.first.spelled g.first.token)
@@ -125,14 +115,14 @@ one_why place whole r s (worthless k h e) (worthless l g f) =
     e ∙ ap (λ (x : TokenKind). worthless_refusal x place) (one_first whole k l h.text g.text h.after g.after h.first g.first).kind ∙ sym f
 
 -- a token without fault has none
-no_fault : (place : ℕ) (whole : List ℕ) (r : PatternRefusal) (kind : TokenKind) (text after : List ℕ) → Why place whole r → IsFirst whole kind text after → IsUsable kind text after → HasValue kind text → ⊥
+no_fault : (place : ℕ) (whole : List ℕ) (r : TokenRefusal) (kind : TokenKind) (text after : List ℕ) → Why place whole r → IsFirst whole kind text after → IsUsable kind text after → HasValue kind text → ⊥
 no_fault place whole r kind text after (no_token h e) first usable value = h kind text after first.spelled first.token
 no_fault place whole r kind text after (endless h e) first usable value = usable.ends (carry (λ k t a. RunsOn k a) whole h.kind kind h.text text h.after after h.first first h.runs_on)
 no_fault place whole r kind text after (useless w h e) first usable value = usable.used w (carry (λ k t a. IsLeftOut w k t a) whole h.kind kind h.text text h.after after h.first first h.left_out)
 no_fault place whole r kind text after (worthless k h e) first usable value = h.worthless (carry (λ k t a. HasValue k t) whole kind k text h.text after h.after first h.first value)
 
 -- how a reading ends: with blanks, or with a fault behind them
-pub record Faulty (size : ℕ) (rest : List ℕ) (refusal : PatternRefusal) : Type 0 where
+pub record Faulty (size : ℕ) (rest : List ℕ) (refusal : TokenRefusal) : Type 0 where
   pub blanks : List ℕ
   pub left : List ℕ
   pub spelled : rest ≡ blanks ++ left
@@ -140,27 +130,27 @@ pub record Faulty (size : ℕ) (rest : List ℕ) (refusal : PatternRefusal) : Ty
   pub begins : HasAt 0 (λ c. ¬ IsBlank c) left
   pub fault : IsFault (size - length left) left refusal
 
-abbrev End : ℕ → List ℕ → Option PatternRefusal → Type 0
+abbrev End : ℕ → List ℕ → Option TokenRefusal → Type 0
 End size rest None = All IsBlank rest
 End size rest (Some refusal) = Faulty size rest refusal
 
-one_end : (size : ℕ) (rest : List ℕ) (a b : Option PatternRefusal) → End size rest a → End size rest b → a ≡ b
+one_end : (size : ℕ) (rest : List ℕ) (a b : Option TokenRefusal) → End size rest a → End size rest b → a ≡ b
 one_end size rest None None x y = refl
 one_end size rest None (Some s) x y = absurd (blanks_alone y.blanks y.left (subst (λ (l : List ℕ). All IsBlank l) y.spelled x) y.begins)
 one_end size rest (Some r) None x y = absurd (blanks_alone x.blanks x.left (subst (λ (l : List ℕ). All IsBlank l) x.spelled y) x.begins)
 one_end size rest (Some r) (Some s) x y =
     let e = split_blanks x.blanks y.blanks x.left y.left (sym x.spelled ∙ y.spelled) x.blank y.blank x.begins y.begins in
     let fault = subst (λ (l : List ℕ). IsFault (size - length l) l s) (sym e.1) y.fault in
-    ap (λ (p : PatternRefusal). Some p) (one_why (size - length x.left) x.left r s (why (size - length x.left) x.left r x.fault) (why (size - length x.left) x.left s fault))
+    ap (λ (p : TokenRefusal). Some p) (one_why (size - length x.left) x.left r s (why (size - length x.left) x.left r x.fault) (why (size - length x.left) x.left s fault))
 
-no_next : (size at : ℕ) (left : List ℕ) (o : Option PatternRefusal) (t : Token) (a : List ℕ) → End size left o → IsNext at left t a → ⊥
+no_next : (size at : ℕ) (left : List ℕ) (o : Option TokenRefusal) (t : Token) (a : List ℕ) → End size left o → IsNext at left t a → ⊥
 no_next size at left None t a x n = blanks_alone n.blanks (n.text ++ a) (subst (λ (l : List ℕ). All IsBlank l) (next_spelled at left t a n) x) (token_not_blank t.kind n.text a n.first.token)
 no_next size at left (Some r) t a x n =
     let e = split_blanks x.blanks n.blanks x.left (n.text ++ a) (sym x.spelled ∙ next_spelled at left t a n) x.blank n.blank x.begins (token_not_blank t.kind n.text a n.first.token) in
     let first = subst (λ (l : List ℕ). IsFirst l t.kind n.text a) (sym e.1) n.first in
     no_fault (size - length x.left) x.left r t.kind n.text a (why (size - length x.left) x.left r x.fault) first n.usable n.value
 
-one_run : (size at : ℕ) (left : List ℕ) (ts us : List Token) (x y : List ℕ) (a b : Option PatternRefusal) → AreTokens at left ts x → End size x a → AreTokens at left us y → End size y b → (ts ≡ us) × (a ≡ b)
+one_run : (size at : ℕ) (left : List ℕ) (ts us : List Token) (x y : List ℕ) (a b : Option TokenRefusal) → AreTokens at left ts x → End size x a → AreTokens at left us y → End size y b → (ts ≡ us) × (a ≡ b)
 one_run size at left [] [] x y a b s p t q =
     (refl, one_end size left a b (subst (λ (l : List ℕ). End size l a) (sym s) p) (subst (λ (l : List ℕ). End size l b) (sym t) q))
 one_run size at left [] (u ∷ us) x y a b s p t q = absurd (no_next size at left a u t.0 (subst (λ (l : List ℕ). End size l a) (sym s) p) t.1)
@@ -174,42 +164,30 @@ one_run size at left (t ∷ ts) (u ∷ us) x y a b s p r q =
     let rest : ts ≡ us = h.0 in
     (cc, h.1)
 
-nothing : (r : PatternRefusal) → ◌≡◌ {A = Option PatternRefusal} None (Some r) → ⊥
-nothing r e = cc
-
-faulty : (text : List ℕ) (refusal : PatternRefusal) → (h : HasFault text refusal) → Faulty (length text) (h.blanks ++ h.rest) refusal
+faulty : (text : List ℕ) (refusal : TokenRefusal) → (h : HasFault text refusal) → Faulty (length text) (h.blanks ++ h.rest) refusal
 faulty text refusal h = record { blanks = h.blanks; left = h.rest; spelled = refl; blank = h.blank; begins = h.begins; fault = h.fault }
 
-pub one_reading : (text : List ℕ) (a b : Result (List Token) PatternRefusal) → Reads text a → Reads text b → a ≡ b
-one_reading text (Ok ts) (Ok us) x y = ap (λ (l : List Token). Ok l) (one_run (length text) 0 text ts us x.rest y.rest None None x.stand x.blank y.stand y.blank).0
-one_reading text (Ok ts) (Err s) x (inl y) = let n = x.short in absurd (omega (arith, y.1))
-one_reading text (Ok ts) (Err s) x (inr y) =
-    let e : ◌≡◌ {A = Option PatternRefusal} None (Some s) = (one_run (length text) 0 text ts y.tokens x.rest (y.blanks ++ y.rest) None (Some s) x.stand x.blank y.stand (faulty text s y)).1 in
-    absurd (nothing s e)
-one_reading text (Err r) (Ok us) (inl x) y = let n = y.short in absurd (omega (arith, x.1))
-one_reading text (Err r) (Ok us) (inr x) y =
-    let e : ◌≡◌ {A = Option PatternRefusal} (Some r) None = (one_run (length text) 0 text x.tokens us (x.blanks ++ x.rest) y.rest (Some r) None x.stand (faulty text r x) y.stand y.blank).1 in
-    absurd (nothing r (sym e))
-one_reading text (Err r) (Err s) (inl x) (inl y) = ap (λ (p : PatternRefusal). Err p) (x.0 ∙ sym y.0)
-one_reading text (Err r) (Err s) (inl x) (inr y) = let n = y.short in absurd (omega (arith, x.1))
-one_reading text (Err r) (Err s) (inr x) (inl y) = let n = x.short in absurd (omega (arith, y.1))
-one_reading text (Err r) (Err s) (inr x) (inr y) =
-    let e : ◌≡◌ {A = Option PatternRefusal} (Some r) (Some s) = (one_run (length text) 0 text x.tokens y.tokens (x.blanks ++ x.rest) (y.blanks ++ y.rest) (Some r) (Some s) x.stand (faulty text r x) y.stand (faulty text s y)).1 in
-    let same : r ≡ s = cc in
-    ap (λ (p : PatternRefusal). Err p) same
+-- the answer of a reading that ends so
+abbrev answered : List Token → Option TokenRefusal → Result (List Token) TokenRefusal
+answered tokens None = Ok tokens
+answered tokens (Some refusal) = Err refusal
 
-pub only_tokens : (text : List ℕ) (tokens : List Token) → TokensOf text tokens → (other : Result (List Token) PatternRefusal) → Reads text other → Agrees (Ok tokens) other
-only_tokens text tokens h other reads = inr (one_reading text (Ok tokens) other h reads)
+-- the reading of an answer: the tokens, and how it ends
+record Reading (text : List ℕ) (answer : Result (List Token) TokenRefusal) : Type 0 where
+  tokens : List Token
+  rest : List ℕ
+  end : Option TokenRefusal
+  stand : AreTokens 0 text tokens rest
+  ends : End (length text) rest end
+  is : answer ≡ answered tokens end
 
-pub only_refusal : (text : List ℕ) (refusal : PatternRefusal) → (refusal ≡ NoMemory) ⊎ IsRefused text refusal → (other : Result (List Token) PatternRefusal) → Reads text other → Agrees {T = List Token} (Err refusal) other
-only_refusal text refusal (inl e) other reads = inl (ap (λ (p : PatternRefusal). Err p) e)
-only_refusal text refusal (inr h) other reads = inr (one_reading text (Err refusal) other h reads)
+reading : (text : List ℕ) (answer : Result (List Token) TokenRefusal) → Reads text answer → Reading text answer
+reading text (Ok tokens) h = record { tokens = tokens; rest = h.rest; end = None; stand = h.stand; ends = h.blank; is = refl }
+reading text (Err refusal) h = record { tokens = h.tokens; rest = h.blanks ++ h.rest; end = Some refusal; stand = h.stand; ends = faulty text refusal h; is = refl }
 
--- what a call refused is refused
-pub passed_on : (P : PatternRefusal → Type 0) (answer : Result (List Token) PatternRefusal) (refusal : PatternRefusal) → IsErrAnd answer (λ x. x ≡ refusal) → P refusal → IfErr answer P
-passed_on P (Ok tokens) refusal is h = tt
-passed_on P (Err e) refusal is h = subst P (sym is) h
-
-pub only_passed_on : (text : List ℕ) (answer : Result (List Token) PatternRefusal) (refusal : PatternRefusal) → IsErrAnd answer (λ x. x ≡ refusal) → (refusal ≡ NoMemory) ⊎ IsRefused text refusal → (other : Result (List Token) PatternRefusal) → Reads text other → Agrees answer other
-only_passed_on text (Ok tokens) refusal is h = absurd is
-only_passed_on text (Err e) refusal is h = subst (λ (x : PatternRefusal). (other : Result (List Token) PatternRefusal) → Reads text other → Agrees {T = List Token} (Err x) other) (sym is) (only_refusal text refusal h)
+pub one_reading : (text : List ℕ) (a b : Result (List Token) TokenRefusal) → Reads text a → Reads text b → a ≡ b
+one_reading text a b x y =
+    let r = reading text a x in
+    let s = reading text b y in
+    let h = one_run (length text) 0 text r.tokens s.tokens r.rest s.rest r.end s.end r.stand r.ends s.stand s.ends in
+    r.is ∙ ap (λ (ts : List Token). answered ts r.end) h.0 ∙ ap (λ (e : Option TokenRefusal). answered s.tokens e) h.1 ∙ sym s.is

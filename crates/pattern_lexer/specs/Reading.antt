@@ -1,13 +1,13 @@
 -- What reading the tokens of a text answers: the tokens, or the first fault from the left.
-use Rattle.std.specs.Prelude.{◌≡◌, ℕ, ◌+◌, ◌-◌, ◌<◌, ◌≤◌, ◌⊎◌, List, [], ◌∷◌, ◌++◌, length, slice_get, Some, All, codes, Result, Ok, Err}
+use Rattle.std.specs.Prelude.{◌≡◌, ℕ, ◌+◌, ◌-◌, ◌≤◌, ◌⊎◌, List, [], ◌∷◌, ◌++◌, length, slice_get, Some, All, codes, Result, Ok, Err}
 use Rattle.std.specs.Char.{IsAsciiDigit}
 use Rattle.pattern_tokens.specs.declared.token.Token.{Token}
 use Rattle.pattern_tokens.specs.declared.token.TokenKind.{TokenKind}
 use Rattle.pattern_tokens.specs.declared.token.TokenKind.TheVariants.{Equal, Less, Number, Hex, Base, Time}
 use Rattle.pattern_tokens.specs.declared.refusal.LeftWord.{LeftWord}
 use Rattle.pattern_tokens.specs.declared.refusal.LeftWord.TheVariants.{Matches, Fraction, DoubleEqual, LessGreater}
-use Rattle.pattern_tokens.specs.declared.refusal.PatternRefusal.{PatternRefusal}
-use Rattle.pattern_tokens.specs.declared.refusal.PatternRefusal.TheVariants.{TooLong, BadToken, LeftOut, BadNumber, BadTime, BadBytes, Syntax, TooDeep, BadCount, LongPath, BadAddress, EmptySpan, NoCommonRoot, TooWide, NoMemory}
+use Rattle.pattern_tokens.specs.declared.refusal.TokenRefusal.{TokenRefusal}
+use Rattle.pattern_tokens.specs.declared.refusal.TokenRefusal.TheVariants.{BadToken, LeftOut, BadNumber, BadTime, BadBytes}
 use Rattle.pattern_tokens.specs.Word.{IsWordStart, HasAt}
 use Rattle.pattern_tokens.specs.Values.{HasValue}
 use Rattle.pattern_tokens.specs.Table.{IsToken}
@@ -61,7 +61,6 @@ AreTokens at left (token ∷ tokens) rest = (after : List ℕ) × IsNext at left
 
 -- the text has these tokens, with blanks after the last
 pub record TokensOf (text : List ℕ) (tokens : List Token) : Type 0 where
-  pub short : length text ≤ 65_536
   pub rest : List ℕ
   pub stand : AreTokens 0 text tokens rest
   pub blank : All IsBlank rest
@@ -97,26 +96,15 @@ pub record IsWorthless (whole : List ℕ) (kind : TokenKind) : Type 0 where
   pub worthless : ¬ HasValue kind text
 
 -- the fault of the token that begins the text, which begins at the place
-abbrev pub IsFault : ℕ → List ℕ → PatternRefusal → Type 0
-IsFault place whole TooLong = ⊥
+abbrev pub IsFault : ℕ → List ℕ → TokenRefusal → Type 0
 IsFault place whole (BadToken at) = (at ≡ place) × (HasNoToken whole ⊎ IsEndless whole)
 IsFault place whole (LeftOut at word) = (at ≡ place) × IsUseless whole word
 IsFault place whole (BadNumber at) = (at ≡ place) × IsWorthless whole Number
 IsFault place whole (BadTime at) = (at ≡ place) × IsWorthless whole Time
 IsFault place whole (BadBytes at) = (at ≡ place) × (IsWorthless whole Hex ⊎ IsWorthless whole Base)
-IsFault place whole (Syntax at) = ⊥
-IsFault place whole (TooDeep at) = ⊥
-IsFault place whole (BadCount at) = ⊥
-IsFault place whole (LongPath at) = ⊥
-IsFault place whole (BadAddress at) = ⊥
-IsFault place whole (EmptySpan at) = ⊥
-IsFault place whole (NoCommonRoot at) = ⊥
-IsFault place whole TooWide = ⊥
-IsFault place whole NoMemory = ⊥
 
 -- tokens without fault stand in the text, then blanks, then what is no blank and has the fault
-pub record HasFault (text : List ℕ) (refusal : PatternRefusal) : Type 0 where
-  pub short : length text ≤ 65_536
+pub record HasFault (text : List ℕ) (refusal : TokenRefusal) : Type 0 where
   pub tokens : List Token
   pub blanks : List ℕ
   pub rest : List ℕ
@@ -125,15 +113,7 @@ pub record HasFault (text : List ℕ) (refusal : PatternRefusal) : Type 0 where
   pub begins : HasAt 0 (λ c. ¬ IsBlank c) rest
   pub fault : IsFault (length text - length rest) rest refusal
 
--- why the text has no tokens
-abbrev pub IsRefused : List ℕ → PatternRefusal → Type 0
-IsRefused text refusal = ((refusal ≡ TooLong) × (65_536 < length text)) ⊎ HasFault text refusal
-
--- what reading the tokens of the text answers, but for memory
-abbrev pub Reads : List ℕ → Result (List Token) PatternRefusal → Type 0
+-- what reading the tokens of the text answers
+abbrev pub Reads : List ℕ → Result (List Token) TokenRefusal → Type 0
 Reads text (Ok tokens) = TokensOf text tokens
-Reads text (Err refusal) = IsRefused text refusal
-
--- the answer is this one, unless memory ran out
-abbrev pub Agrees : {T : Type 0} → Result T PatternRefusal → Result T PatternRefusal → Type 0
-Agrees answer other = (answer ≡ Err NoMemory) ⊎ (answer ≡ other)
+Reads text (Err refusal) = HasFault text refusal

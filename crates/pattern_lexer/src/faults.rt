@@ -8,7 +8,7 @@ ghost use Rattle.pattern_lexer.specs.inner.Steps.{worthless_refusal};
 
 use flow_values::NoMemory;
 use pattern_tokens::{
-    LeftWord, PatternRefusal, Token, TokenKind, base_at, hex_at, moment_at, whole_at,
+    LeftWord, Token, TokenKind, TokenRefusal, base_at, hex_at, moment_at, whole_at,
 };
 use std::alloc::Global;
 
@@ -67,12 +67,12 @@ fn is_base(alloc: Global, text: &str, token: Token) -> Result<bool, NoMemory>
 }
 
 /// The refusal of a token that stands for nothing.
-pub fn worthless(kind: TokenKind, at: usize) -> PatternRefusal
+pub fn worthless(kind: TokenKind, at: usize) -> TokenRefusal
     ensures { result ≡ worthless_refusal kind at }
 {
     match kind {
-        TokenKind::Number => PatternRefusal::BadNumber { at },
-        TokenKind::Time => PatternRefusal::BadTime { at },
-        _ => PatternRefusal::BadBytes { at },
+        TokenKind::Number => TokenRefusal::BadNumber { at },
+        TokenKind::Time => TokenRefusal::BadTime { at },
+        _ => TokenRefusal::BadBytes { at },
     }
 }

@@ -1,19 +1,19 @@
 use crate::tokens;
-use pattern_tokens::{LeftWord, PatternRefusal, Token, TokenKind};
+use pattern_tokens::{LeftWord, Token, TokenKind, TokenRefusal};
 use std::alloc::Global;
 use std::test::Fail;
 
 fn kinds_are(alloc: Global, text: &str, wanted: &[Token]) -> bool {
     match tokens(alloc, text) {
-        Ok(found) => found.as_slice() == wanted,
-        Err(_) => false,
+        Ok(Ok(found)) => found.as_slice() == wanted,
+        _ => false,
     }
 }
 
-fn refuses(alloc: Global, text: &str, wanted: PatternRefusal) -> bool {
+fn refuses(alloc: Global, text: &str, wanted: TokenRefusal) -> bool {
     match tokens(alloc, text) {
-        Ok(_) => false,
-        Err(refusal) => refusal == wanted,
+        Ok(Err(refusal)) => refusal == wanted,
+        _ => false,
     }
 }
 
@@ -71,7 +71,7 @@ fn tokens_of_texts(rt: HostRuntime) {
 #[test]
 fn refusals(rt: HostRuntime) {
     let alloc = rt.alloc();
-    let left_out = |at, word| PatternRefusal::LeftOut { at, word };
+    let left_out = |at, word| TokenRefusal::LeftOut { at, word };
     assert!(rt;
         refuses(alloc, "a MATCHES", left_out(2, LeftWord::Matches)),
         "MATCHES"
@@ -89,47 +89,47 @@ fn refusals(rt: HostRuntime) {
         "1.5"
     );
     assert!(rt;
-        refuses(alloc, "1a", PatternRefusal::BadToken { at: 0 }),
+        refuses(alloc, "1a", TokenRefusal::BadToken { at: 0 }),
         "1a"
     );
     assert!(rt;
-        refuses(alloc, " 01", PatternRefusal::BadNumber { at: 1 }),
+        refuses(alloc, " 01", TokenRefusal::BadNumber { at: 1 }),
         "01"
     );
     assert!(rt;
-        refuses(alloc, "h'f'", PatternRefusal::BadBytes { at: 0 }),
+        refuses(alloc, "h'f'", TokenRefusal::BadBytes { at: 0 }),
         "half a byte"
     );
     assert!(rt;
-        refuses(alloc, "b'/w'", PatternRefusal::BadBytes { at: 0 }),
+        refuses(alloc, "b'/w'", TokenRefusal::BadBytes { at: 0 }),
         "no padding"
     );
     assert!(rt;
-        refuses(alloc, "t'x'", PatternRefusal::BadTime { at: 0 }),
+        refuses(alloc, "t'x'", TokenRefusal::BadTime { at: 0 }),
         "no time"
     );
     assert!(rt;
-        refuses(alloc, "'a", PatternRefusal::BadToken { at: 0 }),
+        refuses(alloc, "'a", TokenRefusal::BadToken { at: 0 }),
         "an open quote"
     );
     assert!(rt;
-        refuses(alloc, r"'\n'", PatternRefusal::BadToken { at: 0 }),
+        refuses(alloc, r"'\n'", TokenRefusal::BadToken { at: 0 }),
         "no escape"
     );
     assert!(rt;
-        refuses(alloc, "h'", PatternRefusal::BadToken { at: 1 }),
+        refuses(alloc, "h'", TokenRefusal::BadToken { at: 1 }),
         "h and a quote"
     );
     assert!(rt;
-        refuses(alloc, "a-b -", PatternRefusal::BadToken { at: 4 }),
+        refuses(alloc, "a-b -", TokenRefusal::BadToken { at: 4 }),
         "a sign"
     );
     assert!(rt;
-        refuses(alloc, "!", PatternRefusal::BadToken { at: 0 }),
+        refuses(alloc, "!", TokenRefusal::BadToken { at: 0 }),
         "half a mark"
     );
     assert!(rt;
-        refuses(alloc, "a#", PatternRefusal::BadToken { at: 1 }),
+        refuses(alloc, "a#", TokenRefusal::BadToken { at: 1 }),
         "no mark"
     );
 }

@@ -1,5 +1,14 @@
-mod LimitLemmas
+mod EachLemmas
+mod ConstantLemmas
 mod EarliestLemmas
 mod OutcomeLemmas
+mod PathLemmas
+mod CheckLemmas
+mod RootSetLemmas
+mod LeafRootLemmas
+mod ChainLemmas
+mod OneMeaningLemmas
+mod NoneRefusedLemmas
+mod LimitLemmas
 mod PartLemmas
 mod OperatorLemmas

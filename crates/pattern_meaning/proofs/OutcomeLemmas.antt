@@ -1,6 +1,7 @@
 -- Outcomes: of what is found or not, and of two parts together.
 use Rattle.std.proofs.Common.{◌≡◌, ◌⊎◌, inl, inr, Option, Some, None, Result, Ok, Err, refl, sym, subst, rules, arith}
 use Rattle.std.specs.Option.{ok_or}
+use Rattle.std.specs.Prelude.{MatchResult}
 use Rattle.flow_values.specs.Answers.{FindsExactly}
 use Rattle.pattern_meaning.specs.declared.refusal.ValueRefusal.{ValueRefusal}
 use Rattle.pattern_meaning.specs.ValueRefusal.{Precedes, IsEarliest}
@@ -45,3 +46,7 @@ of_ok f o = record { this = f o.this; earliest = o.earliest }
 
 pub of_err : {A B : Type 0} {IsA : A → Type 0} {IsB : B → Type 0} {P : ValueRefusal → Type 0} {r : ValueRefusal} → IsOutcome IsA P (Err r) → IsOutcome IsB P (Err r)
 of_err o = record { this = tt; earliest = o.earliest }
+
+pub mapped_outcome : {A B : Type 0} (f : A → B) (IsA : A → Type 0) (IsB : B → Type 0) (P : ValueRefusal → Type 0) (a : Result A ValueRefusal) (b : Result B ValueRefusal) → MatchResult a (λ x. b ≡ Ok (f x)) (λ r. b ≡ Err r) → ((x : A) → IsA x → IsB (f x)) → IsOutcome IsA P a → IsOutcome IsB P b
+mapped_outcome f IsA IsB P (Ok x) b e g o = rw e (record { this = g x o.this; earliest = o.earliest })
+mapped_outcome f IsA IsB P (Err r) b e g o = rw e (record { this = tt; earliest = o.earliest })

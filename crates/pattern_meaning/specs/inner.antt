@@ -1,4 +1,5 @@
 pub mod Judgement
-pub mod Measure
-pub mod Operators
 pub mod Outcomes
+pub mod Chains
+pub mod Operators
+pub mod Measure

@@ -1,10 +1,18 @@
-ghost use Rattle.std.specs.Prelude.{IfOk};
-ghost use Rattle.pattern_meaning.specs.inner.Judgement.{IsJudged};
-ghost use Rattle.pattern_grammar.specs.Tree.{compared};
+ghost use Rattle.std.specs.Prelude.{◌≡◌, ◌↔◌, List, ℕ, IfOk};
+ghost use Rattle.pattern_grammar.specs.Tree.{Comparison, test, all, any, compared, conjunction, operand};
+ghost use Rattle.pattern_meaning.specs.LeafMeaning.{IsNoAll, IsNoAny};
+ghost use Rattle.pattern_meaning.specs.Refusals.{HasRoot, first_of, IsRootless};
+ghost use Rattle.pattern_meaning.specs.Roots.{Has};
+ghost use Rattle.pattern_meaning.specs.inner.Judgement.{IsOutcome, IsJudged};
+ghost use Rattle.pattern_meaning.specs.inner.Chains.{IsChain, AreAll, AreAny};
 
 use crate::ValueRefusal;
-use flow_values::NoMemory;
-use pattern_grammar::ComparisonTree;
+use crate::checks::test_of;
+use crate::outcomes::{both, with_next};
+use crate::roots::{common, either, is_none, of_name};
+use flow_values::{Items, NoMemory};
+use pattern_grammar::{ComparisonTree, Conjunction, Operand, TestTree};
+use pattern_tokens::text_of;
 use pattern_types::Leaf;
 use std::alloc::Global;
 use std::collections::BTreeSet;
@@ -20,7 +28,145 @@ pub(crate) struct Judged<'a> {
     pub(crate) leaf: Result<Leaf, ValueRefusal>,
 }
 
-/// Judges a comparison.
+/// What the parts of a chain so far are judged by.
+#[derive(Drop)]
+struct Chain<'a> {
+    /// The place of the first token.
+    at: usize,
+    /// The root kinds.
+    roots: BTreeSet<&'a str>,
+    /// The leaves that the parts mean, or the first refusal.
+    parts: Result<Items<Leaf>, ValueRefusal>,
+}
+
+/// Judges a test.
+fn judge_test<'a>(alloc: Global, text: &'a str, tree: &TestTree) -> Result<Judged<'a>, NoMemory>
+    ensures { IfOk result (IsJudged text.now (test tree.now)) }
+{
+    let leaf = test_of(alloc, text, tree)?.map(|test| Leaf::Test(test));
+    let roots = of_name(alloc, text_of(text, tree.path.root))?;
+    Ok(Judged {
+        at: tree.first.from,
+        roots,
+        leaf,
+    })
+}
+
+/// A chain of one part.
+fn chain_of<'a>(alloc: Global, first: Judged<'a>) -> Result<Chain<'a>, NoMemory>
+    ensures all { IfOk result (λ chain. (text : List ℕ) (c : Comparison) → IsNoAll c → IsJudged text c first.entry → IsChain AreAll text c chain) }
+    ensures any { IfOk result (λ chain. (text : List ℕ) (c : Comparison) → IsNoAny c → IsJudged text c first.entry → IsChain AreAny text c chain) }
+{
+    let none = Ok(Items::new(alloc));
+    let parts = with_next(none, first.leaf)?;
+    Ok(Chain {
+        at: first.at,
+        roots: first.roots,
+        parts,
+    })
+}
+
+/// Whether two comparisons that begin here and have these root kinds in common may be joined by `AND`.
+fn rooted(at: usize, roots: &BTreeSet<&str>) -> Result<(), ValueRefusal>
+    ensures { (text : List ℕ) (c d : Comparison) → at ≡ (first_of c).from
+        → ((root : List ℕ) → Has roots.now root ↔ (HasRoot text c root × HasRoot text d root))
+        → IsOutcome (λ _. (root : List ℕ) × (HasRoot text c root × HasRoot text d root)) (IsRootless text c d) result }
+{
+    if is_none(roots) {
+        return Err(ValueRefusal::NoCommonRoot { at });
+    }
+    Ok(())
+}
+
+/// The chain and one part more, joined by `AND`: they are to have a root kind in common.
+fn with_all<'a>(
+    alloc: Global,
+    chain: Chain<'a>,
+    next: Judged<'a>,
+) -> Result<Chain<'a>, NoMemory>
+    ensures { IfOk result (λ more. (text : List ℕ) (c d : Comparison) → IsChain AreAll text c chain.entry
+        → IsJudged text d next.entry → IsChain AreAll text (all c d) more) }
+{
+    let at = chain.at;
+    let roots = common(alloc, &chain.roots, &next.roots)?;
+    let parts = with_next(chain.parts, next.leaf)?;
+    let parts = both(rooted(at, &roots), parts).map(|(_, parts)| parts);
+    Ok(Chain { at, roots, parts })
+}
+
+/// The chain and one part more, joined by `OR`.
+fn with_any<'a>(chain: Chain<'a>, next: Judged<'a>) -> Result<Chain<'a>, NoMemory>
+    ensures { IfOk result (λ more. (text : List ℕ) (c d : Comparison) → IsChain AreAny text c chain.entry
+        → IsJudged text d next.entry → IsChain AreAny text (any c d) more) }
+{
+    let at = chain.at;
+    let roots = either(chain.roots, next.roots)?;
+    let parts = with_next(chain.parts, next.leaf)?;
+    Ok(Chain { at, roots, parts })
+}
+
+/// All of a chain of two parts or more.
+fn all_of<'a>(chain: Chain<'a>) -> Judged<'a>
+    ensures { (text : List ℕ) (c d : Comparison) → IsChain AreAll text (all c d) chain.entry → IsJudged text (all c d) result }
+{
+    Judged {
+        at: chain.at,
+        roots: chain.roots,
+        leaf: chain.parts.map(|parts| Leaf::All(parts)),
+    }
+}
+
+/// Any of a chain of two parts or more.
+fn any_of<'a>(chain: Chain<'a>) -> Judged<'a>
+    ensures { (text : List ℕ) (c d : Comparison) → IsChain AreAny text (any c d) chain.entry → IsJudged text (any c d) result }
+{
+    Judged {
+        at: chain.at,
+        roots: chain.roots,
+        leaf: chain.parts.map(|parts| Leaf::Any(parts)),
+    }
+}
+
+/// Judges an operand.
+#[cycle(judge)]
+fn judge_operand<'a>(alloc: Global, text: &'a str, tree: &Operand) -> Result<Judged<'a>, NoMemory>
+    ensures { IfOk result (IsJudged text.now (operand tree.now)) }
+{
+    match tree {
+        Operand::Test(test) => judge_test(alloc, text, test),
+        Operand::Group(round, inside) => {
+            let judged = judge(alloc, text, inside)?;
+            Ok(Judged {
+                at: round.from,
+                ..judged
+            })
+        }
+    }
+}
+
+/// Judges a conjunction: its one operand, or all of its operands.
+#[cycle(judge)]
+fn judge_conjunction<'a>(
+    alloc: Global,
+    text: &'a str,
+    tree: &Conjunction,
+) -> Result<Judged<'a>, NoMemory>
+    ensures { IfOk result (IsJudged text.now (conjunction tree.now)) }
+{
+    let first = judge_operand(alloc, text, &tree.first)?;
+    if tree.others.is_empty() {
+        return Ok(first);
+    }
+    let mut chain = chain_of(alloc, first)?;
+    for other in tree.others.as_slice() {
+        let next = judge_operand(alloc, text, other)?;
+        chain = with_all(alloc, chain, next)?;
+    }
+    Ok(all_of(chain))
+}
+
+/// Judges a comparison: its one conjunction, or any of its conjunctions.
+#[cycle(judge)]
 pub(crate) fn judge<'a>(
     alloc: Global,
     text: &'a str,
@@ -28,5 +174,14 @@ pub(crate) fn judge<'a>(
 ) -> Result<Judged<'a>, NoMemory>
     ensures { IfOk result (IsJudged text.now (compared tree.now)) }
 {
-    Err(NoMemory)
+    let first = judge_conjunction(alloc, text, &tree.first)?;
+    if tree.others.is_empty() {
+        return Ok(first);
+    }
+    let mut chain = chain_of(alloc, first)?;
+    for other in tree.others.as_slice() {
+        let next = judge_conjunction(alloc, text, other)?;
+        chain = with_any(chain, next)?;
+    }
+    Ok(any_of(chain))
 }

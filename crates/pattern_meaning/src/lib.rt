@@ -2,14 +2,21 @@
 //! that it stands for by the values of its tokens, or the first value that may not stand where it does.
 #![tactic(auto)]
 
+mod checks;
+mod constants;
 mod judged;
+pub mod laws;
 mod limits;
 mod meaning;
 mod measured;
 mod order;
 mod outcomes;
+mod paths;
 mod patterns;
 mod refusal;
+mod roots;
+#[cfg(test)]
+mod tests;
 
 pub use meaning::Meaning;
 pub use patterns::meaning_of;

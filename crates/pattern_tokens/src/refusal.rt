@@ -1,8 +1,5 @@
-ghost use Rattle.std.specs.Prelude.{◌≡◌, Some};
-
-use flow_values::NoMemory;
-use std::error::Error;
-use std::fmt;
+ghost use Rattle.std.specs.Prelude.{◌≡◌};
+ghost use Rattle.pattern_tokens.specs.TokenRefusal.{name_of, place_of};
 
 /// What the standard has and no pattern here may use.
 #[derive(Clone, Copy, Debug, PartialEq, Eq, Hash)]
@@ -17,11 +14,9 @@ pub enum LeftWord {
     LessGreater,
 }
 
-/// Why a text isn't read as a pattern. A place `at` counts bytes from 0.
+/// Why a text has no tokens. A place `at` counts bytes from 0.
 #[derive(Clone, Copy, Debug, PartialEq, Eq, Hash)]
-pub enum PatternRefusal {
-    /// The text has more than 65,536 bytes.
-    TooLong,
+pub enum TokenRefusal {
     /// No token begins here, or a number runs into a letter.
     BadToken { at: usize },
     /// The token is one that no pattern here may use.
@@ -32,60 +27,32 @@ pub enum PatternRefusal {
     BadTime { at: usize },
     /// The bytes are no pairs of hexadecimal digits, or no padded base64.
     BadBytes { at: usize },
-    /// The tokens before this one begin a pattern, and with this one they don't.
-    Syntax { at: usize },
-    /// More than 64 parentheses are open, or this is the 65th qualifier.
-    TooDeep { at: usize },
-    /// The count is out of its range.
-    BadCount { at: usize },
-    /// The path has more than 16 steps.
-    LongPath { at: usize },
-    /// The text is no address block.
-    BadAddress { at: usize },
-    /// The span's start isn't before its end.
-    EmptySpan { at: usize },
-    /// The parts of a comparison joined by `AND` have no object type in common.
-    NoCommonRoot { at: usize },
-    /// The pattern is wider than 64, or has more than 1,024 leaves.
-    TooWide,
-    /// Memory ran out.
-    NoMemory,
 }
 
-impl fmt::Display for PatternRefusal {
-    ghost use Rattle.pattern_tokens.specs.Refusal.{refusal_text};
-
-    ghost output = { λ refusal. Some (refusal_text refusal) };
-
-    fn fmt<W: fmt::Write>(&self, f: &mut fmt::Formatter<W>) -> fmt::Result {
+impl TokenRefusal {
+    /// The refusal's name.
+    pub fn name(self) -> &'static str
+        ensures { result.now ≡ name_of self }
+    {
         match self {
-            PatternRefusal::TooLong => write!(f, "TooLong"),
-            PatternRefusal::BadToken { at } => write!(f, "BadToken at {at}"),
-            PatternRefusal::LeftOut { at, word: _ } => write!(f, "LeftOut at {at}"),
-            PatternRefusal::BadNumber { at } => write!(f, "BadNumber at {at}"),
-            PatternRefusal::BadTime { at } => write!(f, "BadTime at {at}"),
-            PatternRefusal::BadBytes { at } => write!(f, "BadBytes at {at}"),
-            PatternRefusal::Syntax { at } => write!(f, "Syntax at {at}"),
-            PatternRefusal::TooDeep { at } => write!(f, "TooDeep at {at}"),
-            PatternRefusal::BadCount { at } => write!(f, "BadCount at {at}"),
-            PatternRefusal::LongPath { at } => write!(f, "LongPath at {at}"),
-            PatternRefusal::BadAddress { at } => write!(f, "BadAddress at {at}"),
-            PatternRefusal::EmptySpan { at } => write!(f, "EmptySpan at {at}"),
-            PatternRefusal::NoCommonRoot { at } => write!(f, "NoCommonRoot at {at}"),
-            PatternRefusal::TooWide => write!(f, "TooWide"),
-            PatternRefusal::NoMemory => write!(f, "out of memory"),
+            TokenRefusal::BadToken { .. } => "BadToken",
+            TokenRefusal::LeftOut { .. } => "LeftOut",
+            TokenRefusal::BadNumber { .. } => "BadNumber",
+            TokenRefusal::BadTime { .. } => "BadTime",
+            TokenRefusal::BadBytes { .. } => "BadBytes",
         }
     }
-}
 
-impl Error for PatternRefusal {}
-
-impl From<NoMemory> for PatternRefusal {
-    ghost use Rattle.pattern_tokens.specs.declared.refusal.PatternRefusal.TheVariants as refused;
-
-    ghost from_gives = { λ _ refusal. refusal ≡ refused.NoMemory };
-
-    fn from(_error: NoMemory) -> PatternRefusal {
-        PatternRefusal::NoMemory
+    /// Where the text is refused.
+    pub fn at(self) -> usize
+        ensures { result ≡ place_of self }
+    {
+        match self {
+            TokenRefusal::BadToken { at }
+            | TokenRefusal::LeftOut { at, .. }
+            | TokenRefusal::BadNumber { at }
+            | TokenRefusal::BadTime { at }
+            | TokenRefusal::BadBytes { at } => at,
+        }
     }
 }

@@ -1,15 +1,15 @@
 -- Steps of the lexer: they serve its private functions alone.
-use Rattle.std.specs.Prelude.{◌≡◌, ◌≢◌, ℕ, ◌<◌, ◌≤◌, ◌⊎◌, ◌==◌, if◌then◌else◌, List, ◌∷◌, ◌++◌, length, drop, slice_range, All, Option, Some, None, IsSome}
+use Rattle.std.specs.Prelude.{◌≡◌, ◌≢◌, ℕ, ◌<◌, ◌≤◌, ◌⊎◌, ◌==◌, if◌then◌else◌, List, ◌∷◌, ◌++◌, length, drop, slice_range, All, Option, Some, None, IsSome, Result, Ok, Err}
 use Rattle.std.specs.Char.{IsAsciiDigit}
 use Rattle.pattern_tokens.specs.declared.token.Token.{Token}
 use Rattle.pattern_tokens.specs.declared.token.TokenKind.{TokenKind}
 use Rattle.pattern_tokens.specs.declared.token.TokenKind.TheVariants.{SquareOpen, SquareClose, RoundOpen, RoundClose, Dot, Colon, Comma, Star, Equal, Differ, Less, LessEqual, Greater, GreaterEqual, Number, Hex, Base, Time}
-use Rattle.pattern_tokens.specs.declared.refusal.PatternRefusal.{PatternRefusal}
-use Rattle.pattern_tokens.specs.declared.refusal.PatternRefusal.TheVariants.{BadNumber, BadTime, BadBytes}
+use Rattle.pattern_tokens.specs.declared.refusal.TokenRefusal.{TokenRefusal}
+use Rattle.pattern_tokens.specs.declared.refusal.TokenRefusal.TheVariants.{BadNumber, BadTime, BadBytes}
 use Rattle.pattern_tokens.specs.Word.{IsWordStart, IsHyphenWordPart, HasAt}
 use Rattle.pattern_tokens.specs.Values.{HasValue}
 use Rattle.pattern_tokens.specs.Spans.{text_at}
-use Rattle.pattern_lexer.specs.Reading.{IsBlank, IsFirst, IsUsable, AreTokens}
+use Rattle.pattern_lexer.specs.Reading.{IsBlank, IsFirst, IsUsable, AreTokens, IsFault}
 use Rattle.pattern_lexer.specs.declared.runs.CharacterClass.{CharacterClass}
 use Rattle.pattern_lexer.specs.declared.runs.CharacterClass.TheVariants.{Blank, Digit, NamePart, Unquoted}
 
@@ -54,6 +54,11 @@ pub record StandsAt (text : List ℕ) (at : ℕ) (token : Token) : Type 0 where
   pub usable : IsUsable token.kind (text_at text token) (drop token.to text)
   pub value : HasValue token.kind (text_at text token)
 
+-- what reading the token at the place answers
+abbrev pub ReadsAt : List ℕ → ℕ → Result Token TokenRefusal → Type 0
+ReadsAt text at (Ok token) = StandsAt text at token
+ReadsAt text at (Err refusal) = IsFault at (drop at text) refusal
+
 -- the tokens stand in the text up to blanks that end at the place
 pub record ReadUpTo (text : List ℕ) (tokens : List Token) (at : ℕ) : Type 0 where
   pub within : at ≤ length text
@@ -74,7 +79,7 @@ HasNoLettered whole = (letter : ℕ) (inside more : List ℕ) → IsSome (letter
     → whole ≢ letter ∷ 39 ∷ (inside ++ 39 ∷ more)
 
 -- the refusal of a token that stands for nothing
-abbrev pub worthless_refusal : TokenKind → ℕ → PatternRefusal
+abbrev pub worthless_refusal : TokenKind → ℕ → TokenRefusal
 worthless_refusal Number at = BadNumber at
 worthless_refusal Time at = BadTime at
 worthless_refusal _ at = BadBytes at

@@ -1,17 +1,16 @@
-use Rattle.std.proofs.Common.{inr}
 use Rattle.pattern_grammar.proofs.DepthLemmas.{deep_empty, deep_spelled, syntax_at, through_shallow}
 use Rattle.pattern_grammar.proofs.read.refusal_through.Goals as goal
 
 pub returns-in-Err-Syntax-empty : goal.returns-in-Err-Syntax-empty
 returns-in-Err-Syntax-empty c =
-    inr (deep_empty _ _ _ _ _ _ c.in-Err-Syntax-empty.ensures.err c.in-Err-Syntax-empty.field-0-is c.in-Err-Syntax-empty.len_below c.requires.deep c.start_of.ensures)
+    deep_empty _ _ _ _ _ _ c.in-Err-Syntax-empty.ensures.err c.in-Err-Syntax-empty.field-0-is c.in-Err-Syntax-empty.len_below c.requires.deep c.start_of.ensures
 
 pub returns-in-Err-Syntax-len1-up : goal.returns-in-Err-Syntax-len1-up
 returns-in-Err-Syntax-len1-up c =
-    inr (syntax_at _ _ _ _ _ _ c.in-Err-Syntax-len1-up.ensures.err c.in-Err-Syntax-len1-up.field-0-is c.in-Err-Syntax-len1-up.len_at_least c.requires.deep)
+    syntax_at _ _ _ _ _ _ c.in-Err-Syntax-len1-up.ensures.err c.in-Err-Syntax-len1-up.field-0-is c.in-Err-Syntax-len1-up.len_at_least c.requires.deep
 
 pub returns-in-Ok : goal.returns-in-Ok
-returns-in-Ok c = inr (deep_spelled _ _ _ _ _ c.in-Ok.ensures.ok c.requires.deep c.start_of-in-Ok.ensures)
+returns-in-Ok c = deep_spelled _ _ _ _ _ c.in-Ok.ensures.ok c.requires.deep c.start_of-in-Ok.ensures
 
 pub parse-requires : goal.parse-requires
 parse-requires c = through_shallow c.args.tokens.now c.args.before c.requires.deep

@@ -1,0 +1,14 @@
+-- What a refusal of tokens is called, and where it stands.
+use Rattle.std.specs.Prelude.{ℕ, List, codes}
+use Rattle.pattern_grammar.specs.declared.refusal.SyntaxRefusal.{SyntaxRefusal}
+use Rattle.pattern_grammar.specs.declared.refusal.SyntaxRefusal.TheVariants.{Syntax, TooDeep}
+
+-- its name
+abbrev pub name_of : SyntaxRefusal → List ℕ
+name_of (Syntax at) = codes "Syntax"
+name_of (TooDeep at) = codes "TooDeep"
+
+-- its place
+abbrev pub place_of : SyntaxRefusal → ℕ
+place_of (Syntax at) = at
+place_of (TooDeep at) = at

@@ -1,0 +1,30 @@
+//! What follows from the definitions: the contract is the law, and the function does nothing.
+
+ghost use Rattle.std.specs.Prelude.{◌≡◌, ℕ, List};
+ghost use Rattle.pattern_grammar.specs.Tree.{Tree};
+ghost use Rattle.pattern_types.specs.PlainPattern.{PlainPattern};
+ghost use Rattle.pattern_meaning.specs.declared.refusal.ValueRefusal.{ValueRefusal};
+ghost use Rattle.pattern_meaning.specs.PatternMeaning.{MeansPattern};
+ghost use Rattle.pattern_meaning.specs.Soundness.{IsSoundPattern};
+ghost use Rattle.pattern_meaning.specs.ValueRefusal.{IsEarliest};
+ghost use Rattle.pattern_meaning.specs.Refusals.{RefusalOf};
+
+/// A syntax tree over a text means one pattern at most.
+pub fn one_meaning()
+    ensures { (text : List ℕ) (tree : Tree) (first second : PlainPattern) → MeansPattern text tree first
+        → MeansPattern text tree second → first ≡ second }
+{
+    pattern_tokens::one_meaning();
+}
+
+/// In a syntax tree that means a sound pattern no value is refused.
+pub fn none_refused()
+    ensures { (text : List ℕ) (tree : Tree) (pattern : PlainPattern) (refusal : ValueRefusal) → MeansPattern text tree pattern
+        → IsSoundPattern pattern → ¬ RefusalOf text tree refusal }
+{}
+
+/// One refusal in a syntax tree is the first.
+pub fn one_refusal()
+    ensures { (text : List ℕ) (tree : Tree) (first second : ValueRefusal) → IsEarliest (RefusalOf text tree) first
+        → IsEarliest (RefusalOf text tree) second → first ≡ second }
+{}
