@@ -1,4 +1,1 @@
-mod IsSoundLemmas
-mod MeaningExistsLemmas
-mod WidthLemmas
-mod IsReadAsLemmas
+mod OneReadingLemmas

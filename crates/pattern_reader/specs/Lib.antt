@@ -1,4 +1,2 @@
-pub mod Soundness
-pub mod Brackets
-pub mod Width
+pub mod PatternRefusal
 pub mod Read

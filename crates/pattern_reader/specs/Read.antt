@@ -1,33 +1,63 @@
 -- Which pattern a text is read as, and why the others are refused.
-use Rattle.std.specs.Prelude.{◌≡◌, ◌⊎◌, ℕ, List, Result, Ok, Err}
-use Rattle.pattern_tokens.specs.declared.refusal.PatternRefusal.{PatternRefusal}
-use Rattle.pattern_tokens.specs.declared.refusal.PatternRefusal.TheVariants.{TooWide, NoMemory}
+use Rattle.std.specs.Prelude.{◌≡◌, ◌<◌, ◌≤◌, ℕ, List, length, Result, Ok, Err}
+use Rattle.pattern_tokens.specs.declared.token.Token.{Token}
+use Rattle.pattern_lexer.specs.Reading.{TokensOf, HasFault}
+use Rattle.pattern_grammar.specs.declared.refusal.SyntaxRefusal.{SyntaxRefusal}
 use Rattle.pattern_grammar.specs.Tree.{Tree}
+use Rattle.pattern_grammar.specs.Place.{IsTreeOf, IsMisread}
 use Rattle.pattern_types.specs.declared.pattern.Pattern.{Pattern}
-use Rattle.pattern_meaning.specs.PlainPattern.{PlainPattern, plain_pattern, MeansPattern}
-use Rattle.pattern_reader.specs.Soundness.{IsSound, IsUnsound}
-use Rattle.pattern_reader.specs.Width.{IsTooWide}
+use Rattle.pattern_types.specs.PlainPattern.{plain_pattern}
+use Rattle.pattern_meaning.specs.declared.refusal.ValueRefusal.{ValueRefusal}
+use Rattle.pattern_meaning.specs.ValueRefusal.{IsEarliest}
+use Rattle.pattern_meaning.specs.Refusals.{RefusalOf}
+use Rattle.pattern_meaning.specs.Answer.{IsNarrowlyMeant, IsWidelyMeant}
+use Rattle.pattern_reader.specs.declared.refusal.PatternRefusal.{PatternRefusal}
+use Rattle.pattern_reader.specs.declared.refusal.PatternRefusal.TheVariants.{TooLong, Token as TokenRefused, Syntax, Value, TooWide, NoMemory}
 
--- the text's tokens spell a tree that nothing is wrong with, and the tree means the pattern
-pub record IsSpelledBy (text : List ℕ) (pattern : PlainPattern) : Type 0 where
-  pub tree : Tree
-  pub sound : IsSound text tree
-  pub means : MeansPattern text tree pattern
+-- the text isn't too long
+abbrev pub IsShort : List ℕ → Type 0
+IsShort text = length text ≤ 65_536
 
--- the text spells the pattern, within all limits
+-- the tokens of the text spell the tree, within the limits of depth
+pub record IsSpelled (text : List ℕ) (tree : Tree) : Type 0 where
+  pub tokens : List Token
+  pub of_text : TokensOf text tokens
+  pub of_tokens : IsTreeOf tokens tree
+
+-- the text spells a tree, which means the pattern within all limits
 pub record IsReadAs (text : List ℕ) (pattern : Pattern) : Type 0 where
-  pub spelled : IsSpelledBy text (plain_pattern pattern)
-  pub narrow : ¬ IsTooWide (plain_pattern pattern)
+  pub short : IsShort text
+  pub tree : Tree
+  pub spelled : IsSpelled text tree
+  pub meant : IsNarrowlyMeant text tree (plain_pattern pattern)
 
--- the text spells a pattern that is too wide
+-- its tokens spell no tree, and here is why
+pub record IsUnspelled (text : List ℕ) (refusal : SyntaxRefusal) : Type 0 where
+  pub tokens : List Token
+  pub of_text : TokensOf text tokens
+  pub misread : IsMisread tokens (length text) refusal
+
+-- they spell one in which this value is the first that is refused
+pub record IsFaulty (text : List ℕ) (refusal : ValueRefusal) : Type 0 where
+  pub tree : Tree
+  pub spelled : IsSpelled text tree
+  pub earliest : IsEarliest (RefusalOf text tree) refusal
+
+-- they spell one that means a pattern that is too wide
 pub record IsWide (text : List ℕ) : Type 0 where
-  pub pattern : PlainPattern
-  pub spelled : IsSpelledBy text pattern
-  pub wide : IsTooWide pattern
+  pub tree : Tree
+  pub spelled : IsSpelled text tree
+  pub wide : IsWidelyMeant text tree
 
--- why a text is refused: by its tokens, their order or their values; else by the width of its pattern
+-- why a text is refused: by its length; by its tokens, by their order, by their values; by the width of
+-- its pattern
 abbrev pub IsRefusedAs : List ℕ → PatternRefusal → Type 0
-IsRefusedAs text refusal = IsUnsound text refusal ⊎ ((refusal ≡ TooWide) × IsWide text)
+IsRefusedAs text TooLong = 65_536 < length text
+IsRefusedAs text (TokenRefused refusal) = IsShort text × HasFault text refusal
+IsRefusedAs text (Syntax refusal) = IsShort text × IsUnspelled text refusal
+IsRefusedAs text (Value refusal) = IsShort text × IsFaulty text refusal
+IsRefusedAs text TooWide = IsShort text × IsWide text
+IsRefusedAs text NoMemory = ⊥
 
 -- the answer is the pattern that the text is read as, unless memory ran out
 abbrev pub Gives : Pattern → Result Pattern PatternRefusal → Type 0

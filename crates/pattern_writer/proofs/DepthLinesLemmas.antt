@@ -12,8 +12,10 @@ use Rattle.pattern_grammar.specs.declared.qualifier.Qualifier.{Qualifier}
 use Rattle.pattern_grammar.specs.TokenClass.{code, same, IsA, is_root, is_name, is_index, is_equality, is_order, is_textual, is_ordered, is_constant}
 use Rattle.pattern_grammar.specs.Tree.{Comparison, Tree, test}
 use Rattle.pattern_grammar.specs.Grammar.{IsStep, step_name, step_index, IsPath, path_first, path_further, AreConstants, constants_one, constants_more, IsCheck, check_equality, check_order, check_among, check_textual, IsTest, test_group, test_exists, test_not_exists, test_compare, test_not_compare, IsCand, cand_one, cand_more, IsCor, cor_one, cor_more, IsQualifier, qualifier_within, qualifier_repeats, qualifier_between, IsStart, start_leaf, start_group, IsUnit, unit_one, unit_more, IsAnds, ands_one, ands_more, IsOrs, ors_one, ors_more, IsPattern, pattern_one, pattern_more}
-use Rattle.pattern_meaning.specs.PlainLeaf.{PlainLeaf, one, every, some, PlainLeaves, none, more, put, IsNoAll, IsNoAny, Means, means_test, means_group, means_all, means_any, AllParts, all_first, all_more, AnyParts, any_first, any_more}
-use Rattle.pattern_meaning.specs.PlainPattern.{PlainPattern, a_leaf, a_both, an_either, a_then, a_limited, MeansPattern, means_leaf, means_both, means_either, means_then, means_limited}
+use Rattle.pattern_types.specs.PlainLeaf.{PlainLeaf, one, every, some, PlainLeaves, none, more, put}
+use Rattle.pattern_meaning.specs.LeafMeaning.{IsNoAll, IsNoAny, Means, means_test, means_group, means_all, means_any, AllParts, all_first, all_more, AnyParts, any_first, any_more}
+use Rattle.pattern_types.specs.PlainPattern.{PlainPattern, a_leaf, a_both, an_either, a_then, a_limited}
+use Rattle.pattern_meaning.specs.PatternMeaning.{MeansPattern, means_leaf, means_both, means_either, means_then, means_limited}
 use Rattle.pattern_writer.specs.Leaf.{binds}
 use Rattle.pattern_writer.specs.Canonical.{level}
 use Rattle.pattern_writer.proofs.DepthsLemmas.{Measured, measured_is, is_flat, Flat, flats, flat_join, first_flat, last_flat, mid_flat, joined, round, among, is_qualifying, qualifying}

@@ -16,10 +16,10 @@ use Rattle.pattern_types.specs.declared.constant.Constant.TheVariants.{Integer, 
 use Rattle.pattern_types.specs.declared.check.Check.{Check}
 use Rattle.pattern_types.specs.declared.check.Check.TheVariants as check
 use Rattle.pattern_types.specs.declared.leaf.Test.{Test}
-use Rattle.pattern_meaning.specs.PlainLeaf.{PlainLeaf, one, every, some, PlainLeaves, none, more}
-use Rattle.pattern_meaning.specs.PlainPattern.{PlainPattern, a_leaf, a_both, an_either, a_then, a_limited}
-use Rattle.pattern_meaning.specs.declared.limits.Limit.{Limit}
-use Rattle.pattern_meaning.specs.declared.limits.Limit.TheVariants.{Within, Repeats, Between}
+use Rattle.pattern_types.specs.PlainLeaf.{PlainLeaf, one, every, some, PlainLeaves, none, more}
+use Rattle.pattern_types.specs.PlainPattern.{PlainPattern, a_leaf, a_both, an_either, a_then, a_limited}
+use Rattle.pattern_types.specs.declared.limit.Limit.{Limit}
+use Rattle.pattern_types.specs.declared.limit.Limit.TheVariants.{Within, Repeats, Between}
 
 abbrev pub FitStep : Step → Type 0
 FitStep (step.Name name) = Unit {0}

@@ -9,10 +9,12 @@ use Rattle.pattern_grammar.specs.Grammar.{IsTest, test_group, test_exists, test_
 use Rattle.pattern_types.specs.declared.check.Check.{Check}
 use Rattle.pattern_types.specs.declared.check.Check.TheVariants as check
 use Rattle.pattern_meaning.specs.Meaning.{IsCheckOf}
-use Rattle.pattern_meaning.specs.PlainLeaf.{PlainLeaf, PlainLeaves, none, more, put, Means, means_test, means_group, means_all, means_any, AllParts, all_first, all_more, AnyParts, any_first, any_more}
-use Rattle.pattern_meaning.specs.declared.limits.Limit.{Limit}
-use Rattle.pattern_meaning.specs.declared.limits.Limit.TheVariants.{Within, Repeats, Between}
-use Rattle.pattern_meaning.specs.PlainPattern.{PlainPattern, IsLimitOf, MeansPattern, means_leaf, means_both, means_either, means_then, means_limited}
+use Rattle.pattern_types.specs.PlainLeaf.{PlainLeaf, PlainLeaves, none, more, put}
+use Rattle.pattern_meaning.specs.LeafMeaning.{Means, means_test, means_group, means_all, means_any, AllParts, all_first, all_more, AnyParts, any_first, any_more}
+use Rattle.pattern_types.specs.declared.limit.Limit.{Limit}
+use Rattle.pattern_types.specs.declared.limit.Limit.TheVariants.{Within, Repeats, Between}
+use Rattle.pattern_types.specs.PlainPattern.{PlainPattern}
+use Rattle.pattern_meaning.specs.PatternMeaning.{IsLimitOf, MeansPattern, means_leaf, means_both, means_either, means_then, means_limited}
 use Rattle.pattern_writer.proofs.FitLemmas.{FitCheck, AreSome, FitFormula, FitFormulas, FitLimit, FitMeant}
 use Rattle.pattern_writer.proofs.LexedLemmas.{AllLexed, lexed_left, lexed_right}
 use Rattle.pattern_writer.proofs.FitnessLemmas.{fit_path, fit_check}

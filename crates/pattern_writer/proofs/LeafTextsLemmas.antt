@@ -4,7 +4,7 @@ use Rattle.std.specs.Prelude.{codes}
 use Rattle.pattern_types.specs.declared.leaf.Leaf.{Leaf, Row_of-Leaf, end_of-Leaf, more_of-Leaf, items-the_row-Leaf, the_lemmas}
 use Rattle.pattern_types.specs.declared.leaf.Leaf.TheVariants as leaf
 use Rattle.pattern_meaning.specs.Meaning.{Each}
-use Rattle.pattern_meaning.specs.PlainLeaf.{PlainLeaf, every, some, more, plain_leaf, plain_leaves, listed}
+use Rattle.pattern_types.specs.PlainLeaf.{PlainLeaf, every, some, more, plain_leaf, plain_leaves, listed}
 use Rattle.pattern_writer.specs.Parts.{IsWithin, AreJoined, Adds}
 use Rattle.pattern_writer.specs.Leaf.{binds, IsFormulaText, AreTextsOf, AreParts}
 

@@ -19,7 +19,6 @@ mod FormulaLinesLemmas
 mod PatternLinesLemmas
 mod CuttingLemmas
 mod OneTextLemmas
-mod FaultyLemmas
 mod LexedLemmas
 mod FitnessLemmas
 mod FitPatternsLemmas

@@ -11,10 +11,10 @@ use Rattle.pattern_types.specs.declared.constant.Constant.TheVariants.{Integer, 
 use Rattle.pattern_types.specs.declared.check.Check.{Check}
 use Rattle.pattern_types.specs.declared.check.Check.TheVariants as check
 use Rattle.pattern_meaning.specs.Meaning.{Each}
-use Rattle.pattern_meaning.specs.PlainLeaf.{PlainLeaf, one, every, some, PlainLeaves, none, more}
-use Rattle.pattern_meaning.specs.PlainPattern.{PlainPattern, a_leaf, a_both, an_either, a_then, a_limited}
-use Rattle.pattern_meaning.specs.declared.limits.Limit.{Limit}
-use Rattle.pattern_meaning.specs.declared.limits.Limit.TheVariants.{Within, Repeats, Between}
+use Rattle.pattern_types.specs.PlainLeaf.{PlainLeaf, one, every, some, PlainLeaves, none, more}
+use Rattle.pattern_types.specs.PlainPattern.{PlainPattern, a_leaf, a_both, an_either, a_then, a_limited}
+use Rattle.pattern_types.specs.declared.limit.Limit.{Limit}
+use Rattle.pattern_types.specs.declared.limit.Limit.TheVariants.{Within, Repeats, Between}
 use Rattle.pattern_writer.specs.Parts.{IsAfter, IsBetween, AreSides, joined, AreJoined, enclosed, IsWithin}
 use Rattle.pattern_writer.specs.Path.{IsNameText, IsStepText, IsFirstText, AreStepsText, IsPathText}
 use Rattle.pattern_writer.specs.Constant.{IsTimeText, IsConstantText}

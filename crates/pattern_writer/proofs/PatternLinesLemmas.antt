@@ -12,10 +12,11 @@ use Rattle.pattern_grammar.specs.declared.qualifier.Qualifier.{Qualifier}
 use Rattle.pattern_grammar.specs.declared.qualifier.Qualifier.TheVariants as qualifier
 use Rattle.pattern_grammar.specs.Tree.{Tree, leaf, both, either, followed, qualified, Comparison}
 use Rattle.pattern_grammar.specs.Grammar.{IsCor, IsQualifier, qualifier_within, qualifier_repeats, qualifier_between, start_leaf, start_group, IsUnit, unit_one, unit_more, IsAnds, ands_one, ands_more, IsOrs, ors_one, ors_more, IsPattern, pattern_one, pattern_more}
-use Rattle.pattern_meaning.specs.declared.limits.Limit.{Limit}
-use Rattle.pattern_meaning.specs.declared.limits.Limit.TheVariants.{Within, Repeats, Between}
-use Rattle.pattern_meaning.specs.PlainLeaf.{PlainLeaf}
-use Rattle.pattern_meaning.specs.PlainPattern.{PlainPattern, a_leaf, a_both, an_either, a_then, a_limited, IsLimitOf, MeansPattern, means_leaf, means_both, means_either, means_then, means_limited}
+use Rattle.pattern_types.specs.declared.limit.Limit.{Limit}
+use Rattle.pattern_types.specs.declared.limit.Limit.TheVariants.{Within, Repeats, Between}
+use Rattle.pattern_types.specs.PlainLeaf.{PlainLeaf}
+use Rattle.pattern_types.specs.PlainPattern.{PlainPattern, a_leaf, a_both, an_either, a_then, a_limited}
+use Rattle.pattern_meaning.specs.PatternMeaning.{IsLimitOf, MeansPattern, means_leaf, means_both, means_either, means_then, means_limited}
 use Rattle.pattern_writer.specs.Parts.{IsWithin}
 use Rattle.pattern_writer.specs.Leaf.{binds}
 use Rattle.pattern_writer.specs.Limit.{IsLimitText}

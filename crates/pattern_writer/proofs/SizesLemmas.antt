@@ -1,6 +1,6 @@
 -- How many patterns there are in one: what a recursion over it counts down.
 use Rattle.std.proofs.Common.{ℕ, ◌+◌}
-use Rattle.pattern_meaning.specs.PlainPattern.{PlainPattern, a_leaf, a_both, an_either, a_then, a_limited}
+use Rattle.pattern_types.specs.PlainPattern.{PlainPattern, a_leaf, a_both, an_either, a_then, a_limited}
 
 abbrev pub size : PlainPattern → ℕ
 size (a_leaf f) = 1

@@ -1,14 +1,15 @@
 -- The canonical text of a pattern that some text is read as is read as it.
-use Rattle.std.proofs.Common.{◌≡◌, ℕ, ℤ, ◌≤◌, List, [], length, refl, sym, subst, arith}
+use Rattle.std.proofs.Common.{◌≡◌, ℕ, ◌<◌, ◌≤◌, List, [], length, refl, sym, subst, arith}
 use Rattle.pattern_lexer.specs.Reading.{AreTokens}
-use Rattle.pattern_tokens.specs.Values.{IsMomentText}
 use Rattle.pattern_grammar.specs.Grammar.{IsPattern}
 use Rattle.pattern_grammar.specs.Depth.{at_start}
 use Rattle.pattern_grammar.specs.Tree.{Tree}
 use Rattle.pattern_types.specs.declared.pattern.Pattern.{Pattern}
-use Rattle.pattern_meaning.specs.PlainPattern.{PlainPattern, plain_pattern, MeansPattern}
-use Rattle.pattern_reader.specs.Soundness.{IsSpelled}
-use Rattle.pattern_reader.specs.Read.{IsReadAs}
+use Rattle.pattern_types.specs.PlainPattern.{PlainPattern, plain_pattern}
+use Rattle.pattern_meaning.specs.PatternMeaning.{MeansPattern}
+use Rattle.pattern_reader.specs.declared.refusal.PatternRefusal.{PatternRefusal}
+use Rattle.pattern_reader.specs.declared.refusal.PatternRefusal.TheVariants as refused
+use Rattle.pattern_reader.specs.Read.{IsSpelled, IsReadAs, IsRefusedAs}
 use Rattle.pattern_writer.specs.Canonical.{level, IsCanonical}
 use Rattle.pattern_writer.proofs.FitLemmas.{FitMeant}
 use Rattle.pattern_writer.proofs.LongestLemmas.{Ends}
@@ -17,18 +18,17 @@ use Rattle.pattern_writer.proofs.PatternLinesLemmas.{IsDeepLine, MeansTree, whol
 use Rattle.pattern_writer.proofs.CuttingLemmas.{tokens_at, cut_pieces, stand_for}
 use Rattle.pattern_writer.proofs.LexedLemmas.{all_lexed}
 use Rattle.pattern_writer.proofs.FitPatternsLemmas.{fit_pattern}
-use Rattle.pattern_writer.proofs.FaultyLemmas.{faults_by_meaning}
 use Rattle.pattern_writer.proofs.DepthsLemmas.{none_shallow, shallow_none}
 use Rattle.pattern_writer.proofs.DepthLinesLemmas.{need, qualifiers_in, wrapped_least, pattern_deep}
 
--- a text that is written so, and is neither too long nor too deep
+-- a text that is written so, and isn't too deep
 pub record Spelling (text : List ℕ) (m : PlainPattern) : Type 0 where
   pub tree : Tree
   pub spelled : IsSpelled text tree
   pub means : MeansPattern text tree m
 
-spelling : (m : PlainPattern) (text : List ℕ) (n q : ℕ) → length text ≤ 65_536 → n ≤ 64 → q ≤ 64 → Written (IsDeepLine IsPattern n q) (MeansTree m) Ends text → Spelling text m
-spelling m text n q short low few w =
+spelling : (m : PlainPattern) (text : List ℕ) (n q : ℕ) → n ≤ 64 → q ≤ 64 → Written (IsDeepLine IsPattern n q) (MeansTree m) Ends text → Spelling text m
+spelling m text n q low few w =
     let ts = tokens_at 0 w.pieces in
     let fit = w.fit [] tt in
     let cut = cut_pieces 0 w.pieces fit in
@@ -37,7 +37,7 @@ spelling m text n q short low few w =
       tree = read.0;
       spelled = record {
         tokens = ts;
-        of_text = record { short = short; rest = cut.rest; stand = subst (λ (x : List ℕ). AreTokens 0 x ts cut.rest) w.spelled cut.stand; blank = cut.blank };
+        of_text = record { rest = cut.rest; stand = subst (λ (x : List ℕ). AreTokens 0 x ts cut.rest) w.spelled cut.stand; blank = cut.blank };
         of_tokens = record { spells = read.1.0; shallow = none_shallow at_start ts (read.1.1.fits 0 0 (omega arith) (omega arith)) };
       };
       means = read.2;
@@ -57,17 +57,26 @@ limits m text tree s means =
     let e = wrapped_least (level m) (need m) in
     (omega (arith, a, g, e), omega (arith, b))
 
-pub reads_back : ((text : List ℕ) (i j : ℤ) → IsMomentText text i → IsMomentText text j → i ≡ j) → (p : Pattern) (text canonical : List ℕ) → IsReadAs text p → IsCanonical (plain_pattern p) canonical → length canonical ≤ 65_536 → IsReadAs canonical p
-reads_back one p text canonical r h short =
+pub reads_back : (p : Pattern) (text canonical : List ℕ) → IsReadAs text p → IsCanonical (plain_pattern p) canonical → length canonical ≤ 65_536 → IsReadAs canonical p
+reads_back p text canonical r h short =
     let m = plain_pattern p in
-    let sound = r.spelled.sound in
-    let low = limits m text r.spelled.tree sound.spelled r.spelled.means in
-    let again = spelling m canonical (need m) (qualifiers_in m) short low.0 low.1 (whole_pattern m canonical (fits m text r.spelled.tree sound.spelled r.spelled.means) h) in
+    let means = r.meant.meant.means in
+    let low = limits m text r.tree r.spelled means in
+    let again = spelling m canonical (need m) (qualifiers_in m) low.0 low.1 (whole_pattern m canonical (fits m text r.tree r.spelled means) h) in
     record {
-      spelled = record {
-        tree = again.tree;
-        sound = record { spelled = again.spelled; faultless = faults_by_meaning one text canonical r.spelled.tree again.tree m r.spelled.means again.means sound.faultless };
-        means = again.means;
-      };
-      narrow = r.narrow;
+      short = short;
+      tree = again.tree;
+      spelled = again.spelled;
+      meant = record { meant = record { means = again.means; sound = r.meant.meant.sound }; narrow = r.meant.narrow };
     }
+
+too_long : (text : List ℕ) → 65_536 < length text → length text ≤ 65_536 → ⊥
+too_long text h k = omega (arith, h, k)
+
+pub only_too_long : (text : List ℕ) (r : PatternRefusal) → 65_536 < length text → IsRefusedAs text r → r ≡ refused.TooLong
+only_too_long text refused.TooLong h x = refl
+only_too_long text (refused.Token r) h x = absurd (too_long text h x.0)
+only_too_long text (refused.Syntax r) h x = absurd (too_long text h x.0)
+only_too_long text (refused.Value r) h x = absurd (too_long text h x.0)
+only_too_long text refused.TooWide h x = absurd (too_long text h x.0)
+only_too_long text refused.NoMemory h x = absurd x

@@ -22,7 +22,8 @@ use Rattle.pattern_types.specs.declared.check.Check.{Check}
 use Rattle.pattern_types.specs.declared.check.Check.TheVariants as check
 use Rattle.pattern_types.specs.declared.leaf.Test.{Test}
 use Rattle.pattern_meaning.specs.Meaning.{Each, IsConstantOf, IsCheckOf}
-use Rattle.pattern_meaning.specs.PlainLeaf.{Means, one, means_test}
+use Rattle.pattern_types.specs.PlainLeaf.{one}
+use Rattle.pattern_meaning.specs.LeafMeaning.{Means, means_test}
 use Rattle.pattern_writer.specs.Parts.{joined}
 use Rattle.pattern_writer.specs.Constant.{IsConstantText}
 use Rattle.pattern_writer.proofs.DepthLinesLemmas.{IsPlain}

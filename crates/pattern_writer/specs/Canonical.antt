@@ -1,7 +1,7 @@
 -- The canonical text of a pattern (STIX 2.1, sections 9.2 to 9.7): one space between words, and the
 -- parentheses that the pattern needs.
 use Rattle.std.specs.Prelude.{ℕ, List, codes}
-use Rattle.pattern_meaning.specs.PlainPattern.{PlainPattern, a_leaf, a_both, an_either, a_then, a_limited}
+use Rattle.pattern_types.specs.PlainPattern.{PlainPattern, a_leaf, a_both, an_either, a_then, a_limited}
 use Rattle.pattern_writer.specs.Parts.{IsBetween, AreSides, IsWithin}
 use Rattle.pattern_writer.specs.Leaf.{IsFormulaText}
 use Rattle.pattern_writer.specs.Limit.{IsLimitText}

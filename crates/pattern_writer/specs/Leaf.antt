@@ -1,6 +1,6 @@
 -- How what stands in the brackets of a pattern is written (STIX 2.1, section 9.6).
 use Rattle.std.specs.Prelude.{◌≡◌, ℕ, List, [], ◌∷◌, codes}
-use Rattle.pattern_meaning.specs.PlainLeaf.{PlainLeaf, one, every, some, PlainLeaves, none, more}
+use Rattle.pattern_types.specs.PlainLeaf.{PlainLeaf, one, every, some, PlainLeaves, none, more}
 use Rattle.pattern_writer.specs.Parts.{joined, IsWithin}
 use Rattle.pattern_writer.specs.Check.{IsTestText}
 

@@ -1,7 +1,7 @@
 -- How qualifiers are written (STIX 2.1, section 9.4).
 use Rattle.std.specs.Prelude.{◌≡◌, ℕ, List, ◌++◌, codes, decimal}
-use Rattle.pattern_meaning.specs.declared.limits.Limit.{Limit}
-use Rattle.pattern_meaning.specs.declared.limits.Limit.TheVariants.{Within, Repeats, Between}
+use Rattle.pattern_types.specs.declared.limit.Limit.{Limit}
+use Rattle.pattern_types.specs.declared.limit.Limit.TheVariants.{Within, Repeats, Between}
 use Rattle.pattern_writer.specs.Parts.{IsAfter, AreSides}
 use Rattle.pattern_writer.specs.Constant.{IsTimeText}
 

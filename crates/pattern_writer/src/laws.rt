@@ -1,14 +1,13 @@
 //! What follows from the definitions: the contract is the law, and the function does nothing.
 
 ghost use Rattle.std.specs.Prelude.{◌≡◌, ◌<◌, ◌≤◌, ℕ, List, length};
-ghost use Rattle.pattern_meaning.specs.PlainPattern.{PlainPattern, plain_pattern};
-ghost use Rattle.pattern_tokens.specs.declared.refusal.PatternRefusal.{PatternRefusal};
-ghost use Rattle.pattern_tokens.specs.declared.refusal.PatternRefusal.TheVariants as PatternRefusal;
+ghost use Rattle.pattern_types.specs.PlainPattern.{PlainPattern, plain_pattern};
+ghost use Rattle.pattern_reader.specs.declared.refusal.PatternRefusal.{PatternRefusal};
+ghost use Rattle.pattern_reader.specs.declared.refusal.PatternRefusal.TheVariants as PatternRefusal;
 ghost use Rattle.pattern_types.specs.declared.pattern.Pattern.{Pattern};
 ghost use Rattle.pattern_reader.specs.Read.{IsReadAs, IsRefusedAs};
 ghost use Rattle.pattern_writer.specs.Canonical.{IsCanonical};
 
-use pattern_tokens::one_meaning;
 use stix_times::laws::one_canonical_text;
 
 /// A pattern has one canonical text.
@@ -26,7 +25,4 @@ pub fn reads_back()
         → IsCanonical (plain_pattern pattern) canonical → length canonical ≤ 65_536 → IsReadAs canonical pattern }
     ensures long { (canonical : List ℕ) (refusal : PatternRefusal) → 65_536 < length canonical
         → IsRefusedAs canonical refusal → refusal ≡ PatternRefusal.TooLong }
-{
-    one_meaning();
-    pattern_reader::laws::only_too_long();
-}
+{}

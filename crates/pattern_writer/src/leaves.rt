@@ -1,5 +1,5 @@
 ghost use Rattle.std.specs.Prelude.{◌≡◌, OnOk};
-ghost use Rattle.pattern_meaning.specs.PlainLeaf.{plain_leaf, listed};
+ghost use Rattle.pattern_types.specs.PlainLeaf.{plain_leaf, listed};
 ghost use Rattle.pattern_writer.specs.Parts.{IsWithin, Adds};
 ghost use Rattle.pattern_writer.specs.Leaf.{binds, IsFormulaText, AreParts};
 

@@ -1,5 +1,5 @@
 ghost use Rattle.std.specs.Prelude.{◌≡◌, OnOk};
-ghost use Rattle.pattern_meaning.specs.declared.limits.Limit.{Limit};
+ghost use Rattle.pattern_types.specs.declared.limit.Limit.{Limit};
 ghost use Rattle.pattern_writer.specs.Parts.{Adds};
 ghost use Rattle.pattern_writer.specs.Limit.{IsLimitText};
 

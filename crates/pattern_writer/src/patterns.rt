@@ -1,9 +1,9 @@
 ghost use Rattle.std.specs.Prelude.{◌≡◌, ◌+◌, ◌<◌, OnOk, IfOk, codes};
-ghost use Rattle.pattern_meaning.specs.PlainPattern.{plain_pattern};
+ghost use Rattle.pattern_types.specs.PlainPattern.{plain_pattern};
 ghost use Rattle.pattern_writer.specs.Parts.{AreSides, IsBetween, IsWithin, Adds};
 ghost use Rattle.pattern_writer.specs.Leaf.{IsFormulaText};
 ghost use Rattle.pattern_writer.specs.Canonical.{level, IsCanonical};
-ghost use Rattle.pattern_meaning.specs.PlainLeaf.{plain_leaf};
+ghost use Rattle.pattern_types.specs.PlainLeaf.{plain_leaf};
 
 use crate::leaves::write_leaf;
 use crate::limits::{write_seconds, write_span, write_times};

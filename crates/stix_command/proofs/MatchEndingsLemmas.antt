@@ -2,7 +2,7 @@
 use Rattle.std.proofs.Common.{◌≡◌, List, ℕ, subst}
 use Rattle.pattern_types.specs.declared.pattern.Pattern.{Pattern, Leaf, Both', Either', Then', Within', Between', Repeats'}
 use Rattle.pattern_types.specs.declared.leaf.Leaf.{Test, All', Any'}
-use Rattle.pattern_meaning.specs.PlainPattern.{plain_pattern}
+use Rattle.pattern_types.specs.PlainPattern.{plain_pattern}
 use Rattle.pattern_reader.specs.Read.{IsReadAs}
 use Rattle.match_log.specs.FirstForm.{FirstForm, pattern_of, IsBuilt}
 use Rattle.stix_command.specs.declared.matching.MatchEnding.{MatchEnding}

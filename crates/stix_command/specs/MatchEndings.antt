@@ -1,8 +1,7 @@
 -- What an ending of `match` says of its pattern, the log and what was written; its status, and its reason as a text.
-use Rattle.std.specs.Prelude.{◌≡◌, ◌≢◌, ⊤, ℕ, List, [], ◌++◌, codes}
-use Rattle.pattern_tokens.specs.declared.refusal.PatternRefusal.{PatternRefusal}
-use Rattle.pattern_tokens.specs.declared.refusal.PatternRefusal.TheVariants as refused
-use Rattle.pattern_tokens.specs.Refusal.{refusal_text}
+use Rattle.std.specs.Prelude.{◌≡◌, ⊤, ℕ, List, [], ◌++◌, codes}
+use Rattle.pattern_reader.specs.declared.refusal.PatternRefusal.{PatternRefusal}
+use Rattle.pattern_reader.specs.PatternRefusal.{refusal_text}
 use Rattle.pattern_types.specs.declared.pattern.Pattern.{Pattern}
 use Rattle.pattern_reader.specs.Read.{IsReadAs, IsRefusedAs}
 use Rattle.match_log.specs.FirstForm.{FirstForm, pattern_of, IsBuilt}
@@ -37,7 +36,6 @@ IsUnread text = (pattern : Pattern) → ¬ IsReadAs text pattern
 pub record IsRefusedPattern (text : List ℕ) (refusal : PatternRefusal) : Type 0 where
   pub unread : IsUnread text
   pub why : IsRefusedAs text refusal
-  pub named : refusal ≢ refused.NoMemory
 
 -- the pattern has a form, and the log was matched against it
 pub record MatchesLog (pattern : List ℕ) (before after : Streams) (ended : MatchEnd) : Type 0 where

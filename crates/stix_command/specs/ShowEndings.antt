@@ -2,7 +2,7 @@
 use Rattle.std.specs.Prelude.{◌≡◌, ℕ, List, [], ◌++◌, codes}
 use Rattle.flow_edges.specs.Flow.{written_with, WritesPrefix}
 use Rattle.pattern_types.specs.declared.pattern.Pattern.{Pattern}
-use Rattle.pattern_meaning.specs.PlainPattern.{plain_pattern}
+use Rattle.pattern_types.specs.PlainPattern.{plain_pattern}
 use Rattle.pattern_reader.specs.Read.{IsReadAs}
 use Rattle.pattern_writer.specs.Canonical.{IsCanonical}
 use Rattle.stix_command.specs.declared.showing.ShowEnding.{ShowEnding}

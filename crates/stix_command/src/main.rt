@@ -8,6 +8,7 @@ mod judging;
 mod laws;
 mod matching;
 mod reasons;
+mod refusal_text;
 mod run;
 mod showing;
 #[cfg(test)]

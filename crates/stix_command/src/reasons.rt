@@ -3,9 +3,10 @@ ghost use Rattle.flow_edges.specs.Faults.{Causes};
 ghost use Rattle.flow_edges.specs.Flow.{WritesWhole};
 ghost use Rattle.stix_command.specs.MatchEndings.{pattern_reason};
 
+use crate::refusal_text::write_refusal;
 use flow_edges::{Sink, write_whole};
 use flow_values::Fault;
-use pattern_tokens::{PatternRefusal, write_refusal};
+use pattern_reader::PatternRefusal;
 
 /// Writes that memory ran out.
 pub fn write_no_memory<S: Sink>(reasons: &mut S) -> Result<(), Fault>

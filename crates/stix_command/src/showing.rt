@@ -1,7 +1,7 @@
 ghost use Rattle.std.specs.Prelude.{◌≡◌, ◌≢◌, ℕ, List, Option, IfOk, IfErr};
 ghost use Rattle.flow_edges.specs.Faults.{Rose, Causes};
 ghost use Rattle.flow_edges.specs.Flow.{WritesWhole};
-ghost use Rattle.pattern_tokens.specs.declared.refusal.PatternRefusal.TheVariants as PatternRefusal;
+ghost use Rattle.pattern_reader.specs.declared.refusal.PatternRefusal.TheVariants as PatternRefusal;
 ghost use Rattle.stix_command.specs.Streams.{streams};
 ghost use Rattle.stix_command.specs.MatchEndings.{IsRefusedPattern};
 ghost use Rattle.stix_command.specs.ShowEndings.{IsLineOf, EndsShow};

@@ -1,6 +1,6 @@
 use Rattle.std.specs.Prelude.{codes}
-use Rattle.pattern_meaning.specs.PlainPattern.{plain_pattern}
-use Rattle.pattern_meaning.specs.declared.limits.Limit.TheVariants.{Between}
+use Rattle.pattern_types.specs.PlainPattern.{plain_pattern}
+use Rattle.pattern_types.specs.declared.limit.Limit.TheVariants.{Between}
 use Rattle.pattern_writer.specs.Parts.{IsWithin}
 use Rattle.pattern_writer.specs.Limit.{IsLimitText}
 use Rattle.pattern_writer.specs.Canonical.{level, IsCanonical}

@@ -1,5 +1,5 @@
 use Rattle.std.proofs.Common.{◌+◌, ◌*◌}
-use Rattle.pattern_meaning.specs.PlainPattern.{plain_pattern}
+use Rattle.pattern_types.specs.PlainPattern.{plain_pattern}
 use Rattle.pattern_writer.proofs.SizesLemmas.{size}
 use Rattle.pattern_writer.proofs.patterns.+patterns.Given as goal
 

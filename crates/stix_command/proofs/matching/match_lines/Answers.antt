@@ -1,5 +1,5 @@
 use Rattle.std.proofs.Common.{rules, ◌≢◌, refl}
-use Rattle.pattern_tokens.specs.declared.refusal.PatternRefusal.TheVariants as refused
+use Rattle.pattern_reader.specs.declared.refusal.PatternRefusal.TheVariants as refused
 use Rattle.stix_command.proofs.MatchEndingsLemmas.{match_read}
 use Rattle.stix_command.proofs.matching.match_lines.Goals as goal
 
@@ -9,4 +9,4 @@ returns-in-Ok-clause-end g c = match_read _ _ _ _ _ c.in-Ok.ensures.ok c.in-Ok.e
 pub returns-in-Err-clause-end : goal.returns-in-Err-clause-end
 returns-in-Err-clause-end g c =
     let other : c.in-Err.refusal ≢ refused.NoMemory = search rules in
-    (record { unread = λ pattern read. other (c.in-Err.ensures.only pattern read); why = c.in-Err.ensures.err other; named = other }, refl)
+    (record { unread = λ pattern read. other (c.in-Err.ensures.only pattern read); why = c.in-Err.ensures.err other }, refl)

@@ -1,6 +1,6 @@
 use Rattle.std.proofs.Common.{◌++◌, Ok, Err, codes}
 use Rattle.flow_edges.specs.Flow.{WritesWhole}
-use Rattle.pattern_tokens.specs.Refusal.{refusal_text}
+use Rattle.pattern_reader.specs.PatternRefusal.{refusal_text}
 use Rattle.stix_command.specs.MatchEndings.{pattern_reason}
 use Rattle.stix_command.proofs.WritesWholeLemmas.{after_whole, front_part, after_part, writes_whole-err}
 use Rattle.stix_command.proofs.reasons.write_pattern_reason.Goals as goal
