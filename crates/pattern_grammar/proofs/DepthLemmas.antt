@@ -1,90 +1,136 @@
 -- Reading up to the first token that is one too many.
-use Rattle.std.proofs.Common.{◌≡◌, ◌≤◌, ◌<◌, ◌+◌, ◌-◌, ℕ, suc, add-one, List, [], ◌∷◌, ◌++◌, length, take, drop, Option, Some, None, option_map, Bool, true, false, Bor, get_or, refl, sym, ap, ◌∙◌, arith, append_assoc, append-nil, length-append, length-take}
-use Rattle.std.proofs.lemmas.List.{take-append-drop, take_rest}
+use Rattle.std.proofs.Common.{◌≡◌, ◌+◌, ◌<◌, ◌≤◌, ℕ, List, [], ◌∷◌, ◌++◌, length, take, drop, get_or, Bor, refl, sym, ap, subst, ◌∙◌, arith, append_assoc, append-nil, length-append, length-take-le, take-append-drop}
+use Rattle.std.proofs.lemmas.List.{take_at, take_more, get_or_at}
 use Rattle.pattern_tokens.specs.declared.token.Token.{Token}
 use Rattle.pattern_grammar.specs.declared.stop.Stop.{Stop}
 use Rattle.pattern_grammar.specs.declared.stop.Stop.TheVariants.{Syntax}
 use Rattle.pattern_grammar.specs.Tree.{Tree}
 use Rattle.pattern_grammar.specs.Grammar.{IsPattern}
-use Rattle.pattern_grammar.specs.declared.depth.Depth.{Depth}
-use Rattle.pattern_grammar.specs.Depth.{deep_at, at_start, is_deep, depth_after, IsShallow}
-use Rattle.pattern_grammar.specs.Answer.{MisfitAt, Misfit}
+use Rattle.pattern_grammar.specs.Answer.{BeginsPattern, MisfitAt, Misfit}
+use Rattle.pattern_grammar.specs.Depth.{IsTooMany, NoneTooMany, FirstTooMany, IsShallow}
 use Rattle.pattern_grammar.specs.Place.{place, SyntaxAt, DeepAt}
+use Rattle.pattern_grammar.specs.inner.Counting.{IsFirstAt}
 use Rattle.pattern_grammar.proofs.CompletionLemmas.{front_whole}
 use Rattle.pattern_grammar.proofs.DerivesLemmas.{completes_front}
 
-pub syntax_none : {ts rest : List Token} (end at : ℕ) → MisfitAt ts rest → at ≡ place rest end → deep_at at_start ts ≡ None → SyntaxAt ts end at
-syntax_none {ts} {rest} end at m h n = record { rest = rest; misfit = m; here = h; first = rw n tt }
+-- where a token stands in a list with one more behind it: it is that one, or stands before it
+pub data Standing (ts : List Token) (last : Token) (before : List Token) (token : Token) (after : List Token) : Type 0 where
+  behind : ts ≡ before → last ≡ token → after ≡ [] → Standing ts last before token after
+  within : (between : List Token) → ts ≡ before ++ token ∷ between → Standing ts last before token after
+
+pub standing : (ts : List Token) (last : Token) (before : List Token) (token : Token) (after : List Token) → ts ++ last ∷ [] ≡ before ++ token ∷ after → Standing ts last before token after
+standing [] last [] token after e = behind refl (cc) (cc)
+standing [] last (b ∷ before) token after e = let n = ap length e in absurd (omega (arith, n, length-append before (token ∷ after)))
+standing (t ∷ ts) last [] token after e = let h : t ≡ token = cc in within ts (cc)
+standing (t ∷ ts) last (b ∷ before) token after e =
+    let h : t ≡ b = cc in
+    let g : ts ++ last ∷ [] ≡ before ++ token ∷ after = cc in
+    further (standing ts last before token after g)
+  where
+    further : Standing ts last before token after → Standing (t ∷ ts) last (b ∷ before) token after
+    further (behind p q r) = behind (cc) q r
+    further (within between p) = within between (cc)
+
+-- none in the beginning of a list, and none in a list with one more
+pub none_less : (ts more : List Token) → NoneTooMany (ts ++ more) → NoneTooMany ts
+none_less ts more none before token after e = none before token (after ++ more) (ap (λ x. x ++ more) e ∙ append_assoc before (token ∷ after) more)
+
+pub none_more : (ts : List Token) (last : Token) → NoneTooMany ts → ¬ IsTooMany ts last → NoneTooMany (ts ++ last ∷ [])
+none_more ts last none few before token after e h = nowhere (standing ts last before token after e)
+  where
+    nowhere : Standing ts last before token after → ⊥
+    nowhere (behind p q r) = few (rw (p, q) h)
+    nowhere (within between p) = none before token between p h
+
+pub none_nothing : NoneTooMany []
+none_nothing before token after e h = let n = ap length e in absurd (omega (arith, n, length-append before (token ∷ after)))
+
+pub none_shallow : (ts : List Token) → NoneTooMany ts → IsShallow ts
+none_shallow ts none before token after e h = absurd (none before token after e h)
+
+-- the tokens through the first that is one too many
+pub through_shallow : {ts : List Token} (first : FirstTooMany ts) → IsShallow (first.before ++ first.token ∷ [])
+through_shallow first before token after e h = last (standing first.before first.token before token after e)
+  where
+    last : Standing first.before first.token before token after → after ≡ []
+    last (behind p q r) = r
+    last (within between p) = absurd (first.none_before before token between p h)
+
+pub split_through : {ts : List Token} (first : FirstTooMany ts) → ts ≡ (first.before ++ first.token ∷ []) ++ first.after
+split_through first = first.spelled ∙ sym (append_assoc first.before (first.token ∷ []) first.after)
+
+pub take_through : (ts : List Token) (n : ℕ) → (first : IsFirstAt ts n) → take (n + 1) ts ≡ first.0.before ++ first.0.token ∷ []
+take_through ts n (first, size) = ap (take (n + 1)) (split_through first) ∙ take_at (first.before ++ first.token ∷ []) first.after (n + 1) (omega (arith, length-append first.before (first.token ∷ []), size))
+
+front_shallow : {ts : List Token} (first : FirstTooMany ts) (read rest : List Token) (t : Token) → first.before ++ first.token ∷ [] ≡ read ++ t ∷ rest → NoneTooMany read
+front_shallow first read rest t e = less (standing first.before first.token read t rest e)
+  where
+    less : Standing first.before first.token read t rest → NoneTooMany read
+    less (behind p q r) = subst NoneTooMany p first.none_before
+    less (within between p) = none_less read (t ∷ between) (subst NoneTooMany p first.none_before)
 
 -- what ends before the cut ends there without it
-syntax_cut : {ts rest : List Token} {t : Token} (end n : ℕ) → MisfitAt (take (n + 1) ts) (t ∷ rest) → deep_at at_start ts ≡ Some n → SyntaxAt ts end t.from
-syntax_cut {ts} {rest} {t} end n m d = record {
-  rest = t ∷ rest ++ drop (n + 1) ts;
+syntax_cut : {ts rest : List Token} {t : Token} (first : FirstTooMany ts) (end : ℕ) → MisfitAt (first.before ++ first.token ∷ []) (t ∷ rest) → SyntaxAt ts end t.from
+syntax_cut {ts} {rest} {t} first end m = record {
+  rest = t ∷ rest ++ first.after;
   misfit = record {
     read = m.read;
-    all_are = sym (take-append-drop (n + 1) ts) ∙ ap (λ x. x ++ drop (n + 1) ts) m.all_are ∙ append_assoc m.read (t ∷ rest) (drop (n + 1) ts);
+    all_are = split_through first ∙ ap (λ x. x ++ first.after) m.all_are ∙ append_assoc m.read (t ∷ rest) first.after;
     front = m.front;
     ends = m.ends;
   };
+  shallow = front_shallow first m.read rest t m.all_are;
   here = refl;
-  first = rw d (let g : length m.read + (length rest + 1) ≡ length (take (n + 1) ts) = omega (arith, ap length m.all_are, length-append m.read (t ∷ rest)) in omega (arith, length-take (n + 1) ts));
 }
 
-deep_cut : {ts : List Token} (end n at : ℕ) → MisfitAt (take (n + 1) ts) [] → deep_at at_start ts ≡ Some n → at ≡ place (drop n ts) end → DeepAt ts end at
-deep_cut {ts} end n at m d h = record { before = n; is_first = d; front = rw (m.all_are, append-nil) m.front; here = h }
+-- where reading stops before the cut, and where it doesn't
+at_syntax : {ts : List Token} (e : Stop) (r : Bor (List Token)) → Misfit ts e → e ≡ Syntax r → MisfitAt ts r.now
+at_syntax e r m h = rw h at m
+
+pub syntax_none : {ts : List Token} (e : Stop) (r : Bor (List Token)) (end at : ℕ) → Misfit ts e → e ≡ Syntax r → NoneTooMany ts → at ≡ place r.now end → SyntaxAt ts end at
+syntax_none {ts} e r end at m h none here =
+    let f = at_syntax e r m h in
+    record { rest = r.now; misfit = f; shallow = none_less f.read r.now (subst NoneTooMany f.all_are none); here = here }
+
+pub syntax_at : (ts : List Token) (n : ℕ) (e : Stop) (r : Bor (List Token)) (d : Token) → IsFirstAt ts n → Misfit (take (n + 1) ts) e → e ≡ Syntax r → 1 ≤ length r.now → (end : ℕ) → SyntaxAt ts end (get_or r.now 0 d).from
+syntax_at ts n e r d f m h k end = some_there r.now (rw (take_through ts n f) at (at_syntax e r m h)) k
+  where
+    some_there : (us : List Token) → MisfitAt (f.0.before ++ f.0.token ∷ []) us → 1 ≤ length us → SyntaxAt ts end (get_or us 0 d).from
+    some_there [] g i = absurd (omega arith)
+    some_there (u ∷ us) g i = syntax_cut f.0 end g
+
+deep_from : (ts : List Token) (n : ℕ) (d : Token) → IsFirstAt ts n → BeginsPattern (take (n + 1) ts) → DeepAt ts (get_or ts n d).from
+deep_from ts n d (first, size) begins = record {
+  first = first;
+  front = subst BeginsPattern (take_through ts n (first, size)) begins;
+  here = ap (λ t. t.from) (ap (λ x. get_or x n d) first.spelled ∙ get_or_at first.before first.token first.after d n (sym size));
+}
+
+pub deep_spelled : (ts : List Token) (n : ℕ) (d : Token) (q : Tree) → IsFirstAt ts n → IsPattern (take (n + 1) ts) q → DeepAt ts (get_or ts n d).from
+deep_spelled ts n d q f x = deep_from ts n d f (completes_front (front_whole q x))
 
 none_there : (ts : List Token) → length ts < 1 → ts ≡ []
 none_there [] h = refl
 none_there (t ∷ ts) h = absurd (omega arith)
 
-at_syntax : {ts : List Token} (e : Stop) (r : Bor (List Token)) → Misfit ts e → e ≡ Syntax r → MisfitAt ts r.now
-at_syntax e r m h = rw h at m
+pub deep_empty : (ts : List Token) (n : ℕ) (d : Token) (e : Stop) (r : Bor (List Token)) → IsFirstAt ts n → Misfit (take (n + 1) ts) e → e ≡ Syntax r → length r.now < 1 → DeepAt ts (get_or ts n d).from
+deep_empty ts n d e r f m h k =
+    let g : MisfitAt (take (n + 1) ts) [] = rw (none_there r.now k) at (at_syntax e r m h) in
+    deep_from ts n d f (subst BeginsPattern (sym (g.all_are ∙ append-nil g.read)) g.front)
 
-pub deep_empty : (ts : List Token) (end n at : ℕ) (e : Stop) (r : Bor (List Token)) → Misfit (take (n + 1) ts) e → e ≡ Syntax r → length r.now < 1 → deep_at at_start ts ≡ Some n → at ≡ place (take (length ts - n) (drop n ts)) end → DeepAt ts end at
-deep_empty ts end n at e r m h k d p =
-    let f : MisfitAt (take (n + 1) ts) r.now = at_syntax e r m h in
-    let g : MisfitAt (take (n + 1) ts) [] = rw (none_there r.now k) at f in
-    deep_cut end n at g d (p ∙ ap (λ x. place x end) (take_rest ts n))
+-- one token more
+pub first_at : (ts : List Token) (n : ℕ) (d : Token) → n < length ts → NoneTooMany (take n ts) → IsTooMany (take n ts) (get_or ts n d) → IsFirstAt ts n
+first_at ts n d h none many = (
+  record {
+    before = take n ts;
+    token = get_or ts n d;
+    after = drop (n + 1) ts;
+    spelled = sym (take-append-drop (n + 1) ts) ∙ ap (λ x. x ++ drop (n + 1) ts) (take_more ts n d h) ∙ append_assoc (take n ts) (get_or ts n d ∷ []) (drop (n + 1) ts);
+    none_before = none;
+    too_many = many;
+  },
+  sym (length-take-le n ts (omega arith)),
+)
 
-pub deep_spelled : (ts : List Token) (end n at : ℕ) (q : Tree) → IsPattern (take (n + 1) ts) q → deep_at at_start ts ≡ Some n → at ≡ place (take (length ts - n) (drop n ts)) end → DeepAt ts end at
-deep_spelled ts end n at q x d p = record { before = n; is_first = d; front = completes_front (front_whole q x); here = p ∙ ap (λ y. place y end) (take_rest ts n) }
-
-pub syntax_at : (ts : List Token) (end n : ℕ) (e : Stop) (r : Bor (List Token)) (d : Token) → Misfit (take (n + 1) ts) e → e ≡ Syntax r → 1 ≤ length r.now → deep_at at_start ts ≡ Some n → SyntaxAt ts end (get_or r.now 0 d).from
-syntax_at ts end n e r d m h k s = some_there r.now (at_syntax e r m h) k
-  where
-    some_there : (us : List Token) → MisfitAt (take (n + 1) ts) us → 1 ≤ length us → SyntaxAt ts end (get_or us 0 d).from
-    some_there [] g i = absurd (omega arith)
-    some_there (u ∷ us) g i = syntax_cut end n g s
-
--- tokens with none too many, and those through the first that is
-pub none_shallow : (ts : List Token) → deep_at at_start ts ≡ None → IsShallow ts
-none_shallow ts e = rw e tt
-
-later : (m : Option ℕ) (k : ℕ) → option_map (λ i. i + 1) m ≡ Some k → (i : ℕ) × (m ≡ Some i) × (k ≡ i + 1)
-later None k h = absurd (cc)
-later (Some i) k h = (i, refl, cc)
-
-below_first : (depth : Depth) (t : Token) (ts : List Token) (n : ℕ) (b : Bool) → is_deep depth t.kind ≡ b → deep_at depth (t ∷ ts) ≡ Some n → ((k : ℕ) → deep_at (depth_after depth t.kind) ts ≡ Some k → k < length ts) → n < length (t ∷ ts)
-below_first depth t ts n true h e more = let g : Some 0 ≡ Some n = rw h at e in let z : 0 ≡ n = cc in omega arith
-below_first depth t ts n false h e more =
-    let g = later (deep_at (depth_after depth t.kind) ts) n (rw h at e) in
-    let k = more g.0 g.1 in
-    let z = g.2 in
-    omega arith
-
-pub deep_below : (depth : Depth) (ts : List Token) (n : ℕ) → deep_at depth ts ≡ Some n → n < length ts
-deep_below depth [] n e = absurd (cc)
-deep_below depth (t ∷ ts) n e = below_first depth t ts n (is_deep depth t.kind) refl e (λ k h. deep_below (depth_after depth t.kind) ts k h)
-
-through_first : (depth : Depth) (t : Token) (ts : List Token) (n : ℕ) (b : Bool) → is_deep depth t.kind ≡ b → deep_at depth (t ∷ ts) ≡ Some n → ((k : ℕ) → deep_at (depth_after depth t.kind) ts ≡ Some k → deep_at (depth_after depth t.kind) (take (k + 1) ts) ≡ Some k) → deep_at depth (take (suc n) (t ∷ ts)) ≡ Some n
-through_first depth t ts n true h e more = rw h (rw h at e)
-through_first depth t ts n false h e more =
-    let g = later (deep_at (depth_after depth t.kind) ts) n (rw h at e) in
-    rw (h, g.2) (ap (option_map (λ i. i + 1)) (more g.0 g.1))
-
-through : (depth : Depth) (ts : List Token) (n : ℕ) → deep_at depth ts ≡ Some n → deep_at depth (take (n + 1) ts) ≡ Some n
-through depth [] n e = absurd (cc)
-through depth (t ∷ ts) n e = rw add-one (through_first depth t ts n (is_deep depth t.kind) refl e (λ k h. through (depth_after depth t.kind) ts k h))
-
-pub through_shallow : (ts : List Token) (n : ℕ) → deep_at at_start ts ≡ Some n → IsShallow (take (n + 1) ts)
-through_shallow ts n e = rw (through at_start ts n e) (omega (arith, length-take (n + 1) ts))
+pub none_through : (ts : List Token) (n : ℕ) (d : Token) → n < length ts → NoneTooMany (take n ts) → ¬ IsTooMany (take n ts) (get_or ts n d) → NoneTooMany (take (n + 1) ts)
+none_through ts n d h none few = subst NoneTooMany (sym (take_more ts n d h)) (none_more (take n ts) (get_or ts n d) none few)

@@ -1,15 +1,15 @@
 -- Tokens spell a tree, or are refused in one way.
-use Rattle.std.proofs.Common.{◌≡◌, ◌≤◌, ◌+◌, ℕ, List, [], ◌∷◌, ◌++◌, length, take, drop, inl, inr, refl, sym, ap, subst, ◌∙◌, arith, append_assoc, append-nil, length-append, length-take-le, take-append-drop}
+use Rattle.std.proofs.Common.{◌≡◌, ℕ, List, [], ◌∷◌, ◌++◌, inl, inr, refl, sym, ap, subst, ◌∙◌, append_assoc, append-nil}
 use Rattle.pattern_tokens.specs.declared.token.Token.{Token}
 use Rattle.pattern_grammar.specs.declared.refusal.SyntaxRefusal.{SyntaxRefusal}
 use Rattle.pattern_grammar.specs.declared.refusal.SyntaxRefusal.TheVariants.{Syntax, TooDeep}
 use Rattle.pattern_grammar.specs.Tree.{Tree}
 use Rattle.pattern_grammar.specs.Answer.{BeginsPattern, EndsAt, MisfitAt}
-use Rattle.pattern_grammar.specs.Depth.{at_start}
+use Rattle.pattern_grammar.specs.Depth.{FirstTooMany}
 use Rattle.pattern_grammar.specs.Place.{place, SyntaxAt, DeepAt, IsMisread, IsTreeOf}
 use Rattle.pattern_grammar.proofs.CutLemmas.{Longer, cut}
 use Rattle.pattern_grammar.proofs.DerivesLemmas.{front_completes, completes_front}
-use Rattle.pattern_grammar.proofs.DepthLemmas.{deep_below}
+use Rattle.pattern_grammar.proofs.DepthLemmas.{split_through}
 use Rattle.pattern_grammar.proofs.EndsAtLemmas.{misfit_unspelled}
 
 -- what begins the beginning of a pattern begins a pattern
@@ -34,29 +34,29 @@ one_rest {ts} {first} {second} m n =
     elim (cut m.read first n.read second (sym m.all_are ∙ n.all_are)) [ inl l ↦ (longer_ends l m.front n.ends).1 | inr l ↦ sym (longer_ends l n.front m.ends).1 ]
 
 -- a front through the first token that is one too many is no misfit before it
-not_both : {ts : List Token} (end at there : ℕ) → SyntaxAt ts end at → DeepAt ts end there → ⊥
+not_both : {ts : List Token} (end at there : ℕ) → SyntaxAt ts end at → DeepAt ts there → ⊥
 not_both {ts} end at there s d =
-    let below = deep_below at_start ts d.before d.is_first in
-    let size : length (take (d.before + 1) ts) ≡ d.before + 1 = length-take-le (d.before + 1) ts (omega arith) in
-    let few : length s.misfit.read ≤ d.before = rw d.is_first at s.first in
-    elim (cut (take (d.before + 1) ts) (drop (d.before + 1) ts) s.misfit.read s.rest (take-append-drop (d.before + 1) ts ∙ s.misfit.all_are)) [
-      | inl l ↦ (let e = ap length (longer_ends l d.front s.misfit.ends).0 in absurd (omega arith))
-      | inr l ↦ (let e = ap length l.longer ∙ length-append (take (d.before + 1) ts) l.between in absurd (omega arith))
+    let through : List Token = d.first.before ++ d.first.token ∷ [] in
+    elim (cut through d.first.after s.misfit.read s.rest (sym (split_through d.first) ∙ s.misfit.all_are)) [
+      | inl l ↦ s.shallow d.first.before d.first.token [] (sym (longer_ends l d.front s.misfit.ends).0) d.first.too_many
+      | inr l ↦ s.shallow d.first.before d.first.token l.between (l.longer ∙ append_assoc d.first.before (d.first.token ∷ []) l.between) d.first.too_many
     ]
 
 pub not_misread : (ts : List Token) (end : ℕ) (p : Tree) (refusal : SyntaxRefusal) → IsTreeOf ts p → ¬ IsMisread ts end refusal
 not_misread ts end p (Syntax at) x m = misfit_unspelled m.misfit p x.spells
-not_misread ts end p (TooDeep at) x m = let a = x.shallow in let b = m.is_first in absurd (cc)
+not_misread ts end p (TooDeep at) x m = x.shallow m.first.before m.first.token m.first.after m.first.spelled m.first.too_many
 
-one_deep : {ts : List Token} (end at there : ℕ) → DeepAt ts end at → DeepAt ts end there → at ≡ there
-one_deep {ts} end at there d e =
-    let f = d.is_first in
-    let g = e.is_first in
-    let same : d.before ≡ e.before = cc in
-    d.here ∙ ap (λ n. place (drop n ts) end) same ∙ sym e.here
+-- one token is the first
+same_first : {ts : List Token} (a b : FirstTooMany ts) (between : List Token) → a.before ≡ b.before ++ between → b.token ∷ b.after ≡ between ++ a.token ∷ a.after → a.token ≡ b.token
+same_first a b [] e h = cc
+same_first a b (t ∷ between) e h = let same : b.token ≡ t = cc in absurd (a.none_before b.before b.token between (rw same e) b.too_many)
+
+one_first : {ts : List Token} (a b : FirstTooMany ts) → a.token ≡ b.token
+one_first a b =
+    elim (cut a.before (a.token ∷ a.after) b.before (b.token ∷ b.after) (sym a.spelled ∙ b.spelled)) [ inl l ↦ same_first a b l.between l.longer l.left | inr l ↦ sym (same_first b a l.between l.longer l.left) ]
 
 pub one_refusal : (ts : List Token) (end : ℕ) (first second : SyntaxRefusal) → IsMisread ts end first → IsMisread ts end second → first ≡ second
 one_refusal ts end (Syntax at) (Syntax there) x y = ap (λ n. Syntax n) (x.here ∙ ap (λ rest. place rest end) (one_rest x.misfit y.misfit) ∙ sym y.here)
 one_refusal ts end (Syntax at) (TooDeep there) x y = absurd (not_both end at there x y)
 one_refusal ts end (TooDeep at) (Syntax there) x y = absurd (not_both end there at y x)
-one_refusal ts end (TooDeep at) (TooDeep there) x y = ap (λ n. TooDeep n) (one_deep end at there x y)
+one_refusal ts end (TooDeep at) (TooDeep there) x y = ap (λ n. TooDeep n) (x.here ∙ ap (λ t. t.from) (one_first x.first y.first) ∙ sym y.here)

@@ -1,55 +1,51 @@
--- Which token is one too many: the `(` that opens while 64 are open, those of IN not counted, and the
--- first token of the 65th qualifier.
-use Rattle.std.specs.Prelude.{ℕ, ◌+◌, ◌-◌, Bool, false, List, [], ◌∷◌, Option, Some, None, option_map, IfSome, nat_le, ◌≤◌, length, if◌then◌else◌}
+-- Which token is one too many: a `(` while 64 parentheses are open, or the first of a qualifier behind 64
+-- qualifiers.
+use Rattle.std.specs.Prelude.{◌≡◌, ℕ, ◌+◌, ◌≤◌, ◌⊎◌, List, [], ◌∷◌, ◌++◌, count_by}
 use Rattle.pattern_tokens.specs.declared.token.Token.{Token}
-use Rattle.pattern_tokens.specs.declared.token.TokenKind.{TokenKind}
-use Rattle.pattern_tokens.specs.declared.token.TokenKind.TheVariants.{RoundOpen, RoundClose, Within, Repeats, Start, Among}
-use Rattle.pattern_grammar.specs.declared.depth.Depth.{Depth}
-use Rattle.pattern_grammar.specs.declared.depth.Listing.{Listing}
-use Rattle.pattern_grammar.specs.declared.depth.Listing.TheVariants.{Outside, AfterIn, Inside}
+use Rattle.pattern_tokens.specs.declared.token.TokenKind.TheVariants.{RoundOpen, RoundClose, Among}
+use Rattle.pattern_grammar.specs.declared.class.TokenClass.{TokenClass}
+use Rattle.pattern_grammar.specs.declared.class.TokenClass.TheVariants.{Only, Qualifying}
+use Rattle.pattern_grammar.specs.TokenClass.{is_in, IsA}
 
--- nothing is open, and no qualifier stands yet
-abbrev pub at_start : Depth
-at_start = record { nested = 0; qualifiers = 0; listing = Outside }
+-- how many of the tokens are of the class
+abbrev pub how_many : TokenClass → List Token → ℕ
+how_many class ts = count_by (λ t. is_in class t.kind) ts
 
--- a parenthesis opens while 64 are open, unless it is that of IN
-abbrev pub is_deep_open : Listing → ℕ → Bool
-is_deep_open Outside nested = nat_le 64 nested
-is_deep_open _ nested = false
+-- the last of the tokens is IN
+pub record EndsWithIn (ts : List Token) : Type 0 where
+  pub front : List Token
+  pub last : Token
+  pub spelled : ts ≡ front ++ last ∷ []
+  pub among : IsA (Only Among) last
 
--- the token is one too many
-abbrev pub is_deep : Depth → TokenKind → Bool
-is_deep depth RoundOpen = is_deep_open depth.listing depth.nested
-is_deep depth Within = nat_le 64 depth.qualifiers
-is_deep depth Repeats = nat_le 64 depth.qualifiers
-is_deep depth Start = nat_le 64 depth.qualifiers
-is_deep depth _ = false
+-- a `(` while 64 more `(` than `)` stand before it, but not the one directly behind IN
+pub record IsDeepOpen (before : List Token) (token : Token) : Type 0 where
+  pub opens : IsA (Only RoundOpen) token
+  pub groups : ¬ EndsWithIn before
+  pub deep : how_many (Only RoundClose) before + 64 ≤ how_many (Only RoundOpen) before
 
--- one parenthesis more: that of IN opens a list, and is not counted
-abbrev pub opened : Listing → Depth → Depth
-opened Outside depth = record depth { nested = depth.nested + 1 }
-opened _ depth = record depth { listing = Inside }
+-- the first token of a qualifier, behind 64 such
+pub record IsDeepQualifier (before : List Token) (token : Token) : Type 0 where
+  pub qualifies : IsA Qualifying token
+  pub deep : 64 ≤ how_many Qualifying before
 
--- one parenthesis less: that of IN closes the list
-abbrev pub closed : Listing → Depth → Depth
-closed Outside depth = record depth { nested = depth.nested - 1 }
-closed _ depth = record depth { listing = Outside }
+-- the token is one too many behind those
+abbrev pub IsTooMany : List Token → Token → Type 0
+IsTooMany before token = IsDeepOpen before token ⊎ IsDeepQualifier before token
 
--- what the tokens count for with one more
-abbrev pub depth_after : Depth → TokenKind → Depth
-depth_after depth RoundOpen = opened depth.listing depth
-depth_after depth RoundClose = closed depth.listing depth
-depth_after depth Within = record depth { qualifiers = depth.qualifiers + 1 }
-depth_after depth Repeats = record depth { qualifiers = depth.qualifiers + 1 }
-depth_after depth Start = record depth { qualifiers = depth.qualifiers + 1 }
-depth_after depth Among = record depth { listing = AfterIn }
-depth_after depth _ = depth
+-- none of the tokens is one too many
+abbrev pub NoneTooMany : List Token → Type 0
+NoneTooMany ts = (before : List Token) (token : Token) (after : List Token) → ts ≡ before ++ token ∷ after → ¬ IsTooMany before token
 
--- how many tokens stand before the first that is one too many
-abbrev pub deep_at : Depth → List Token → Option ℕ
-deep_at depth [] = None
-deep_at depth (t ∷ ts) = if is_deep depth t.kind then Some 0 else option_map (λ n. n + 1) (deep_at (depth_after depth t.kind) ts)
+-- the first token that is one too many, and what stands around it
+pub record FirstTooMany (ts : List Token) : Type 0 where
+  pub before : List Token
+  pub token : Token
+  pub after : List Token
+  pub spelled : ts ≡ before ++ token ∷ after
+  pub none_before : NoneTooMany before
+  pub too_many : IsTooMany before token
 
--- no token but the last is one too many
+-- none but the last is one too many
 abbrev pub IsShallow : List Token → Type 0
-IsShallow ts = IfSome (deep_at at_start ts) (λ n. length ts ≤ n + 1)
+IsShallow ts = (before : List Token) (token : Token) (after : List Token) → ts ≡ before ++ token ∷ after → IsTooMany before token → after ≡ []

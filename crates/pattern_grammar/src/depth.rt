@@ -1,104 +1,94 @@
-ghost use Rattle.std.specs.Prelude.{◌≡◌, ◌<◌, false, length, IfSome};
-ghost use Rattle.pattern_grammar.specs.Depth.{is_deep, depth_after, deep_at, at_start};
+ghost use Rattle.std.specs.Prelude.{◌≡◌, ◌<◌, ◌^◌, ◌↔◌, IsTrue, List, [], ◌∷◌, ◌++◌, length, IfSome, IfNone};
+ghost use Rattle.pattern_tokens.specs.declared.token.Token.{Token};
+ghost use Rattle.pattern_grammar.specs.Depth.{IsDeepOpen, IsDeepQualifier, IsTooMany, NoneTooMany};
+ghost use Rattle.pattern_grammar.specs.inner.Counting.{CountsOf, IsFirstAt};
 
+use crate::TokenClass;
 use pattern_tokens::{Token, TokenKind};
 
 /// How many parentheses may be open, and how many qualifiers a pattern may have.
 const MOST: usize = 64;
 
-/// Whether a parenthesis belongs to the list of an `IN`.
-#[derive(Clone, Copy, Debug, PartialEq, Eq)]
-pub(crate) enum Listing {
-    /// It doesn't.
-    Outside,
-    /// The last token was `IN`.
-    AfterIn,
-    /// The list is open.
-    Inside,
+/// What stands before a token.
+#[derive(Clone, Copy)]
+struct Counts {
+    /// How many `(`.
+    opened: usize,
+    /// How many `)`.
+    closed: usize,
+    /// How many first tokens of qualifiers.
+    qualifiers: usize,
+    /// Whether the last of them is `IN`.
+    behind_in: bool,
 }
 
-/// What the tokens so far count for: the parentheses that are open, those of `IN` left out, and the
-/// qualifiers.
-#[derive(Clone, Copy, Debug, PartialEq, Eq)]
-pub(crate) struct Depth {
-    pub(crate) nested: usize,
-    pub(crate) qualifiers: usize,
-    pub(crate) listing: Listing,
-}
-
-impl Depth {
-    /// Nothing is open yet.
-    pub(crate) fn start() -> Depth
-        ensures { result ≡ at_start }
+impl Counts {
+    /// Nothing stands there.
+    fn none() -> Counts
+        ensures { CountsOf [] result }
     {
-        Depth {
-            nested: 0,
+        Counts {
+            opened: 0,
+            closed: 0,
             qualifiers: 0,
-            listing: Listing::Outside,
+            behind_in: false,
         }
     }
 
-    /// Whether a token of the kind is one too many.
-    pub(crate) fn is_deep(self, kind: TokenKind) -> bool
-        ensures { result ≡ is_deep self kind }
+    /// Whether the token opens a parenthesis too many.
+    fn is_deep_open(self, token: Token) -> bool
+        ensures { (before : List Token) → CountsOf before self → IsTrue result ↔ IsDeepOpen before token }
     {
-        match kind {
-            TokenKind::RoundOpen => self.listing == Listing::Outside && self.nested >= MOST,
-            TokenKind::Within | TokenKind::Repeats | TokenKind::Start => self.qualifiers >= MOST,
-            _ => false,
-        }
+        TokenClass::Only(TokenKind::RoundOpen).holds(token.kind)
+            && !self.behind_in
+            && self.opened.saturating_sub(self.closed) >= MOST
     }
 
-    /// What the tokens count for with one more of the kind.
-    pub(crate) fn after(self, kind: TokenKind) -> Depth
-        requires { is_deep self kind ≡ false }
-        ensures { result ≡ depth_after self kind }
+    /// Whether the token begins a qualifier too many.
+    fn is_deep_qualifier(self, token: Token) -> bool
+        ensures { (before : List Token) → CountsOf before self → IsTrue result ↔ IsDeepQualifier before token }
     {
-        match (kind, self.listing) {
-            (TokenKind::RoundOpen, Listing::Outside) => Depth {
-                nested: self.nested + 1,
-                ..self
-            },
-            (TokenKind::RoundClose, Listing::Outside) => Depth {
-                nested: self.nested.saturating_sub(1),
-                ..self
-            },
-            (TokenKind::Within | TokenKind::Repeats | TokenKind::Start, _) => Depth {
-                qualifiers: self.qualifiers + 1,
-                ..self
-            },
-            (TokenKind::Among, _) => Depth {
-                listing: Listing::AfterIn,
-                ..self
-            },
-            (TokenKind::RoundOpen, _) => Depth {
-                listing: Listing::Inside,
-                ..self
-            },
-            (TokenKind::RoundClose, _) => Depth {
-                listing: Listing::Outside,
-                ..self
-            },
-            _ => self,
+        TokenClass::Qualifying.holds(token.kind) && self.qualifiers >= MOST
+    }
+
+    /// Whether the token is one too many.
+    fn is_too_many(self, token: Token) -> bool
+        ensures { (before : List Token) → CountsOf before self → IsTrue result ↔ IsTooMany before token }
+    {
+        self.is_deep_open(token) || self.is_deep_qualifier(token)
+    }
+
+    /// What stands before the token behind this one.
+    fn with(self, token: Token) -> Counts
+        requires opened { self.opened < 2 ^ 63 }
+        requires closed { self.closed < 2 ^ 63 }
+        requires qualifiers { self.qualifiers < 2 ^ 63 }
+        ensures { (before : List Token) → CountsOf before self → CountsOf (before ++ token ∷ []) result }
+    {
+        let opens = TokenClass::Only(TokenKind::RoundOpen).holds(token.kind);
+        let closes = TokenClass::Only(TokenKind::RoundClose).holds(token.kind);
+        let qualifies = TokenClass::Qualifying.holds(token.kind);
+        Counts {
+            opened: self.opened + usize::from(opens),
+            closed: self.closed + usize::from(closes),
+            qualifiers: self.qualifiers + usize::from(qualifies),
+            behind_in: TokenClass::Only(TokenKind::Among).holds(token.kind),
         }
     }
 }
 
 /// How many tokens stand before the first that is one too many.
-pub(crate) fn first_deep(tokens: &[Token]) -> Option<usize>
-    ensures same { result ≡ deep_at at_start tokens.now }
-    ensures below { IfSome result (λ n. n < length tokens.now) }
+pub(crate) fn first_too_many(tokens: &[Token]) -> Option<usize>
+    ensures some { IfSome result (IsFirstAt tokens.now) }
+    ensures below { IfSome result (λ count. count < length tokens.now) }
+    ensures none { IfNone result (NoneTooMany tokens.now) }
 {
-    let mut rest = tokens;
-    let mut before = 0usize;
-    let mut depth = Depth::start();
-    while let [first, after @ ..] = rest {
-        if depth.is_deep(first.kind) {
+    let mut counts = Counts::none();
+    for (before, token) in tokens.iter().enumerate() {
+        if counts.is_too_many(*token) {
             return Some(before);
         }
-        depth = depth.after(first.kind);
-        before += 1;
-        rest = after;
+        counts = counts.with(*token);
     }
     None
 }

@@ -1,8 +1,8 @@
-ghost use Rattle.std.specs.Prelude.{◌≡◌, ◌<◌, length, IfOk, Some};
-ghost use Rattle.pattern_grammar.specs.Depth.{deep_at, at_start};
+ghost use Rattle.std.specs.Prelude.{◌≡◌, ◌<◌, ℕ, length, IfOk};
 ghost use Rattle.pattern_grammar.specs.Place.{place, IsMisread, AnswersTree};
+ghost use Rattle.pattern_grammar.specs.inner.Counting.{IsFirstAt};
 
-use crate::depth::first_deep;
+use crate::depth::first_too_many;
 use crate::{PatternTree, Stop, SyntaxRefusal, parse};
 use flow_values::NoMemory;
 use pattern_tokens::Token;
@@ -17,8 +17,8 @@ pub fn read_tree(
 ) -> Result<Result<PatternTree, SyntaxRefusal>, NoMemory>
     ensures { IfOk result (AnswersTree tokens.now end) }
 {
-    if let Some(before) = first_deep(tokens) {
-        let refusal = refusal_through(alloc, tokens, before, end)?;
+    if let Some(before) = first_too_many(tokens) {
+        let refusal = refusal_through(alloc, tokens, before)?;
         return Ok(Err(refusal));
     }
     match parse(alloc, tokens) {
@@ -36,11 +36,10 @@ fn refusal_through(
     alloc: Global,
     tokens: &[Token],
     before: usize,
-    end: usize,
 ) -> Result<SyntaxRefusal, NoMemory>
     requires within { before < length tokens.now }
-    requires deep { deep_at at_start tokens.now ≡ Some before }
-    ensures { IfOk result (IsMisread tokens.now end) }
+    requires deep { IsFirstAt tokens.now before }
+    ensures { IfOk result (λ refusal. (end : ℕ) → IsMisread tokens.now end refusal) }
 {
     match parse(alloc, &tokens[..before + 1]) {
         Err(Stop::Memory) => return Err(NoMemory),
@@ -49,13 +48,13 @@ fn refusal_through(
         }
         Err(Stop::Syntax([])) => {
             return Ok(SyntaxRefusal::TooDeep {
-                at: start_of(&tokens[before..], end),
+                at: tokens[before].from,
             });
         }
         // A pattern begins a pattern.
         Ok(_) => {
             return Ok(SyntaxRefusal::TooDeep {
-                at: start_of(&tokens[before..], end),
+                at: tokens[before].from,
             });
         }
     }

@@ -13,7 +13,7 @@ use Rattle.pattern_grammar.specs.declared.comparison.Operand.TheVariants as oper
 use Rattle.pattern_grammar.specs.Tree.{Comparison, test, group, all, any, joined, compared, conjunction, operand, operand_level}
 use Rattle.pattern_types.specs.declared.leaf.Leaf.{Leaf, Row_of-Leaf, end_of-Leaf, more_of-Leaf, items-the_row-Leaf, the_lemmas}
 use Rattle.pattern_types.specs.declared.leaf.Leaf.TheVariants as leaf
-use Rattle.pattern_types.specs.PlainLeaf.{PlainLeaf, PlainLeaves, every, some, more, put, plain_leaf, plain_leaves, listed}
+use Rattle.pattern_types.specs.PlainLeaf.{every, some, more, put, plain_leaf, plain_leaves, listed}
 use Rattle.pattern_meaning.specs.declared.judged.Judged.{Judged}
 use Rattle.pattern_meaning.specs.declared.refusal.ValueRefusal.{ValueRefusal}
 use Rattle.pattern_meaning.specs.LeafMeaning.{Means, means_group, means_all, means_any, AllParts, all_first, all_more, AnyParts, any_first, any_more, IsNoAll, IsNoAny}
@@ -66,8 +66,10 @@ all_more_outcome text c d a b m k n o x y j z i e = mapped_outcome (λ p. p.1) (
   where
     IsMore : List Leaf → Type 0
     IsMore ls = AllParts text (all c d) (listed ls) × AreSoundLeaves (listed ls)
+
     parts : IsOutcome IsMore (λ r. RefusalOfComparison text c r ⊎ RefusalOfComparison text d r) m
     parts = joined_outcome (λ ls l. ls ++ l ∷ []) (AreAll text c) (IsLeafOf text d) IsMore (RefusalOfComparison text c) (RefusalOfComparison text d) a b m (λ ls l h g. (subst (AllParts text (all c d)) (sym (listed-push ls l)) (all_more h.means g.means), sound_push ls l h.sound g.sound)) j x y
+
     checked : IsOutcome (λ p. AreAll text (all c d) p.1) (RefusalOfComparison text (all c d)) n
     checked = joined_outcome (λ u ls. (u, ls)) (λ u. (root : List ℕ) × (HasRoot text c root × HasRoot text d root)) IsMore (λ p. AreAll text (all c d) p.1) (IsRootless text c d) (λ r. RefusalOfComparison text c r ⊎ RefusalOfComparison text d r) k m n (λ u ls h g. record { means = g.0; sound = g.1; rooted = h }) i z parts
 

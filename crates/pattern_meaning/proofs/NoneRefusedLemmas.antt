@@ -1,5 +1,5 @@
 -- In what means a sound pattern nothing is refused.
-use Rattle.std.proofs.Common.{◌≡◌, ◌<◌, ◌≤◌, inl, inr, ℕ, List, [], ◌∷◌, length, arith}
+use Rattle.std.proofs.Common.{◌≤◌, inl, inr, ℕ, List, [], ◌∷◌, length, arith}
 use Rattle.pattern_grammar.specs.declared.path.StepTree.{StepTree}
 use Rattle.pattern_grammar.specs.declared.path.PathTree.{PathTree}
 use Rattle.pattern_grammar.specs.declared.comparison.TestTree.{TestTree}

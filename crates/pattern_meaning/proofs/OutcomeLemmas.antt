@@ -1,5 +1,5 @@
 -- Outcomes: of what is found or not, and of two parts together.
-use Rattle.std.proofs.Common.{◌≡◌, ◌⊎◌, inl, inr, Option, Some, None, Result, Ok, Err, refl, sym, subst, rules, arith}
+use Rattle.std.proofs.Common.{◌≡◌, ◌⊎◌, inl, inr, Option, Some, None, Result, Ok, Err, refl, sym, subst}
 use Rattle.std.specs.Option.{ok_or}
 use Rattle.std.specs.Prelude.{MatchResult}
 use Rattle.flow_values.specs.Answers.{FindsExactly}

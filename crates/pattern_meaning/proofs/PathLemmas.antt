@@ -46,9 +46,11 @@ steps_more text path xs i x a next b e o f j = rw e (outcome_same (AreSteps text
     more r (inl (inl h)) = inl h
     more r (inl (inr h)) = inr (steps_join text (take i xs) x r (inl h))
     more r (inr h) = inr (steps_join text (take i xs) x r (inr h))
+
     less : (r : ValueRefusal) → RefusalUpTo text path (take i xs ++ x ∷ []) r → RefusalUpTo text path (take i xs) r ⊎ Lacks (IsStepOf text x) (step_refusal x) r
     less r (inl h) = inl (inl h)
     less r (inr h) = elim (steps_split text (take i xs) x r h) [ inl g ↦ inl (inr g) | inr g ↦ inr g ]
+
     both : IsOutcome (AreSteps text path (take i xs ++ x ∷ [])) (λ r. RefusalUpTo text path (take i xs) r ⊎ Lacks (IsStepOf text x) (step_refusal x) r) b
     both = joined_outcome (λ ss s. ss ++ s ∷ []) (AreSteps text path (take i xs)) (IsStepOf text x) (AreSteps text path (take i xs ++ x ∷ [])) (RefusalUpTo text path (take i xs)) (Lacks (IsStepOf text x) (step_refusal x)) a (ok_or next (step_refusal x)) b (λ ss s h k. (each_more (IsStepOf text) (take i xs) ss x s h.0 k, h.1)) j o (found_outcome (IsStepOf text x) (step_refusal x) next f)
 
@@ -58,14 +60,18 @@ path_outcome text path a b c o u j = outcome_same IsPair IsPair (λ r. Rootless 
   where
     Rootless : ValueRefusal → Type 0
     Rootless = Lacks (At IsItself text path.root) (NoValue path.root.from)
+
     IsPair : List ℕ × List Step → Type 0
     IsPair = λ p. IsPathOf text path (record { kind = p.0; steps = p.1 }) × (length p.1 ≤ 16)
+
     pair : (x : List ℕ) (y : List Step) → At IsItself text path.root x → AreSteps text path path.steps y → IsPair (x, y)
     pair x y h k = (record { root = h; steps = k.0 }, let e = each_length (IsStepOf text) path.steps y k.0 in let short = k.1 in omega (arith, e))
+
     more : (r : ValueRefusal) → Rootless r ⊎ RefusalUpTo text path path.steps r → RefusalOfPath text path r
     more r (inl h) = inr (inl h)
     more r (inr (inl h)) = inl h
     more r (inr (inr h)) = inr (inr h)
+
     less : (r : ValueRefusal) → RefusalOfPath text path r → Rootless r ⊎ RefusalUpTo text path path.steps r
     less r (inl h) = inr (inl h)
     less r (inr (inl h)) = inl h

@@ -9,7 +9,11 @@ use pattern_types::Constant;
 use std::alloc::Global;
 
 /// The constant that the token stands for.
-pub(crate) fn constant_of(alloc: Global, text: &str, token: Token) -> Result<Option<Constant>, NoMemory>
+pub(crate) fn constant_of(
+    alloc: Global,
+    text: &str,
+    token: Token,
+) -> Result<Option<Constant>, NoMemory>
     ensures { IfOk result (λ found. FindsExactly (IsConstantOf text.now token) found) }
 {
     match token.kind {

@@ -79,11 +79,7 @@ fn rooted(at: usize, roots: &BTreeSet<&str>) -> Result<(), ValueRefusal>
 }
 
 /// The chain and one part more, joined by `AND`: they are to have a root kind in common.
-fn with_all<'a>(
-    alloc: Global,
-    chain: Chain<'a>,
-    next: Judged<'a>,
-) -> Result<Chain<'a>, NoMemory>
+fn with_all<'a>(alloc: Global, chain: Chain<'a>, next: Judged<'a>) -> Result<Chain<'a>, NoMemory>
     ensures { IfOk result (λ more. (text : List ℕ) (c d : Comparison) → IsChain AreAll text c chain.entry
         → IsJudged text d next.entry → IsChain AreAll text (all c d) more) }
 {

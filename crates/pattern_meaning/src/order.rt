@@ -30,9 +30,5 @@ fn precedes(a: ValueRefusal, b: ValueRefusal) -> bool
 pub(crate) fn first_of_two(a: ValueRefusal, b: ValueRefusal) -> ValueRefusal
     ensures { IsFirstOfTwo a b result }
 {
-    if precedes(a, b) {
-        a
-    } else {
-        b
-    }
+    if precedes(a, b) { a } else { b }
 }

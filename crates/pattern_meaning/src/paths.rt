@@ -98,11 +98,7 @@ fn steps_of(
 }
 
 /// The object type that a path begins with.
-fn kind_of(
-    alloc: Global,
-    text: &str,
-    root: Token,
-) -> Result<Result<Text, ValueRefusal>, NoMemory>
+fn kind_of(alloc: Global, text: &str, root: Token) -> Result<Result<Text, ValueRefusal>, NoMemory>
     ensures { IfOk result (IsOutcome (At IsItself text.now root) (Lacks (At IsItself text.now root) (NoValue root.from))) }
 {
     match text_of(text, root) {

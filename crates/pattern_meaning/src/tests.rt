@@ -76,7 +76,10 @@ fn refuses_two_object_types(rt: HostRuntime) -> Result<(), Fail> {
     let alloc = rt.alloc();
     let tree = joined_tree(alloc)?;
     let meaning = meaning_of(alloc, "a:b=1 AND c:d=2", &tree)?;
-    let is_refused = matches!(meaning, Meaning::Refused(ValueRefusal::NoCommonRoot { at: 0 }));
+    let is_refused = matches!(
+        meaning,
+        Meaning::Refused(ValueRefusal::NoCommonRoot { at: 0 })
+    );
     assert!(rt; is_refused, "no common root");
     Ok(())
 }

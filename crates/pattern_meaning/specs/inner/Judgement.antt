@@ -1,5 +1,5 @@
 -- What private functions answer of the parts of a syntax tree.
-use Rattle.std.specs.Prelude.{◌≡◌, ◌↔◌, ℕ, List, Option, Result, Ok, IfOk}
+use Rattle.std.specs.Prelude.{◌≡◌, ◌↔◌, ℕ, List, Result, IfOk}
 use Rattle.std.specs.Result.{result_err}
 use Rattle.pattern_grammar.specs.Tree.{Comparison}
 use Rattle.pattern_types.specs.declared.leaf.Leaf.{Leaf}

@@ -1,6 +1,0 @@
-mod EarliestLemmas
-mod TokenValueLemmas
-mod RefusalOfLemmas
-mod ChainLemmas
-mod OperatorLemmas
-mod RootSetLemmas

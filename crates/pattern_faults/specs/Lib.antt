@@ -1,4 +1,0 @@
-pub mod Order
-pub mod Refusals
-pub mod Roots
-pub mod inner
