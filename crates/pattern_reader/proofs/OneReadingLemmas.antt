@@ -40,7 +40,7 @@ abbrev pub NoneFaulty : Type 0
 NoneFaulty = (text : List ℕ) (t : Tree) (m : PlainPattern) (r : ValueRefusal) → MeansPattern text t m → IsSoundPattern m → ¬ RefusalOf text t r
 
 abbrev pub OneFault : Type 0
-OneFault = (IsOne : ValueRefusal → Type 0) (r s : ValueRefusal) → IsEarliest IsOne r → IsEarliest IsOne s → r ≡ s
+OneFault = (text : List ℕ) (t : Tree) (r s : ValueRefusal) → IsEarliest (RefusalOf text t) r → IsEarliest (RefusalOf text t) s → r ≡ s
 
 -- tokens
 same_ok : (a b : List Token) → ◌≡◌ {A = Result (List Token) TokenRefusal} (Ok a) (Ok b) → a ≡ b
@@ -110,7 +110,7 @@ one_refused reading tree misread one faulty fault text (refused.Value r) (refuse
 one_refused reading tree misread one faulty fault text (refused.Value r) (refused.Syntax s) x y = absurd (not_unspelled reading misread text x.1.tree s x.1.spelled y.1)
 one_refused reading tree misread one faulty fault text (refused.Value r) (refused.Value s) x y =
     let same = one_spelled reading tree text x.1.tree y.1.tree x.1.spelled y.1.spelled in
-    ap refused.Value (fault (RefusalOf text y.1.tree) r s (subst (λ (t : Tree). IsEarliest (RefusalOf text t) r) same x.1.earliest) y.1.earliest)
+    ap refused.Value (fault text y.1.tree r s (subst (λ (t : Tree). IsEarliest (RefusalOf text t) r) same x.1.earliest) y.1.earliest)
 one_refused reading tree misread one faulty fault text (refused.Value r) refused.TooWide x y = absurd (not_faulty faulty text y.1.tree x.1.tree y.1.wide.pattern r (one_spelled reading tree text y.1.tree x.1.tree y.1.spelled x.1.spelled) y.1.wide.meant x.1.earliest)
 one_refused reading tree misread one faulty fault text refused.TooWide refused.TooLong x y = absurd (too_long text y x.0)
 one_refused reading tree misread one faulty fault text refused.TooWide (refused.Token s) x y = absurd (no_fault reading text x.1.spelled.tokens s x.1.spelled.of_text y.1)

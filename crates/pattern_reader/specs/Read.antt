@@ -1,5 +1,5 @@
 -- Which pattern a text is read as, and why the others are refused.
-use Rattle.std.specs.Prelude.{◌≡◌, ◌<◌, ◌≤◌, ℕ, List, length, Result, Ok, Err}
+use Rattle.std.specs.Prelude.{◌<◌, ◌≤◌, ℕ, List, length}
 use Rattle.pattern_tokens.specs.declared.token.Token.{Token}
 use Rattle.pattern_lexer.specs.Reading.{TokensOf, HasFault}
 use Rattle.pattern_grammar.specs.declared.refusal.SyntaxRefusal.{SyntaxRefusal}
@@ -58,8 +58,3 @@ IsRefusedAs text (Syntax refusal) = IsShort text × IsUnspelled text refusal
 IsRefusedAs text (Value refusal) = IsShort text × IsFaulty text refusal
 IsRefusedAs text TooWide = IsShort text × IsWide text
 IsRefusedAs text NoMemory = ⊥
-
--- the answer is the pattern that the text is read as, unless memory ran out
-abbrev pub Gives : Pattern → Result Pattern PatternRefusal → Type 0
-Gives pattern (Ok read) = plain_pattern read ≡ plain_pattern pattern
-Gives pattern (Err refusal) = refusal ≡ NoMemory

@@ -1,10 +1,8 @@
 ghost use Rattle.std.specs.Prelude.{◌≡◌, ◌≢◌, ◌<◌, IfOk, IfErr, IsErrAnd, length};
-ghost use Rattle.pattern_reader.specs.Read.{IsReadAs, IsRefusedAs, Gives};
-ghost use Rattle.pattern_types.specs.declared.pattern.Pattern.{Pattern};
+ghost use Rattle.pattern_reader.specs.Read.{IsReadAs, IsRefusedAs};
 ghost use Rattle.pattern_reader.specs.declared.refusal.PatternRefusal.TheVariants as PatternRefusal;
 
 use crate::PatternRefusal;
-use crate::laws::{none_refused, one_pattern};
 use pattern_grammar::read_tree;
 use pattern_lexer::tokens;
 use pattern_meaning::{Meaning, meaning_of};
@@ -21,10 +19,7 @@ pub fn read_pattern(alloc: Global, text: &str) -> Result<Pattern, PatternRefusal
     ensures ok { IfOk result (IsReadAs text.now) }
     ensures err { IfErr result (λ refusal. refusal ≢ PatternRefusal.NoMemory → IsRefusedAs text.now refusal) }
     ensures long { 65_536 < length text.now → IsErrAnd result (λ refusal. refusal ≡ PatternRefusal.TooLong) }
-    ensures only { (pattern : Pattern) → IsReadAs text.now pattern → Gives pattern result }
 {
-    one_pattern();
-    none_refused();
     if text.len() > MAX_TEXT {
         return Err(PatternRefusal::TooLong);
     }

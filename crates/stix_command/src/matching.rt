@@ -8,6 +8,7 @@ use crate::reasons::{write_no_memory, write_pattern_reason, write_read_fault, wr
 use flow_edges::{Sink, Source, write_whole};
 use flow_values::Fault;
 use match_log::{MatchEnd, Mode, is_built, match_stream, write_input_refusal};
+use pattern_reader::laws::{none_refused, one_pattern};
 use pattern_reader::{Pattern, PatternRefusal, read_pattern};
 use std::alloc::Global;
 
@@ -102,6 +103,8 @@ pub fn match_lines<I: Source, O: Sink>(
     ensures write_failed { result ≡ MatchEnding.Ended MatchEnd.WriteFault → Rose (O.faults output.old) (O.faults output.new) }
     ensures write_quiet { result ≢ MatchEnding.Ended MatchEnd.WriteFault → O.faults output.new ≡ O.faults output.old }
 {
+    one_pattern();
+    none_refused();
     match read_pattern(alloc, pattern) {
         Ok(read) => match_built(alloc, &read, input, output),
         Err(PatternRefusal::NoMemory) => MatchEnding::NoMemory,

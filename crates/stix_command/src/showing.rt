@@ -9,6 +9,7 @@ ghost use Rattle.stix_command.specs.ShowEndings.{IsLineOf, EndsShow};
 use crate::reasons::{write_no_memory, write_pattern_reason, write_write_fault};
 use flow_edges::{Sink, write_whole};
 use flow_values::{Fault, Text};
+use pattern_reader::laws::none_refused;
 use pattern_reader::{PatternRefusal, read_pattern};
 use pattern_writer::write_pattern;
 use std::alloc::Global;
@@ -78,6 +79,7 @@ fn canonical_line(alloc: Global, pattern: &str) -> Result<Text, PatternRefusal>
     ensures ok { IfOk result (IsLineOf pattern.now) }
     ensures err { IfErr result (λ refusal. refusal ≢ PatternRefusal.NoMemory → IsRefusedPattern pattern.now refusal) }
 {
+    none_refused();
     let read = match read_pattern(alloc, pattern) {
         Ok(read) => read,
         Err(refusal) => return Err(refusal),
