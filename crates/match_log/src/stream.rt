@@ -32,6 +32,7 @@ fn take_line<O: Sink>(
     ensures end { IfErr result (EndsInLine tally.old.last_time line.now.number line.now.bytes (O.written output.old) (O.written output.new)) }
     ensures failed { result ≡ Err MatchEnd.WriteFault → Rose (O.faults output.old) (O.faults output.new) }
     ensures quiet { result ≢ Err MatchEnd.WriteFault → O.faults output.new ≡ O.faults output.old }
+    ensures later { O.faults output.old ≤ O.faults output.new }
 {
     let seen = match read_entry(alloc, comparison, tally.last_time, line.bytes.as_slice()) {
         Ok(Some(seen)) => seen,
@@ -66,6 +67,7 @@ fn list_lines<I: Source, O: Sink>(
     ensures read_quiet { result ≢ Err MatchEnd.ReadFault → I.faults input.new ≡ I.faults input.old }
     ensures write_failed { result ≡ Err MatchEnd.WriteFault → Rose (O.faults output.old) (O.faults output.new) }
     ensures write_quiet { result ≢ Err MatchEnd.WriteFault → O.faults output.new ≡ O.faults output.old }
+    ensures later { (I.faults input.old ≤ I.faults input.new) × (O.faults output.old ≤ O.faults output.new) }
 {
     let mut lines = match Lines::new(alloc) {
         Ok(lines) => lines,
@@ -103,6 +105,7 @@ pub fn match_stream<I: Source, O: Sink>(
     ensures read_quiet { result ≢ MatchEnd.ReadFault → I.faults input.new ≡ I.faults input.old }
     ensures write_failed { result ≡ MatchEnd.WriteFault → Rose (O.faults output.old) (O.faults output.new) }
     ensures write_quiet { result ≢ MatchEnd.WriteFault → O.faults output.new ≡ O.faults output.old }
+    ensures later { (I.faults input.old ≤ I.faults input.new) × (O.faults output.old ≤ O.faults output.new) }
 {
     let Some(comparison) = first_form(pattern) else {
         unreachable!()
