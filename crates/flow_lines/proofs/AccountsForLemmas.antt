@@ -1,13 +1,13 @@
 -- The bytes that go by as lines, and those that are held and left: together they stay the same.
 use Rattle.std.proofs.Common.{◌≡◌, ℕ, ◌+◌, Bool, true, false, List, [], ◌∷◌, ◌++◌, Option, Some, None, unwrap_or, inl, inr, option_map, Result, Ok, Err, IsErrAnd, subst, refl, sym, ap, ◌∙◌, arith, append_assoc, length-append, MatchBool}
-use Rattle.flow_lines.specs.Lines.{LinesState, width, NothingAhead, AreWholeLines, AccountsFor, LosesNone}
+use Rattle.flow_lines.specs.Lines.{LinesState, width, NothingAhead, AreWholeLines, AccountsFor, LosesNone, told_ahead, StopsInLine}
 use Rattle.flow_edges.specs.Flow.{IsAtEnd}
 use Rattle.std.proofs.lemmas.List.{append-nil}
 use Rattle.flow_lines.specs.declared.refusal.LineRefusal.{LineRefusal}
 use Rattle.flow_lines.specs.declared.line.Line.{Line}
 use Rattle.flow_lines.specs.declared.refusal.LineRefusal.TheVariants.{Fault, LineTooLong, InputTooLong, NoMemory}
-use Rattle.flow_lines.specs.inner.Reading.{told_bytes, ReadsToLineFeed, ReadsLast, ReadsPart}
-use Rattle.flow_lines.proofs.LinesAheadLemmas.{option_map-map, option_map-same}
+use Rattle.flow_lines.specs.inner.Reading.{told_bytes, ReadsToLineFeed, ReadsLast, ReadsPart, TakesPart, lines_state}
+use Rattle.flow_lines.proofs.LinesAheadLemmas.{option_map-map, option_map-same, lines_told, told_ahead-bytes}
 
 -- two lists that make none are both none
 append-nil-back : (xs ys : List ℕ) → xs ++ ys ≡ [] → ys ≡ []
@@ -108,3 +108,32 @@ pub loses-passed_on : (before later after : LinesState) (left left_later left_af
 loses-passed_on before later after left left_later left_after refusal (Ok line) passed first kept = absurd passed
 loses-passed_on before later after left left_later left_after refusal (Err e) passed first kept =
     subst (λ e. LosesNone before after left left_after (Err e)) (sym passed) (loses-refused before later after left left_later left_after refusal first kept)
+
+-- ---- where the reader stops
+
+-- the lines of a state that holds these bytes are those of the bytes and of what is left
+lines-taken : (taken : List ℕ) (count given : ℕ) (left : Option (List ℕ))
+    → told_ahead (record { held = taken; count = count; given = given; refusal = None }) left ≡ lines_told count given (told_bytes taken [] left)
+lines-taken taken count given None = refl
+lines-taken taken count given (Some bytes) = refl
+
+-- it stops in the first line that it reads
+pub stops-part : (chunk line chunk_new : List ℕ) (count given : ℕ) (left left_new : Option (List ℕ)) → TakesPart (told_bytes [] chunk left) left_new
+    → StopsInLine (lines_state [] chunk count given) (lines_state line chunk_new count given) left left_new
+stops-part chunk line chunk_new count given left left_new part = record {
+  taken = part.taken;
+  few = part.few;
+  accounts = record { gone = []; bytes = part.bytes; counted = omega arith; lines = inl refl };
+  lines = lines-taken part.taken count given left_new ∙ ap (λ all. lines_told count given all) (sym part.bytes) ∙ sym (told_ahead-bytes [] chunk count given left);
+}
+
+-- it stops after some lines went by
+pub stops-then : (before later after : LinesState) (left left_later left_after : Option (List ℕ))
+    → AccountsFor before.held later.held before.given later.given left left_later → told_ahead before left ≡ told_ahead later left_later
+    → StopsInLine later after left_later left_after → StopsInLine before after left left_after
+stops-then before later after left left_later left_after accounts ahead stops = record {
+  taken = stops.taken;
+  few = stops.few;
+  accounts = accounts-then before.held later.held stops.taken before.given later.given after.given left left_later left_after accounts stops.accounts;
+  lines = stops.lines ∙ sym ahead;
+}

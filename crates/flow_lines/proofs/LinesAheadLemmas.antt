@@ -21,7 +21,7 @@ option_map-same f g (Some a) same = ap Some (same a)
 abbrev pub lines_told : ℕ → ℕ → Option (List ℕ) → Option Lined
 lines_told count given all = option_map (λ bytes. lines_from (count + 1) given (raw_lines bytes)) all
 
-told_ahead-bytes : (line chunk : List ℕ) (count given : ℕ) (left : Option (List ℕ)) → told_ahead (lines_state line chunk count given) left ≡ lines_told count given (told_bytes line chunk left)
+pub told_ahead-bytes : (line chunk : List ℕ) (count given : ℕ) (left : Option (List ℕ)) → told_ahead (lines_state line chunk count given) left ≡ lines_told count given (told_bytes line chunk left)
 told_ahead-bytes line chunk count given None = refl
 told_ahead-bytes line chunk count given (Some bytes) = ap (λ all. Some (lines_from (count + 1) given (raw_lines all))) (append_assoc line chunk bytes)
 

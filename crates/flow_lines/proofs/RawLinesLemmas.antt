@@ -1,16 +1,16 @@
 -- How the bytes of an input are cut into lines, from what a reader has of them.
-use Rattle.std.proofs.Common.{◌≡◌, ℕ, ◌<◌, ◌≤◌, Bool, true, false, List, [], ◌∷◌, ◌++◌, length, drop, Option, Some, None, option_map, IfSome, MatchBool, MatchOption, is_some, not, refl, sym, ap, ◌∙◌, arith, append_assoc, length-append, cond, eqb, ◌⊎◌, inl, inr}
+use Rattle.std.proofs.Common.{◌≡◌, ℕ, ◌<◌, ◌≤◌, Bool, true, false, List, [], ◌∷◌, ◌++◌, length, drop, Option, Some, None, option_map, IfSome, MatchBool, MatchOption, is_some, not, refl, sym, ap, ◌∙◌, arith, append_assoc, length-append, cond, eqb, ◌⊎◌, inl, inr, Result, Ok, Err, OnErr}
 use Rattle.std.proofs.lemmas.List.{take-append-drop}
 use Rattle.std.proofs.lemmas.List.Elements.{All-append, All-cons, All-nil}
 use Rattle.std.proofs.lemmas.List.Splits.{slice_split_at, slice_split_none}
 use Rattle.std.proofs.lemmas.Bool.{eqb-true}
 use Rattle.std.proofs.lemmas.Bool.Decides.{nat_tests}
 use Rattle.std.specs.List.{slice_split}
-use Rattle.flow_lines.specs.declared.refusal.TheConstants.{MAX_INPUT}
+use Rattle.flow_lines.specs.declared.refusal.TheConstants.{MAX_LINE, MAX_INPUT}
 use Rattle.flow_lines.specs.declared.refusal.LineRefusal.{LineRefusal}
 use Rattle.flow_edges.specs.Flow.{left_after, IsNextOf}
 use Rattle.flow_lines.specs.Lines.{is_line_feed, IsNoLineFeed, NoLineFeed, raw_lines, raw_lines_of, length_refusal}
-use Rattle.flow_lines.specs.inner.Reading.{told_bytes, TakesToLineFeed, TakesAll, IsFirstRefused}
+use Rattle.flow_lines.specs.inner.Reading.{told_bytes, TakesToLineFeed, TakesAll, TakesPart, IsFirstRefused}
 
 -- ---- the bytes that a source tells
 
@@ -55,6 +55,10 @@ length_refusal-more number place size more closed refusal fewer is = grind (arit
 
 pub length_refusal-some : (number place size : ℕ) (refusal : LineRefusal) → place ≤ MAX_INPUT → length_refusal number place size false ≡ Some refusal → 0 < size
 length_refusal-some number place size refusal within is = grind (arith, nat_tests)
+
+-- a line that isn't refused has no more bytes than a line may have
+pub length_refusal-short : (number place size : ℕ) (closed : Bool) → length_refusal number place size closed ≡ None → size ≤ MAX_LINE
+length_refusal-short number place size closed fits = grind (arith, nat_tests)
 
 -- the bytes up to a line feed and after it, or none is there
 cut : (bytes : List ℕ) → ((front : List ℕ) × (back : List ℕ) × (bytes ≡ front ++ 10 ∷ back) × NoLineFeed front) ⊎ NoLineFeed bytes
@@ -126,3 +130,17 @@ refused-step number place all left line chunk line_new chunk_new true refusal wi
     rw (told-to_feed all left line chunk line_new chunk_new is takes) (IfSome-map _ _ left (λ bytes. first_refused-fed number place line_new (chunk_new ++ bytes) refusal (plain-to_feed line chunk line_new chunk_new plain takes) refused))
 refused-step number place all left line chunk line_new chunk_new false refusal within plain is takes refused =
     rw (told-all all left line chunk line_new chunk_new is takes) (IfSome-map _ _ left (λ bytes. first_refused number place line_new bytes refusal within (plain-all line chunk line_new chunk_new plain takes) refused))
+
+-- a fact that stands whatever the answer is
+pub on_err : {T E P : Type 0} (answer : Result T E) → P → OnErr answer P
+on_err (Ok value) fact = tt
+on_err (Err refusal) fact = fact
+
+-- what a line and one read have taken where the reader stops
+pub takes-part : (all left left_new : Option (List ℕ)) (line chunk : List ℕ) → all ≡ told_bytes line chunk left → left_new ≡ left → length line ≤ MAX_LINE → length chunk ≤ 65536
+    → TakesPart all left_new
+takes-part all left left_new line chunk is same short room = record {
+  taken = line ++ chunk;
+  few = omega (arith, length-append line chunk);
+  bytes = is ∙ told-taken line chunk left ∙ ap (λ left. told_bytes (line ++ chunk) [] left) (sym same);
+}

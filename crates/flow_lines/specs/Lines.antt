@@ -153,6 +153,14 @@ RefusesLine before after left left_after (LineTooLong n) = IfSome (told_ahead be
 RefusesLine before after left left_after (InputTooLong n) = IfSome (told_ahead before left) (λ ahead. ahead ≡ refused (InputTooLong n))
 RefusesLine before after left left_after NoMemory = ⊤
 
+-- the reader stopped in a line: those before it went by, the lines that come yet are the same, and of their bytes no more
+-- are taken than a line may have and one read gives
+pub record StopsInLine (before after : LinesState) (left left_after : Option (List ℕ)) : Type 0 where
+  pub taken : List ℕ
+  pub few : length taken ≤ MAX_LINE + 65536
+  pub accounts : AccountsFor before.held taken before.given after.given left left_after
+  pub lines : told_ahead (record { held = taken; count = after.count; given = after.given; refusal = None }) left_after ≡ told_ahead before left
+
 -- what an answer says of the lines that came yet
 abbrev pub AnswersLine : LinesState → LinesState → Option (List ℕ) → Option (List ℕ) → Result (Option Line) LineRefusal → Type 0
 AnswersLine before after left left_after (Ok (Some l)) = GivesLine before after left left_after l.number l.bytes

@@ -1,6 +1,6 @@
 -- What the private parts of a reader of lines do: its chunk of bytes, the line that it reads, and its cursor. No public contract cites these.
-use Rattle.std.specs.Prelude.{Bool, true, ◌≡◌, ◌<◌, ◌≤◌, ⊤, ℕ, length, List, [], ◌∷◌, ◌++◌, true, false, Option, Some, None, option_map}
-use Rattle.flow_lines.specs.declared.refusal.TheConstants.{MAX_INPUT}
+use Rattle.std.specs.Prelude.{Bool, true, ◌≡◌, ◌<◌, ◌≤◌, ⊤, ℕ, ◌+◌, length, List, [], ◌∷◌, ◌++◌, true, false, Option, Some, None, option_map}
+use Rattle.flow_lines.specs.declared.refusal.TheConstants.{MAX_LINE, MAX_INPUT}
 use Rattle.flow_lines.specs.Lines.{NoLineFeed, RawLine, raw_lines, refusal_of, LinesState, unless_blank, told_ahead}
 use Rattle.flow_lines.specs.declared.refusal.LineRefusal.{LineRefusal}
 use Rattle.flow_lines.specs.declared.refusal.LineRefusal.TheVariants.{Fault, LineTooLong, InputTooLong, NoMemory}
@@ -47,6 +47,12 @@ pub record ReadsPart (all left : Option (List ℕ)) (line chunk : List ℕ) : Ty
   pub plain : NoLineFeed line
   pub bytes : all ≡ told_bytes line [] left
   pub drained : chunk ≡ []
+
+-- so many bytes are taken, at most a line and one read
+pub record TakesPart (all left : Option (List ℕ)) : Type 0 where
+  pub taken : List ℕ
+  pub few : length taken ≤ MAX_LINE + 65536
+  pub bytes : all ≡ told_bytes taken [] left
 
 -- the first line of the bytes is refused so
 pub record IsFirstRefused (number place : ℕ) (refusal : LineRefusal) (bytes : List ℕ) : Type 0 where

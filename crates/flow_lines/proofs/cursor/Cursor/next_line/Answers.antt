@@ -1,7 +1,8 @@
 use Rattle.std.proofs.Common.{rules, ap, Ok, Err, sym, ◌∙◌, arith}
 use Rattle.flow_lines.specs.Lines.{is_blank}
 use Rattle.flow_lines.specs.inner.Reading.{lines_state}
-use Rattle.flow_lines.proofs.AccountsForLemmas.{accounts-then, accounts-emptied, loses-passed_on}
+use Rattle.flow_lines.proofs.AccountsForLemmas.{accounts-then, accounts-emptied, loses-passed_on, stops-then}
+use Rattle.flow_lines.proofs.RawLinesLemmas.{on_err}
 use Rattle.flow_lines.proofs.cursor.Cursor.next_line.Goals as goal
 
 pub returns-in_err-read_next-clause-accounted : goal.returns-in_err-read_next-clause-accounted
@@ -35,3 +36,9 @@ lines-preserved g c =
       moved = omega (arith, next.moved);
       quiet = c.in_ok-read_next.ensures.quiet (λ failed. cc failed) ∙ c.lines.invariant.quiet;
     }
+
+pub returns-in_err-read_next-clause-stops : goal.returns-in_err-read_next-clause-stops
+returns-in_err-read_next-clause-stops g c =
+    on_err _ (stops-then _
+    (lines_state c.lines.self.line.items c.lines.self.chunk c.lines.self.count c.lines.self.given)
+    _ _ _ _ c.lines.invariant.accounted c.lines.invariant.ahead c.in_err-read_next.ensures.stops)

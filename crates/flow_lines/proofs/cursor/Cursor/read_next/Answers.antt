@@ -1,7 +1,8 @@
 use Rattle.std.proofs.Common.{◌≡◌, ◌+◌, arith}
 use Rattle.flow_lines.specs.Lines.{width}
 use Rattle.flow_lines.proofs.LinesAheadLemmas.{reads-next}
-use Rattle.flow_lines.proofs.AccountsForLemmas.{accounts-read}
+use Rattle.flow_lines.proofs.AccountsForLemmas.{accounts-read, stops-part}
+use Rattle.flow_lines.proofs.RawLinesLemmas.{on_err}
 use Rattle.flow_lines.proofs.HoldsLineLemmas.{holds_line-feed, holds_line-later, reads-plain}
 use Rattle.flow_lines.proofs.cursor.Cursor.read_next.Goals as goal
 
@@ -28,3 +29,8 @@ returns-then-width-eq0-clause-unread g c holds = c.read_line.ensures.unread (hol
 pub returns-clause-held : goal.returns-clause-held
 returns-clause-held g c found holds blank =
     holds_line-later _ _ _ _ _ (reads-plain _ _ _ _ _ _ _ c.in_ok-closed.ensures.line) (c.in_ok-closed.ensures.held (holds_line-feed _ holds)) c.strip_return.ensures blank holds
+
+pub returns-in_err-closed-clause-stops : goal.returns-in_err-closed-clause-stops
+returns-in_err-closed-clause-stops g c = rw c.requires.empty (on_err c.from_residual.result
+    (stops-part c.args.self.now.chunk c.read_line.new.line.items c.read_line.new.chunk c.args.self.now.count c.args.self.now.given
+    (g.S.Source.left c.args.source.now) (g.S.Source.left c.read_line.new.source) c.in_err-closed.ensures.stops))
