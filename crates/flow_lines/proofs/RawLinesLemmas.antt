@@ -8,8 +8,9 @@ use Rattle.std.proofs.lemmas.Bool.Decides.{nat_tests}
 use Rattle.std.specs.List.{slice_split}
 use Rattle.flow_lines.specs.declared.refusal.TheConstants.{MAX_LINE, MAX_INPUT}
 use Rattle.flow_lines.specs.declared.refusal.LineRefusal.{LineRefusal}
+use Rattle.flow_lines.specs.declared.refusal.LineRefusal.TheVariants.{Fault, LineTooLong, InputTooLong, NoMemory}
 use Rattle.flow_edges.specs.Flow.{left_after, IsNextOf}
-use Rattle.flow_lines.specs.Lines.{is_line_feed, IsNoLineFeed, NoLineFeed, raw_lines, raw_lines_of, length_refusal}
+use Rattle.flow_lines.specs.Lines.{is_line_feed, IsNoLineFeed, NoLineFeed, raw_lines, raw_lines_of, length_refusal, IsOfLine}
 use Rattle.flow_lines.specs.inner.Reading.{told_bytes, TakesToLineFeed, TakesAll, TakesPart, IsFirstRefused}
 
 -- ---- the bytes that a source tells
@@ -59,6 +60,13 @@ length_refusal-some number place size refusal within is = grind (arith, nat_test
 -- a line that isn't refused has no more bytes than a line may have
 pub length_refusal-short : (number place size : ℕ) (closed : Bool) → length_refusal number place size closed ≡ None → size ≤ MAX_LINE
 length_refusal-short number place size closed fits = grind (arith, nat_tests)
+
+-- it tells the line's number
+pub length_refusal-number : (number place size : ℕ) (closed : Bool) (refusal : LineRefusal) → length_refusal number place size closed ≡ Some refusal → IsOfLine number refusal
+length_refusal-number number place size closed Fault is = tt
+length_refusal-number number place size closed (LineTooLong n) is = grind (arith, nat_tests)
+length_refusal-number number place size closed (InputTooLong n) is = grind (arith, nat_tests)
+length_refusal-number number place size closed NoMemory is = tt
 
 -- the bytes up to a line feed and after it, or none is there
 cut : (bytes : List ℕ) → ((front : List ℕ) × (back : List ℕ) × (bytes ≡ front ++ 10 ∷ back) × NoLineFeed front) ⊎ NoLineFeed bytes

@@ -1,4 +1,4 @@
-ghost use Rattle.std.specs.Prelude.{◌≡◌, ◌≢◌, ℕ, ◌≤◌, [], None, Some, Err, IfOk, IfSome, OnErr};
+ghost use Rattle.std.specs.Prelude.{◌≡◌, ◌≢◌, ℕ, ◌≤◌, [], None, Some, Err, IfOk, IfErr, IfSome};
 ghost use Rattle.std.specs.Result.{result_err};
 ghost use Rattle.flow_edges.specs.Faults.{Rose};
 
@@ -66,7 +66,7 @@ impl Lines {
         ensures accounted { self.old.refusal ≡ None
             → LosesNone self.old self.new (S.left source.old) (S.left source.new) result }
         ensures stops { self.old.refusal ≡ None
-            → OnErr result (StopsInLine self.old self.new (S.left source.old) (S.left source.new)) }
+            → IfErr result (StopsInLine self.old (S.left source.old) (S.left source.new)) }
         ensures unread { HoldsLine self.old.held → source.new ≡ source.old }
         ensures refusal { self.new.refusal ≡ result_err result }
         ensures repeated { IfSome self.old.refusal (λ refusal.

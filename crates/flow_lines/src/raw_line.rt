@@ -1,6 +1,6 @@
 ghost use Rattle.std.specs.Prelude.{◌≡◌, ◌≢◌, ℕ, ◌≤◌, [], ◌⊎◌, Some, None, Ok, Err, length, IfOk, IfErr, IfSome, OnErr, MatchBool};
 ghost use Rattle.flow_edges.specs.Faults.{Rose, Causes};
-ghost use Rattle.flow_lines.specs.Lines.{NoLineFeed, length_refusal};
+ghost use Rattle.flow_lines.specs.Lines.{NoLineFeed, length_refusal, IsOfLine};
 ghost use Rattle.flow_lines.specs.inner.Reading.{told_bytes, ReadsToLineFeed, ReadsLast, ReadsPart, TakesPart, IsHeld, IsFirstRefused, IsForLength};
 
 use crate::chunk::Chunk;
@@ -51,6 +51,7 @@ pub fn read_line<S: Source>(
         → IfSome (told_bytes [] chunk.old (S.left source.old)) (IsFirstRefused start.number start.place refusal)) }
     ensures fault { result ≡ Err LineRefusal.Fault
         → ReadsPart (told_bytes [] chunk.old (S.left source.old)) (S.left source.new) line.new.items chunk.new }
+    ensures number { IfErr result (IsOfLine start.number) }
     ensures stops { OnErr result (TakesPart (told_bytes [] chunk.old (S.left source.old)) (S.left source.new)) }
     ensures failed { result ≡ Err LineRefusal.Fault → Rose (S.faults source.old) (S.faults source.new) }
     ensures quiet { result ≢ Err LineRefusal.Fault → S.faults source.new ≡ S.faults source.old }

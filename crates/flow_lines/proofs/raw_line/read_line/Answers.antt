@@ -1,6 +1,6 @@
 use Rattle.std.proofs.Common.{◌≡◌, ◌∙◌, refl, sym, ap, arith, length, rules}
 use Rattle.flow_lines.specs.Lines.{length_refusal}
-use Rattle.flow_lines.proofs.RawLinesLemmas.{refused-step, taken-closed, length_refusal-short, told-all, told-filled, plain-all, takes-part, on_err}
+use Rattle.flow_lines.proofs.RawLinesLemmas.{refused-step, taken-closed, length_refusal-short, length_refusal-number, told-all, told-filled, plain-all, takes-part, on_err}
 use Rattle.flow_lines.proofs.raw_line.read_line.Goals as goal
 
 pub returns-in-Some-clause-refused : goal.returns-in-Some-clause-refused
@@ -27,3 +27,6 @@ reads-preserved g c =
       held = search rules;
       quiet = search rules;
     }
+
+pub returns-in-Some-clause-number : goal.returns-in-Some-clause-number
+returns-in-Some-clause-number g c = length_refusal-number c.args.start.number c.args.start.place c.len.result c.is_none-closed.result c.in-Some.refusal (sym c.in-Some.ensures)
