@@ -4,7 +4,7 @@ use Rattle.std.proofs.lemmas.List.{append-nil}
 use Rattle.std.proofs.lemmas.List.Elements.{All-append, All-cons, All-nil}
 use Rattle.std.proofs.lemmas.Grind.{flat_map-append}
 use Rattle.flow_edges.specs.Flow.{IsAtEnd}
-use Rattle.flow_lines.specs.Lines.{RawLine, NoLineFeed, lines_text, LinesState, width, NothingAhead, AccountsFor, LosesNone, told_ahead, IsOfLine, StopsInLine}
+use Rattle.flow_lines.specs.Lines.{RawLine, NoLineFeed, lines_text, LinesState, width, NothingAhead, AccountsFor, GoesOnAccounting, LosesNone, told_ahead, IsOfLine, StopsInLine}
 use Rattle.flow_lines.specs.declared.refusal.LineRefusal.{LineRefusal}
 use Rattle.flow_lines.specs.declared.line.Line.{Line}
 use Rattle.flow_lines.specs.declared.refusal.LineRefusal.TheVariants.{Fault, LineTooLong, InputTooLong, NoMemory}
@@ -65,6 +65,12 @@ accounts-then before later last left left_later left_last first next = record {
   plain = All-append IsPlain first.gone next.gone first.plain next.plain;
   closed = closed-then first.gone next.gone later.held last.held left_later left_last first.closed next.closed next.bytes;
 }
+
+-- the same, from wherever the bytes are accounted for
+pub goes_on : (before later last : LinesState) (left left_later left_last : Option (List ℕ))
+    → AccountsFor before later left left_later → AccountsFor later last left_later left_last → GoesOnAccounting before last left left_last
+goes_on before later last left left_later left_last first next start all from =
+    accounts-then start before last all left left_last from (accounts-then before later last left left_later left_last first next)
 
 -- a line went by
 pub accounts-read : (number place wide count given : ℕ) (chunk line chunk_new : List ℕ) (left left_new : Option (List ℕ)) (closed : Bool)
@@ -129,7 +135,7 @@ accounts-emptied before line chunk count given left left_new empty accounts = rw
 -- after a fault no byte is lost, since none was before
 loses-refused : (before later after : LinesState) (left left_later left_after : Option (List ℕ)) (refusal : LineRefusal)
     → AccountsFor before later left left_later → (refusal ≡ Fault → AccountsFor later after left_later left_after) → LosesNone before after left left_after (Err refusal)
-loses-refused before later after left left_later left_after Fault first kept = accounts-then before later after left left_later left_after first (kept refl)
+loses-refused before later after left left_later left_after Fault first kept = goes_on before later after left left_later left_after first (kept refl)
 loses-refused before later after left left_later left_after (LineTooLong n) first kept = tt
 loses-refused before later after left left_later left_after (InputTooLong n) first kept = tt
 loses-refused before later after left left_later left_after NoMemory first kept = tt
@@ -164,7 +170,8 @@ stops-part chunk count given left left_new refusal part line = record {
   at = record { held = part.taken; count = count; given = given; refusal = None };
   line = line;
   few = part.few;
-  accounts = record { gone = []; bytes = part.bytes; given = omega arith; count = omega arith; plain = All-nil _; closed = inl (All-nil _) };
+  accounts = λ start all from. accounts-then start (lines_state [] chunk count given) _ all left left_new from
+      (record { gone = []; bytes = part.bytes; given = omega arith; count = omega arith; plain = All-nil _; closed = inl (All-nil _) });
   lines = lines-taken part.taken count given left_new ∙ ap (λ all. lines_told count given all) (sym part.bytes) ∙ sym (told_ahead-bytes [] chunk count given left);
 }
 
@@ -176,6 +183,6 @@ stops-then before later left left_later left_after refusal accounts ahead stops 
   at = stops.at;
   line = stops.line;
   few = stops.few;
-  accounts = accounts-then before later stops.at left left_later left_after accounts stops.accounts;
+  accounts = λ start all from. stops.accounts start all (accounts-then start before later all left left_later from accounts);
   lines = stops.lines ∙ sym ahead;
 }

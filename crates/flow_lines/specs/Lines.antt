@@ -101,6 +101,10 @@ pub record LinesState : Type 0 where
   pub given : ℕ
   pub refusal : Option LineRefusal
 
+-- a reader at the start of an input
+abbrev pub lines_start : LinesState
+lines_start = record { held = []; count = 0; given = 0; refusal = None }
+
 -- the lines that come yet, where these bytes are left in the source
 abbrev pub lines_ahead : LinesState → List ℕ → Lined
 lines_ahead state left = lines_from (state.count + 1) state.given (raw_lines (state.held ++ left))
@@ -130,6 +134,10 @@ pub record AccountsFor (before after : LinesState) (left left_after : Option (Li
   pub count : after.count ≡ before.count + length gone
   pub plain : All (λ line. NoLineFeed line.bytes) gone
   pub closed : All (λ line. line.closed ≡ true) gone ⊎ NothingAhead after.held left_after
+
+-- from wherever the bytes are accounted for up to the one state, they are up to the other
+abbrev pub GoesOnAccounting : LinesState → LinesState → Option (List ℕ) → Option (List ℕ) → Type 0
+GoesOnAccounting before after left left_after = (start : LinesState) (all : Option (List ℕ)) → AccountsFor start before all left → AccountsFor start after all left_after
 
 -- the first of the lines that came yet was given, and the others come yet
 pub record GivesLine (before after : LinesState) (left left_after : Option (List ℕ)) (number : ℕ) (bytes : List ℕ) : Type 0 where
@@ -170,7 +178,7 @@ pub record StopsInLine (before : LinesState) (left left_after : Option (List ℕ
   pub at : LinesState
   pub line : IsOfLine (at.count + 1) refusal
   pub few : length at.held ≤ MAX_LINE + 65536
-  pub accounts : AccountsFor before at left left_after
+  pub accounts : GoesOnAccounting before at left left_after
   pub lines : told_ahead at left_after ≡ told_ahead before left
 
 -- what an answer says of the lines that came yet
@@ -181,8 +189,8 @@ AnswersLine before after left left_after (Err refusal) = RefusesLine before afte
 
 -- no byte is lost, unless a line or the input was too long, or memory ran out
 abbrev pub LosesNone : LinesState → LinesState → Option (List ℕ) → Option (List ℕ) → Result (Option Line) LineRefusal → Type 0
-LosesNone before after left left_after (Ok line) = AccountsFor before after left left_after
-LosesNone before after left left_after (Err Fault) = AccountsFor before after left left_after
+LosesNone before after left left_after (Ok line) = GoesOnAccounting before after left left_after
+LosesNone before after left left_after (Err Fault) = GoesOnAccounting before after left left_after
 LosesNone before after left left_after (Err (LineTooLong n)) = ⊤
 LosesNone before after left left_after (Err (InputTooLong n)) = ⊤
 LosesNone before after left left_after (Err NoMemory) = ⊤

@@ -38,11 +38,11 @@ impl Model for Lines {
 }
 
 impl Lines {
-    ghost use Rattle.flow_lines.specs.Lines.{AnswersLine, LosesNone, StopsInLine, HoldsLine};
+    ghost use Rattle.flow_lines.specs.Lines.{lines_start, AnswersLine, LosesNone, StopsInLine, HoldsLine};
 
     /// A reader at the start of an input.
     pub fn new(alloc: Global) -> Result<Lines, NoMemory>
-        ensures { IfOk result (λ lines. lines ≡ record { held = []; count = 0; given = 0; refusal = None }) }
+        ensures { IfOk result (λ lines. lines ≡ lines_start) }
     {
         let chunk = Chunk::new(alloc)?;
         Ok(Lines {

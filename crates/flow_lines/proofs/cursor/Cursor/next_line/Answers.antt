@@ -1,7 +1,7 @@
 use Rattle.std.proofs.Common.{rules, ap, Ok, Err, IfErr, sym, ◌∙◌, arith}
 use Rattle.flow_lines.specs.Lines.{is_blank, StopsInLine}
 use Rattle.flow_lines.specs.inner.Reading.{lines_state}
-use Rattle.flow_lines.proofs.AccountsForLemmas.{accounts-then, accounts-emptied, loses-passed_on, passed_on, stops-then}
+use Rattle.flow_lines.proofs.AccountsForLemmas.{accounts-then, goes_on, accounts-emptied, loses-passed_on, passed_on, stops-then}
 use Rattle.flow_lines.proofs.cursor.Cursor.next_line.Goals as goal
 
 pub returns-in_err-read_next-clause-accounted : goal.returns-in_err-read_next-clause-accounted
@@ -15,11 +15,11 @@ returns-in_err-read_next-clause-accounted g c =
 pub returns-then-not-branch-clause-accounted : goal.returns-then-not-branch-clause-accounted
 returns-then-not-branch-clause-accounted g c =
     let between = c.in_ok-read_next.ensures.ended (ap Ok c.if-not-branch.true) in
-    accounts-then _ _ _ _ _ _ c.lines.invariant.accounted (accounts-emptied _ _ _ _ _ _ _ between.empty c.in_ok-read_next.ensures.accounted)
+    goes_on _ _ _ _ _ _ c.lines.invariant.accounted (accounts-emptied _ _ _ _ _ _ _ between.empty c.in_ok-read_next.ensures.accounted)
 
 pub returns-then-not-is_blank_line-clause-accounted : goal.returns-then-not-is_blank_line-clause-accounted
 returns-then-not-is_blank_line-clause-accounted g c =
-    accounts-then _ _ _ _ _ _ c.lines.invariant.accounted (accounts-emptied _ _ _ _ _ _ _ (ap (λ v. v.items) c.replace-bytes.ensures.after ∙ c.new.ensures.items) c.in_ok-read_next.ensures.accounted)
+    goes_on _ _ _ _ _ _ c.lines.invariant.accounted (accounts-emptied _ _ _ _ _ _ _ (ap (λ v. v.items) c.replace-bytes.ensures.after ∙ c.new.ensures.items) c.in_ok-read_next.ensures.accounted)
 
 pub lines-preserved : goal.lines-preserved
 lines-preserved g c =
