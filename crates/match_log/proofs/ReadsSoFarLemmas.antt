@@ -1,15 +1,15 @@
 -- What the lines of a log are read as, one line at a time.
-use Rattle.std.proofs.Common.{◌≡◌, ℕ, ℤ, ◌+◌, length, List, [], ◌∷◌, ◌++◌, Option, Some, None, Ok, Err, ◌<◌, ◌≤◌, option_map, IfSome, refl, sym, ap, subst, ◌∙◌, append_assoc}
+use Rattle.std.proofs.Common.{◌≡◌, ℕ, ℤ, ◌+◌, length, List, [], ◌∷◌, ◌++◌, Option, Some, None, Ok, Err, ◌<◌, ◌≤◌, option_map, IfSome, refl, sym, ap, subst, ◌∙◌, append_assoc, arith}
 use Rattle.std.proofs.lemmas.List.{append-nil}
 use Rattle.serde_json.specs.Data.{Data}
 use Rattle.flow_edges.specs.Flow.{written_with}
-use Rattle.flow_lines.specs.Lines.{Lined, ended, refused, line_then, lines_of, LinesState, told_ahead, AnswersLine, GivesLine}
+use Rattle.flow_lines.specs.Lines.{Lined, ended, refused, line_then, lines_of, LinesState, lines_start, told_ahead, AccountsFor, GoesOnAccounting, StopsInLine, AnswersLine, GivesLine}
 use Rattle.flow_lines.specs.declared.line.Line.{Line}
 use Rattle.flow_lines.specs.declared.refusal.LineRefusal.{LineRefusal}
 use Rattle.match_log.specs.FirstForm.{FirstForm}
 use Rattle.match_log.specs.Listing.{FirstEntry, listing_text}
 use Rattle.match_log.specs.Reading.{LogEnd, Whole, Refused, Reads, at_end, too_long, no_entry, one_entry, IsNext, refused_number, ToldReading}
-use Rattle.match_log.specs.Matching.{IsEntryOf, ListsWhole, ListsBefore, AnswersMatch, end_of}
+use Rattle.match_log.specs.Matching.{IsEntryOf, ListsWhole, StopsAt, ListsBefore, AnswersMatch, end_of}
 use Rattle.match_log.specs.declared.end.MatchEnd.{MatchEnd}
 use Rattle.match_log.specs.declared.end.MatchEnd.TheVariants.{Done, Input, ReadFault, WriteFault, NoMemory}
 use Rattle.match_log.specs.inner.Tally.{last_time, IsTally, entry_text, AddsEntry, RefusesEntry, EndsInLine, ToldReads, ReadsSoFar}
@@ -100,6 +100,16 @@ pub told-reading : (form : FirstForm) (left : Option (List ℕ)) (rows : List Fi
 told-reading form None rows ending reads = tt
 told-reading form (Some bytes) rows ending reads = reads
 
+-- the reader of lines stopped in the line that is refused
+stops-in_line : (line : ℕ) (refusal : LineRefusal) (before : LinesState) (first left left_after : Option (List ℕ)) → AccountsFor lines_start before first left
+    → (stops : StopsInLine before left left_after refusal) → line ≡ stops.at.count + 1 → StopsAt line first left_after
+stops-in_line line refusal before first left left_after from stops is = record { at = stops.at; lines = omega (arith, is); few = stops.few; accounts = stops.accounts lines_start first from }
+
+-- it stopped behind that line
+stops-behind : (line : ℕ) (before after : LinesState) (first left left_after : Option (List ℕ)) → AccountsFor lines_start before first left
+    → GoesOnAccounting before after left left_after → line ≡ after.count → length after.held ≤ 65536 → StopsAt line first left_after
+stops-behind line before after first left left_after from goes_on is room = record { at = after; lines = omega (arith, is); few = omega (arith, room); accounts = goes_on lines_start first from }
+
 -- ---- the loop over lines
 
 module _ (form : FirstForm) (first : Option (List ℕ)) (tally : Tally) (before after : LinesState) (left left_after written written_now : Option (List ℕ))
@@ -117,36 +127,45 @@ module _ (form : FirstForm) (first : Option (List ℕ)) (tally : Tally) (before 
   }
   ends-whole (Some l) is answers = cc
 
-  before_refused : (refusal : LineRefusal) → IfSome (told_ahead before left) (λ lines. lines ≡ refused refusal) → ListsBefore form first written written_now (refused_number refusal)
-  before_refused refusal is = record {
+  before_refused : (refusal : LineRefusal) → IfSome (told_ahead before left) (λ lines. lines ≡ refused refusal) → StopsAt (refused_number refusal) first left_after
+      → ListsBefore form first left_after written written_now (refused_number refusal)
+  before_refused refusal is stops = record {
+    stops = stops;
     rows = far.rows;
     reading = told-reading form first far.rows (Refused (refused_number refusal)) (so_far-refused form tally (option_map lines_of first) (told_ahead before left) written written_now refusal far is);
     listing = far.listing;
   }
 
   -- a line is refused before it is given
-  pub ends-refused : (refusal : LineRefusal) (end : MatchEnd) → end ≡ end_of refusal → AnswersLine before after left left_after (Err refusal) → AnswersMatch form first left_after written written_now end
-  ends-refused LineRefusal.Fault end is answers = subst (λ (e : MatchEnd). AnswersMatch form first left_after written written_now e) (sym is) tt
-  ends-refused (LineRefusal.LineTooLong n) end is answers = subst (λ (e : MatchEnd). AnswersMatch form first left_after written written_now e) (sym is) (before_refused (LineRefusal.LineTooLong n) answers)
-  ends-refused (LineRefusal.InputTooLong n) end is answers = subst (λ (e : MatchEnd). AnswersMatch form first left_after written written_now e) (sym is) (before_refused (LineRefusal.InputTooLong n) answers)
-  ends-refused LineRefusal.NoMemory end is answers = subst (λ (e : MatchEnd). AnswersMatch form first left_after written written_now e) (sym is) tt
+  pub ends-refused : (refusal : LineRefusal) (end : MatchEnd) → end ≡ end_of refusal → AnswersLine before after left left_after (Err refusal) → AccountsFor lines_start before first left
+      → StopsInLine before left left_after refusal → AnswersMatch form first left_after written written_now end
+  ends-refused LineRefusal.Fault end is answers from stops = subst (λ (e : MatchEnd). AnswersMatch form first left_after written written_now e) (sym is) tt
+  ends-refused (LineRefusal.LineTooLong n) end is answers from stops =
+      subst (λ (e : MatchEnd). AnswersMatch form first left_after written written_now e) (sym is)
+      (before_refused (LineRefusal.LineTooLong n) answers (stops-in_line n (LineRefusal.LineTooLong n) before first left left_after from stops stops.line))
+  ends-refused (LineRefusal.InputTooLong n) end is answers from stops =
+      subst (λ (e : MatchEnd). AnswersMatch form first left_after written written_now e) (sym is)
+      (before_refused (LineRefusal.InputTooLong n) answers (stops-in_line n (LineRefusal.InputTooLong n) before first left left_after from stops stops.line))
+  ends-refused LineRefusal.NoMemory end is answers from stops = subst (λ (e : MatchEnd). AnswersMatch form first left_after written written_now e) (sym is) tt
 
   module _ (given : Option Line) (l : Line) (is : given ≡ Some l) (answers : AnswersLine before after left left_after (Ok given)) where
     gives : GivesLine before after left left_after l.number l.bytes
     gives = subst (λ (o : Option Line). AnswersLine before after left left_after (Ok o)) is answers
 
     -- a line that is given ends the run
-    pub ends-in_line : (end : MatchEnd) (written_after : Option (List ℕ)) → EndsInLine tally.last_time l.number l.bytes written_now written_after end → AnswersMatch form first left_after written written_after end
-    ends-in_line (Done observations bindings last) written_after ends = elim ends [ ]
-    ends-in_line (Input line rule) written_after ends = record {
+    pub ends-in_line : (end : MatchEnd) (written_after : Option (List ℕ)) → EndsInLine tally.last_time l.number l.bytes written_now written_after end → AccountsFor lines_start before first left
+        → GoesOnAccounting before after left left_after → AnswersMatch form first left_after written written_after end
+    ends-in_line (Done observations bindings last) written_after ends from goes_on = elim ends [ ]
+    ends-in_line (Input line rule) written_after ends from goes_on = record {
       rows = far.rows;
       reading = subst (λ (n : ℕ). ToldReading form first far.rows (Refused n)) (sym ends.0)
           (told-reading form first far.rows (Refused l.number) (so_far-none form tally (option_map lines_of first) (told_ahead before left) (told_ahead after left_after) l.number l.bytes written written_now written_after far gives.line ends.1));
       listing = ends.1.silent ∙ far.listing;
+      stops = stops-behind line before after first left left_after from goes_on (ends.0 ∙ gives.count) gives.room;
     }
-    ends-in_line ReadFault written_after ends = elim ends [ ]
-    ends-in_line WriteFault written_after ends = tt
-    ends-in_line NoMemory written_after ends = tt
+    ends-in_line ReadFault written_after ends from goes_on = elim ends [ ]
+    ends-in_line WriteFault written_after ends from goes_on = tt
+    ends-in_line NoMemory written_after ends from goes_on = tt
 
     -- a line that is given adds a row
     pub so_far-line : (tally_after : Tally) (written_after : Option (List ℕ)) → AddsEntry form tally tally_after l.bytes written_now written_after
