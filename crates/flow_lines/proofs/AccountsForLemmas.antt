@@ -4,12 +4,12 @@ use Rattle.std.proofs.lemmas.List.{append-nil}
 use Rattle.std.proofs.lemmas.List.Elements.{All-append, All-cons, All-nil}
 use Rattle.std.proofs.lemmas.Grind.{flat_map-append}
 use Rattle.flow_edges.specs.Flow.{IsAtEnd}
-use Rattle.flow_lines.specs.Lines.{RawLine, NoLineFeed, lines_text, LinesState, width, NothingAhead, AccountsFor, GoesOnAccounting, LosesNone, told_ahead, IsOfLine, StopsInLine}
+use Rattle.flow_lines.specs.Lines.{RawLine, NoLineFeed, lines_text, LinesState, width, NothingAhead, AccountsFor, GoesOnAccounting, LosesNone, lines_ahead, IsOfLine, StopsInLine}
 use Rattle.flow_lines.specs.declared.refusal.LineRefusal.{LineRefusal}
 use Rattle.flow_lines.specs.declared.line.Line.{Line}
 use Rattle.flow_lines.specs.declared.refusal.LineRefusal.TheVariants.{Fault, LineTooLong, InputTooLong, NoMemory}
-use Rattle.flow_lines.specs.inner.Reading.{told_bytes, ReadsToLineFeed, ReadsLast, ReadsPart, TakesPart, lines_state}
-use Rattle.flow_lines.proofs.LinesAheadLemmas.{option_map-map, option_map-same, lines_told, told_ahead-bytes}
+use Rattle.flow_lines.specs.inner.Reading.{bytes_ahead, ReadsToLineFeed, ReadsLast, ReadsPart, TakesPart, lines_state}
+use Rattle.flow_lines.proofs.LinesAheadLemmas.{option_map-map, option_map-same, lines_of_bytes, lines_ahead-bytes}
 
 -- a line has no line feed before its end
 abbrev IsPlain : RawLine → Type 0
@@ -74,7 +74,7 @@ goes_on before later last left left_later left_last first next start all from =
 
 -- a line went by
 pub accounts-read : (number place wide count given : ℕ) (chunk line chunk_new : List ℕ) (left left_new : Option (List ℕ)) (closed : Bool)
-    → MatchBool closed (ReadsToLineFeed number place (told_bytes [] chunk left) left_new line chunk_new) (ReadsLast number place (told_bytes [] chunk left) left_new line chunk_new)
+    → MatchBool closed (ReadsToLineFeed number place (bytes_ahead [] chunk left) left_new line chunk_new) (ReadsLast number place (bytes_ahead [] chunk left) left_new line chunk_new)
     → wide ≡ width (record { bytes = line; closed = closed })
     → AccountsFor (lines_state [] chunk count given) (lines_state [] chunk_new (count + 1) (given + wide)) left left_new
 accounts-read number place wide count given chunk line chunk_new left left_new true reads is =
@@ -101,7 +101,7 @@ accounts-read number place wide count given chunk line chunk_new left left_new f
 
 -- no line was left
 pub accounts-none : (number place wide count given : ℕ) (chunk line chunk_new : List ℕ) (left left_new : Option (List ℕ)) (closed : Bool)
-    → MatchBool closed (ReadsToLineFeed number place (told_bytes [] chunk left) left_new line chunk_new) (ReadsLast number place (told_bytes [] chunk left) left_new line chunk_new)
+    → MatchBool closed (ReadsToLineFeed number place (bytes_ahead [] chunk left) left_new line chunk_new) (ReadsLast number place (bytes_ahead [] chunk left) left_new line chunk_new)
     → wide ≡ width (record { bytes = line; closed = closed }) → wide ≡ 0
     → AccountsFor (lines_state [] chunk count given) (lines_state [] chunk_new count given) left left_new
 accounts-none number place wide count given chunk line chunk_new left left_new true reads is none = absurd (omega (arith, is, none))
@@ -117,7 +117,7 @@ accounts-none number place wide count given chunk [] chunk_new left left_new fal
 
 -- the source failed in a line
 pub accounts-part : (count given : ℕ) (chunk line chunk_new : List ℕ) (left left_new : Option (List ℕ))
-    → ReadsPart (told_bytes [] chunk left) left_new line chunk_new → AccountsFor (lines_state [] chunk count given) (lines_state line chunk_new count given) left left_new
+    → ReadsPart (bytes_ahead [] chunk left) left_new line chunk_new → AccountsFor (lines_state [] chunk count given) (lines_state line chunk_new count given) left left_new
 accounts-part count given chunk line chunk_new left left_new reads = record {
   gone = [];
   bytes = reads.bytes ∙ option_map-same _ _ left_new (λ bytes. sym (append_assoc line [] bytes)) ∙ ap (λ chunk. option_map (λ bytes. (line ++ chunk) ++ bytes) left_new) (sym reads.drained);
@@ -159,12 +159,12 @@ loses-passed_on before later after left left_later left_after refusal answer pas
 
 -- the lines of a state that holds these bytes are those of the bytes and of what is left
 lines-taken : (taken : List ℕ) (count given : ℕ) (left : Option (List ℕ))
-    → told_ahead (record { held = taken; count = count; given = given; refusal = None }) left ≡ lines_told count given (told_bytes taken [] left)
+    → lines_ahead (record { held = taken; count = count; given = given; refusal = None }) left ≡ lines_of_bytes count given (bytes_ahead taken [] left)
 lines-taken taken count given None = refl
 lines-taken taken count given (Some bytes) = refl
 
 -- it stops in the first line that it reads
-pub stops-part : (chunk : List ℕ) (count given : ℕ) (left left_new : Option (List ℕ)) (refusal : LineRefusal) → TakesPart (told_bytes [] chunk left) left_new → IsOfLine (count + 1) refusal
+pub stops-part : (chunk : List ℕ) (count given : ℕ) (left left_new : Option (List ℕ)) (refusal : LineRefusal) → TakesPart (bytes_ahead [] chunk left) left_new → IsOfLine (count + 1) refusal
     → StopsInLine (lines_state [] chunk count given) left left_new refusal
 stops-part chunk count given left left_new refusal part line = record {
   at = record { held = part.taken; count = count; given = given; refusal = None };
@@ -172,12 +172,12 @@ stops-part chunk count given left left_new refusal part line = record {
   few = part.few;
   accounts = λ start all from. accounts-then start (lines_state [] chunk count given) _ all left left_new from
       (record { gone = []; bytes = part.bytes; given = omega arith; count = omega arith; plain = All-nil _; closed = inl (All-nil _) });
-  lines = lines-taken part.taken count given left_new ∙ ap (λ all. lines_told count given all) (sym part.bytes) ∙ sym (told_ahead-bytes [] chunk count given left);
+  lines = lines-taken part.taken count given left_new ∙ ap (λ all. lines_of_bytes count given all) (sym part.bytes) ∙ sym (lines_ahead-bytes [] chunk count given left);
 }
 
 -- it stops after some lines went by
 pub stops-then : (before later : LinesState) (left left_later left_after : Option (List ℕ)) (refusal : LineRefusal)
-    → AccountsFor before later left left_later → told_ahead before left ≡ told_ahead later left_later
+    → AccountsFor before later left left_later → lines_ahead before left ≡ lines_ahead later left_later
     → StopsInLine later left_later left_after refusal → StopsInLine before left left_after refusal
 stops-then before later left left_later left_after refusal accounts ahead stops = record {
   at = stops.at;

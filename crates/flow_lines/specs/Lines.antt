@@ -105,13 +105,9 @@ pub record LinesState : Type 0 where
 abbrev pub lines_start : LinesState
 lines_start = record { held = []; count = 0; given = 0; refusal = None }
 
--- the lines that come yet, where these bytes are left in the source
-abbrev pub lines_ahead : LinesState → List ℕ → Lined
-lines_ahead state left = lines_from (state.count + 1) state.given (raw_lines (state.held ++ left))
-
--- the same, where the source tells
-abbrev pub told_ahead : LinesState → Option (List ℕ) → Option Lined
-told_ahead state left = option_map (λ bytes. lines_ahead state bytes) left
+-- the lines that come yet, where the source tells its bytes
+abbrev pub lines_ahead : LinesState → Option (List ℕ) → Option Lined
+lines_ahead state left = option_map (λ bytes. lines_from (state.count + 1) state.given (raw_lines (state.held ++ bytes))) left
 
 -- a line that is whole, and isn't blank
 abbrev pub is_whole : RawLine → Bool
@@ -141,7 +137,7 @@ GoesOnAccounting before after left left_after = (start : LinesState) (all : Opti
 
 -- the first of the lines that came yet was given, and the others come yet
 pub record GivesLine (before after : LinesState) (left left_after : Option (List ℕ)) (number : ℕ) (bytes : List ℕ) : Type 0 where
-  pub line : told_ahead before left ≡ option_map (λ later. line_then number bytes later) (told_ahead after left_after)
+  pub line : lines_ahead before left ≡ option_map (λ later. line_then number bytes later) (lines_ahead after left_after)
   pub count : number ≡ after.count
   pub moved : before.given < after.given
   pub within : after.given ≤ MAX_INPUT
@@ -149,20 +145,20 @@ pub record GivesLine (before after : LinesState) (left left_after : Option (List
 
 -- no line came yet, and all bytes are given
 pub record GivesEnd (before after : LinesState) (left left_after : Option (List ℕ)) : Type 0 where
-  pub lines : IfSome (told_ahead before left) (λ ahead. ahead ≡ ended)
+  pub lines : IfSome (lines_ahead before left) (λ ahead. ahead ≡ ended)
   pub drained : IsAtEnd left_after
   pub held : after.held ≡ []
 
 -- the lines that come yet are the same, and none of them is whole among the bytes held
 pub record KeepsLines (before after : LinesState) (left left_after : Option (List ℕ)) : Type 0 where
-  pub lines : told_ahead after left_after ≡ told_ahead before left
+  pub lines : lines_ahead after left_after ≡ lines_ahead before left
   pub part : NoLineFeed after.held
 
 -- what a refusal says of the lines that came yet
 abbrev pub RefusesLine : LinesState → LinesState → Option (List ℕ) → Option (List ℕ) → LineRefusal → Type 0
 RefusesLine before after left left_after Fault = KeepsLines before after left left_after
-RefusesLine before after left left_after (LineTooLong n) = IfSome (told_ahead before left) (λ ahead. ahead ≡ refused (LineTooLong n))
-RefusesLine before after left left_after (InputTooLong n) = IfSome (told_ahead before left) (λ ahead. ahead ≡ refused (InputTooLong n))
+RefusesLine before after left left_after (LineTooLong n) = IfSome (lines_ahead before left) (λ ahead. ahead ≡ refused (LineTooLong n))
+RefusesLine before after left left_after (InputTooLong n) = IfSome (lines_ahead before left) (λ ahead. ahead ≡ refused (InputTooLong n))
 RefusesLine before after left left_after NoMemory = ⊤
 
 -- a refusal for length is that of this line
@@ -179,7 +175,7 @@ pub record StopsInLine (before : LinesState) (left left_after : Option (List ℕ
   pub line : IsOfLine (at.count + 1) refusal
   pub few : length at.held ≤ MAX_LINE + 65536
   pub accounts : GoesOnAccounting before at left left_after
-  pub lines : told_ahead at left_after ≡ told_ahead before left
+  pub lines : lines_ahead at left_after ≡ lines_ahead before left
 
 -- what an answer says of the lines that came yet
 abbrev pub AnswersLine : LinesState → LinesState → Option (List ℕ) → Option (List ℕ) → Result (Option Line) LineRefusal → Type 0

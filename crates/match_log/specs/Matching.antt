@@ -9,7 +9,7 @@ use Rattle.flow_lines.specs.declared.refusal.LineRefusal.TheVariants as refusal
 use Rattle.match_log.specs.FirstForm.{FirstForm}
 use Rattle.match_log.specs.Line.{Holds}
 use Rattle.match_log.specs.Listing.{FirstEntry, holding, listing_text, last_or_zero}
-use Rattle.match_log.specs.Reading.{Whole, Refused, ToldReading, IsNext}
+use Rattle.match_log.specs.Reading.{Whole, Refused, ReadsInput, IsNext}
 use Rattle.match_log.specs.declared.end.MatchEnd.{MatchEnd}
 use Rattle.match_log.specs.declared.end.MatchEnd.TheVariants.{Done, Input, ReadFault, WriteFault, NoMemory}
 use Rattle.match_log.specs.declared.end.InputRule.TheVariants.{NotYet}
@@ -17,7 +17,7 @@ use Rattle.match_log.specs.declared.end.InputRule.TheVariants.{NotYet}
 -- the whole log was read and listed
 pub record ListsWhole (form : FirstForm) (left left_after written written_after : Option (List ℕ)) (observations bindings last : ℕ) : Type 0 where
   pub rows : List FirstEntry
-  pub reading : ToldReading form left rows Whole
+  pub reading : ReadsInput form left rows Whole
   pub listing : written_after ≡ written_with (listing_text rows) written
   pub drained : IsAtEnd left_after
   pub observations_are : observations ≡ length rows
@@ -35,7 +35,7 @@ pub record StopsAt (line : ℕ) (left left_after : Option (List ℕ)) : Type 0 w
 -- the log before the first refused line was read and listed, and little more was read
 pub record ListsBefore (form : FirstForm) (left left_after written written_after : Option (List ℕ)) (line : ℕ) : Type 0 where
   pub rows : List FirstEntry
-  pub reading : ToldReading form left rows (Refused line)
+  pub reading : ReadsInput form left rows (Refused line)
   pub listing : written_after ≡ written_with (listing_text rows) written
   pub stops : StopsAt line left left_after
 

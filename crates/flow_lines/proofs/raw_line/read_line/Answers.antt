@@ -1,6 +1,6 @@
 use Rattle.std.proofs.Common.{◌≡◌, ◌∙◌, refl, sym, ap, arith, length, rules}
 use Rattle.flow_lines.specs.Lines.{length_refusal}
-use Rattle.flow_lines.proofs.RawLinesLemmas.{refused-step, taken-closed, length_refusal-short, length_refusal-number, told-all, told-filled, plain-all, takes-part, on_err}
+use Rattle.flow_lines.proofs.RawLinesLemmas.{refused-step, taken-closed, length_refusal-short, length_refusal-number, bytes_ahead-all, bytes_ahead-filled, plain-all, takes-part, on_err}
 use Rattle.flow_lines.proofs.raw_line.read_line.Goals as goal
 
 pub returns-in-Some-clause-refused : goal.returns-in-Some-clause-refused
@@ -19,7 +19,7 @@ pub reads-preserved : goal.reads-preserved
 reads-preserved g c =
     let takes = rw c.in-Some-due.is at c.in_ok-due.ensures.taken in
     record {
-      bytes = told-all _ _ _ _ _ _ c.reads.invariant.bytes takes ∙ told-filled _ _ _ _ c.in-Ok.ensures.given (rw c.in-Ok.ensures.count at c.in-Ok.ensures.rest);
+      bytes = bytes_ahead-all _ _ _ _ _ _ c.reads.invariant.bytes takes ∙ bytes_ahead-filled _ _ _ _ c.in-Ok.ensures.given (rw c.in-Ok.ensures.count at c.in-Ok.ensures.rest);
       plain = plain-all _ _ _ _ c.reads.invariant.plain takes;
       short = grind (arith, length_refusal-short);
       within = grind arith;
