@@ -9,6 +9,7 @@ use Rattle.flow_lines.specs.declared.refusal.LineRefusal.{LineRefusal}
 use Rattle.match_log.specs.FirstForm.{FirstForm}
 use Rattle.match_log.specs.Listing.{FirstEntry, listing_text}
 use Rattle.match_log.specs.Reading.{LogEnd, Whole, Refused, Reads, at_end, too_long, no_entry, one_entry, IsNext, refused_number, ReadsInput}
+use Rattle.match_log.specs.Streams.{streams}
 use Rattle.match_log.specs.Matching.{IsEntryOf, ListsWhole, StopsAt, ListsBefore, AnswersMatch, end_of}
 use Rattle.match_log.specs.declared.end.MatchEnd.{MatchEnd}
 use Rattle.match_log.specs.declared.end.MatchEnd.TheVariants.{Done, Input, ReadFault, WriteFault, NoMemory}
@@ -115,7 +116,7 @@ stops-behind line before after first left left_after from goes_on is room = reco
 module _ (form : FirstForm) (first : Option (List ℕ)) (tally : Tally) (before after : LinesState) (left left_after written written_now : Option (List ℕ))
     (far : ReadsSoFar form tally (option_map lines_of first) (lines_ahead before left) written written_now) where
   -- no line is left
-  pub ends-whole : (given : Option Line) → given ≡ None → AnswersLine before after left left_after (Ok given) → ListsWhole form first left_after written written_now tally.observations tally.bindings tally.last
+  pub ends-whole : (given : Option Line) → given ≡ None → AnswersLine before after left left_after (Ok given) → ListsWhole form (streams first written) (streams left_after written_now) tally.observations tally.bindings tally.last
   ends-whole None is answers = record {
     rows = far.rows;
     reading = reads_ahead-input form first far.rows Whole (so_far-end form tally (option_map lines_of first) (lines_ahead before left) written written_now far answers.lines);
@@ -128,7 +129,7 @@ module _ (form : FirstForm) (first : Option (List ℕ)) (tally : Tally) (before 
   ends-whole (Some l) is answers = cc
 
   before_refused : (refusal : LineRefusal) → IfSome (lines_ahead before left) (λ lines. lines ≡ refused refusal) → StopsAt (refused_number refusal) first left_after
-      → ListsBefore form first left_after written written_now (refused_number refusal)
+      → ListsBefore form (streams first written) (streams left_after written_now) (refused_number refusal)
   before_refused refusal is stops = record {
     stops = stops;
     rows = far.rows;
@@ -138,15 +139,15 @@ module _ (form : FirstForm) (first : Option (List ℕ)) (tally : Tally) (before 
 
   -- a line is refused before it is given
   pub ends-refused : (refusal : LineRefusal) (end : MatchEnd) → end ≡ end_of refusal → AnswersLine before after left left_after (Err refusal) → AccountsFor lines_start before first left
-      → StopsInLine before left left_after refusal → AnswersMatch form first left_after written written_now end
-  ends-refused LineRefusal.Fault end is answers from stops = subst (λ (e : MatchEnd). AnswersMatch form first left_after written written_now e) (sym is) tt
+      → StopsInLine before left left_after refusal → AnswersMatch form (streams first written) (streams left_after written_now) end
+  ends-refused LineRefusal.Fault end is answers from stops = subst (λ (e : MatchEnd). AnswersMatch form (streams first written) (streams left_after written_now) e) (sym is) tt
   ends-refused (LineRefusal.LineTooLong n) end is answers from stops =
-      subst (λ (e : MatchEnd). AnswersMatch form first left_after written written_now e) (sym is)
+      subst (λ (e : MatchEnd). AnswersMatch form (streams first written) (streams left_after written_now) e) (sym is)
       (before_refused (LineRefusal.LineTooLong n) answers (stops-in_line n (LineRefusal.LineTooLong n) before first left left_after from stops stops.line))
   ends-refused (LineRefusal.InputTooLong n) end is answers from stops =
-      subst (λ (e : MatchEnd). AnswersMatch form first left_after written written_now e) (sym is)
+      subst (λ (e : MatchEnd). AnswersMatch form (streams first written) (streams left_after written_now) e) (sym is)
       (before_refused (LineRefusal.InputTooLong n) answers (stops-in_line n (LineRefusal.InputTooLong n) before first left left_after from stops stops.line))
-  ends-refused LineRefusal.NoMemory end is answers from stops = subst (λ (e : MatchEnd). AnswersMatch form first left_after written written_now e) (sym is) tt
+  ends-refused LineRefusal.NoMemory end is answers from stops = subst (λ (e : MatchEnd). AnswersMatch form (streams first written) (streams left_after written_now) e) (sym is) tt
 
   module _ (given : Option Line) (l : Line) (is : given ≡ Some l) (answers : AnswersLine before after left left_after (Ok given)) where
     gives : GivesLine before after left left_after l.number l.bytes
@@ -154,7 +155,7 @@ module _ (form : FirstForm) (first : Option (List ℕ)) (tally : Tally) (before 
 
     -- a line that is given ends the run
     pub ends-in_line : (end : MatchEnd) (written_after : Option (List ℕ)) → EndsInLine tally.last_time l.number l.bytes written_now written_after end → AccountsFor lines_start before first left
-        → GoesOnAccounting before after left left_after → AnswersMatch form first left_after written written_after end
+        → GoesOnAccounting before after left left_after → AnswersMatch form (streams first written) (streams left_after written_after) end
     ends-in_line (Done observations bindings last) written_after ends from goes_on = elim ends [ ]
     ends-in_line (Input line rule) written_after ends from goes_on = record {
       rows = far.rows;
