@@ -131,10 +131,10 @@ module _ (form : FirstForm) (first : Option (List ℕ)) (tally : Tally) (before 
   before_refused : (refusal : LineRefusal) → IfSome (lines_ahead before left) (λ lines. lines ≡ refused refusal) → StopsAt (refused_number refusal) first left_after
       → ListsBefore form (streams first written) (streams left_after written_now) (refused_number refusal)
   before_refused refusal is stops = record {
-    stops = stops;
     rows = far.rows;
     reading = reads_ahead-input form first far.rows (Refused (refused_number refusal)) (so_far-refused form tally (option_map lines_of first) (lines_ahead before left) written written_now refusal far is);
     listing = far.listing;
+    stops = stops;
   }
 
   -- a line is refused before it is given

@@ -89,7 +89,8 @@ fn list_lines<I: Source, O: Sink>(
 }
 
 /// Matches a pattern against a log, and writes the bindings in order of their last observation. The
-/// first line that is refused ends it; past that line at most one read is made.
+/// first line that is refused ends it. Beyond the lines up to that one no more bytes are taken than a
+/// line may have and one read gives.
 pub fn match_stream<I: Source, O: Sink>(
     alloc: Global,
     pattern: &Pattern,
