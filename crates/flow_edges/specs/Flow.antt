@@ -19,6 +19,10 @@ IsNextOf given left = IfSome left (λ bytes. take (length given) bytes ≡ given
 abbrev pub IsAtEnd : Option (List ℕ) → Type 0
 IsAtEnd left = IfSome left (λ bytes. bytes ≡ [])
 
+-- at most so many bytes were taken, as far as the source tells
+abbrev pub TakesAtMost : ℕ → Option (List ℕ) → Option (List ℕ) → Type 0
+TakesAtMost most left now = (n : ℕ) × (n ≤ most) × (now ≡ left_after n left)
+
 -- a prefix of the bytes was written after what was there
 abbrev pub WritesPrefix : List ℕ → Option (List ℕ) → Option (List ℕ) → Type 0
 WritesPrefix bytes before now = (n : ℕ) × (n ≤ length bytes) × (now ≡ written_with (take n bytes) before)

@@ -12,17 +12,17 @@ pub trait Source {
     /// How many calls failed.
     ghost faults: { Self → ℕ };
 
-    /// Takes the next bytes into the front of the buffer, and answers how many. Into a buffer that
-    /// isn't empty, 0 comes only at the end of the bytes. A `Fault` has taken none, and is counted; no
-    /// other call is.
+    /// Takes the next bytes into the front of the buffer, which isn't empty, and answers how many: 0
+    /// only at the end of the bytes. A `Fault` has taken none, and is counted; no other call is.
     ///
-    /// No caller asks for more than 65,536 bytes at once.
+    /// Each caller asks for a byte at least, and for 65,536 at most.
     fn read(&mut self, buffer: &mut [u8]) -> Result<usize, Fault>
+        requires room { 0 < length buffer.now }
         requires asks { length buffer.now ≤ 65536 }
         ensures within { IfOk result (λ n. n ≤ length buffer.old) }
         ensures given { IfOk result (λ n. IsNextOf (take n buffer.new) (left self.old)) }
         ensures rest { IfOk result (λ n. left self.new ≡ left_after n (left self.old)) }
-        ensures end { result ≡ Ok 0 → 0 < length buffer.old → IsAtEnd (left self.old) }
+        ensures end { result ≡ Ok 0 → IsAtEnd (left self.old) }
         ensures err { OnErr result (left self.new ≡ left self.old) }
         ensures causes { Causes (faults self.old) (faults self.new) result };
 }

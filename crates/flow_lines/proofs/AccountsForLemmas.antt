@@ -1,40 +1,50 @@
--- The bytes that go by as lines, and those that are held and left: together they stay the same.
-use Rattle.std.proofs.Common.{◌≡◌, ℕ, ◌+◌, Bool, true, false, List, [], ◌∷◌, ◌++◌, Option, Some, None, unwrap_or, inl, inr, option_map, Result, Ok, Err, IsErrAnd, subst, refl, sym, ap, ◌∙◌, arith, append_assoc, length-append, MatchBool}
-use Rattle.flow_lines.specs.Lines.{LinesState, width, NothingAhead, AreWholeLines, AccountsFor, LosesNone}
-use Rattle.flow_edges.specs.Flow.{IsAtEnd}
+-- The lines that go by, and the bytes that are held and left: together the bytes stay the same.
+use Rattle.std.proofs.Common.{◌≡◌, ℕ, ◌+◌, Bool, true, false, List, [], ◌∷◌, ◌++◌, length, Option, Some, None, unwrap_or, inl, inr, option_map, Result, Ok, Err, IsErrAnd, subst, refl, sym, ap, ◌∙◌, arith, append_assoc, length-append, MatchBool, if◌then◌else◌, All, ◌⊎◌}
 use Rattle.std.proofs.lemmas.List.{append-nil}
+use Rattle.std.proofs.lemmas.List.Elements.{All-append, All-cons, All-nil}
+use Rattle.std.proofs.lemmas.Grind.{flat_map-append}
+use Rattle.flow_edges.specs.Flow.{IsAtEnd}
+use Rattle.flow_lines.specs.Lines.{RawLine, NoLineFeed, lines_text, LinesState, width, NothingAhead, AccountsFor, GoesOnAccounting, LosesNone, lines_ahead, IsOfLine, StopsInLine}
 use Rattle.flow_lines.specs.declared.refusal.LineRefusal.{LineRefusal}
 use Rattle.flow_lines.specs.declared.line.Line.{Line}
 use Rattle.flow_lines.specs.declared.refusal.LineRefusal.TheVariants.{Fault, LineTooLong, InputTooLong, NoMemory}
-use Rattle.flow_lines.specs.inner.Reading.{told_bytes, ReadsToLineFeed, ReadsLast, ReadsPart}
-use Rattle.flow_lines.proofs.LinesAheadLemmas.{option_map-map, option_map-same}
+use Rattle.flow_lines.specs.inner.Reading.{bytes_ahead, ReadsToLineFeed, ReadsLast, ReadsPart, TakesPart, lines_state}
+use Rattle.flow_lines.proofs.LinesAheadLemmas.{option_map-map, option_map-same, lines_of_bytes, lines_ahead-bytes}
+
+-- a line has no line feed before its end
+abbrev IsPlain : RawLine → Type 0
+IsPlain line = NoLineFeed line.bytes
+
+abbrev IsClosed : RawLine → Type 0
+IsClosed line = line.closed ≡ true
 
 -- two lists that make none are both none
 append-nil-back : (xs ys : List ℕ) → xs ++ ys ≡ [] → ys ≡ []
 append-nil-back [] ys is = is
 append-nil-back (x ∷ xs) ys is = absurd (cc)
 
+-- the bytes of more lines
+lines_text-append : (first more : List RawLine) → lines_text (first ++ more) ≡ lines_text first ++ lines_text more
+lines_text-append first more = flat_map-append (λ (line : RawLine). line.bytes ++ (if line.closed then 10 ∷ [] else [])) first more
+
 -- nothing went by yet
-pub accounts-start : (held : List ℕ) (given : ℕ) (left : Option (List ℕ)) → AccountsFor held held given given left left
-accounts-start held given left = record { gone = []; bytes = refl; counted = omega arith; lines = inl refl }
+pub accounts-start : (state : LinesState) (left : Option (List ℕ)) → AccountsFor state state left left
+accounts-start state left = record { gone = []; bytes = refl; given = omega arith; count = omega arith; plain = All-nil _; closed = inl (All-nil _) }
 
 -- where nothing is ahead, no more goes by and nothing is ahead still
 nothing-then : (held gone held_last : List ℕ) (left left_last : Option (List ℕ)) → NothingAhead held left
     → option_map (λ bytes. held ++ bytes) left ≡ option_map (λ bytes. gone ++ (held_last ++ bytes)) left_last → NothingAhead held_last left_last
-nothing-then held gone held_last left None none same = tt
+nothing-then held gone held_last None None none same = tt
 nothing-then held gone held_last None (Some last) none same = absurd (cc)
+nothing-then held gone held_last (Some bytes) None none same = tt
 nothing-then held gone held_last (Some bytes) (Some last) none same =
     let empty : gone ++ (held_last ++ last) ≡ [] = ap (λ (o : Option (List ℕ)). unwrap_or o []) (sym same) ∙ none in append-nil-back gone (held_last ++ last) empty
 
--- whole lines, and then some more
-lines-then : (gone held more held_last : List ℕ) (left left_last : Option (List ℕ)) → AreWholeLines gone held left → AreWholeLines more held_last left_last
-    → option_map (λ bytes. held ++ bytes) left ≡ option_map (λ bytes. more ++ (held_last ++ bytes)) left_last → AreWholeLines (gone ++ more) held_last left_last
-lines-then gone held more held_last left left_last first (inr (inl (front, is))) same = inr (inl (gone ++ front, ap (λ (xs : List ℕ). gone ++ xs) is ∙ sym (append_assoc gone front (10 ∷ []))))
-lines-then gone held more held_last left left_last first (inr (inr none)) same = inr (inr none)
-lines-then gone held more held_last left left_last (inl is) (inl none) same = inl (ap (λ (xs : List ℕ). xs ++ more) is ∙ none)
-lines-then gone held more held_last left left_last (inr (inl (front, is))) (inl none) same =
-    inr (inl (front, ap (λ (xs : List ℕ). gone ++ xs) none ∙ append-nil gone ∙ is))
-lines-then gone held more held_last left left_last (inr (inr nothing)) (inl none) same = inr (inr (nothing-then held more held_last left left_last nothing same))
+closed-then : (first more : List RawLine) (held held_last : List ℕ) (left left_last : Option (List ℕ)) → All IsClosed first ⊎ NothingAhead held left → All IsClosed more ⊎ NothingAhead held_last left_last
+    → option_map (λ bytes. held ++ bytes) left ≡ option_map (λ bytes. lines_text more ++ (held_last ++ bytes)) left_last → All IsClosed (first ++ more) ⊎ NothingAhead held_last left_last
+closed-then first more held held_last left left_last (inl closed) (inl later) same = inl (All-append IsClosed first more closed later)
+closed-then first more held held_last left left_last (inl closed) (inr nothing) same = inr nothing
+closed-then first more held held_last left left_last (inr nothing) later same = inr (nothing-then held (lines_text more) held_last left left_last nothing same)
 
 -- nothing is held, and the source is at its end
 nothing-ahead : (held : List ℕ) (left : Option (List ℕ)) → held ≡ [] → IsAtEnd left → NothingAhead held left
@@ -42,69 +52,137 @@ nothing-ahead held None empty ended = tt
 nothing-ahead held (Some bytes) empty ended = ap (λ (xs : List ℕ). xs ++ bytes) empty ∙ ended
 
 -- some lines went by, and then some more
-pub accounts-then : (held held_new held_last : List ℕ) (given given_new given_last : ℕ) (left left_new left_last : Option (List ℕ))
-    → AccountsFor held held_new given given_new left left_new → AccountsFor held_new held_last given_new given_last left_new left_last
-    → AccountsFor held held_last given given_last left left_last
-accounts-then held held_new held_last given given_new given_last left left_new left_last first then = record {
-  gone = first.gone ++ then.gone;
-  bytes = first.bytes ∙ sym (option_map-map (λ bytes. first.gone ++ bytes) (λ bytes. held_new ++ bytes) left_new)
-      ∙ ap (option_map (λ bytes. first.gone ++ bytes)) then.bytes
-      ∙ option_map-map (λ bytes. first.gone ++ bytes) (λ bytes. then.gone ++ (held_last ++ bytes)) left_last
-      ∙ option_map-same _ _ left_last (λ bytes. sym (append_assoc first.gone then.gone (held_last ++ bytes)));
-  counted = omega (arith, first.counted, then.counted, length-append first.gone then.gone);
-  lines = lines-then _ _ _ _ _ _ first.lines then.lines then.bytes;
+pub accounts-then : (before later last : LinesState) (left left_later left_last : Option (List ℕ))
+    → AccountsFor before later left left_later → AccountsFor later last left_later left_last → AccountsFor before last left left_last
+accounts-then before later last left left_later left_last first next = record {
+  gone = first.gone ++ next.gone;
+  bytes = first.bytes ∙ sym (option_map-map (λ bytes. lines_text first.gone ++ bytes) (λ bytes. later.held ++ bytes) left_later)
+      ∙ ap (option_map (λ bytes. lines_text first.gone ++ bytes)) next.bytes
+      ∙ option_map-map (λ bytes. lines_text first.gone ++ bytes) (λ bytes. lines_text next.gone ++ (last.held ++ bytes)) left_last
+      ∙ option_map-same _ _ left_last (λ bytes. sym (ap (λ text. text ++ (last.held ++ bytes)) (lines_text-append first.gone next.gone) ∙ append_assoc (lines_text first.gone) (lines_text next.gone) (last.held ++ bytes)));
+  given = omega (arith, first.given, next.given, ap length (lines_text-append first.gone next.gone), length-append (lines_text first.gone) (lines_text next.gone));
+  count = omega (arith, first.count, next.count, length-append first.gone next.gone);
+  plain = All-append IsPlain first.gone next.gone first.plain next.plain;
+  closed = closed-then first.gone next.gone later.held last.held left_later left_last first.closed next.closed next.bytes;
 }
 
+-- the same, from wherever the bytes are accounted for
+pub goes_on : (before later last : LinesState) (left left_later left_last : Option (List ℕ))
+    → AccountsFor before later left left_later → AccountsFor later last left_later left_last → GoesOnAccounting before last left left_last
+goes_on before later last left left_later left_last first next start all from =
+    accounts-then start before last all left left_last from (accounts-then before later last left left_later left_last first next)
+
 -- a line went by
-pub accounts-read : (number place wide given : ℕ) (chunk line chunk_new : List ℕ) (left left_new : Option (List ℕ)) (closed : Bool)
-    → MatchBool closed (ReadsToLineFeed number place (told_bytes [] chunk left) left_new line chunk_new) (ReadsLast number place (told_bytes [] chunk left) left_new line chunk_new)
+pub accounts-read : (number place wide count given : ℕ) (chunk line chunk_new : List ℕ) (left left_new : Option (List ℕ)) (closed : Bool)
+    → MatchBool closed (ReadsToLineFeed number place (bytes_ahead [] chunk left) left_new line chunk_new) (ReadsLast number place (bytes_ahead [] chunk left) left_new line chunk_new)
     → wide ≡ width (record { bytes = line; closed = closed })
-    → AccountsFor chunk chunk_new given (given + wide) left left_new
-accounts-read number place wide given chunk line chunk_new left left_new true reads is = record {
-  gone = line ++ 10 ∷ [];
-  bytes = reads.bytes ∙ option_map-same _ _ left_new (λ bytes. sym (append_assoc line (10 ∷ []) (chunk_new ++ bytes)));
-  counted = omega (arith, is, length-append line (10 ∷ []));
-  lines = inr (inl (line, refl));
-}
-accounts-read number place wide given chunk line chunk_new left left_new false reads is = record {
-  gone = line;
-  bytes = reads.bytes ∙ ap (λ chunk. option_map (λ bytes. line ++ (chunk ++ bytes)) left_new) (sym reads.drained);
-  counted = omega (arith, is);
-  lines = inr (inr (nothing-ahead _ _ reads.drained reads.ended));
+    → AccountsFor (lines_state [] chunk count given) (lines_state [] chunk_new (count + 1) (given + wide)) left left_new
+accounts-read number place wide count given chunk line chunk_new left left_new true reads is =
+    let text : lines_text (record { bytes = line; closed = true } ∷ []) ≡ line ++ 10 ∷ [] = append-nil (line ++ 10 ∷ []) in
+    record {
+      gone = record { bytes = line; closed = true } ∷ [];
+      bytes = reads.bytes ∙ option_map-same _ _ left_new (λ bytes. sym (ap (λ text. text ++ (chunk_new ++ bytes)) text ∙ append_assoc line (10 ∷ []) (chunk_new ++ bytes)));
+      given = omega (arith, is, ap length text, length-append line (10 ∷ []));
+      count = omega arith;
+      plain = All-cons IsPlain _ [] reads.plain (All-nil _);
+      closed = inl (All-cons IsClosed _ [] refl (All-nil _));
+    }
+accounts-read number place wide count given chunk line chunk_new left left_new false reads is =
+    let text : lines_text (record { bytes = line; closed = false } ∷ []) ≡ line = append-nil (line ++ []) ∙ append-nil line in
+    record {
+      gone = record { bytes = line; closed = false } ∷ [];
+      bytes = reads.bytes ∙ option_map-same _ _ left_new (λ bytes. ap (λ text. text ++ bytes) (sym text))
+          ∙ ap (λ chunk. option_map (λ bytes. lines_text (record { bytes = line; closed = false } ∷ []) ++ (chunk ++ bytes)) left_new) (sym reads.drained);
+      given = omega (arith, is, ap length text);
+      count = omega arith;
+      plain = All-cons IsPlain _ [] reads.plain (All-nil _);
+      closed = inr (nothing-ahead _ _ reads.drained reads.ended);
+    }
+
+-- no line was left
+pub accounts-none : (number place wide count given : ℕ) (chunk line chunk_new : List ℕ) (left left_new : Option (List ℕ)) (closed : Bool)
+    → MatchBool closed (ReadsToLineFeed number place (bytes_ahead [] chunk left) left_new line chunk_new) (ReadsLast number place (bytes_ahead [] chunk left) left_new line chunk_new)
+    → wide ≡ width (record { bytes = line; closed = closed }) → wide ≡ 0
+    → AccountsFor (lines_state [] chunk count given) (lines_state [] chunk_new count given) left left_new
+accounts-none number place wide count given chunk line chunk_new left left_new true reads is none = absurd (omega (arith, is, none))
+accounts-none number place wide count given chunk (byte ∷ line) chunk_new left left_new false reads is none = absurd (omega (arith, is, none))
+accounts-none number place wide count given chunk [] chunk_new left left_new false reads is none = record {
+  gone = [];
+  bytes = reads.bytes ∙ ap (λ chunk. option_map (λ bytes. chunk ++ bytes) left_new) (sym reads.drained);
+  given = omega arith;
+  count = omega arith;
+  plain = All-nil _;
+  closed = inl (All-nil _);
 }
 
 -- the source failed in a line
-pub accounts-part : (given : ℕ) (chunk line chunk_new : List ℕ) (left left_new : Option (List ℕ))
-    → ReadsPart (told_bytes [] chunk left) left_new line chunk_new → AccountsFor chunk (line ++ chunk_new) given given left left_new
-accounts-part given chunk line chunk_new left left_new reads = record {
+pub accounts-part : (count given : ℕ) (chunk line chunk_new : List ℕ) (left left_new : Option (List ℕ))
+    → ReadsPart (bytes_ahead [] chunk left) left_new line chunk_new → AccountsFor (lines_state [] chunk count given) (lines_state line chunk_new count given) left left_new
+accounts-part count given chunk line chunk_new left left_new reads = record {
   gone = [];
   bytes = reads.bytes ∙ option_map-same _ _ left_new (λ bytes. sym (append_assoc line [] bytes)) ∙ ap (λ chunk. option_map (λ bytes. (line ++ chunk) ++ bytes) left_new) (sym reads.drained);
-  counted = omega arith;
-  lines = inl refl;
+  given = omega arith;
+  count = omega arith;
+  plain = All-nil _;
+  closed = inl (All-nil _);
 }
 
 -- the same after a line is put away
-pub accounts-emptied : (held line chunk : List ℕ) (given given_new : ℕ) (left left_new : Option (List ℕ)) → line ≡ []
-    → AccountsFor held chunk given given_new left left_new → AccountsFor held (line ++ chunk) given given_new left left_new
-accounts-emptied held line chunk given given_new left left_new empty accounts = rw empty accounts
+pub accounts-emptied : (before : LinesState) (line chunk : List ℕ) (count given : ℕ) (left left_new : Option (List ℕ)) → line ≡ []
+    → AccountsFor before (lines_state [] chunk count given) left left_new → AccountsFor before (lines_state line chunk count given) left left_new
+accounts-emptied before line chunk count given left left_new empty accounts = rw empty accounts
 
 -- after a fault no byte is lost, since none was before
 loses-refused : (before later after : LinesState) (left left_later left_after : Option (List ℕ)) (refusal : LineRefusal)
-    → AccountsFor before.held later.held before.given later.given left left_later
-    → (refusal ≡ Fault → AccountsFor later.held after.held later.given after.given left_later left_after)
-    → LosesNone before after left left_after (Err refusal)
-loses-refused before later after left left_later left_after Fault first kept =
-    accounts-then before.held later.held after.held before.given later.given after.given left left_later left_after first (kept refl)
+    → AccountsFor before later left left_later → (refusal ≡ Fault → AccountsFor later after left_later left_after) → LosesNone before after left left_after (Err refusal)
+loses-refused before later after left left_later left_after Fault first kept = goes_on before later after left left_later left_after first (kept refl)
 loses-refused before later after left left_later left_after (LineTooLong n) first kept = tt
 loses-refused before later after left left_later left_after (InputTooLong n) first kept = tt
 loses-refused before later after left left_later left_after NoMemory first kept = tt
 
--- the same of an answer that passes the refusal on
+-- a fact of a refusal that an answer passes on
+pub passed_on : {T E : Type 0} (P : Result T E → Type 0) (answer : Result T E) (refusal : E) → IsErrAnd answer (λ e. e ≡ refusal) → P (Err refusal) → P answer
+passed_on P (Ok value) refusal passed fact = absurd passed
+passed_on P (Err e) refusal passed fact = subst (λ e. P (Err e)) (sym passed) fact
+
+pub one_error : {T E : Type 0} (answer : Result T E) (a b : E) → IsErrAnd answer (λ e. e ≡ a) → answer ≡ Err b → a ≡ b
+one_error (Ok value) a b passed is = absurd passed
+one_error (Err e) a b passed is = sym passed ∙ cc
+
 pub loses-passed_on : (before later after : LinesState) (left left_later left_after : Option (List ℕ)) (refusal : LineRefusal) (answer : Result (Option Line) LineRefusal)
-    → IsErrAnd answer (λ e. e ≡ refusal)
-    → AccountsFor before.held later.held before.given later.given left left_later
-    → (refusal ≡ Fault → AccountsFor later.held after.held later.given after.given left_later left_after)
+    → IsErrAnd answer (λ e. e ≡ refusal) → AccountsFor before later left left_later → (refusal ≡ Fault → AccountsFor later after left_later left_after)
     → LosesNone before after left left_after answer
-loses-passed_on before later after left left_later left_after refusal (Ok line) passed first kept = absurd passed
-loses-passed_on before later after left left_later left_after refusal (Err e) passed first kept =
-    subst (λ e. LosesNone before after left left_after (Err e)) (sym passed) (loses-refused before later after left left_later left_after refusal first kept)
+loses-passed_on before later after left left_later left_after refusal answer passed first kept =
+    passed_on (LosesNone before after left left_after) answer refusal passed (loses-refused before later after left left_later left_after refusal first kept)
+
+-- ---- where the reader stops
+
+-- the lines of a state that holds these bytes are those of the bytes and of what is left
+lines-taken : (taken : List ℕ) (count given : ℕ) (left : Option (List ℕ))
+    → lines_ahead (record { held = taken; count = count; given = given; refusal = None }) left ≡ lines_of_bytes count given (bytes_ahead taken [] left)
+lines-taken taken count given None = refl
+lines-taken taken count given (Some bytes) = refl
+
+-- it stops in the first line that it reads
+pub stops-part : (chunk : List ℕ) (count given : ℕ) (left left_new : Option (List ℕ)) (refusal : LineRefusal) → TakesPart (bytes_ahead [] chunk left) left_new → IsOfLine (count + 1) refusal
+    → StopsInLine (lines_state [] chunk count given) left left_new refusal
+stops-part chunk count given left left_new refusal part line = record {
+  at = record { held = part.taken; count = count; given = given; refusal = None };
+  line = line;
+  few = part.few;
+  accounts = λ start all from. accounts-then start (lines_state [] chunk count given) _ all left left_new from
+      (record { gone = []; bytes = part.bytes; given = omega arith; count = omega arith; plain = All-nil _; closed = inl (All-nil _) });
+  lines = lines-taken part.taken count given left_new ∙ ap (λ all. lines_of_bytes count given all) (sym part.bytes) ∙ sym (lines_ahead-bytes [] chunk count given left);
+}
+
+-- it stops after some lines went by
+pub stops-then : (before later : LinesState) (left left_later left_after : Option (List ℕ)) (refusal : LineRefusal)
+    → AccountsFor before later left left_later → lines_ahead before left ≡ lines_ahead later left_later
+    → StopsInLine later left_later left_after refusal → StopsInLine before left left_after refusal
+stops-then before later left left_later left_after refusal accounts ahead stops = record {
+  at = stops.at;
+  line = stops.line;
+  few = stops.few;
+  accounts = λ start all from. stops.accounts start all (accounts-then start before later all left left_later from accounts);
+  lines = stops.lines ∙ sym ahead;
+}

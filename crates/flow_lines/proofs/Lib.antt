@@ -2,3 +2,4 @@ pub mod RawLinesLemmas
 pub mod LinesAheadLemmas
 pub mod HoldsLineLemmas
 pub mod AccountsForLemmas
+pub mod TakesAtMostLemmas

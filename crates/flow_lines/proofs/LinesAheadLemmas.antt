@@ -5,8 +5,8 @@ use Rattle.std.proofs.lemmas.Bool.Decides.{nat_tests}
 use Rattle.flow_lines.specs.declared.refusal.TheConstants.{MAX_INPUT}
 use Rattle.flow_lines.specs.declared.refusal.LineRefusal.{LineRefusal}
 use Rattle.flow_edges.specs.Flow.{IsAtEnd}
-use Rattle.flow_lines.specs.Lines.{RawLine, raw_lines, length_refusal, refusal_of, width, content, is_blank, Lined, ended, refused, line_then, unless_refused, unless_blank, lines_from, told_ahead}
-use Rattle.flow_lines.specs.inner.Reading.{told_bytes, ReadsToLineFeed, ReadsLast, ReadsPart, IsFirstRefused, ReadsNext, lines_state}
+use Rattle.flow_lines.specs.Lines.{RawLine, raw_lines, length_refusal, refusal_of, width, content, is_blank, Lined, ended, refused, line_then, unless_refused, unless_blank, lines_from, lines_ahead}
+use Rattle.flow_lines.specs.inner.Reading.{bytes_ahead, ReadsToLineFeed, ReadsLast, ReadsPart, IsFirstRefused, ReadsNext, lines_state}
 use Rattle.flow_lines.proofs.RawLinesLemmas.{raw_lines-fed, raw_lines-last}
 
 pub option_map-map : {A B C : Type 0} (f : B → C) (g : A → B) (o : Option A) → option_map f (option_map g o) ≡ option_map (λ a. f (g a)) o
@@ -17,13 +17,13 @@ pub option_map-same : {A B : Type 0} (f g : A → B) (o : Option A) → ((a : A)
 option_map-same f g None same = refl
 option_map-same f g (Some a) same = ap Some (same a)
 
--- the lines of the bytes told
-abbrev pub lines_told : ℕ → ℕ → Option (List ℕ) → Option Lined
-lines_told count given all = option_map (λ bytes. lines_from (count + 1) given (raw_lines bytes)) all
+-- the lines of these bytes
+abbrev pub lines_of_bytes : ℕ → ℕ → Option (List ℕ) → Option Lined
+lines_of_bytes count given all = option_map (λ bytes. lines_from (count + 1) given (raw_lines bytes)) all
 
-told_ahead-bytes : (line chunk : List ℕ) (count given : ℕ) (left : Option (List ℕ)) → told_ahead (lines_state line chunk count given) left ≡ lines_told count given (told_bytes line chunk left)
-told_ahead-bytes line chunk count given None = refl
-told_ahead-bytes line chunk count given (Some bytes) = ap (λ all. Some (lines_from (count + 1) given (raw_lines all))) (append_assoc line chunk bytes)
+pub lines_ahead-bytes : (line chunk : List ℕ) (count given : ℕ) (left : Option (List ℕ)) → lines_ahead (lines_state line chunk count given) left ≡ lines_of_bytes count given (bytes_ahead line chunk left)
+lines_ahead-bytes line chunk count given None = refl
+lines_ahead-bytes line chunk count given (Some bytes) = ap (λ all. Some (lines_from (count + 1) given (raw_lines all))) (append_assoc line chunk bytes)
 
 -- a line that isn't refused is given, unless it is blank
 pub lines_from-fits : (number place : ℕ) (l : RawLine) (ls : List RawLine) → refusal_of number place l ≡ None → lines_from number place (l ∷ ls) ≡ unless_blank number (content l) (lines_from (number + 1) (place + width l) ls)
@@ -34,69 +34,69 @@ lines_from-refused number place l ls refusal is = ap (λ refusal. unless_refused
 
 -- a whole line was read
 pub ahead-fed : (chunk line_new chunk_new : List ℕ) (count given : ℕ) (left left_new : Option (List ℕ))
-    → ReadsToLineFeed (count + 1) given (told_bytes [] chunk left) left_new line_new chunk_new
-    → told_ahead (lines_state [] chunk count given) left
-    ≡ option_map (λ later. unless_blank (count + 1) (content (record { bytes = line_new; closed = true })) later) (told_ahead (lines_state [] chunk_new (count + 1) (given + (length line_new + 1))) left_new)
+    → ReadsToLineFeed (count + 1) given (bytes_ahead [] chunk left) left_new line_new chunk_new
+    → lines_ahead (lines_state [] chunk count given) left
+    ≡ option_map (λ later. unless_blank (count + 1) (content (record { bytes = line_new; closed = true })) later) (lines_ahead (lines_state [] chunk_new (count + 1) (given + (length line_new + 1))) left_new)
 ahead-fed chunk line_new chunk_new count given left left_new reads =
-    told_ahead-bytes [] chunk count given left ∙ ap (λ all. lines_told count given all) reads.bytes
+    lines_ahead-bytes [] chunk count given left ∙ ap (λ all. lines_of_bytes count given all) reads.bytes
     ∙ option_map-map _ _ left_new
     ∙ option_map-same _ _ left_new (λ bytes. ap (λ ls. lines_from (count + 1) given ls) (raw_lines-fed line_new (chunk_new ++ bytes) reads.plain) ∙ lines_from-fits (count + 1) given (record { bytes = line_new; closed = true }) (raw_lines (chunk_new ++ bytes)) reads.fits)
     ∙ sym (option_map-map _ _ left_new)
 
 -- the last line was read, which has no line feed
 pub ahead-last : (chunk line_new : List ℕ) (count given : ℕ) (left left_new : Option (List ℕ)) → 0 < length line_new
-    → ReadsLast (count + 1) given (told_bytes [] chunk left) left_new line_new []
-    → told_ahead (lines_state [] chunk count given) left
-    ≡ option_map (λ later. unless_blank (count + 1) line_new later) (told_ahead (lines_state [] [] (count + 1) (given + (length line_new + 0))) left_new)
+    → ReadsLast (count + 1) given (bytes_ahead [] chunk left) left_new line_new []
+    → lines_ahead (lines_state [] chunk count given) left
+    ≡ option_map (λ later. unless_blank (count + 1) line_new later) (lines_ahead (lines_state [] [] (count + 1) (given + (length line_new + 0))) left_new)
 ahead-last chunk line_new count given left left_new some reads =
-    told_ahead-bytes [] chunk count given left ∙ ap (λ all. lines_told count given all) reads.bytes ∙ go left_new reads.ended
+    lines_ahead-bytes [] chunk count given left ∙ ap (λ all. lines_of_bytes count given all) reads.bytes ∙ go left_new reads.ended
   where
-    go : (left_new : Option (List ℕ)) → IsAtEnd left_new → lines_told count given (told_bytes line_new [] left_new) ≡ option_map (λ later. unless_blank (count + 1) line_new later) (told_ahead (lines_state [] [] (count + 1) (given + (length line_new + 0))) left_new)
+    go : (left_new : Option (List ℕ)) → IsAtEnd left_new → lines_of_bytes count given (bytes_ahead line_new [] left_new) ≡ option_map (λ later. unless_blank (count + 1) line_new later) (lines_ahead (lines_state [] [] (count + 1) (given + (length line_new + 0))) left_new)
     go None end = refl
     go (Some bytes) end =
-        ap (λ bytes. lines_told count given (told_bytes line_new [] (Some bytes))) end
+        ap (λ bytes. lines_of_bytes count given (bytes_ahead line_new [] (Some bytes))) end
         ∙ ap (λ all. Some (lines_from (count + 1) given (raw_lines all))) (append-nil line_new)
         ∙ ap (λ ls. Some (lines_from (count + 1) given ls)) (raw_lines-last line_new reads.plain some)
         ∙ ap Some (lines_from-fits (count + 1) given (record { bytes = line_new; closed = false }) [] reads.fits)
-        ∙ ap (λ bytes. option_map (λ later. unless_blank (count + 1) line_new later) (told_ahead (lines_state [] [] (count + 1) (given + (length line_new + 0))) (Some bytes))) (sym end)
+        ∙ ap (λ bytes. option_map (λ later. unless_blank (count + 1) line_new later) (lines_ahead (lines_state [] [] (count + 1) (given + (length line_new + 0))) (Some bytes))) (sym end)
 
 -- no line was left
 pub ahead-none : (chunk : List ℕ) (count given : ℕ) (left left_new : Option (List ℕ))
-    → ReadsLast (count + 1) given (told_bytes [] chunk left) left_new [] []
-    → IfSome (told_ahead (lines_state [] chunk count given) left) (λ ahead. ahead ≡ ended)
+    → ReadsLast (count + 1) given (bytes_ahead [] chunk left) left_new [] []
+    → IfSome (lines_ahead (lines_state [] chunk count given) left) (λ ahead. ahead ≡ ended)
 ahead-none chunk count given left left_new reads =
-    rw (told_ahead-bytes [] chunk count given left ∙ ap (λ all. lines_told count given all) reads.bytes) (go left_new reads.ended)
+    rw (lines_ahead-bytes [] chunk count given left ∙ ap (λ all. lines_of_bytes count given all) reads.bytes) (go left_new reads.ended)
   where
-    go : (left_new : Option (List ℕ)) → IsAtEnd left_new → IfSome (lines_told count given (told_bytes [] [] left_new)) (λ ahead. ahead ≡ ended)
+    go : (left_new : Option (List ℕ)) → IsAtEnd left_new → IfSome (lines_of_bytes count given (bytes_ahead [] [] left_new)) (λ ahead. ahead ≡ ended)
     go None end = tt
     go (Some bytes) end = ap (λ bytes. lines_from (count + 1) given (raw_lines bytes)) end
 
 -- the next line is refused
 pub ahead-refused : (chunk : List ℕ) (count given : ℕ) (left : Option (List ℕ)) (refusal : LineRefusal)
-    → IfSome (told_bytes [] chunk left) (IsFirstRefused (count + 1) given refusal)
-    → IfSome (told_ahead (lines_state [] chunk count given) left) (λ ahead. ahead ≡ refused refusal)
+    → IfSome (bytes_ahead [] chunk left) (IsFirstRefused (count + 1) given refusal)
+    → IfSome (lines_ahead (lines_state [] chunk count given) left) (λ ahead. ahead ≡ refused refusal)
 ahead-refused chunk count given None refusal first = tt
 ahead-refused chunk count given (Some bytes) refusal first =
     ap (λ ls. lines_from (count + 1) given ls) first.lines ∙ lines_from-refused (count + 1) given first.first first.later refusal first.refused
 
 -- the source failed in a line
 pub ahead-part : (chunk line_new : List ℕ) (count given : ℕ) (left left_new : Option (List ℕ))
-    → ReadsPart (told_bytes [] chunk left) left_new line_new []
-    → told_ahead (lines_state line_new [] count given) left_new ≡ told_ahead (lines_state [] chunk count given) left
+    → ReadsPart (bytes_ahead [] chunk left) left_new line_new []
+    → lines_ahead (lines_state line_new [] count given) left_new ≡ lines_ahead (lines_state [] chunk count given) left
 ahead-part chunk line_new count given left left_new reads =
-    told_ahead-bytes line_new [] count given left_new ∙ ap (λ all. lines_told count given all) (sym reads.bytes) ∙ sym (told_ahead-bytes [] chunk count given left)
+    lines_ahead-bytes line_new [] count given left_new ∙ ap (λ all. lines_of_bytes count given all) (sym reads.bytes) ∙ sym (lines_ahead-bytes [] chunk count given left)
 
 -- a line was read
 pub ahead-read : (chunk line_new chunk_new : List ℕ) (count given : ℕ) (left left_new : Option (List ℕ)) (closed : Bool)
-    → MatchBool closed (ReadsToLineFeed (count + 1) given (told_bytes [] chunk left) left_new line_new chunk_new) (ReadsLast (count + 1) given (told_bytes [] chunk left) left_new line_new chunk_new)
+    → MatchBool closed (ReadsToLineFeed (count + 1) given (bytes_ahead [] chunk left) left_new line_new chunk_new) (ReadsLast (count + 1) given (bytes_ahead [] chunk left) left_new line_new chunk_new)
     → (closed ≡ false → 0 < length line_new)
-    → told_ahead (lines_state [] chunk count given) left
-    ≡ option_map (λ later. unless_blank (count + 1) (content (record { bytes = line_new; closed = closed })) later) (told_ahead (lines_state [] chunk_new (count + 1) (given + width (record { bytes = line_new; closed = closed }))) left_new)
+    → lines_ahead (lines_state [] chunk count given) left
+    ≡ option_map (λ later. unless_blank (count + 1) (content (record { bytes = line_new; closed = closed })) later) (lines_ahead (lines_state [] chunk_new (count + 1) (given + width (record { bytes = line_new; closed = closed }))) left_new)
 ahead-read chunk line_new chunk_new count given left left_new true reads some = ahead-fed chunk line_new chunk_new count given left left_new reads
 ahead-read chunk line_new chunk_new count given left left_new false reads some =
     let none = reads.drained in
-    subst (λ chunk_new. told_ahead (lines_state [] chunk count given) left ≡ option_map (λ later. unless_blank (count + 1) line_new later) (told_ahead (lines_state [] chunk_new (count + 1) (given + (length line_new + 0))) left_new)) (sym none)
-    (ahead-last chunk line_new count given left left_new (some refl) (subst (λ chunk_new. ReadsLast (count + 1) given (told_bytes [] chunk left) left_new line_new chunk_new) none reads))
+    subst (λ chunk_new. lines_ahead (lines_state [] chunk count given) left ≡ option_map (λ later. unless_blank (count + 1) line_new later) (lines_ahead (lines_state [] chunk_new (count + 1) (given + (length line_new + 0))) left_new)) (sym none)
+    (ahead-last chunk line_new count given left left_new (some refl) (subst (λ chunk_new. ReadsLast (count + 1) given (bytes_ahead [] chunk left) left_new line_new chunk_new) none reads))
 
 -- a line that isn't blank is given
 pub option_map-given : (number : ℕ) (bytes : List ℕ) (ahead : Option Lined) → is_blank bytes ≡ false → option_map (λ later. unless_blank number bytes later) ahead ≡ option_map (λ later. line_then number bytes later) ahead
@@ -109,40 +109,40 @@ option_map-blank number bytes (Some later) blank = ap (λ b. Some (if b then lat
 
 -- the next line was read
 pub ahead-next : (chunk line_new chunk_new bytes : List ℕ) (count given given_new : ℕ) (left left_new : Option (List ℕ)) (closed : Bool)
-    → MatchBool closed (ReadsToLineFeed (count + 1) given (told_bytes [] chunk left) left_new line_new chunk_new) (ReadsLast (count + 1) given (told_bytes [] chunk left) left_new line_new chunk_new)
+    → MatchBool closed (ReadsToLineFeed (count + 1) given (bytes_ahead [] chunk left) left_new line_new chunk_new) (ReadsLast (count + 1) given (bytes_ahead [] chunk left) left_new line_new chunk_new)
     → 0 < width (record { bytes = line_new; closed = closed })
     → bytes ≡ content (record { bytes = line_new; closed = closed })
     → given_new ≡ given + width (record { bytes = line_new; closed = closed })
-    → told_ahead (lines_state [] chunk count given) left ≡ option_map (λ later. unless_blank (count + 1) bytes later) (told_ahead (lines_state [] chunk_new (count + 1) given_new) left_new)
+    → lines_ahead (lines_state [] chunk count given) left ≡ option_map (λ later. unless_blank (count + 1) bytes later) (lines_ahead (lines_state [] chunk_new (count + 1) given_new) left_new)
 ahead-next chunk line_new chunk_new bytes count given given_new left left_new closed reads some is taken =
     ahead-read chunk line_new chunk_new count given left left_new closed reads (λ unclosed. omega (arith, subst (λ c. 0 < length line_new + (if c then 1 else 0)) unclosed some))
-    ∙ ap (λ bytes. option_map (λ later. unless_blank (count + 1) bytes later) (told_ahead (lines_state [] chunk_new (count + 1) (given + width (record { bytes = line_new; closed = closed }))) left_new)) (sym is)
-    ∙ ap (λ given_new. option_map (λ later. unless_blank (count + 1) bytes later) (told_ahead (lines_state [] chunk_new (count + 1) given_new) left_new)) (sym taken)
+    ∙ ap (λ bytes. option_map (λ later. unless_blank (count + 1) bytes later) (lines_ahead (lines_state [] chunk_new (count + 1) (given + width (record { bytes = line_new; closed = closed }))) left_new)) (sym is)
+    ∙ ap (λ given_new. option_map (λ later. unless_blank (count + 1) bytes later) (lines_ahead (lines_state [] chunk_new (count + 1) given_new) left_new)) (sym taken)
 
-pub ahead-emptied : (line chunk : List ℕ) (count given : ℕ) (left : Option (List ℕ)) → line ≡ [] → told_ahead (lines_state [] chunk count given) left ≡ told_ahead (lines_state line chunk count given) left
-ahead-emptied line chunk count given left empty = ap (λ line. told_ahead (lines_state line chunk count given) left) (sym empty)
+pub ahead-emptied : (line chunk : List ℕ) (count given : ℕ) (left : Option (List ℕ)) → line ≡ [] → lines_ahead (lines_state [] chunk count given) left ≡ lines_ahead (lines_state line chunk count given) left
+ahead-emptied line chunk count given left empty = ap (λ line. lines_ahead (lines_state line chunk count given) left) (sym empty)
 
 -- a line that isn't blank is given, and the state behind it has no line
 pub ahead-given : (before : Option Lined) (line chunk bytes bytes_given line_new chunk_new : List ℕ) (count count_new given given_new : ℕ) (left left_new : Option (List ℕ))
-    → before ≡ told_ahead (lines_state line chunk count given) left → line ≡ []
+    → before ≡ lines_ahead (lines_state line chunk count given) left → line ≡ []
     → ReadsNext chunk chunk_new count count_new given given_new bytes left left_new
     → is_blank bytes ≡ false → bytes_given ≡ bytes → line_new ≡ []
-    → before ≡ option_map (λ later. line_then count_new bytes_given later) (told_ahead (lines_state line_new chunk_new count_new given_new) left_new)
+    → before ≡ option_map (λ later. line_then count_new bytes_given later) (lines_ahead (lines_state line_new chunk_new count_new given_new) left_new)
 ahead-given before line chunk bytes bytes_given line_new chunk_new count count_new given given_new left left_new ahead empty reads full same emptied =
     ahead ∙ sym (ahead-emptied line chunk count given left empty) ∙ reads.ahead
-    ∙ option_map-given count_new bytes (told_ahead (lines_state [] chunk_new count_new given_new) left_new) full
-    ∙ ap (λ bytes. option_map (λ later. line_then count_new bytes later) (told_ahead (lines_state [] chunk_new count_new given_new) left_new)) (sym same)
+    ∙ option_map-given count_new bytes (lines_ahead (lines_state [] chunk_new count_new given_new) left_new) full
+    ∙ ap (λ bytes. option_map (λ later. line_then count_new bytes later) (lines_ahead (lines_state [] chunk_new count_new given_new) left_new)) (sym same)
     ∙ ap (λ ahead. option_map (λ later. line_then count_new bytes_given later) ahead) (ahead-emptied line_new chunk_new count_new given_new left_new emptied)
 
 -- a blank line is passed over
 pub ahead-blank : (before : Option Lined) (line chunk bytes line_new chunk_new : List ℕ) (count count_new given given_new : ℕ) (left left_new : Option (List ℕ))
-    → before ≡ told_ahead (lines_state line chunk count given) left → line ≡ []
+    → before ≡ lines_ahead (lines_state line chunk count given) left → line ≡ []
     → ReadsNext chunk chunk_new count count_new given given_new bytes left left_new
     → is_blank bytes ≡ true → line_new ≡ []
-    → before ≡ told_ahead (lines_state line_new chunk_new count_new given_new) left_new
+    → before ≡ lines_ahead (lines_state line_new chunk_new count_new given_new) left_new
 ahead-blank before line chunk bytes line_new chunk_new count count_new given given_new left left_new ahead empty reads blank emptied =
     ahead ∙ sym (ahead-emptied line chunk count given left empty) ∙ reads.ahead
-    ∙ option_map-blank count_new bytes (told_ahead (lines_state [] chunk_new count_new given_new) left_new) blank
+    ∙ option_map-blank count_new bytes (lines_ahead (lines_state [] chunk_new count_new given_new) left_new) blank
     ∙ ahead-emptied line_new chunk_new count_new given_new left_new emptied
 
 -- a line that isn't refused lies within the input's limit
@@ -156,7 +156,7 @@ fits-read number place all left line chunk true reads = omega (arith, refusal_of
 fits-read number place all left line chunk false reads = omega (arith, refusal_of-fits number place (length line) false reads.fits)
 
 pub reads-next : (chunk line_new chunk_new bytes : List ℕ) (count given wide : ℕ) (left left_new : Option (List ℕ)) (closed : Bool)
-    → MatchBool closed (ReadsToLineFeed (count + 1) given (told_bytes [] chunk left) left_new line_new chunk_new) (ReadsLast (count + 1) given (told_bytes [] chunk left) left_new line_new chunk_new)
+    → MatchBool closed (ReadsToLineFeed (count + 1) given (bytes_ahead [] chunk left) left_new line_new chunk_new) (ReadsLast (count + 1) given (bytes_ahead [] chunk left) left_new line_new chunk_new)
     → wide ≡ width (record { bytes = line_new; closed = closed }) → ¬ (wide ≡ 0)
     → bytes ≡ content (record { bytes = line_new; closed = closed })
     → length chunk_new ≤ 65536 → count ≤ given
@@ -166,5 +166,5 @@ reads-next chunk line_new chunk_new bytes count given wide left left_new closed 
   moved = omega arith;
   room = room;
   numbered = omega arith;
-  within = omega (arith, is, fits-read (count + 1) given (told_bytes [] chunk left) left_new line_new chunk_new closed reads);
+  within = omega (arith, is, fits-read (count + 1) given (bytes_ahead [] chunk left) left_new line_new chunk_new closed reads);
 }

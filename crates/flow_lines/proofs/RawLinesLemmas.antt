@@ -1,31 +1,32 @@
 -- How the bytes of an input are cut into lines, from what a reader has of them.
-use Rattle.std.proofs.Common.{◌≡◌, ℕ, ◌<◌, ◌≤◌, Bool, true, false, List, [], ◌∷◌, ◌++◌, length, drop, Option, Some, None, option_map, IfSome, MatchBool, MatchOption, is_some, not, refl, sym, ap, ◌∙◌, arith, append_assoc, length-append, cond, eqb, ◌⊎◌, inl, inr}
+use Rattle.std.proofs.Common.{◌≡◌, ℕ, ◌<◌, ◌≤◌, Bool, true, false, List, [], ◌∷◌, ◌++◌, length, drop, Option, Some, None, option_map, IfSome, MatchBool, MatchOption, is_some, not, refl, sym, ap, ◌∙◌, arith, append_assoc, length-append, cond, eqb, ◌⊎◌, inl, inr, Result, Ok, Err, OnErr}
 use Rattle.std.proofs.lemmas.List.{take-append-drop}
 use Rattle.std.proofs.lemmas.List.Elements.{All-append, All-cons, All-nil}
 use Rattle.std.proofs.lemmas.List.Splits.{slice_split_at, slice_split_none}
 use Rattle.std.proofs.lemmas.Bool.{eqb-true}
 use Rattle.std.proofs.lemmas.Bool.Decides.{nat_tests}
 use Rattle.std.specs.List.{slice_split}
-use Rattle.flow_lines.specs.declared.refusal.TheConstants.{MAX_INPUT}
+use Rattle.flow_lines.specs.declared.refusal.TheConstants.{MAX_LINE, MAX_INPUT}
 use Rattle.flow_lines.specs.declared.refusal.LineRefusal.{LineRefusal}
+use Rattle.flow_lines.specs.declared.refusal.LineRefusal.TheVariants.{Fault, LineTooLong, InputTooLong, NoMemory}
 use Rattle.flow_edges.specs.Flow.{left_after, IsNextOf}
-use Rattle.flow_lines.specs.Lines.{is_line_feed, IsNoLineFeed, NoLineFeed, raw_lines, raw_lines_of, length_refusal}
-use Rattle.flow_lines.specs.inner.Reading.{told_bytes, TakesToLineFeed, TakesAll, IsFirstRefused}
+use Rattle.flow_lines.specs.Lines.{is_line_feed, IsNoLineFeed, NoLineFeed, raw_lines, raw_lines_of, length_refusal, IsOfLine}
+use Rattle.flow_lines.specs.inner.Reading.{bytes_ahead, TakesToLineFeed, TakesAll, TakesPart, IsFirstRefused}
 
 -- ---- the bytes that a source tells
 
-pub told-taken : (line chunk : List ℕ) (left : Option (List ℕ)) → told_bytes line chunk left ≡ told_bytes (line ++ chunk) [] left
-told-taken line chunk None = refl
-told-taken line chunk (Some bytes) = ap Some (sym (append_assoc line chunk bytes))
+pub bytes_ahead-taken : (line chunk : List ℕ) (left : Option (List ℕ)) → bytes_ahead line chunk left ≡ bytes_ahead (line ++ chunk) [] left
+bytes_ahead-taken line chunk None = refl
+bytes_ahead-taken line chunk (Some bytes) = ap Some (sym (append_assoc line chunk bytes))
 
-pub told-filled : (line more : List ℕ) (left after : Option (List ℕ)) → IsNextOf more left → after ≡ left_after (length more) left → told_bytes line [] left ≡ told_bytes line more after
-told-filled line more None after next rest = ap (λ left. told_bytes line more left) (sym rest)
-told-filled line more (Some bytes) after next rest =
-    ap (λ all. Some (line ++ all)) (sym (take-append-drop (length more) bytes) ∙ ap (λ front. front ++ drop (length more) bytes) next) ∙ ap (λ left. told_bytes line more left) (sym rest)
+pub bytes_ahead-filled : (line more : List ℕ) (left after : Option (List ℕ)) → IsNextOf more left → after ≡ left_after (length more) left → bytes_ahead line [] left ≡ bytes_ahead line more after
+bytes_ahead-filled line more None after next rest = ap (λ left. bytes_ahead line more left) (sym rest)
+bytes_ahead-filled line more (Some bytes) after next rest =
+    ap (λ all. Some (line ++ all)) (sym (take-append-drop (length more) bytes) ∙ ap (λ front. front ++ drop (length more) bytes) next) ∙ ap (λ left. bytes_ahead line more left) (sym rest)
 
-pub told-fed : (taken line chunk : List ℕ) (left : Option (List ℕ)) → told_bytes line (taken ++ 10 ∷ chunk) left ≡ option_map (λ bytes. (line ++ taken) ++ 10 ∷ (chunk ++ bytes)) left
-told-fed taken line chunk None = refl
-told-fed taken line chunk (Some bytes) = ap Some (ap (λ tail. line ++ tail) (append_assoc taken (10 ∷ chunk) bytes) ∙ sym (append_assoc line taken (10 ∷ (chunk ++ bytes))))
+pub bytes_ahead-fed : (taken line chunk : List ℕ) (left : Option (List ℕ)) → bytes_ahead line (taken ++ 10 ∷ chunk) left ≡ option_map (λ bytes. (line ++ taken) ++ 10 ∷ (chunk ++ bytes)) left
+bytes_ahead-fed taken line chunk None = refl
+bytes_ahead-fed taken line chunk (Some bytes) = ap Some (ap (λ tail. line ++ tail) (append_assoc taken (10 ∷ chunk) bytes) ∙ sym (append_assoc line taken (10 ∷ (chunk ++ bytes))))
 
 -- ---- lines of whole bytes
 
@@ -55,6 +56,17 @@ length_refusal-more number place size more closed refusal fewer is = grind (arit
 
 pub length_refusal-some : (number place size : ℕ) (refusal : LineRefusal) → place ≤ MAX_INPUT → length_refusal number place size false ≡ Some refusal → 0 < size
 length_refusal-some number place size refusal within is = grind (arith, nat_tests)
+
+-- a line that isn't refused has no more bytes than a line may have
+pub length_refusal-short : (number place size : ℕ) (closed : Bool) → length_refusal number place size closed ≡ None → size ≤ MAX_LINE
+length_refusal-short number place size closed fits = grind (arith, nat_tests)
+
+-- it tells the line's number
+pub length_refusal-number : (number place size : ℕ) (closed : Bool) (refusal : LineRefusal) → length_refusal number place size closed ≡ Some refusal → IsOfLine number refusal
+length_refusal-number number place size closed Fault is = tt
+length_refusal-number number place size closed (LineTooLong n) is = grind (arith, nat_tests)
+length_refusal-number number place size closed (InputTooLong n) is = grind (arith, nat_tests)
+length_refusal-number number place size closed NoMemory is = tt
 
 -- the bytes up to a line feed and after it, or none is there
 cut : (bytes : List ℕ) → ((front : List ℕ) × (back : List ℕ) × (bytes ≡ front ++ 10 ∷ back) × NoLineFeed front) ⊎ NoLineFeed bytes
@@ -98,12 +110,12 @@ IfSome-map P f None each = tt
 IfSome-map P f (Some a) each = each a
 
 -- the bytes that a taken line stands among
-pub told-to_feed : (all left : Option (List ℕ)) (line chunk line_new chunk_new : List ℕ) → all ≡ told_bytes line chunk left → TakesToLineFeed chunk chunk_new line line_new → all ≡ option_map (λ bytes. line_new ++ 10 ∷ (chunk_new ++ bytes)) left
-told-to_feed all left line chunk line_new chunk_new is takes =
-    is ∙ ap (λ chunk. told_bytes line chunk left) takes.chunk ∙ told-fed takes.taken line chunk_new left ∙ ap (λ front. option_map (λ bytes. front ++ 10 ∷ (chunk_new ++ bytes)) left) (sym takes.line)
+pub bytes_ahead-to_feed : (all left : Option (List ℕ)) (line chunk line_new chunk_new : List ℕ) → all ≡ bytes_ahead line chunk left → TakesToLineFeed chunk chunk_new line line_new → all ≡ option_map (λ bytes. line_new ++ 10 ∷ (chunk_new ++ bytes)) left
+bytes_ahead-to_feed all left line chunk line_new chunk_new is takes =
+    is ∙ ap (λ chunk. bytes_ahead line chunk left) takes.chunk ∙ bytes_ahead-fed takes.taken line chunk_new left ∙ ap (λ front. option_map (λ bytes. front ++ 10 ∷ (chunk_new ++ bytes)) left) (sym takes.line)
 
-pub told-all : (all left : Option (List ℕ)) (line chunk line_new chunk_new : List ℕ) → all ≡ told_bytes line chunk left → TakesAll chunk chunk_new line line_new → all ≡ told_bytes line_new [] left
-told-all all left line chunk line_new chunk_new is takes = is ∙ told-taken line chunk left ∙ ap (λ line. told_bytes line [] left) (sym takes.line)
+pub bytes_ahead-all : (all left : Option (List ℕ)) (line chunk line_new chunk_new : List ℕ) → all ≡ bytes_ahead line chunk left → TakesAll chunk chunk_new line line_new → all ≡ bytes_ahead line_new [] left
+bytes_ahead-all all left line chunk line_new chunk_new is takes = is ∙ bytes_ahead-taken line chunk left ∙ ap (λ line. bytes_ahead line [] left) (sym takes.line)
 
 pub plain-to_feed : (line chunk line_new chunk_new : List ℕ) → NoLineFeed line → TakesToLineFeed chunk chunk_new line line_new → NoLineFeed line_new
 plain-to_feed line chunk line_new chunk_new plain takes = rw takes.line (All-append IsNoLineFeed line takes.taken plain takes.plain)
@@ -119,10 +131,24 @@ taken-closed None false ToLineFeed All is taken = absurd (cc)
 taken-closed (Some due) true ToLineFeed All is taken = absurd (cc)
 taken-closed (Some due) false ToLineFeed All is taken = taken
 
-pub refused-step : (number place : ℕ) (all left : Option (List ℕ)) (line chunk line_new chunk_new : List ℕ) (closed : Bool) (refusal : LineRefusal) → place ≤ MAX_INPUT → NoLineFeed line → all ≡ told_bytes line chunk left
+pub refused-step : (number place : ℕ) (all left : Option (List ℕ)) (line chunk line_new chunk_new : List ℕ) (closed : Bool) (refusal : LineRefusal) → place ≤ MAX_INPUT → NoLineFeed line → all ≡ bytes_ahead line chunk left
     → MatchBool closed (TakesToLineFeed chunk chunk_new line line_new) (TakesAll chunk chunk_new line line_new)
     → length_refusal number place (length line_new) closed ≡ Some refusal → IfSome all (IsFirstRefused number place refusal)
 refused-step number place all left line chunk line_new chunk_new true refusal within plain is takes refused =
-    rw (told-to_feed all left line chunk line_new chunk_new is takes) (IfSome-map _ _ left (λ bytes. first_refused-fed number place line_new (chunk_new ++ bytes) refusal (plain-to_feed line chunk line_new chunk_new plain takes) refused))
+    rw (bytes_ahead-to_feed all left line chunk line_new chunk_new is takes) (IfSome-map _ _ left (λ bytes. first_refused-fed number place line_new (chunk_new ++ bytes) refusal (plain-to_feed line chunk line_new chunk_new plain takes) refused))
 refused-step number place all left line chunk line_new chunk_new false refusal within plain is takes refused =
-    rw (told-all all left line chunk line_new chunk_new is takes) (IfSome-map _ _ left (λ bytes. first_refused number place line_new bytes refusal within (plain-all line chunk line_new chunk_new plain takes) refused))
+    rw (bytes_ahead-all all left line chunk line_new chunk_new is takes) (IfSome-map _ _ left (λ bytes. first_refused number place line_new bytes refusal within (plain-all line chunk line_new chunk_new plain takes) refused))
+
+-- a fact that stands whatever the answer is
+pub on_err : {T E P : Type 0} (answer : Result T E) → P → OnErr answer P
+on_err (Ok value) fact = tt
+on_err (Err refusal) fact = fact
+
+-- what a line and one read have taken where the reader stops
+pub takes-part : (all left left_new : Option (List ℕ)) (line chunk : List ℕ) → all ≡ bytes_ahead line chunk left → left_new ≡ left → length line ≤ MAX_LINE → length chunk ≤ 65536
+    → TakesPart all left_new
+takes-part all left left_new line chunk is same short room = record {
+  taken = line ++ chunk;
+  few = omega (arith, length-append line chunk);
+  bytes = is ∙ bytes_ahead-taken line chunk left ∙ ap (λ left. bytes_ahead (line ++ chunk) [] left) (sym same);
+}

@@ -1,7 +1,7 @@
 -- The lines of an input. A line ends with a line feed, which isn't part of it, and one carriage return before
 -- the line feed isn't part of it either. Bytes after the last line feed are a last line, where there are any.
 use Rattle.std.specs.Prelude.{◌≡◌, ◌⊎◌, ⊤, ◌<◌, ◌≤◌, All, IfSome, Result, Ok, Err, ℕ, ◌+◌, ◌==◌, ◌||◌, ◌&&◌, List, [], ◌∷◌, ◌++◌, length, not, Bool, true, false, nat_lt, nat_le, if◌then◌else◌, Option, Some, None, option_map}
-use Rattle.std.specs.List.{slice_split, list_all, list_any}
+use Rattle.std.specs.List.{slice_split, list_all, list_any, flat_map}
 use Rattle.std.specs.Str.Lines.{strip_carriage_return}
 use Rattle.flow_lines.specs.declared.refusal.TheConstants.{MAX_LINE, MAX_INPUT}
 use Rattle.flow_lines.specs.declared.refusal.LineRefusal.{LineRefusal}
@@ -39,6 +39,10 @@ raw_lines bytes = raw_lines_of (slice_split is_line_feed bytes)
 -- how many bytes a line takes in the input
 abbrev pub width : RawLine → ℕ
 width line = length line.bytes + (if line.closed then 1 else 0)
+
+-- the bytes of some lines, each with its line feed, where it has one
+abbrev pub lines_text : List RawLine → List ℕ
+lines_text lines = flat_map (λ line. line.bytes ++ (if line.closed then 10 ∷ [] else [])) lines
 
 -- what is given of a line
 abbrev pub content : RawLine → List ℕ
@@ -97,13 +101,13 @@ pub record LinesState : Type 0 where
   pub given : ℕ
   pub refusal : Option LineRefusal
 
--- the lines that come yet, where these bytes are left in the source
-abbrev pub lines_ahead : LinesState → List ℕ → Lined
-lines_ahead state left = lines_from (state.count + 1) state.given (raw_lines (state.held ++ left))
+-- a reader at the start of an input
+abbrev pub lines_start : LinesState
+lines_start = record { held = []; count = 0; given = 0; refusal = None }
 
--- the same, where the source tells
-abbrev pub told_ahead : LinesState → Option (List ℕ) → Option Lined
-told_ahead state left = option_map (λ bytes. lines_ahead state bytes) left
+-- the lines that come yet, where the source tells its bytes
+abbrev pub lines_ahead : LinesState → Option (List ℕ) → Option Lined
+lines_ahead state left = option_map (λ bytes. lines_from (state.count + 1) state.given (raw_lines (state.held ++ bytes))) left
 
 -- a line that is whole, and isn't blank
 abbrev pub is_whole : RawLine → Bool
@@ -117,41 +121,61 @@ HoldsLine bytes = list_any is_whole (raw_lines bytes) ≡ true
 abbrev pub NothingAhead : List ℕ → Option (List ℕ) → Type 0
 NothingAhead held left = IfSome left (λ bytes. held ++ bytes ≡ [])
 
--- what went by are whole lines: none, or the last of them with its line feed, or all that there was
-abbrev pub AreWholeLines : List ℕ → List ℕ → Option (List ℕ) → Type 0
-AreWholeLines gone held left = (gone ≡ []) ⊎ ((front : List ℕ) × (gone ≡ front ++ 10 ∷ [])) ⊎ NothingAhead held left
+-- of the bytes held and left, some went by as lines, and the others are held or left still; each of these lines has its
+-- line feed, unless nothing is ahead
+pub record AccountsFor (before after : LinesState) (left left_after : Option (List ℕ)) : Type 0 where
+  pub gone : List RawLine
+  pub bytes : option_map (λ bytes. before.held ++ bytes) left ≡ option_map (λ bytes. lines_text gone ++ (after.held ++ bytes)) left_after
+  pub given : after.given ≡ before.given + length (lines_text gone)
+  pub count : after.count ≡ before.count + length gone
+  pub plain : All (λ line. NoLineFeed line.bytes) gone
+  pub closed : All (λ line. line.closed ≡ true) gone ⊎ NothingAhead after.held left_after
 
--- of the bytes held and left, some went by as lines, and the others are held or left still
-pub record AccountsFor (held held_after : List ℕ) (given given_after : ℕ) (left left_after : Option (List ℕ)) : Type 0 where
-  pub gone : List ℕ
-  pub bytes : option_map (λ bytes. held ++ bytes) left ≡ option_map (λ bytes. gone ++ (held_after ++ bytes)) left_after
-  pub counted : given_after ≡ given + length gone
-  pub lines : AreWholeLines gone held_after left_after
+-- from wherever the bytes are accounted for up to the one state, they are up to the other
+abbrev pub GoesOnAccounting : LinesState → LinesState → Option (List ℕ) → Option (List ℕ) → Type 0
+GoesOnAccounting before after left left_after = (start : LinesState) (all : Option (List ℕ)) → AccountsFor start before all left → AccountsFor start after all left_after
 
 -- the first of the lines that came yet was given, and the others come yet
 pub record GivesLine (before after : LinesState) (left left_after : Option (List ℕ)) (number : ℕ) (bytes : List ℕ) : Type 0 where
-  pub line : told_ahead before left ≡ option_map (λ later. line_then number bytes later) (told_ahead after left_after)
+  pub line : lines_ahead before left ≡ option_map (λ later. line_then number bytes later) (lines_ahead after left_after)
+  pub count : number ≡ after.count
   pub moved : before.given < after.given
   pub within : after.given ≤ MAX_INPUT
   pub room : length after.held ≤ 65536
 
 -- no line came yet, and all bytes are given
 pub record GivesEnd (before after : LinesState) (left left_after : Option (List ℕ)) : Type 0 where
-  pub lines : IfSome (told_ahead before left) (λ ahead. ahead ≡ ended)
+  pub lines : IfSome (lines_ahead before left) (λ ahead. ahead ≡ ended)
   pub drained : IsAtEnd left_after
   pub held : after.held ≡ []
 
 -- the lines that come yet are the same, and none of them is whole among the bytes held
 pub record KeepsLines (before after : LinesState) (left left_after : Option (List ℕ)) : Type 0 where
-  pub lines : told_ahead after left_after ≡ told_ahead before left
+  pub lines : lines_ahead after left_after ≡ lines_ahead before left
   pub part : NoLineFeed after.held
 
 -- what a refusal says of the lines that came yet
 abbrev pub RefusesLine : LinesState → LinesState → Option (List ℕ) → Option (List ℕ) → LineRefusal → Type 0
 RefusesLine before after left left_after Fault = KeepsLines before after left left_after
-RefusesLine before after left left_after (LineTooLong n) = IfSome (told_ahead before left) (λ ahead. ahead ≡ refused (LineTooLong n))
-RefusesLine before after left left_after (InputTooLong n) = IfSome (told_ahead before left) (λ ahead. ahead ≡ refused (InputTooLong n))
+RefusesLine before after left left_after (LineTooLong n) = IfSome (lines_ahead before left) (λ ahead. ahead ≡ refused (LineTooLong n))
+RefusesLine before after left left_after (InputTooLong n) = IfSome (lines_ahead before left) (λ ahead. ahead ≡ refused (InputTooLong n))
 RefusesLine before after left left_after NoMemory = ⊤
+
+-- a refusal for length is that of this line
+abbrev pub IsOfLine : ℕ → LineRefusal → Type 0
+IsOfLine number Fault = ⊤
+IsOfLine number (LineTooLong n) = n ≡ number
+IsOfLine number (InputTooLong n) = n ≡ number
+IsOfLine number NoMemory = ⊤
+
+-- the reader stopped in a line, which is the one that is refused: those before it went by, the lines that come yet are the
+-- same, and of their bytes no more are taken than a line may have and one read gives
+pub record StopsInLine (before : LinesState) (left left_after : Option (List ℕ)) (refusal : LineRefusal) : Type 0 where
+  pub at : LinesState
+  pub line : IsOfLine (at.count + 1) refusal
+  pub few : length at.held ≤ MAX_LINE + 65536
+  pub accounts : GoesOnAccounting before at left left_after
+  pub lines : lines_ahead at left_after ≡ lines_ahead before left
 
 -- what an answer says of the lines that came yet
 abbrev pub AnswersLine : LinesState → LinesState → Option (List ℕ) → Option (List ℕ) → Result (Option Line) LineRefusal → Type 0
@@ -161,8 +185,8 @@ AnswersLine before after left left_after (Err refusal) = RefusesLine before afte
 
 -- no byte is lost, unless a line or the input was too long, or memory ran out
 abbrev pub LosesNone : LinesState → LinesState → Option (List ℕ) → Option (List ℕ) → Result (Option Line) LineRefusal → Type 0
-LosesNone before after left left_after (Ok line) = AccountsFor before.held after.held before.given after.given left left_after
-LosesNone before after left left_after (Err Fault) = AccountsFor before.held after.held before.given after.given left left_after
+LosesNone before after left left_after (Ok line) = GoesOnAccounting before after left left_after
+LosesNone before after left left_after (Err Fault) = GoesOnAccounting before after left left_after
 LosesNone before after left left_after (Err (LineTooLong n)) = ⊤
 LosesNone before after left left_after (Err (InputTooLong n)) = ⊤
 LosesNone before after left left_after (Err NoMemory) = ⊤

@@ -1,6 +1,6 @@
 ghost use Rattle.std.specs.Prelude.{◌≡◌, ◌≢◌, ℕ, ◌≤◌, ◌++◌, [], true, false, Ok, Err, IfOk, IfErr, OnOk, MatchBool};
 ghost use Rattle.flow_edges.specs.Faults.{Rose};
-ghost use Rattle.flow_lines.specs.Lines.{AnswersLine, GivesEnd, RefusesLine, HoldsLine, AccountsFor, LosesNone, is_blank};
+ghost use Rattle.flow_lines.specs.Lines.{AnswersLine, GivesEnd, RefusesLine, HoldsLine, AccountsFor, LosesNone, StopsInLine, is_blank};
 ghost use Rattle.flow_lines.specs.inner.Reading.{IsBetweenLines, ReadsNext, lines_state};
 
 use crate::chunk::Chunk;
@@ -44,11 +44,17 @@ impl Cursor {
             (S.left source.old) (S.left source.new)) }
         ensures ended { result ≡ Ok false
             → IsBetweenLines self.new.line.items self.new.chunk self.new.count self.new.given }
-        ensures accounted { IfOk result (λ _. AccountsFor (self.old.line.items ++ self.old.chunk) self.new.chunk
-            self.old.given self.new.given (S.left source.old) (S.left source.new)) }
-        ensures kept { result ≡ Err LineRefusal.Fault
-            → AccountsFor (self.old.line.items ++ self.old.chunk) (self.new.line.items ++ self.new.chunk)
-            self.old.given self.new.given (S.left source.old) (S.left source.new) }
+        ensures accounted { IfOk result (λ _. AccountsFor
+            (lines_state self.old.line.items self.old.chunk self.old.count self.old.given)
+            (lines_state [] self.new.chunk self.new.count self.new.given)
+            (S.left source.old) (S.left source.new)) }
+        ensures kept { result ≡ Err LineRefusal.Fault → AccountsFor
+            (lines_state self.old.line.items self.old.chunk self.old.count self.old.given)
+            (lines_state self.new.line.items self.new.chunk self.new.count self.new.given)
+            (S.left source.old) (S.left source.new) }
+        ensures stops { IfErr result (StopsInLine
+            (lines_state self.old.line.items self.old.chunk self.old.count self.old.given)
+            (S.left source.old) (S.left source.new)) }
         ensures unread { HoldsLine self.old.chunk → source.new ≡ source.old }
         ensures held { IfOk result (λ found. found ≡ true
             → HoldsLine self.old.chunk → is_blank self.new.line.items ≡ true → HoldsLine self.new.chunk) }
@@ -84,6 +90,9 @@ impl Cursor {
             (lines_state self.old.line.items self.old.chunk self.old.count self.old.given)
             (lines_state self.new.line.items self.new.chunk self.new.count self.new.given)
             (S.left source.old) (S.left source.new) result }
+        ensures stops { IfErr result (StopsInLine
+            (lines_state self.old.line.items self.old.chunk self.old.count self.old.given)
+            (S.left source.old) (S.left source.new)) }
         ensures unread { HoldsLine (self.old.line.items ++ self.old.chunk) → source.new ≡ source.old }
         ensures failed { result ≡ Err LineRefusal.Fault → Rose (S.faults source.old) (S.faults source.new) }
         ensures quiet { result ≢ Err LineRefusal.Fault → S.faults source.new ≡ S.faults source.old }

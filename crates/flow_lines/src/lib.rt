@@ -1,7 +1,8 @@
 //! The lines of an input, however a source cuts it into reads, and a short input whole.
 //!
-//! `Lines` loses no byte, reads only where the bytes taken hold no whole line, and answers each refusal
-//! again. `read_whole` gives all bytes of an input that has at most 67,108,864 of them.
+//! `Lines` loses no byte, reads only where the bytes taken hold no whole line, stops in the line that it
+//! refuses, and answers each refusal again. `read_whole` gives all bytes of an input that has at most
+//! 67,108,864 of them, and takes at most one read more.
 #![tactic(auto)]
 
 mod chunk;

@@ -1,4 +1,4 @@
-ghost use Rattle.std.specs.Prelude.{◌≡◌, ◌≢◌, ℕ, ◌≤◌, [], None, Some, Err, IfOk, IfSome};
+ghost use Rattle.std.specs.Prelude.{◌≡◌, ◌≢◌, ℕ, ◌≤◌, [], None, Some, Err, IfOk, IfErr, IfSome};
 ghost use Rattle.std.specs.Result.{result_err};
 ghost use Rattle.flow_edges.specs.Faults.{Rose};
 
@@ -38,11 +38,11 @@ impl Model for Lines {
 }
 
 impl Lines {
-    ghost use Rattle.flow_lines.specs.Lines.{AnswersLine, LosesNone, HoldsLine};
+    ghost use Rattle.flow_lines.specs.Lines.{lines_start, AnswersLine, LosesNone, StopsInLine, HoldsLine};
 
     /// A reader at the start of an input.
     pub fn new(alloc: Global) -> Result<Lines, NoMemory>
-        ensures { IfOk result (λ lines. lines ≡ record { held = []; count = 0; given = 0; refusal = None }) }
+        ensures { IfOk result (λ lines. lines ≡ lines_start) }
     {
         let chunk = Chunk::new(alloc)?;
         Ok(Lines {
@@ -58,12 +58,15 @@ impl Lines {
     }
 
     /// The next line that isn't blank, or none at the end of the input. Reads only where the bytes
-    /// taken hold no whole line. A refusal is answered again by each later call, without reading.
+    /// taken hold no whole line, and at a refusal no more than the longest line and one read beyond the
+    /// lines that went by. A refusal is answered again by each later call, without reading.
     pub fn next_line<S: Source>(&mut self, source: &mut S) -> Result<Option<Line>, LineRefusal>
         ensures lines { self.old.refusal ≡ None
             → AnswersLine self.old self.new (S.left source.old) (S.left source.new) result }
         ensures accounted { self.old.refusal ≡ None
             → LosesNone self.old self.new (S.left source.old) (S.left source.new) result }
+        ensures stops { self.old.refusal ≡ None
+            → IfErr result (StopsInLine self.old (S.left source.old) (S.left source.new)) }
         ensures unread { HoldsLine self.old.held → source.new ≡ source.old }
         ensures refusal { self.new.refusal ≡ result_err result }
         ensures repeated { IfSome self.old.refusal (λ refusal.

@@ -1,7 +1,7 @@
-ghost use Rattle.std.specs.Prelude.{◌≡◌, ◌≢◌, ℕ, ◌≤◌, [], ◌⊎◌, Some, None, Ok, Err, length, IfOk, IfErr, IfSome, MatchBool};
+ghost use Rattle.std.specs.Prelude.{◌≡◌, ◌≢◌, ℕ, ◌≤◌, [], ◌⊎◌, Some, None, Ok, Err, length, IfOk, IfErr, IfSome, OnErr, MatchBool};
 ghost use Rattle.flow_edges.specs.Faults.{Rose, Causes};
-ghost use Rattle.flow_lines.specs.Lines.{NoLineFeed, length_refusal};
-ghost use Rattle.flow_lines.specs.inner.Reading.{told_bytes, ReadsToLineFeed, ReadsLast, ReadsPart, IsHeld, IsFirstRefused, IsForLength};
+ghost use Rattle.flow_lines.specs.Lines.{NoLineFeed, length_refusal, IsOfLine};
+ghost use Rattle.flow_lines.specs.inner.Reading.{bytes_ahead, ReadsToLineFeed, ReadsLast, ReadsPart, TakesPart, IsHeld, IsFirstRefused, IsForLength};
 
 use crate::chunk::Chunk;
 use crate::refusal::{LineRefusal, MAX_INPUT, MAX_LINE};
@@ -44,13 +44,15 @@ pub fn read_line<S: Source>(
     requires empty { line.old.items ≡ [] }
     requires room { length chunk.old ≤ 65536 }
 
-    ensures line { IfOk result (λ closed. let all = told_bytes [] chunk.old (S.left source.old) in MatchBool closed
+    ensures line { IfOk result (λ closed. let all = bytes_ahead [] chunk.old (S.left source.old) in MatchBool closed
         (ReadsToLineFeed start.number start.place all (S.left source.new) line.new.items chunk.new)
         (ReadsLast start.number start.place all (S.left source.new) line.new.items chunk.new)) }
     ensures refused { IfErr result (λ refusal. IsForLength refusal
-        → IfSome (told_bytes [] chunk.old (S.left source.old)) (IsFirstRefused start.number start.place refusal)) }
+        → IfSome (bytes_ahead [] chunk.old (S.left source.old)) (IsFirstRefused start.number start.place refusal)) }
     ensures fault { result ≡ Err LineRefusal.Fault
-        → ReadsPart (told_bytes [] chunk.old (S.left source.old)) (S.left source.new) line.new.items chunk.new }
+        → ReadsPart (bytes_ahead [] chunk.old (S.left source.old)) (S.left source.new) line.new.items chunk.new }
+    ensures number { IfErr result (IsOfLine start.number) }
+    ensures stops { OnErr result (TakesPart (bytes_ahead [] chunk.old (S.left source.old)) (S.left source.new)) }
     ensures failed { result ≡ Err LineRefusal.Fault → Rose (S.faults source.old) (S.faults source.new) }
     ensures quiet { result ≢ Err LineRefusal.Fault → S.faults source.new ≡ S.faults source.old }
     ensures later { S.faults source.old ≤ S.faults source.new }

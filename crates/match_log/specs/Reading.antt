@@ -49,5 +49,5 @@ abbrev pub Reading : FirstForm → List ℕ → List FirstEntry → LogEnd → T
 Reading form bytes rows ending = Reads form None (lines_of bytes) rows ending
 
 -- the same, where the source tells its bytes
-abbrev pub ToldReading : FirstForm → Option (List ℕ) → List FirstEntry → LogEnd → Type 0
-ToldReading form left rows ending = IfSome left (λ bytes. Reading form bytes rows ending)
+abbrev pub ReadsInput : FirstForm → Option (List ℕ) → List FirstEntry → LogEnd → Type 0
+ReadsInput form left rows ending = IfSome left (λ bytes. Reading form bytes rows ending)

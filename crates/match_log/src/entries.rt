@@ -1,4 +1,4 @@
-ghost use Rattle.std.specs.Prelude.{◌≡◌, ◌≢◌, ◌↔◌, ℤ, ◌⊎◌, Err, IsTrue, IfOk, IfErr, IfSome, IfNone, OnOk};
+ghost use Rattle.std.specs.Prelude.{◌≡◌, ◌≢◌, ◌≤◌, ◌↔◌, ℤ, ◌⊎◌, Err, IsTrue, IfOk, IfErr, IfSome, IfNone, OnOk};
 ghost use Rattle.serde_json.specs.Data.{Data};
 ghost use Rattle.flow_edges.specs.Faults.{Rose};
 ghost use Rattle.flow_edges.specs.Flow.{written_with};
@@ -53,6 +53,7 @@ pub(crate) fn write_binding<O: Sink>(
     ensures failed { result ≡ Err MatchEnd.WriteFault → Rose (O.faults output.old) (O.faults output.new) }
     ensures end { IfErr result (λ end. (end ≡ MatchEnd.WriteFault) ⊎ (end ≡ MatchEnd.NoMemory)) }
     ensures quiet { result ≢ Err MatchEnd.WriteFault → O.faults output.new ≡ O.faults output.old }
+    ensures later { O.faults output.old ≤ O.faults output.new }
 {
     let text = match format!(in alloc; "{number}: {number}\n") {
         Ok(text) => text,

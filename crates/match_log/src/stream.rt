@@ -2,6 +2,7 @@ ghost use Rattle.std.specs.Prelude.{◌≡◌, ◌≢◌, ◌+◌, ◌≤◌, �
 ghost use Rattle.flow_edges.specs.Faults.{Rose};
 ghost use Rattle.match_log.specs.FirstForm.{FirstForm, form_of, pattern_of, IsBuilt};
 ghost use Rattle.match_log.specs.Matching.{AnswersMatch, ListsWhole, IsNotYet};
+ghost use Rattle.match_log.specs.Streams.{streams};
 ghost use Rattle.match_log.specs.inner.Tally.{AddsEntry, EndsInLine};
 
 use crate::comparison::{Comparison, first_form};
@@ -32,6 +33,7 @@ fn take_line<O: Sink>(
     ensures end { IfErr result (EndsInLine tally.old.last_time line.now.number line.now.bytes (O.written output.old) (O.written output.new)) }
     ensures failed { result ≡ Err MatchEnd.WriteFault → Rose (O.faults output.old) (O.faults output.new) }
     ensures quiet { result ≢ Err MatchEnd.WriteFault → O.faults output.new ≡ O.faults output.old }
+    ensures later { O.faults output.old ≤ O.faults output.new }
 {
     let seen = match read_entry(alloc, comparison, tally.last_time, line.bytes.as_slice()) {
         Ok(Some(seen)) => seen,
@@ -57,15 +59,16 @@ fn list_lines<I: Source, O: Sink>(
     input: &mut I,
     output: &mut O,
 ) -> Result<Tally, MatchEnd>
-    ensures whole { IfOk result (λ tally. ListsWhole (form_of comparison.entry) (I.left input.old) (I.left input.new)
-        (O.written output.old) (O.written output.new) tally.observations tally.bindings tally.last) }
+    ensures whole { IfOk result (λ tally. ListsWhole (form_of comparison.entry) (streams (I.left input.old) (O.written output.old))
+        (streams (I.left input.new) (O.written output.new)) tally.observations tally.bindings tally.last) }
     ensures rule { IfErr result IsNotYet }
-    ensures end { IfErr result (AnswersMatch (form_of comparison.entry) (I.left input.old) (I.left input.new)
-        (O.written output.old) (O.written output.new)) }
+    ensures end { IfErr result (AnswersMatch (form_of comparison.entry) (streams (I.left input.old) (O.written output.old))
+        (streams (I.left input.new) (O.written output.new))) }
     ensures read_failed { result ≡ Err MatchEnd.ReadFault → Rose (I.faults input.old) (I.faults input.new) }
     ensures read_quiet { result ≢ Err MatchEnd.ReadFault → I.faults input.new ≡ I.faults input.old }
     ensures write_failed { result ≡ Err MatchEnd.WriteFault → Rose (O.faults output.old) (O.faults output.new) }
     ensures write_quiet { result ≢ Err MatchEnd.WriteFault → O.faults output.new ≡ O.faults output.old }
+    ensures later { (I.faults input.old ≤ I.faults input.new) × (O.faults output.old ≤ O.faults output.new) }
 {
     let mut lines = match Lines::new(alloc) {
         Ok(lines) => lines,
@@ -85,7 +88,9 @@ fn list_lines<I: Source, O: Sink>(
     }
 }
 
-/// Matches a pattern against a log, and writes the bindings in order of their last observation.
+/// Matches a pattern against a log, and writes the bindings in order of their last observation. The
+/// first line that is refused ends it. Beyond the lines up to that one no more bytes are taken than a
+/// line may have and one read gives.
 pub fn match_stream<I: Source, O: Sink>(
     alloc: Global,
     pattern: &Pattern,
@@ -97,12 +102,14 @@ pub fn match_stream<I: Source, O: Sink>(
     requires { IsBuilt pattern.now }
 
     ensures end { (form : FirstForm) → pattern.now ≡ pattern_of form
-        → AnswersMatch form (I.left input.old) (I.left input.new) (O.written output.old) (O.written output.new) result }
+        → AnswersMatch form (streams (I.left input.old) (O.written output.old))
+        (streams (I.left input.new) (O.written output.new)) result }
     ensures rule { IsNotYet result }
     ensures read_failed { result ≡ MatchEnd.ReadFault → Rose (I.faults input.old) (I.faults input.new) }
     ensures read_quiet { result ≢ MatchEnd.ReadFault → I.faults input.new ≡ I.faults input.old }
     ensures write_failed { result ≡ MatchEnd.WriteFault → Rose (O.faults output.old) (O.faults output.new) }
     ensures write_quiet { result ≢ MatchEnd.WriteFault → O.faults output.new ≡ O.faults output.old }
+    ensures later { (I.faults input.old ≤ I.faults input.new) × (O.faults output.old ≤ O.faults output.new) }
 {
     let Some(comparison) = first_form(pattern) else {
         unreachable!()

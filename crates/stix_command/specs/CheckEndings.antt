@@ -1,6 +1,7 @@
 -- What `check` writes, and what an ending of it says of its input and of what was written; its status, and its reason as a text.
-use Rattle.std.specs.Prelude.{◌≡◌, ℕ, List, [], ◌++◌, flat_map, codes, decimal, Option}
-use Rattle.flow_edges.specs.Flow.{written_with, WritesPrefix}
+use Rattle.std.specs.Prelude.{◌≡◌, ℕ, ◌+◌, List, [], ◌++◌, flat_map, codes, decimal, Option}
+use Rattle.flow_edges.specs.Flow.{TakesAtMost, written_with, WritesPrefix}
+use Rattle.flow_lines.specs.declared.whole_input.TheConstants.{MAX_WHOLE_INPUT}
 use Rattle.flow_lines.specs.WholeInput.{IsWhole, IsTooLong}
 use Rattle.stix_bundles.specs.declared.object_break.ObjectBreak.{ObjectBreak}
 use Rattle.stix_versions.specs.declared.version_break.VersionBreak.{VersionBreak}
@@ -43,7 +44,7 @@ pub record IsVerdictOn (before after : Streams) (found : Verdict) : Type 0 where
 
 abbrev pub EndsCheck : Streams → Streams → CheckEnding → Type 0
 EndsCheck before after (Judged found) = IsVerdictOn before after found × (after.written ≡ written_with (verdict_text found) before.written)
-EndsCheck before after TooLong = IsTooLong before.left × (after.written ≡ before.written)
+EndsCheck before after TooLong = IsTooLong before.left × TakesAtMost (MAX_WHOLE_INPUT + 65536) before.left after.left × (after.written ≡ before.written)
 EndsCheck before after ReadFault = after.written ≡ before.written
 EndsCheck before after WriteFault = (found : Verdict) × IsVerdictOn before after found × WritesPrefix (verdict_text found) before.written after.written
 EndsCheck before after NoMemory = after.written ≡ before.written

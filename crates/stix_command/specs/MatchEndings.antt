@@ -41,7 +41,7 @@ pub record IsRefusedPattern (text : List ℕ) (refusal : PatternRefusal) : Type 
 pub record MatchesLog (pattern : List ℕ) (before after : Streams) (ended : MatchEnd) : Type 0 where
   pub form : FirstForm
   pub spelling : Spells pattern form
-  pub log : AnswersMatch form before.left after.left before.written after.written ended
+  pub log : AnswersMatch form before after ended
 
 abbrev pub EndsMatch : List ℕ → Streams → Streams → MatchEnding → Type 0
 EndsMatch pattern before after (PatternRefused refusal) = IsRefusedPattern pattern refusal × AreUntouched before after
@@ -85,5 +85,5 @@ abbrev pub EndsPattern : Pattern → Streams → Streams → MatchEnding → Typ
 EndsPattern pattern before after (PatternRefused refusal) = ⊥
 EndsPattern pattern before after NotBuilt = (¬ IsBuilt pattern) × AreUntouched before after
 EndsPattern pattern before after (Ended ended) =
-    (form : FirstForm) × (pattern ≡ pattern_of form) × AnswersMatch form before.left after.left before.written after.written ended
+    (form : FirstForm) × (pattern ≡ pattern_of form) × AnswersMatch form before after ended
 EndsPattern pattern before after NoMemory = ⊥

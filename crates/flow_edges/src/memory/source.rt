@@ -67,10 +67,12 @@ impl Source for MemorySource {
     ghost faults = { λ source. source.faults };
 
     fn read(&mut self, buffer: &mut [u8]) -> Result<usize, Fault>
+        requires room { 0 < length buffer.now }
+
         ensures within { IfOk result (λ n. n ≤ length buffer.old) }
         ensures given { IfOk result (λ n. IsNextOf (take n buffer.new) (Some self.old.left)) }
         ensures rest { IfOk result (λ n. Some self.new.left ≡ left_after n (Some self.old.left)) }
-        ensures end { result ≡ Ok 0 → 0 < length buffer.old → IsAtEnd (Some self.old.left) }
+        ensures end { result ≡ Ok 0 → IsAtEnd (Some self.old.left) }
         ensures err { OnErr result (Some self.new.left ≡ Some self.old.left) }
         ensures causes { Causes self.old.faults self.new.faults result }
 

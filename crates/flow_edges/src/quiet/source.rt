@@ -44,10 +44,12 @@ impl Source for QuietSource {
     ghost faults = { λ _. 0 };
 
     fn read(&mut self, buffer: &mut [u8]) -> Result<usize, Fault>
+        requires room { 0 < length buffer.now }
+
         ensures within { IfOk result (λ n. n ≤ length buffer.old) }
         ensures given { IfOk result (λ n. IsNextOf (take n buffer.new) (Some self.old)) }
         ensures rest { IfOk result (λ n. Some self.new ≡ left_after n (Some self.old)) }
-        ensures end { result ≡ Ok 0 → 0 < length buffer.old → IsAtEnd (Some self.old) }
+        ensures end { result ≡ Ok 0 → IsAtEnd (Some self.old) }
         ensures err { OnErr result (Some self.new ≡ Some self.old) }
         ensures causes { Causes 0 0 result }
 

@@ -1,7 +1,7 @@
 -- What the private parts of a reader of lines do: its chunk of bytes, the line that it reads, and its cursor. No public contract cites these.
-use Rattle.std.specs.Prelude.{Bool, true, ◌≡◌, ◌<◌, ◌≤◌, ⊤, ℕ, length, List, [], ◌∷◌, ◌++◌, true, false, Option, Some, None, option_map}
-use Rattle.flow_lines.specs.declared.refusal.TheConstants.{MAX_INPUT}
-use Rattle.flow_lines.specs.Lines.{NoLineFeed, RawLine, raw_lines, refusal_of, LinesState, unless_blank, told_ahead}
+use Rattle.std.specs.Prelude.{Bool, true, ◌≡◌, ◌<◌, ◌≤◌, ⊤, ℕ, ◌+◌, length, List, [], ◌∷◌, ◌++◌, true, false, Option, Some, None, option_map}
+use Rattle.flow_lines.specs.declared.refusal.TheConstants.{MAX_LINE, MAX_INPUT}
+use Rattle.flow_lines.specs.Lines.{NoLineFeed, RawLine, raw_lines, refusal_of, LinesState, unless_blank, lines_ahead}
 use Rattle.flow_lines.specs.declared.refusal.LineRefusal.{LineRefusal}
 use Rattle.flow_lines.specs.declared.refusal.LineRefusal.TheVariants.{Fault, LineTooLong, InputTooLong, NoMemory}
 use Rattle.flow_edges.specs.Flow.{IsAtEnd}
@@ -20,8 +20,8 @@ pub record TakesAll (chunk_old chunk_new line_old line_new : List ℕ) : Type 0 
   pub line : line_new ≡ line_old ++ chunk_old
 
 -- the bytes that aren't given yet: of the line, of the chunk, and those left in the source
-abbrev pub told_bytes : List ℕ → List ℕ → Option (List ℕ) → Option (List ℕ)
-told_bytes line chunk left = option_map (λ bytes. line ++ (chunk ++ bytes)) left
+abbrev pub bytes_ahead : List ℕ → List ℕ → Option (List ℕ) → Option (List ℕ)
+bytes_ahead line chunk left = option_map (λ bytes. line ++ (chunk ++ bytes)) left
 
 -- a line was read up to its line feed, and it isn't refused
 pub record ReadsToLineFeed (number place : ℕ) (all left : Option (List ℕ)) (line chunk : List ℕ) : Type 0 where
@@ -32,7 +32,7 @@ pub record ReadsToLineFeed (number place : ℕ) (all left : Option (List ℕ)) (
 -- the last line was read, which may be none, and it isn't refused
 pub record ReadsLast (number place : ℕ) (all left : Option (List ℕ)) (line chunk : List ℕ) : Type 0 where
   pub plain : NoLineFeed line
-  pub bytes : all ≡ told_bytes line [] left
+  pub bytes : all ≡ bytes_ahead line [] left
   pub ended : IsAtEnd left
   pub drained : chunk ≡ []
   pub fits : refusal_of number place (record { bytes = line; closed = false }) ≡ None
@@ -45,8 +45,14 @@ pub record IsHeld (chunk_old chunk_new line : List ℕ) (closed : Bool) : Type 0
 -- the source failed: no byte is lost, and there is no whole line among those taken
 pub record ReadsPart (all left : Option (List ℕ)) (line chunk : List ℕ) : Type 0 where
   pub plain : NoLineFeed line
-  pub bytes : all ≡ told_bytes line [] left
+  pub bytes : all ≡ bytes_ahead line [] left
   pub drained : chunk ≡ []
+
+-- so many bytes are taken, at most a line and one read
+pub record TakesPart (all left : Option (List ℕ)) : Type 0 where
+  pub taken : List ℕ
+  pub few : length taken ≤ MAX_LINE + 65536
+  pub bytes : all ≡ bytes_ahead taken [] left
 
 -- the first line of the bytes is refused so
 pub record IsFirstRefused (number place : ℕ) (refusal : LineRefusal) (bytes : List ℕ) : Type 0 where
@@ -75,8 +81,8 @@ lines_state line chunk count given = record { held = line ++ chunk; count = coun
 
 -- the next line was read, and is the first of those that came yet, unless it is blank
 pub record ReadsNext (chunk_old chunk_new : List ℕ) (count_old count_new given_old given_new : ℕ) (bytes : List ℕ) (left left_after : Option (List ℕ)) : Type 0 where
-  pub ahead : told_ahead (lines_state [] chunk_old count_old given_old) left
-      ≡ option_map (λ later. unless_blank count_new bytes later) (told_ahead (lines_state [] chunk_new count_new given_new) left_after)
+  pub ahead : lines_ahead (lines_state [] chunk_old count_old given_old) left
+      ≡ option_map (λ later. unless_blank count_new bytes later) (lines_ahead (lines_state [] chunk_new count_new given_new) left_after)
   pub moved : given_old < given_new
   pub room : length chunk_new ≤ 65536
   pub numbered : count_new ≤ given_new

@@ -49,12 +49,12 @@ EndsInLine last number bytes written written_after WriteFault = ⊤
 EndsInLine last number bytes written written_after NoMemory = ⊤
 
 -- the lines that come yet are read so, as far as the source tells
-abbrev pub ToldReads : FirstForm → Option ℤ → Option Lined → List FirstEntry → LogEnd → Type 0
-ToldReads form last ahead rows ending = IfSome ahead (λ lines. Reads form last lines rows ending)
+abbrev pub ReadsAhead : FirstForm → Option ℤ → Option Lined → List FirstEntry → LogEnd → Type 0
+ReadsAhead form last ahead rows ending = IfSome ahead (λ lines. Reads form last lines rows ending)
 
 -- some rows were read of a log, and whatever the lines that come yet are read as follows them
 pub record ReadsSoFar (form : FirstForm) (tally : Tally) (whole ahead : Option Lined) (written written_now : Option (List ℕ)) : Type 0 where
   pub rows : List FirstEntry
   pub tally_is : IsTally tally rows
-  pub reads : (more : List FirstEntry) (ending : LogEnd) → ToldReads form (last_time rows) ahead more ending → ToldReads form None whole (rows ++ more) ending
+  pub reads : (more : List FirstEntry) (ending : LogEnd) → ReadsAhead form (last_time rows) ahead more ending → ReadsAhead form None whole (rows ++ more) ending
   pub listing : written_now ≡ written_with (listing_text rows) written

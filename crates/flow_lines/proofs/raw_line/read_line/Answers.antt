@@ -1,6 +1,6 @@
-use Rattle.std.proofs.Common.{◌≡◌, ◌∙◌, sym, ap, arith, length}
+use Rattle.std.proofs.Common.{◌≡◌, ◌∙◌, refl, sym, ap, arith, length, rules}
 use Rattle.flow_lines.specs.Lines.{length_refusal}
-use Rattle.flow_lines.proofs.RawLinesLemmas.{refused-step, taken-closed}
+use Rattle.flow_lines.proofs.RawLinesLemmas.{refused-step, taken-closed, length_refusal-short, length_refusal-number, bytes_ahead-all, bytes_ahead-filled, plain-all, takes-part, on_err}
 use Rattle.flow_lines.proofs.raw_line.read_line.Goals as goal
 
 pub returns-in-Some-clause-refused : goal.returns-in-Some-clause-refused
@@ -8,3 +8,25 @@ returns-in-Some-clause-refused g c for_length =
     let size : length c.take_line.new.line.items ≡ c.len.result = omega arith in
     refused-step _ _ _ _ _ _ _ _ _ _ c.requires.place c.reads.invariant.plain c.reads.invariant.bytes (taken-closed _ _ _ _ c.is_none-closed.ensures c.in_ok-due.ensures.taken)
     (ap (λ size. length_refusal c.args.start.number c.args.start.place size c.is_none-closed.result) size ∙ sym c.in-Some.ensures)
+
+pub returns-in_err-due-clause-stops : goal.returns-in_err-due-clause-stops
+returns-in_err-due-clause-stops g c = on_err _ (takes-part _ _ _ _ _ c.reads.invariant.bytes refl c.reads.invariant.short c.reads.invariant.room)
+
+pub returns-in-Some-clause-stops : goal.returns-in-Some-clause-stops
+returns-in-Some-clause-stops g c = takes-part _ _ _ _ _ c.reads.invariant.bytes refl c.reads.invariant.short c.reads.invariant.room
+
+pub reads-preserved : goal.reads-preserved
+reads-preserved g c =
+    let takes = rw c.in-Some-due.is at c.in_ok-due.ensures.taken in
+    record {
+      bytes = bytes_ahead-all _ _ _ _ _ _ c.reads.invariant.bytes takes ∙ bytes_ahead-filled _ _ _ _ c.in-Ok.ensures.given (rw c.in-Ok.ensures.count at c.in-Ok.ensures.rest);
+      plain = plain-all _ _ _ _ c.reads.invariant.plain takes;
+      short = grind (arith, length_refusal-short);
+      within = grind arith;
+      room = c.fill.ensures.room;
+      held = search rules;
+      quiet = search rules;
+    }
+
+pub returns-in-Some-clause-number : goal.returns-in-Some-clause-number
+returns-in-Some-clause-number g c = length_refusal-number c.args.start.number c.args.start.place c.len.result c.is_none-closed.result c.in-Some.refusal (sym c.in-Some.ensures)

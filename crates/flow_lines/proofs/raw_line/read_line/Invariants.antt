@@ -1,13 +1,14 @@
 use Rattle.std.proofs.Common.{◌≡◌, ◌≤◌, ◌+◌, ◌-◌, [], length}
-use Rattle.flow_lines.specs.declared.refusal.TheConstants.{MAX_INPUT}
-use Rattle.flow_lines.specs.inner.Reading.{told_bytes}
+use Rattle.flow_lines.specs.declared.refusal.TheConstants.{MAX_LINE, MAX_INPUT}
+use Rattle.flow_lines.specs.inner.Reading.{bytes_ahead}
 use Rattle.flow_lines.specs.Lines.{NoLineFeed}
 use Rattle.flow_lines.proofs.raw_line.read_line.Given as goal
 
 abbrev pub invariant-reads : goal.invariant-reads
 invariant-reads g l = record {
-  bytes : told_bytes [] l.fn.chunk (g.S.Source.left l.fn.source) ≡ told_bytes l.line.items l.chunk (g.S.Source.left l.source);
+  bytes : bytes_ahead [] l.fn.chunk (g.S.Source.left l.fn.source) ≡ bytes_ahead l.line.items l.chunk (g.S.Source.left l.source);
   plain : NoLineFeed l.line.items;
+  short : length l.line.items ≤ MAX_LINE;
   within : l.start.place + length l.line.items ≤ MAX_INPUT;
   room : length l.chunk ≤ 65536;
   held : ¬ (NoLineFeed l.fn.chunk) → (l.source ≡ l.fn.source) × (l.chunk ≡ l.fn.chunk) × (l.line.items ≡ []);

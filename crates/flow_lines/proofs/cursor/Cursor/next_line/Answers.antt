@@ -1,7 +1,7 @@
-use Rattle.std.proofs.Common.{rules, ap, Ok, Err, sym, ◌∙◌, arith}
-use Rattle.flow_lines.specs.Lines.{is_blank}
+use Rattle.std.proofs.Common.{rules, ap, Ok, Err, IfErr, sym, ◌∙◌, arith}
+use Rattle.flow_lines.specs.Lines.{is_blank, StopsInLine}
 use Rattle.flow_lines.specs.inner.Reading.{lines_state}
-use Rattle.flow_lines.proofs.AccountsForLemmas.{accounts-then, accounts-emptied, loses-passed_on}
+use Rattle.flow_lines.proofs.AccountsForLemmas.{accounts-then, goes_on, accounts-emptied, loses-passed_on, passed_on, stops-then}
 use Rattle.flow_lines.proofs.cursor.Cursor.next_line.Goals as goal
 
 pub returns-in_err-read_next-clause-accounted : goal.returns-in_err-read_next-clause-accounted
@@ -15,11 +15,11 @@ returns-in_err-read_next-clause-accounted g c =
 pub returns-then-not-branch-clause-accounted : goal.returns-then-not-branch-clause-accounted
 returns-then-not-branch-clause-accounted g c =
     let between = c.in_ok-read_next.ensures.ended (ap Ok c.if-not-branch.true) in
-    accounts-then _ _ _ _ _ _ _ _ _ c.lines.invariant.accounted (accounts-emptied _ _ _ _ _ _ _ between.empty c.in_ok-read_next.ensures.accounted)
+    goes_on _ _ _ _ _ _ c.lines.invariant.accounted (accounts-emptied _ _ _ _ _ _ _ between.empty c.in_ok-read_next.ensures.accounted)
 
 pub returns-then-not-is_blank_line-clause-accounted : goal.returns-then-not-is_blank_line-clause-accounted
 returns-then-not-is_blank_line-clause-accounted g c =
-    accounts-then _ _ _ _ _ _ _ _ _ c.lines.invariant.accounted (accounts-emptied _ _ _ _ _ _ _ (ap (λ v. v.items) c.replace-bytes.ensures.after ∙ c.new.ensures.items) c.in_ok-read_next.ensures.accounted)
+    goes_on _ _ _ _ _ _ c.lines.invariant.accounted (accounts-emptied _ _ _ _ _ _ _ (ap (λ v. v.items) c.replace-bytes.ensures.after ∙ c.new.ensures.items) c.in_ok-read_next.ensures.accounted)
 
 pub lines-preserved : goal.lines-preserved
 lines-preserved g c =
@@ -27,7 +27,7 @@ lines-preserved g c =
     record {
       between = search rules;
       ahead = search rules;
-      accounted = accounts-then _ _ _ _ _ _ _ _ _ c.lines.invariant.accounted (accounts-emptied _ _ _ _ _ _ _ c.clear.ensures.items c.in_ok-read_next.ensures.accounted);
+      accounted = accounts-then _ _ _ _ _ _ c.lines.invariant.accounted (accounts-emptied _ _ _ _ _ _ _ c.clear.ensures.items c.in_ok-read_next.ensures.accounted);
       held = λ holds. (
         c.read_next.ensures.unread (c.lines.invariant.held holds).1 ∙ (c.lines.invariant.held holds).0,
         c.in_ok-read_next.ensures.held c.if-not-branch.false (c.lines.invariant.held holds).1 (ap is_blank (sym c.deref.ensures.value) ∙ sym c.if-not-is_blank_line.ensures),
@@ -35,3 +35,12 @@ lines-preserved g c =
       moved = omega (arith, next.moved);
       quiet = c.in_ok-read_next.ensures.quiet (λ failed. cc failed) ∙ c.lines.invariant.quiet;
     }
+
+pub returns-in_err-read_next-clause-stops : goal.returns-in_err-read_next-clause-stops
+returns-in_err-read_next-clause-stops g c =
+    passed_on (λ answer. IfErr answer (StopsInLine (lines_state c.args.self.now.line.items c.args.self.now.chunk c.args.self.now.count c.args.self.now.given)
+    (g.S.Source.left c.args.source.now) (g.S.Source.left c.read_next.new.source)))
+    c.from_residual.result c.in_err-read_next.field-0.0 c.from_residual.ensures.1
+    (stops-then _
+    (lines_state c.lines.self.line.items c.lines.self.chunk c.lines.self.count c.lines.self.given)
+    _ _ _ _ c.lines.invariant.accounted c.lines.invariant.ahead c.in_err-read_next.ensures.stops)

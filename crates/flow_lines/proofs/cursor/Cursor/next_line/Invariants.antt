@@ -1,15 +1,15 @@
 use Rattle.std.proofs.Common.{◌≡◌, ◌≤◌, ◌-◌, ◌++◌}
-use Rattle.flow_lines.specs.Lines.{told_ahead, HoldsLine, AccountsFor}
+use Rattle.flow_lines.specs.Lines.{lines_ahead, HoldsLine, AccountsFor}
 use Rattle.flow_lines.specs.inner.Reading.{IsBetweenLines, lines_state}
 use Rattle.flow_lines.proofs.cursor.Cursor.next_line.Given as goal
 
 abbrev pub invariant-lines : goal.invariant-lines
 invariant-lines g l = record {
   between : IsBetweenLines l.self.line.items l.self.chunk l.self.count l.self.given;
-  ahead : told_ahead (lines_state l.fn.self.line.items l.fn.self.chunk l.fn.self.count l.fn.self.given) (g.S.Source.left l.fn.source)
-      ≡ told_ahead (lines_state l.self.line.items l.self.chunk l.self.count l.self.given) (g.S.Source.left l.source);
-  accounted : AccountsFor (l.fn.self.line.items ++ l.fn.self.chunk) (l.self.line.items ++ l.self.chunk) l.fn.self.given l.self.given
-      (g.S.Source.left l.fn.source) (g.S.Source.left l.source);
+  ahead : lines_ahead (lines_state l.fn.self.line.items l.fn.self.chunk l.fn.self.count l.fn.self.given) (g.S.Source.left l.fn.source)
+      ≡ lines_ahead (lines_state l.self.line.items l.self.chunk l.self.count l.self.given) (g.S.Source.left l.source);
+  accounted : AccountsFor (lines_state l.fn.self.line.items l.fn.self.chunk l.fn.self.count l.fn.self.given)
+      (lines_state l.self.line.items l.self.chunk l.self.count l.self.given) (g.S.Source.left l.fn.source) (g.S.Source.left l.source);
   held : HoldsLine (l.fn.self.line.items ++ l.fn.self.chunk) → (l.source ≡ l.fn.source) × HoldsLine l.self.chunk;
   moved : l.fn.self.given ≤ l.self.given;
   quiet : g.S.Source.faults l.source ≡ g.S.Source.faults l.fn.source;

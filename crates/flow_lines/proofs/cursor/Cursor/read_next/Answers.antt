@@ -1,7 +1,8 @@
-use Rattle.std.proofs.Common.{◌≡◌, ◌+◌, arith}
-use Rattle.flow_lines.specs.Lines.{width}
+use Rattle.std.proofs.Common.{◌≡◌, ◌+◌, arith, Err, IfErr, ap}
+use Rattle.flow_lines.specs.Lines.{width, StopsInLine}
+use Rattle.flow_lines.specs.inner.Reading.{lines_state}
 use Rattle.flow_lines.proofs.LinesAheadLemmas.{reads-next}
-use Rattle.flow_lines.proofs.AccountsForLemmas.{accounts-read}
+use Rattle.flow_lines.proofs.AccountsForLemmas.{accounts-read, accounts-none, accounts-part, one_error, passed_on, stops-part}
 use Rattle.flow_lines.proofs.HoldsLineLemmas.{holds_line-feed, holds_line-later, reads-plain}
 use Rattle.flow_lines.proofs.cursor.Cursor.read_next.Goals as goal
 
@@ -14,7 +15,12 @@ returns-clause-next g c =
 pub returns-clause-accounted : goal.returns-clause-accounted
 returns-clause-accounted g c =
     let wide : c.len.result + c.from.result ≡ width (record { bytes = c.read_line.new.line.items; closed = c.in_ok-closed.closed }) = grind arith in
-    rw c.requires.empty (accounts-read _ _ _ _ _ _ _ _ _ _ c.in_ok-closed.ensures.line wide)
+    rw c.requires.empty (accounts-read _ _ _ _ _ _ _ _ _ _ _ c.in_ok-closed.ensures.line wide)
+
+pub returns-then-width-eq0-clause-accounted : goal.returns-then-width-eq0-clause-accounted
+returns-then-width-eq0-clause-accounted g c =
+    let wide : c.len.result + c.from.result ≡ width (record { bytes = c.read_line.new.line.items; closed = c.in_ok-closed.closed }) = grind arith in
+    rw c.requires.empty (accounts-none _ _ _ _ _ _ _ _ _ _ _ c.in_ok-closed.ensures.line wide c.if-width-eq0.true)
 
 pub returns-clause-unread : goal.returns-clause-unread
 returns-clause-unread g c holds = c.read_line.ensures.unread (holds_line-feed _ holds)
@@ -28,3 +34,15 @@ returns-then-width-eq0-clause-unread g c holds = c.read_line.ensures.unread (hol
 pub returns-clause-held : goal.returns-clause-held
 returns-clause-held g c found holds blank =
     holds_line-later _ _ _ _ _ (reads-plain _ _ _ _ _ _ _ c.in_ok-closed.ensures.line) (c.in_ok-closed.ensures.held (holds_line-feed _ holds)) c.strip_return.ensures blank holds
+
+pub returns-in_err-closed-clause-kept : goal.returns-in_err-closed-clause-kept
+returns-in_err-closed-clause-kept g c failed =
+    rw c.requires.empty (accounts-part _ _ _ _ _ _ _ (c.in_err-closed.ensures.fault (ap Err (one_error c.from_residual.result _ _ c.from_residual.ensures.1 failed))))
+
+pub returns-in_err-closed-clause-stops : goal.returns-in_err-closed-clause-stops
+returns-in_err-closed-clause-stops g c =
+    passed_on (λ answer. IfErr answer (StopsInLine (lines_state c.args.self.now.line.items c.args.self.now.chunk c.args.self.now.count c.args.self.now.given)
+    (g.S.Source.left c.args.source.now) (g.S.Source.left c.read_line.new.source)))
+    c.from_residual.result c.in_err-closed.field-0.0 c.from_residual.ensures.1
+    (rw c.requires.empty (stops-part c.args.self.now.chunk c.args.self.now.count c.args.self.now.given
+    (g.S.Source.left c.args.source.now) (g.S.Source.left c.read_line.new.source) c.in_err-closed.field-0.0 c.in_err-closed.ensures.stops c.in_err-closed.ensures.number))
