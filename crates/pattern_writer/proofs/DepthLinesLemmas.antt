@@ -1,5 +1,5 @@
 -- How deep what spells a pattern nests: at least as deep as its canonical text.
-use Rattle.std.proofs.Common.{◌≡◌, ℕ, ◌+◌, ◌≤◌, Bool, true, not, ◌||◌, ◌==◌, List, [], ◌∷◌, ◌++◌, refl, sym, ap, ◌∙◌, arith, nat_le, nat_eq, max, if◌then◌else◌}
+use Rattle.std.proofs.Common.{◌≡◌, ℕ, ◌+◌, ◌≤◌, true, List, [], ◌∷◌, ◌++◌, refl, arith, nat_le, max, if◌then◌else◌}
 use Rattle.std.proofs.lemmas.Bool.Decides.{nat_tests}
 use Rattle.pattern_tokens.specs.declared.token.Token.{Token}
 use Rattle.pattern_tokens.specs.declared.token.TokenKind.{TokenKind}
@@ -9,7 +9,7 @@ use Rattle.pattern_grammar.specs.declared.path.StepTree.{StepTree}
 use Rattle.pattern_grammar.specs.declared.path.PathTree.{PathTree}
 use Rattle.pattern_grammar.specs.declared.comparison.CheckTree.{CheckTree}
 use Rattle.pattern_grammar.specs.declared.qualifier.Qualifier.{Qualifier}
-use Rattle.pattern_grammar.specs.TokenClass.{code, same, IsA, is_root, is_name, is_index, is_equality, is_order, is_textual, is_ordered, is_constant}
+use Rattle.pattern_grammar.specs.TokenClass.{IsA, is_root, is_name, is_index, is_equality, is_order, is_textual, is_ordered, is_constant}
 use Rattle.pattern_grammar.specs.Tree.{Comparison, Tree, test}
 use Rattle.pattern_grammar.specs.Grammar.{IsStep, step_name, step_index, IsPath, path_first, path_further, AreConstants, constants_one, constants_more, IsCheck, check_equality, check_order, check_among, check_textual, IsTest, test_group, test_exists, test_not_exists, test_compare, test_not_compare, IsCand, cand_one, cand_more, IsCor, cor_one, cor_more, IsQualifier, qualifier_within, qualifier_repeats, qualifier_between, IsStart, start_leaf, start_group, IsUnit, unit_one, unit_more, IsAnds, ands_one, ands_more, IsOrs, ors_one, ors_more, IsPattern, pattern_one, pattern_more}
 use Rattle.pattern_types.specs.PlainLeaf.{PlainLeaf, one, every, some, PlainLeaves, none, more, put}
@@ -18,104 +18,9 @@ use Rattle.pattern_types.specs.PlainPattern.{PlainPattern, a_leaf, a_both, an_ei
 use Rattle.pattern_meaning.specs.PatternMeaning.{MeansPattern, means_leaf, means_both, means_either, means_then, means_limited}
 use Rattle.pattern_writer.specs.Leaf.{binds}
 use Rattle.pattern_writer.specs.Canonical.{level}
-use Rattle.pattern_writer.proofs.DepthsLemmas.{Measured, measured_is, is_flat, Flat, flats, flat_join, first_flat, last_flat, mid_flat, joined, round, among, is_qualifying, qualifying}
+use Rattle.pattern_writer.proofs.DepthsLemmas.{Measured, measured_is, is_flat, only_flat, Flat, flats, flat_join, first_flat, last_flat, mid_flat, joined, round, among, qualifying}
 
--- kinds by their places in the table
-abbrev flat_code : ℕ → Bool
-flat_code n = not (n == 2 || n == 3 || n == 18 || n == 20 || n == 22 || n == 24)
-
-flat_is : (k : TokenKind) → is_flat k ≡ flat_code (code k)
-flat_is kind.SquareOpen = refl
-flat_is kind.SquareClose = refl
-flat_is kind.RoundOpen = refl
-flat_is kind.RoundClose = refl
-flat_is kind.Dot = refl
-flat_is kind.Colon = refl
-flat_is kind.Comma = refl
-flat_is kind.Star = refl
-flat_is kind.Equal = refl
-flat_is kind.Differ = refl
-flat_is kind.Less = refl
-flat_is kind.LessEqual = refl
-flat_is kind.Greater = refl
-flat_is kind.GreaterEqual = refl
-flat_is kind.And = refl
-flat_is kind.Or = refl
-flat_is kind.Not = refl
-flat_is kind.FollowedBy = refl
-flat_is kind.Within = refl
-flat_is kind.Seconds = refl
-flat_is kind.Repeats = refl
-flat_is kind.Times = refl
-flat_is kind.Start = refl
-flat_is kind.Stop = refl
-flat_is kind.Among = refl
-flat_is kind.Like = refl
-flat_is kind.Subset = refl
-flat_is kind.Superset = refl
-flat_is kind.Exists = refl
-flat_is kind.TrueWord = refl
-flat_is kind.FalseWord = refl
-flat_is kind.Word = refl
-flat_is kind.HyphenWord = refl
-flat_is kind.Number = refl
-flat_is kind.Words = refl
-flat_is kind.Hex = refl
-flat_is kind.Base = refl
-flat_is kind.Time = refl
-
-same_code : (m n : ℕ) → nat_eq m n ≡ true → m ≡ n
-same_code m n e = grind (arith, nat_tests)
-
-pub only_flat : (w k : TokenKind) → same w k ≡ true → is_flat w ≡ true → is_flat k ≡ true
-only_flat w k e h = flat_is k ∙ ap flat_code (sym (same_code (code w) (code k) e)) ∙ sym (flat_is w) ∙ h
-
-abbrev qualifying_code : ℕ → Bool
-qualifying_code n = n == 18 || n == 20 || n == 22
-
-qualifying_is : (k : TokenKind) → is_qualifying k ≡ qualifying_code (code k)
-qualifying_is kind.SquareOpen = refl
-qualifying_is kind.SquareClose = refl
-qualifying_is kind.RoundOpen = refl
-qualifying_is kind.RoundClose = refl
-qualifying_is kind.Dot = refl
-qualifying_is kind.Colon = refl
-qualifying_is kind.Comma = refl
-qualifying_is kind.Star = refl
-qualifying_is kind.Equal = refl
-qualifying_is kind.Differ = refl
-qualifying_is kind.Less = refl
-qualifying_is kind.LessEqual = refl
-qualifying_is kind.Greater = refl
-qualifying_is kind.GreaterEqual = refl
-qualifying_is kind.And = refl
-qualifying_is kind.Or = refl
-qualifying_is kind.Not = refl
-qualifying_is kind.FollowedBy = refl
-qualifying_is kind.Within = refl
-qualifying_is kind.Seconds = refl
-qualifying_is kind.Repeats = refl
-qualifying_is kind.Times = refl
-qualifying_is kind.Start = refl
-qualifying_is kind.Stop = refl
-qualifying_is kind.Among = refl
-qualifying_is kind.Like = refl
-qualifying_is kind.Subset = refl
-qualifying_is kind.Superset = refl
-qualifying_is kind.Exists = refl
-qualifying_is kind.TrueWord = refl
-qualifying_is kind.FalseWord = refl
-qualifying_is kind.Word = refl
-qualifying_is kind.HyphenWord = refl
-qualifying_is kind.Number = refl
-qualifying_is kind.Words = refl
-qualifying_is kind.Hex = refl
-qualifying_is kind.Base = refl
-qualifying_is kind.Time = refl
-
-same_qualifying : (w k : TokenKind) → same w k ≡ true → is_qualifying w ≡ true → is_qualifying k ≡ true
-same_qualifying w k e h = qualifying_is k ∙ ap qualifying_code (sym (same_code (code w) (code k) e)) ∙ sym (qualifying_is w) ∙ h
-
+-- classes of flat kinds
 root_flat : (k : TokenKind) → is_root k ≡ true → is_flat k ≡ true
 root_flat kind.Word e = refl
 root_flat kind.HyphenWord e = refl
@@ -187,9 +92,9 @@ check_measured (check_among a b c {ts = ts} h k x l) = among a b c ts h k l (con
 check_measured (check_textual a b h k) = flats (a ∷ b ∷ []) (textual_flat a.kind h, (only_flat kind.Words b.kind k refl, tt))
 
 pub qualifier_measured : {ts : List Token} {q : Qualifier} → IsQualifier ts q → Measured ts 0 1
-qualifier_measured (qualifier_within a b c h k l) = qualifying a (b ∷ c ∷ []) (same_qualifying kind.Within a.kind h refl) (only_flat kind.Number b.kind k refl, (only_flat kind.Seconds c.kind l refl, tt))
-qualifier_measured (qualifier_repeats a b c h k l) = qualifying a (b ∷ c ∷ []) (same_qualifying kind.Repeats a.kind h refl) (only_flat kind.Number b.kind k refl, (only_flat kind.Times c.kind l refl, tt))
-qualifier_measured (qualifier_between a b c d h k l m) = qualifying a (b ∷ c ∷ d ∷ []) (same_qualifying kind.Start a.kind h refl) (only_flat kind.Time b.kind k refl, (only_flat kind.Stop c.kind l refl, (only_flat kind.Time d.kind m refl, tt)))
+qualifier_measured (qualifier_within a b c h k l) = qualifying kind.Within a (b ∷ c ∷ []) h refl refl (only_flat kind.Number b.kind k refl, (only_flat kind.Seconds c.kind l refl, tt))
+qualifier_measured (qualifier_repeats a b c h k l) = qualifying kind.Repeats a (b ∷ c ∷ []) h refl refl (only_flat kind.Number b.kind k refl, (only_flat kind.Times c.kind l refl, tt))
+qualifier_measured (qualifier_between a b c d h k l m) = qualifying kind.Start a (b ∷ c ∷ d ∷ []) h refl refl (only_flat kind.Time b.kind k refl, (only_flat kind.Stop c.kind l refl, (only_flat kind.Time d.kind m refl, tt)))
 
 -- how many parentheses the canonical text opens at once: one more for what binds less tightly than is asked
 abbrev pub wrapped : ℕ → ℕ → ℕ → ℕ

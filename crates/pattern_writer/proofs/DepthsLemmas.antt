@@ -1,275 +1,256 @@
 -- How deep tokens nest: how many parentheses are open inside them at once, those of IN aside, and how many qualifiers
 -- there are. So many of the 64 are needed, and no more.
-use Rattle.std.proofs.Common.{◌≡◌, ℕ, ◌+◌, ◌-◌, ◌≤◌, Bool, true, false, List, [], ◌∷◌, ◌++◌, Option, Some, None, option_map, refl, sym, ap, subst, ◌∙◌, arith, nat_le, max, if◌then◌else◌}
-use Rattle.std.proofs.lemmas.Bool.Decides.{nat_tests}
+use Rattle.std.proofs.Common.{◌≡◌, ℕ, ◌+◌, ◌<◌, ◌≤◌, ◌⊎◌, inl, inr, Bool, true, false, not, ◌||◌, ◌&&◌, List, [], ◌∷◌, ◌++◌, get_or, refl, sym, ap, subst, ◌∙◌, arith, append_assoc, append-nil, max}
+use Rattle.std.proofs.lemmas.Bool.{false≢true, eqb-true, not-true, and_parts, cases_lt, cases_Bool}
+use Rattle.std.proofs.lemmas.List.{same_from_push}
+use Rattle.std.proofs.lemmas.List.Sums.{sum_by-cons, sum_by-append, sum_by_push}
+use Rattle.std.specs.Prelude.{cond}
 use Rattle.pattern_tokens.specs.declared.token.Token.{Token}
 use Rattle.pattern_tokens.specs.declared.token.TokenKind.{TokenKind}
 use Rattle.pattern_tokens.specs.declared.token.TokenKind.TheVariants as kind
-use Rattle.pattern_grammar.specs.declared.class.TokenClass.TheVariants.{Only}
-use Rattle.pattern_grammar.specs.TokenClass.{same, IsA}
-use Rattle.pattern_grammar.specs.Depth.{at_start, is_deep, depth_after, deep_at}
+use Rattle.pattern_grammar.specs.declared.class.TokenClass.{TokenClass}
+use Rattle.pattern_grammar.specs.declared.class.TokenClass.TheVariants.{Only, Qualifying}
+use Rattle.pattern_grammar.specs.TokenClass.{code, same, is_qualifying, is_in, IsA}
+use Rattle.pattern_grammar.specs.Depth.{how_many, EndsWithIn, IsDeepOpen, NoneTooMany}
 
--- what some tokens count for: the type of its start
-abbrev TypeOf : {A : Type 0} → A → Type 0
-TypeOf {A} a = A
+-- tokens of one kind
+table : List TokenKind
+table = kind.SquareOpen ∷ kind.SquareClose ∷ kind.RoundOpen ∷ kind.RoundClose ∷ kind.Dot ∷ kind.Colon ∷ kind.Comma ∷ kind.Star ∷ kind.Equal ∷ kind.Differ ∷ kind.Less ∷ kind.LessEqual ∷ kind.Greater ∷ kind.GreaterEqual ∷ kind.And ∷ kind.Or ∷ kind.Not ∷ kind.FollowedBy ∷ kind.Within ∷ kind.Seconds ∷ kind.Repeats ∷ kind.Times ∷ kind.Start ∷ kind.Stop ∷ kind.Among ∷ kind.Like ∷ kind.Subset ∷ kind.Superset ∷ kind.Exists ∷ kind.TrueWord ∷ kind.FalseWord ∷ kind.Word ∷ kind.HyphenWord ∷ kind.Number ∷ kind.Words ∷ kind.Hex ∷ kind.Base ∷ kind.Time ∷ []
 
-abbrev pub Depth : Type 0
-Depth = TypeOf at_start
+code-read : (k : TokenKind) → get_or table (code k) kind.Dot ≡ k
+unfolding table
+code-read kind.Dot = refl
+code-read _ = refl
 
--- none of the tokens is one too many, and what they count for together
-abbrev pub Shallow : Depth → List Token → Type 0
-Shallow d [] = Unit {0}
-Shallow d (t ∷ ts) = (is_deep d t.kind ≡ false) × Shallow (depth_after d t.kind) ts
+pub same_is : (w k : TokenKind) → same w k ≡ true → k ≡ w
+same_is w k h = sym (code-read k) ∙ ap (λ n. get_or table n kind.Dot) (sym (eqb-true (code w) (code k) h)) ∙ code-read w
 
-abbrev pub after : Depth → List Token → Depth
-after d [] = d
-after d (t ∷ ts) = after (depth_after d t.kind) ts
+-- how many of joined tokens are of a class
+many_first : (class : TokenClass) (t : Token) (ts : List Token) (b : Bool) → is_in class t.kind ≡ b → how_many class (t ∷ ts) ≡ cond b 1 0 + how_many class ts
+many_first class t ts b e = sum_by-cons (λ u. cond (is_in class u.kind) 1 0) t ts ∙ ap (λ c. cond c 1 0 + how_many class ts) e
 
-after_append : (d : Depth) (xs ys : List Token) → after d (xs ++ ys) ≡ after (after d xs) ys
-after_append d [] ys = refl
-after_append d (x ∷ xs) ys = after_append (depth_after d x.kind) xs ys
+many_last : (class : TokenClass) (ts : List Token) (t : Token) (b : Bool) → is_in class t.kind ≡ b → how_many class (ts ++ t ∷ []) ≡ how_many class ts + cond b 1 0
+many_last class ts t b e = sum_by_push (λ u. cond (is_in class u.kind) 1 0) ts t ∙ ap (λ c. how_many class ts + cond c 1 0) e
 
-shallow_parts : (d : Depth) (xs ys : List Token) → Shallow d (xs ++ ys) → Shallow d xs × Shallow (after d xs) ys
-shallow_parts d [] ys h = (tt, h)
-shallow_parts d (x ∷ xs) ys h = let p = shallow_parts (depth_after d x.kind) xs ys h.1 in ((h.0, p.0), p.1)
+many_joined : (class : TokenClass) (xs ys : List Token) → how_many class (xs ++ ys) ≡ how_many class xs + how_many class ys
+many_joined class xs ys = sum_by-append (λ u. cond (is_in class u.kind) 1 0) xs ys
 
-shallow_join : (d : Depth) (xs ys : List Token) → Shallow d xs → Shallow (after d xs) ys → Shallow d (xs ++ ys)
-shallow_join d [] ys h k = k
-shallow_join d (x ∷ xs) ys h k = (h.0, shallow_join (depth_after d x.kind) xs ys h.1 k)
+-- none of the tokens opens a parenthesis too many behind those
+abbrev pub NoneDeep : List Token → List Token → Type 0
+NoneDeep before [] = Unit {0}
+NoneDeep before (t ∷ ts) = (¬ IsDeepOpen before t) × NoneDeep (before ++ t ∷ []) ts
 
-later_none : (o : Option ℕ) → option_map (λ (n : ℕ). n + 1) o ≡ None → o ≡ None
-later_none None e = refl
-later_none (Some n) e = absurd (cc)
+deep_parts : (before xs ys : List Token) → NoneDeep before (xs ++ ys) → NoneDeep before xs × NoneDeep (before ++ xs) ys
+deep_parts before [] ys h = (tt, subst (λ z. NoneDeep z ys) (sym (append-nil before)) h)
+deep_parts before (x ∷ xs) ys h = let p = deep_parts (before ++ x ∷ []) xs ys h.1 in ((h.0, p.0), subst (λ z. NoneDeep z ys) (append_assoc before (x ∷ []) xs) p.1)
 
-first_none : (b : Bool) (o : Option ℕ) → (if b then Some 0 else option_map (λ (n : ℕ). n + 1) o) ≡ None → (b ≡ false) × (o ≡ None)
-first_none true o e = absurd (cc)
-first_none false o e = (refl, later_none o e)
+deep_join : (before xs ys : List Token) → NoneDeep before xs → NoneDeep (before ++ xs) ys → NoneDeep before (xs ++ ys)
+deep_join before [] ys h k = subst (λ z. NoneDeep z ys) (append-nil before) k
+deep_join before (x ∷ xs) ys h k = (h.0, deep_join (before ++ x ∷ []) xs ys h.1 (subst (λ z. NoneDeep z ys) (sym (append_assoc before (x ∷ []) xs)) k))
 
-none_first : (b : Bool) (o : Option ℕ) → b ≡ false → o ≡ None → (if b then Some 0 else option_map (λ (n : ℕ). n + 1) o) ≡ None
-none_first true o e h = absurd (cc)
-none_first false o e h = ap (option_map (λ (n : ℕ). n + 1)) h
+-- what holds of the tokens where none is one too many, and the other way round
+one_more : (before ts : List Token) (t : Token) → NoneTooMany (before ++ t ∷ ts) → how_many Qualifying before ≤ 64 → how_many Qualifying (before ++ t ∷ []) ≤ 64
+one_more before ts t none few = by (cases_Bool (is_qualifying t.kind)) (cases_lt (how_many Qualifying before) 64)
+  where
+    by : (is_qualifying t.kind ≡ true) ⊎ (is_qualifying t.kind ≡ false) → (how_many Qualifying before < 64) ⊎ (64 ≤ how_many Qualifying before) → how_many Qualifying (before ++ t ∷ []) ≤ 64
+    by (inr e) h = omega (arith, few, many_last Qualifying before t false e)
+    by (inl e) (inl h) = omega (arith, h, many_last Qualifying before t true e)
+    by (inl e) (inr h) = absurd (none before t ts refl (inr (record { qualifies = e; deep = h })))
 
-pub shallow_none : (d : Depth) (ts : List Token) → deep_at d ts ≡ None → Shallow d ts
-shallow_none d [] e = tt
-shallow_none d (t ∷ ts) e = let p = first_none (is_deep d t.kind) (deep_at (depth_after d t.kind) ts) e in (p.0, shallow_none (depth_after d t.kind) ts p.1)
+none_parts : (before ts : List Token) → NoneTooMany (before ++ ts) → how_many Qualifying before ≤ 64 → NoneDeep before ts × (how_many Qualifying (before ++ ts) ≤ 64)
+none_parts before [] none few = (tt, subst (λ z. how_many Qualifying z ≤ 64) (sym (append-nil before)) few)
+none_parts before (t ∷ ts) none few =
+    let e = append_assoc before (t ∷ []) ts in
+    let p = none_parts (before ++ t ∷ []) ts (subst NoneTooMany (sym e) none) (one_more before ts t none few) in
+    ((λ d. none before t ts refl (inl d), p.0), subst (λ z. how_many Qualifying z ≤ 64) e p.1)
 
-pub none_shallow : (d : Depth) (ts : List Token) → Shallow d ts → deep_at d ts ≡ None
-none_shallow d [] h = refl
-none_shallow d (t ∷ ts) h = none_first (is_deep d t.kind) (deep_at (depth_after d t.kind) ts) h.0 (none_shallow (depth_after d t.kind) ts h.1)
+none_join : (ts : List Token) → NoneDeep [] ts → how_many Qualifying ts ≤ 64 → NoneTooMany ts
+none_join ts deep few before token after e (inl d) = (deep_parts [] before (token ∷ after) (subst (NoneDeep []) e deep)).1.0 d
+none_join ts deep few before token after e (inr d) =
+    let h : how_many Qualifying (before ++ token ∷ after) ≤ 64 = subst (λ z. how_many Qualifying z ≤ 64) e few in
+    absurd (omega (arith, h, d.deep, many_joined Qualifying before (token ∷ after), many_first Qualifying token after true d.qualifies))
 
--- outside of lists
-abbrev pub outside : ℕ → ℕ → Depth
-outside x y = record at_start { nested = x; qualifiers = y }
+-- so many parentheses are open behind the tokens
+abbrev Opened : List Token → ℕ → Type 0
+Opened before x = how_many (Only kind.RoundOpen) before ≡ x + how_many (Only kind.RoundClose) before
+
+pub record Behind (before : List Token) (x : ℕ) : Type 0 where
+  pub opened : Opened before x
+  pub apart : ¬ EndsWithIn before
 
 -- the tokens open so many parentheses at once, and have so many qualifiers
 pub record Measured (ts : List Token) (n q : ℕ) : Type 0 where
-  pub counts : (x y : ℕ) → after (outside x y) ts ≡ outside x (y + q)
-  pub needs : (x y : ℕ) → x ≤ 64 → y ≤ 64 → Shallow (outside x y) ts → (x + n ≤ 64) × (y + q ≤ 64)
-  pub fits : (x y : ℕ) → x + n ≤ 64 → y + q ≤ 64 → Shallow (outside x y) ts
+  pub keeps : (before : List Token) (x : ℕ) → Behind before x → Behind (before ++ ts) x
+  pub needs : (before : List Token) (x : ℕ) → Behind before x → x ≤ 64 → NoneDeep before ts → x + n ≤ 64
+  pub fits : (before : List Token) (x : ℕ) → Behind before x → x + n ≤ 64 → NoneDeep before ts
+  pub qualifiers : how_many Qualifying ts ≡ q
 
-pub nothing : Measured [] 0 0
-nothing = record {
-  counts = λ x y. ap (outside x) (let e : y ≡ y + 0 = omega arith in e);
-  needs = λ x y h k s. (omega arith, omega arith);
-  fits = λ x y h k. tt;
-}
+behind_none : Behind [] 0
+behind_none = record { opened = refl; apart = λ e. nowhere e.front e.last e.spelled }
+  where
+    nowhere : (front : List Token) (last : Token) → [] ≡ front ++ last ∷ [] → ⊥
+    nowhere [] last e = absurd (cc)
+    nowhere (t ∷ ts) last e = absurd (cc)
 
-max_low : (x n m : ℕ) → x + max n m ≤ 64 → (x + n ≤ 64) × (x + m ≤ 64)
-max_low x n m h = (omega arith, omega arith)
+pub within : (ts : List Token) (n q : ℕ) → Measured ts n q → NoneTooMany ts → (n ≤ 64) × (q ≤ 64)
+within ts n q m none =
+    let p = none_parts [] ts none (omega arith) in
+    (let a = m.needs [] 0 behind_none (omega arith) p.0 in omega (arith, a), (let b = p.1 in omega (arith, b, m.qualifiers)))
 
-max_high : (x n m : ℕ) → x + n ≤ 64 → x + m ≤ 64 → x + max n m ≤ 64
-max_high x n m h k = omega arith
+pub none_too_many : (ts : List Token) (n q : ℕ) → Measured ts n q → n ≤ 64 → q ≤ 64 → NoneTooMany ts
+none_too_many ts n q m low few = none_join ts (m.fits [] 0 behind_none (omega arith)) (omega (arith, m.qualifiers))
 
 -- tokens one after another
 pub joined : (xs ys : List Token) (n q m r : ℕ) → Measured xs n q → Measured ys m r → Measured (xs ++ ys) (max n m) (q + r)
 joined xs ys n q m r u v = record {
-  counts = λ x y. after_append (outside x y) xs ys ∙ ap (λ (d : Depth). after d ys) (u.counts x y) ∙ v.counts x (y + q) ∙ ap (outside x) (let e : y + q + r ≡ y + (q + r) = omega arith in e);
-  needs = λ x y h k s.
-      let p = shallow_parts (outside x y) xs ys s in
-      let a = u.needs x y h k p.0 in
-      let b = v.needs x (y + q) h a.1 (subst (λ (d : Depth). Shallow d ys) (u.counts x y) p.1) in
-      (max_high x n m a.0 b.0, (let g = b.1 in omega (arith, g)));
-  fits = λ x y h k.
-      let p = max_low x n m h in
-      shallow_join (outside x y) xs ys (u.fits x y p.0 (omega arith)) (subst (λ (d : Depth). Shallow d ys) (sym (u.counts x y)) (v.fits x (y + q) p.1 (omega arith)));
-}
-
--- a token that neither opens nor closes nor begins a qualifier
-abbrev pub is_flat : TokenKind → Bool
-is_flat kind.RoundOpen = false
-is_flat kind.RoundClose = false
-is_flat kind.Within = false
-is_flat kind.Repeats = false
-is_flat kind.Start = false
-is_flat kind.Among = false
-is_flat _ = true
-
-flat_after : (d : Depth) (k : TokenKind) → is_flat k ≡ true → depth_after d k ≡ d
-flat_after d kind.RoundOpen e = absurd (cc)
-flat_after d kind.RoundClose e = absurd (cc)
-flat_after d kind.Within e = absurd (cc)
-flat_after d kind.Repeats e = absurd (cc)
-flat_after d kind.Start e = absurd (cc)
-flat_after d kind.Among e = absurd (cc)
-flat_after d _ e = refl
-
-flat_shallow : (d : Depth) (k : TokenKind) → is_flat k ≡ true → is_deep d k ≡ false
-flat_shallow d kind.RoundOpen e = absurd (cc)
-flat_shallow d kind.RoundClose e = absurd (cc)
-flat_shallow d kind.Within e = absurd (cc)
-flat_shallow d kind.Repeats e = absurd (cc)
-flat_shallow d kind.Start e = absurd (cc)
-flat_shallow d kind.Among e = absurd (cc)
-flat_shallow d _ e = refl
-
-pub flat : (t : Token) → is_flat t.kind ≡ true → Measured (t ∷ []) 0 0
-flat t e = record {
-  counts = λ x y. flat_after (outside x y) t.kind e ∙ ap (outside x) (let g : y ≡ y + 0 = omega arith in g);
-  needs = λ x y h k s. (omega arith, omega arith);
-  fits = λ x y h k. (flat_shallow (outside x y) t.kind e, tt);
+  keeps = λ before x b. subst (λ z. Behind z x) (append_assoc before xs ys) (v.keeps (before ++ xs) x (u.keeps before x b));
+  needs = λ before x b h d.
+      let p = deep_parts before xs ys d in
+      let f = u.needs before x b h p.0 in
+      let g = v.needs (before ++ xs) x (u.keeps before x b) h p.1 in
+      omega (arith, f, g);
+  fits = λ before x b h. deep_join before xs ys (u.fits before x b (omega arith)) (v.fits (before ++ xs) x (u.keeps before x b) (omega arith));
+  qualifiers = omega (arith, u.qualifiers, v.qualifiers, many_joined Qualifying xs ys);
 }
 
 pub measured_is : (ts : List Token) (n q m r : ℕ) → n ≡ m → q ≡ r → Measured ts n q → Measured ts m r
 measured_is ts n q m r e g h = subst (λ (k : ℕ). Measured ts k r) e (subst (λ (k : ℕ). Measured ts n k) g h)
 
-pub max_first : (n : ℕ) → max 0 n ≡ n
-max_first n = omega arith
+-- one token more
+opened_more : (before : List Token) (t : Token) (i j : Bool) (x y : ℕ) → is_in (Only kind.RoundOpen) t.kind ≡ i → is_in (Only kind.RoundClose) t.kind ≡ j → x + cond i 1 0 ≡ y + cond j 1 0 → Opened before x → Opened (before ++ t ∷ []) y
+opened_more before t i j x y e g k h = omega (arith, k, h, many_last (Only kind.RoundOpen) before t i e, many_last (Only kind.RoundClose) before t j g)
+
+not_in : (before : List Token) (t : Token) → is_in (Only kind.Among) t.kind ≡ false → ¬ EndsWithIn (before ++ t ∷ [])
+not_in before t e i = false≢true (sym e ∙ ap (λ (u : Token). is_in (Only kind.Among) u.kind) (same_from_push before i.front t i.last i.spelled).1 ∙ i.among)
+
+not_deep : (before : List Token) (t : Token) → is_in (Only kind.RoundOpen) t.kind ≡ false → ¬ IsDeepOpen before t
+not_deep before t e d = false≢true (sym e ∙ d.opens)
+
+-- a token that neither opens nor closes
+abbrev pub is_plain : TokenKind → Bool
+is_plain k = not (same kind.RoundOpen k || same kind.RoundClose k || same kind.Among k)
+
+none_of : (a b c : Bool) → not (a || b || c) ≡ true → (a ≡ false) × (b ≡ false) × (c ≡ false)
+none_of false false false e = (refl, refl, refl)
+none_of true b c e = absurd (cc)
+none_of false true c e = absurd (cc)
+none_of false false true e = absurd (cc)
+
+plain : (t : Token) → is_plain t.kind ≡ true → Measured (t ∷ []) 0 (how_many Qualifying (t ∷ []))
+plain t e =
+    let p = none_of (same kind.RoundOpen t.kind) (same kind.RoundClose t.kind) (same kind.Among t.kind) e in
+    record {
+      keeps = λ before x b. record { opened = opened_more before t false false x x p.0 p.1 refl b.opened; apart = not_in before t p.2 };
+      needs = λ before x b h d. omega arith;
+      fits = λ before x b h. (not_deep before t p.0, tt);
+      qualifiers = refl;
+    }
+
+-- one that doesn't begin a qualifier either
+abbrev pub is_flat : TokenKind → Bool
+is_flat k = is_plain k && not (is_qualifying k)
+
+flat : (t : Token) → is_flat t.kind ≡ true → Measured (t ∷ []) 0 0
+flat t e =
+    let p = and_parts (is_plain t.kind) (not (is_qualifying t.kind)) e in
+    measured_is (t ∷ []) 0 (how_many Qualifying (t ∷ [])) 0 0 refl (rw (not-true (is_qualifying t.kind) p.1) refl) (plain t p.0)
+
+pub only_flat : (w k : TokenKind) → same w k ≡ true → is_flat w ≡ true → is_flat k ≡ true
+only_flat w k e h = ap is_flat (same_is w k e) ∙ h
 
 pub max_last : (n : ℕ) → max n 0 ≡ n
 max_last n = omega arith
 
-none_first_sum : (q : ℕ) → 0 + q ≡ q
-none_first_sum q = omega arith
-
-none_last_sum : (q : ℕ) → q + 0 ≡ q
-none_last_sum q = omega arith
-
 pub first_flat : (t : Token) (ts : List Token) (n q : ℕ) → is_flat t.kind ≡ true → Measured ts n q → Measured (t ∷ ts) n q
-first_flat t ts n q e m = measured_is (t ∷ ts) (max 0 n) (0 + q) n q (max_first n) (none_first_sum q) (joined (t ∷ []) ts 0 0 n q (flat t e) m)
+first_flat t ts n q e m = measured_is (t ∷ ts) (max 0 n) (0 + q) n q (omega arith) (omega arith) (joined (t ∷ []) ts 0 0 n q (flat t e) m)
 
 pub last_flat : (t : Token) (ts : List Token) (n q : ℕ) → is_flat t.kind ≡ true → Measured ts n q → Measured (ts ++ t ∷ []) n q
-last_flat t ts n q e m = measured_is (ts ++ t ∷ []) (max n 0) (q + 0) n q (max_last n) (none_last_sum q) (joined ts (t ∷ []) n q 0 0 m (flat t e))
+last_flat t ts n q e m = measured_is (ts ++ t ∷ []) (max n 0) (q + 0) n q (omega arith) (omega arith) (joined ts (t ∷ []) n q 0 0 m (flat t e))
 
 pub mid_flat : (xs : List Token) (t : Token) (ys : List Token) (n q m r : ℕ) → is_flat t.kind ≡ true → Measured xs n q → Measured ys m r → Measured (xs ++ t ∷ ys) (max n m) (q + r)
 mid_flat xs t ys n q m r e u v = joined xs (t ∷ ys) n q m r u (first_flat t ys m r e v)
-
--- tokens of one kind
-is_open : (k : TokenKind) → same kind.RoundOpen k ≡ true → k ≡ kind.RoundOpen
-is_open kind.RoundOpen e = refl
-is_open _ e = absurd (cc)
-
-is_close : (k : TokenKind) → same kind.RoundClose k ≡ true → k ≡ kind.RoundClose
-is_close kind.RoundClose e = refl
-is_close _ e = absurd (cc)
-
-is_among : (k : TokenKind) → same kind.Among k ≡ true → k ≡ kind.Among
-is_among kind.Among e = refl
-is_among _ e = absurd (cc)
-
-below : (x : ℕ) → nat_le 64 x ≡ false → x + 1 ≤ 64
-below x e = grind (arith, nat_tests)
-
-not_above : (x : ℕ) → x + 1 ≤ 64 → nat_le 64 x ≡ false
-not_above x h = grind (arith, nat_tests)
-
--- tokens between parentheses
-abbrev round_ts : Token → List Token → Token → List Token
-round_ts a ts b = a ∷ ts ++ b ∷ []
-
-round_counts : (a b : Token) (ts : List Token) (n q x y : ℕ) → a.kind ≡ kind.RoundOpen → b.kind ≡ kind.RoundClose → Measured ts n q → after (outside x y) (round_ts a ts b) ≡ outside x (y + q)
-round_counts a b ts n q x y e g m =
-    ap (λ (k : TokenKind). after (depth_after (outside x y) k) (ts ++ b ∷ [])) e
-    ∙ after_append (outside (x + 1) y) ts (b ∷ [])
-    ∙ ap (λ (d : Depth). depth_after d b.kind) (m.counts (x + 1) y)
-    ∙ ap (depth_after (outside (x + 1) (y + q))) g
-    ∙ ap (λ (z : ℕ). outside z (y + q)) (let h : x + 1 - 1 ≡ x = omega arith in h)
-
-pub round : (a b : Token) (ts : List Token) (n q : ℕ) → IsA (Only kind.RoundOpen) a → IsA (Only kind.RoundClose) b → Measured ts n q → Measured (round_ts a ts b) (n + 1) q
-round a b ts n q h k m =
-    let e = is_open a.kind h in
-    let g = is_close b.kind k in
-    record {
-      counts = λ x y. round_counts a b ts n q x y e g m;
-      needs = λ x y low few s.
-          let room = below x (subst (λ (j : TokenKind). is_deep (outside x y) j ≡ false) e s.0) in
-          let p = shallow_parts (outside (x + 1) y) ts (b ∷ []) (subst (λ (j : TokenKind). Shallow (depth_after (outside x y) j) (ts ++ b ∷ [])) e s.1) in
-          let c = m.needs (x + 1) y room few p.0 in
-          ((let c0 = c.0 in omega (arith, c0)), c.1);
-      fits = λ x y low few.
-          let deep : is_deep (outside x y) a.kind ≡ false = ap (is_deep (outside x y)) e ∙ not_above x (omega arith) in
-          let inner = m.fits (x + 1) y (omega arith) few in
-          let last : Shallow (after (outside (x + 1) y) ts) (b ∷ []) = (ap (is_deep (after (outside (x + 1) y) ts)) g, tt) in
-          (deep, subst (λ (j : TokenKind). Shallow (depth_after (outside x y) j) (ts ++ b ∷ [])) (sym e) (shallow_join (outside (x + 1) y) ts (b ∷ []) inner last));
-    }
 
 -- tokens that are all flat
 abbrev pub Flat : List Token → Type 0
 Flat [] = Unit {0}
 Flat (t ∷ ts) = (is_flat t.kind ≡ true) × Flat ts
 
-flats_after : (d : Depth) (ts : List Token) → Flat ts → after d ts ≡ d
-flats_after d [] h = refl
-flats_after d (t ∷ ts) h = ap (λ (c : Depth). after c ts) (flat_after d t.kind h.0) ∙ flats_after d ts h.1
-
-flats_shallow : (d : Depth) (ts : List Token) → Flat ts → Shallow d ts
-flats_shallow d [] h = tt
-flats_shallow d (t ∷ ts) h = (flat_shallow d t.kind h.0, subst (λ (c : Depth). Shallow c ts) (sym (flat_after d t.kind h.0)) (flats_shallow d ts h.1))
-
-pub flats : (ts : List Token) → Flat ts → Measured ts 0 0
-flats [] h = nothing
-flats (t ∷ ts) h = first_flat t ts 0 0 h.0 (flats ts h.1)
-
 pub flat_join : (xs ys : List Token) → Flat xs → Flat ys → Flat (xs ++ ys)
 flat_join [] ys h k = k
 flat_join (x ∷ xs) ys h k = (h.0, flat_join xs ys h.1 k)
 
--- IN and its list
-abbrev in_list : ℕ → ℕ → Depth
-in_list x y = depth_after (depth_after (outside x y) kind.Among) kind.RoundOpen
+pub flats : (ts : List Token) → Flat ts → Measured ts 0 0
+flats [] h = record {
+  keeps = λ before x b. subst (λ z. Behind z x) (sym (append-nil before)) b;
+  needs = λ before x b h d. omega arith;
+  fits = λ before x b h. tt;
+  qualifiers = refl;
+}
+flats (t ∷ ts) h = first_flat t ts 0 0 h.0 (flats ts h.1)
 
+flats_deep : (before ts : List Token) → Flat ts → NoneDeep before ts
+flats_deep before [] h = tt
+flats_deep before (t ∷ ts) h = (not_deep before t (none_of (same kind.RoundOpen t.kind) (same kind.RoundClose t.kind) (same kind.Among t.kind) (and_parts (is_plain t.kind) (not (is_qualifying t.kind)) h.0).0).0, flats_deep (before ++ t ∷ []) ts h.1)
+
+-- the first token of a qualifier, and the rest of it
+pub qualifying : (w : TokenKind) (t : Token) (ts : List Token) → IsA (Only w) t → is_plain w ≡ true → is_qualifying w ≡ true → Flat ts → Measured (t ∷ ts) 0 1
+qualifying w t ts h p q f =
+    let e = same_is w t.kind h in
+    measured_is (t ∷ ts) (max 0 0) (how_many Qualifying (t ∷ []) + 0) 0 1 refl (rw (e, q) refl) (joined (t ∷ []) ts 0 (how_many Qualifying (t ∷ [])) 0 0 (plain t (ap is_plain e ∙ p)) (flats ts f))
+
+-- tokens between parentheses
+inside : (before : List Token) (a : Token) (x : ℕ) → IsA (Only kind.RoundOpen) a → Opened before x → Behind (before ++ a ∷ []) (x + 1)
+inside before a x h o = let e = same_is kind.RoundOpen a.kind h in record { opened = opened_more before a true false x (x + 1) h (ap (same kind.RoundClose) e) (omega arith) o; apart = not_in before a (ap (same kind.Among) e) }
+
+outside : (before : List Token) (b : Token) (x : ℕ) → IsA (Only kind.RoundClose) b → Opened before (x + 1) → Behind (before ++ b ∷ []) x
+outside before b x h o = let e = same_is kind.RoundClose b.kind h in record { opened = opened_more before b false true (x + 1) x (ap (same kind.RoundOpen) e) h (omega arith) o; apart = not_in before b (ap (same kind.Among) e) }
+
+room_for : (before : List Token) (a : Token) (x : ℕ) → IsA (Only kind.RoundOpen) a → Behind before x → ¬ IsDeepOpen before a → x + 1 ≤ 64
+room_for before a x h b d = by (cases_lt x 64)
+  where
+    by : (x < 64) ⊎ (64 ≤ x) → x + 1 ≤ 64
+    by (inl g) = omega (arith, g)
+    by (inr g) = absurd (d (record { opens = h; groups = b.apart; deep = omega (arith, g, b.opened) }))
+
+module _ (a b : Token) (ts : List Token) (n q : ℕ) (h : IsA (Only kind.RoundOpen) a) (k : IsA (Only kind.RoundClose) b) (m : Measured ts n q) where
+  round_keeps : (before : List Token) (x : ℕ) → Opened before x → Behind (before ++ (a ∷ ts ++ b ∷ [])) x
+  round_keeps before x o =
+      subst (λ z. Behind z x) (append_assoc (before ++ a ∷ []) ts (b ∷ []) ∙ append_assoc before (a ∷ []) (ts ++ b ∷ []))
+      (outside ((before ++ a ∷ []) ++ ts) b x k (m.keeps (before ++ a ∷ []) (x + 1) (inside before a x h o)).opened)
+
+  round_deep : (before : List Token) → NoneDeep before ts → NoneDeep before (ts ++ b ∷ [])
+  round_deep before d = deep_join before ts (b ∷ []) d (not_deep (before ++ ts) b (ap (same kind.RoundOpen) (same_is kind.RoundClose b.kind k)), tt)
+
+  round_qualifiers : how_many Qualifying (a ∷ ts ++ b ∷ []) ≡ q
+  round_qualifiers =
+      omega (
+        arith,
+        m.qualifiers,
+        many_first Qualifying a (ts ++ b ∷ []) false (ap is_qualifying (same_is kind.RoundOpen a.kind h)),
+        many_last Qualifying ts b false (ap is_qualifying (same_is kind.RoundClose b.kind k)),
+      )
+
+  pub round : Measured (a ∷ ts ++ b ∷ []) (n + 1) q
+  round = record {
+    keeps = λ before x o. round_keeps before x o.opened;
+    needs = λ before x o low d.
+        let c = m.needs (before ++ a ∷ []) (x + 1) (inside before a x h o.opened) (room_for before a x h o d.0) (deep_parts (before ++ a ∷ []) ts (b ∷ []) d.1).0 in
+        omega (arith, c);
+    fits = λ before x o low. (λ d. omega (arith, d.deep, o.opened), round_deep (before ++ a ∷ []) (m.fits (before ++ a ∷ []) (x + 1) (inside before a x h o.opened) (omega arith)));
+    qualifiers = round_qualifiers;
+  }
+
+-- IN and its list
 pub among : (a b c : Token) (ts : List Token) → IsA (Only kind.Among) a → IsA (Only kind.RoundOpen) b → IsA (Only kind.RoundClose) c → Flat ts → Measured (a ∷ b ∷ ts ++ c ∷ []) 0 0
 among a b c ts h k l f =
-    let e = is_among a.kind h in
-    let g = is_open b.kind k in
-    let i = is_close c.kind l in
-    let opens : (x y : ℕ) → depth_after (depth_after (outside x y) a.kind) b.kind ≡ in_list x y = λ x y. ap (λ (j : TokenKind). depth_after (depth_after (outside x y) j) b.kind) e ∙ ap (depth_after (depth_after (outside x y) kind.Among)) g in
+    let e = same_is kind.Among a.kind h in
+    let m = flats ts f in
     record {
-      counts = λ x y.
-          ap (λ (d : Depth). after d (ts ++ c ∷ [])) (opens x y)
-          ∙ after_append (in_list x y) ts (c ∷ [])
-          ∙ ap (λ (d : Depth). depth_after d c.kind) (flats_after (in_list x y) ts f)
-          ∙ ap (depth_after (in_list x y)) i
-          ∙ ap (outside x) (let z : y ≡ y + 0 = omega arith in z);
-      needs = λ x y low few s. (omega arith, omega arith);
-      fits = λ x y low few.
-          let first : is_deep (outside x y) a.kind ≡ false = ap (is_deep (outside x y)) e in
-          let second : is_deep (depth_after (outside x y) a.kind) b.kind ≡ false = ap (λ (j : TokenKind). is_deep (depth_after (outside x y) j) b.kind) e ∙ ap (is_deep (depth_after (outside x y) kind.Among)) g in
-          let last : Shallow (after (in_list x y) ts) (c ∷ []) = (ap (is_deep (after (in_list x y) ts)) i, tt) in
-          (first, (second, subst (λ (d : Depth). Shallow d (ts ++ c ∷ [])) (sym (opens x y)) (shallow_join (in_list x y) ts (c ∷ []) (flats_shallow (in_list x y) ts f) last)));
+      keeps = λ before x o. subst (λ z. Behind z x) (append_assoc before (a ∷ []) (b ∷ ts ++ c ∷ [])) (round_keeps b c ts 0 0 k l m (before ++ a ∷ []) x (opened_more before a false false x x (ap (same kind.RoundOpen) e) (ap (same kind.RoundClose) e) refl o.opened));
+      needs = λ before x o low d. omega arith;
+      fits = λ before x o low. (
+          not_deep before a (ap (same kind.RoundOpen) e),
+          (λ d. d.groups (record { front = before; last = a; spelled = refl; among = h }), round_deep b c ts 0 0 k l m ((before ++ a ∷ []) ++ b ∷ []) (flats_deep ((before ++ a ∷ []) ++ b ∷ []) ts f)),
+      );
+      qualifiers = omega (arith, many_first Qualifying a (b ∷ ts ++ c ∷ []) false (ap is_qualifying e), round_qualifiers b c ts 0 0 k l m);
     }
-
--- the first token of a qualifier
-abbrev pub is_qualifying : TokenKind → Bool
-is_qualifying kind.Within = true
-is_qualifying kind.Repeats = true
-is_qualifying kind.Start = true
-is_qualifying _ = false
-
-qualifies_after : (x y : ℕ) (k : TokenKind) → is_qualifying k ≡ true → depth_after (outside x y) k ≡ outside x (y + 1)
-qualifies_after x y kind.Within e = refl
-qualifies_after x y kind.Repeats e = refl
-qualifies_after x y kind.Start e = refl
-qualifies_after x y _ e = absurd (cc)
-
-qualifies_deep : (x y : ℕ) (k : TokenKind) → is_qualifying k ≡ true → is_deep (outside x y) k ≡ nat_le 64 y
-qualifies_deep x y kind.Within e = refl
-qualifies_deep x y kind.Repeats e = refl
-qualifies_deep x y kind.Start e = refl
-qualifies_deep x y _ e = absurd (cc)
-
-pub qualifying : (t : Token) (ts : List Token) → is_qualifying t.kind ≡ true → Flat ts → Measured (t ∷ ts) 0 1
-qualifying t ts e f = record {
-  counts = λ x y. ap (λ (d : Depth). after d ts) (qualifies_after x y t.kind e) ∙ flats_after (outside x (y + 1)) ts f;
-  needs = λ x y low few s. (omega arith, below y (sym (qualifies_deep x y t.kind e) ∙ s.0));
-  fits = λ x y low few. (qualifies_deep x y t.kind e ∙ not_above y few, subst (λ (d : Depth). Shallow d ts) (sym (qualifies_after x y t.kind e)) (flats_shallow (outside x (y + 1)) ts f));
-}

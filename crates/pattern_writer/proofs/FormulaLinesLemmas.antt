@@ -16,9 +16,9 @@ use Rattle.pattern_writer.proofs.WrittenLemmas.{Written, IsOne, is_one, IsPair, 
 use Rattle.pattern_writer.proofs.TokensLemmas.{Anything, literal}
 use Rattle.pattern_writer.proofs.PathLinesLemmas.{stop_space, stop_close}
 use Rattle.pattern_writer.proofs.TestLinesLemmas.{MeansOne, round, close_round, a_test}
-use Rattle.pattern_writer.proofs.DepthsLemmas.{Measured, measured_is, max_last, mid_flat}
+use Rattle.pattern_writer.proofs.DepthsLemmas.{Measured, measured_is, only_flat, max_last, mid_flat}
 use Rattle.pattern_writer.proofs.DepthsLemmas as depth
-use Rattle.pattern_writer.proofs.DepthLinesLemmas.{only_flat, plain_measured, wrapped, formula_need, parts_need, put_need}
+use Rattle.pattern_writer.proofs.DepthLinesLemmas.{plain_measured, wrapped, formula_need, parts_need, put_need}
 use Rattle.pattern_writer.proofs.FitLemmas.{AreSome, FitFormula, FitFormulas}
 
 -- the line of the grammar for what binds so

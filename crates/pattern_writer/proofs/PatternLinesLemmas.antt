@@ -30,9 +30,9 @@ use Rattle.pattern_writer.proofs.ValuesLemmas.{at, time}
 use Rattle.pattern_writer.proofs.PathLinesLemmas.{stop_space, stop_close, stop_square, square, close_square}
 use Rattle.pattern_writer.proofs.TestLinesLemmas.{MeansOne, sign, round, close_round}
 use Rattle.pattern_writer.proofs.FormulaLinesLemmas.{IsDeep, MeansFormula, plain_leaf, lowered, binds_low, le_from}
-use Rattle.pattern_writer.proofs.DepthsLemmas.{Measured, measured_is, max_last, joined, first_flat, last_flat, mid_flat}
+use Rattle.pattern_writer.proofs.DepthsLemmas.{Measured, measured_is, only_flat, max_last, joined, first_flat, last_flat, mid_flat}
 use Rattle.pattern_writer.proofs.DepthsLemmas as depth
-use Rattle.pattern_writer.proofs.DepthLinesLemmas.{only_flat, qualifier_measured, wrapped, formula_need, need, qualifiers_in}
+use Rattle.pattern_writer.proofs.DepthLinesLemmas.{qualifier_measured, wrapped, formula_need, need, qualifiers_in}
 use Rattle.pattern_writer.proofs.FitLemmas.{FitLimit, FitMeant}
 
 -- the line of the grammar for what binds so

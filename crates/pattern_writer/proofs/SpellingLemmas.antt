@@ -2,7 +2,6 @@
 use Rattle.std.proofs.Common.{◌≡◌, ℕ, ◌<◌, ◌≤◌, List, [], length, refl, sym, subst, arith}
 use Rattle.pattern_lexer.specs.Reading.{AreTokens}
 use Rattle.pattern_grammar.specs.Grammar.{IsPattern}
-use Rattle.pattern_grammar.specs.Depth.{at_start}
 use Rattle.pattern_grammar.specs.Tree.{Tree}
 use Rattle.pattern_types.specs.declared.pattern.Pattern.{Pattern}
 use Rattle.pattern_types.specs.PlainPattern.{PlainPattern, plain_pattern}
@@ -18,7 +17,7 @@ use Rattle.pattern_writer.proofs.PatternLinesLemmas.{IsDeepLine, MeansTree, whol
 use Rattle.pattern_writer.proofs.CuttingLemmas.{tokens_at, cut_pieces, stand_for}
 use Rattle.pattern_writer.proofs.LexedLemmas.{all_lexed}
 use Rattle.pattern_writer.proofs.FitPatternsLemmas.{fit_pattern}
-use Rattle.pattern_writer.proofs.DepthsLemmas.{none_shallow, shallow_none}
+use Rattle.pattern_writer.proofs.DepthsLemmas.{within, none_too_many}
 use Rattle.pattern_writer.proofs.DepthLinesLemmas.{need, qualifiers_in, wrapped_least, pattern_deep}
 
 -- a text that is written so, and isn't too deep
@@ -38,7 +37,7 @@ spelling m text n q low few w =
       spelled = record {
         tokens = ts;
         of_text = record { rest = cut.rest; stand = subst (λ (x : List ℕ). AreTokens 0 x ts cut.rest) w.spelled cut.stand; blank = cut.blank };
-        of_tokens = record { spells = read.1.0; shallow = none_shallow at_start ts (read.1.1.fits 0 0 (omega arith) (omega arith)) };
+        of_tokens = record { spells = read.1.0; shallow = none_too_many ts n q read.1.1 low few };
       };
       means = read.2;
     }
@@ -50,12 +49,11 @@ fits m text tree s means = fit_pattern text s.tokens tree m s.of_tokens.spells (
 limits : (m : PlainPattern) (text : List ℕ) (tree : Tree) → IsSpelled text tree → MeansPattern text tree m → (need m ≤ 64) × (qualifiers_in m ≤ 64)
 limits m text tree s means =
     let deep = pattern_deep text s.of_tokens.spells means in
-    let low = deep.measured.needs 0 0 (omega arith) (omega arith) (shallow_none at_start s.tokens s.of_tokens.shallow) in
+    let low = within s.tokens deep.n (qualifiers_in m) deep.measured s.of_tokens.shallow in
     let a = low.0 in
-    let b = low.1 in
     let g = deep.at_least in
     let e = wrapped_least (level m) (need m) in
-    (omega (arith, a, g, e), omega (arith, b))
+    (omega (arith, a, g, e), low.1)
 
 pub reads_back : (p : Pattern) (text canonical : List ℕ) → IsReadAs text p → IsCanonical (plain_pattern p) canonical → length canonical ≤ 65_536 → IsReadAs canonical p
 reads_back p text canonical r h short =
