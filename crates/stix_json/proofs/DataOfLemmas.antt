@@ -34,8 +34,8 @@ abbrev mutual
   MembersHaveSigns no_members = ⊤
   MembersHaveSigns (member k d ms) = HasSigns d × MembersHaveSigns ms
 
-abbrev TreeHasSigns : Json → Type 0
-TreeHasSigns t = HasSigns (data_of t)
+abbrev JsonHasSigns : Json → Type 0
+JsonHasSigns t = HasSigns (data_of t)
 
 -- the member that a field is, as the fold gives it
 abbrev member_of : Field → Member
@@ -48,7 +48,7 @@ signed : (z : ℤ) → IsSigned (of_integer z)
 signed (pos n) = tt
 signed (negsuc n) = tt
 
-signs_in_items : (ts : List ((t : Json) × TreeHasSigns t)) → ItemsHaveSigns (items_of (map data_of (map (λ e. e.0) ts)))
+signs_in_items : (ts : List ((t : Json) × JsonHasSigns t)) → ItemsHaveSigns (items_of (map data_of (map (λ e. e.0) ts)))
 signs_in_items [] = tt
 signs_in_items (t ∷ ts) = (t.1, signs_in_items ts)
 
@@ -56,20 +56,20 @@ signs_in_fields : (fs : List ((f : Field) × FieldHasSigns f)) → MembersHaveSi
 signs_in_fields [] = tt
 signs_in_fields (f ∷ fs) = (f.1, signs_in_fields fs)
 
-abbrev Trees : Type 0
-Trees = (t : Json) × TreeHasSigns t
+abbrev SignedValues : Type 0
+SignedValues = (t : Json) × JsonHasSigns t
 
-abbrev FieldsOf : Type 0
-FieldsOf = (f : Field) × FieldHasSigns f
+abbrev SignedFields : Type 0
+SignedFields = (f : Field) × FieldHasSigns f
 
-level_signs : (y : Json-F Trees FieldsOf) → HasSigns (json_level (map-Json Json Field Data Member data_of member_of (map-Json Trees FieldsOf Json Field (λ e. e.0) (λ e. e.0) y)))
+level_signs : (y : Json-F SignedValues SignedFields) → HasSigns (json_level (map-Json Json Field Data Member data_of member_of (map-Json SignedValues SignedFields Json Field (λ e. e.0) (λ e. e.0) y)))
 level_signs (Json-F.Bool b) = tt
 level_signs (Json-F.Integer z) = signed z
 level_signs (Json-F.String s) = tt
 level_signs (Json-F.Array ts) = signs_in_items ts
 level_signs (Json-F.Object fs) = signs_in_fields fs
 
-rolled : (z : Json-F Json Field) → HasSigns (json_level (map-Json Json Field Data Member data_of member_of z)) → TreeHasSigns (roll-Json z)
+rolled : (z : Json-F Json Field) → HasSigns (json_level (map-Json Json Field Data Member data_of member_of z)) → JsonHasSigns (roll-Json z)
 rolled z h = subst HasSigns (sym (fold-roll-Json Data Member json_level field_level z)) h
 
 rolled_field : (z : Field-F Json Field) → HasSigns (data_of z.value) → FieldHasSigns (roll-Field z)
@@ -77,6 +77,6 @@ rolled_field z h = subst (λ (m : Member). HasSigns m.value) (sym (fold-roll-Fie
 
 -- every Json has
 pub json_signs : (t : Json) → HasSigns (data_of t)
-json_signs = ind-Json TreeHasSigns FieldHasSigns
-    (λ x y is. subst (λ (z : Json-F Json Field). TreeHasSigns (roll-Json z)) is (rolled (map-Json Trees FieldsOf Json Field (λ e. e.0) (λ e. e.0) y) (level_signs y)))
-    (λ x y is. subst (λ (z : Field-F Json Field). FieldHasSigns (roll-Field z)) is (rolled_field (map-Field Trees FieldsOf Json Field (λ e. e.0) (λ e. e.0) y) y.value.1))
+json_signs = ind-Json JsonHasSigns FieldHasSigns
+    (λ x y is. subst (λ (z : Json-F Json Field). JsonHasSigns (roll-Json z)) is (rolled (map-Json SignedValues SignedFields Json Field (λ e. e.0) (λ e. e.0) y) (level_signs y)))
+    (λ x y is. subst (λ (z : Field-F Json Field). FieldHasSigns (roll-Field z)) is (rolled_field (map-Field SignedValues SignedFields Json Field (λ e. e.0) (λ e. e.0) y) y.value.1))

@@ -21,8 +21,8 @@ abbrev pub HasNoValue : List ℕ → Type 0
 HasNoValue bytes = (d : Data) → ¬ (IsValueOf bytes d)
 
 -- the Json is that value, nothing in it is refused, and its names rise
-pub record IsJsonAs (d : Data) (tree : Json) : Type 0 where
-  pub same : data_of tree ≡ d
+pub record IsJsonAs (d : Data) (json : Json) : Type 0 where
+  pub same : data_of json ≡ d
   pub good : refusal_of d ≡ None
   pub ordered : IsOrdered d
 
@@ -38,14 +38,14 @@ IsRefusalOf d NoMemory = ⊥
 
 -- a value judged by itself
 abbrev pub IsEntryFor : Data → Entry → Type 0
-IsEntryFor d (Good tree) = IsJsonAs d tree
+IsEntryFor d (Good json) = IsJsonAs d json
 IsEntryFor d (Bad refusal) = IsRefusalOf d refusal
 
 -- the Json of some bytes
-pub record IsJsonOf (bytes : List ℕ) (tree : Json) : Type 0 where
-  pub value : IsValueOf bytes (data_of tree)
-  pub good : refusal_of (data_of tree) ≡ None
-  pub ordered : IsOrdered (data_of tree)
+pub record IsJsonOf (bytes : List ℕ) (json : Json) : Type 0 where
+  pub value : IsValueOf bytes (data_of json)
+  pub good : refusal_of (data_of json) ≡ None
+  pub ordered : IsOrdered (data_of json)
 
 -- the refusal of some bytes; memory may run out at any time
 abbrev pub IsJsonRefusedAs : List ℕ → JsonRefusal → Type 0

@@ -32,8 +32,8 @@ fn whole_of(number: Number) -> Result<i64, Reason>
 
 /// The value of a number.
 fn convert_number(number: Number) -> Result<Json, Halt>
-    ensures ok { IfOk result (λ tree. (number_flaw (number_view number) ≡ None)
-        × (data_of tree ≡ number_data (number_view number))) }
+    ensures ok { IfOk result (λ json. (number_flaw (number_view number) ≡ None)
+        × (data_of json ≡ number_data (number_view number))) }
     ensures err { IfErr result (λ halt. Halts (flaw_here (number_flaw (number_view number))) halt) }
 {
     match whole_of(number) {
@@ -48,7 +48,7 @@ fn convert_number(number: Number) -> Result<Json, Halt>
 /// A value as `Json`, which owns the value's texts, or the first value in it that `Json` doesn't hold.
 #[cycle(convert)]
 pub(crate) fn convert(alloc: Global, value: Value) -> Result<Json, Halt>
-    ensures ok { IfOk result (λ tree. (first_flaw (view value) ≡ None) × (data_of tree ≡ view value)) }
+    ensures ok { IfOk result (λ json. (first_flaw (view value) ≡ None) × (data_of json ≡ view value)) }
     ensures err { IfErr result (λ halt. Halts (first_flaw (view value)) halt) }
 {
     match value {
@@ -73,7 +73,7 @@ fn convert_items(alloc: Global, items: Vec<Value>) -> Result<Items<Json>, Halt>
     let mut row = Items::with_capacity(alloc, items.len())?;
     for item in items {
         match convert(alloc, item) {
-            Ok(tree) => row.push(tree)?,
+            Ok(value) => row.push(value)?,
             Err(halt) => return Err(halt.below_item(alloc, row.len())),
         }
     }

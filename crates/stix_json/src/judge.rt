@@ -29,7 +29,7 @@ fn judge_shallow(alloc: Global, value: Value) -> Result<Entry, NoMemory>
     ensures { IfOk result (λ entry. IsEntryFor (view value) entry) }
 {
     match convert(alloc, value) {
-        Ok(tree) => Ok(Entry::Good(tree)),
+        Ok(json) => Ok(Entry::Good(json)),
         Err(Halt::Flawed(flaw)) => Ok(Entry::Bad(flaw.into_refusal(alloc))),
         Err(Halt::NoMemory) => Err(NoMemory),
     }

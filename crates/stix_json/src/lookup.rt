@@ -7,10 +7,11 @@ ghost use Rattle.stix_json.specs.inner.Naming.{IsFieldAt};
 use crate::{Field, Json};
 
 /// The value of the first field of that name. None where there is none, or the value has no fields.
-pub fn get<'a>(tree: &'a Json, name: &str) -> Option<&'a Json>
-    ensures { option_map (λ value. data_of value.now) result ≡ member_of name.now (data_of tree.now) }
+/// It looks at the fields in turn, so its cost is linear in their number.
+pub fn get<'a>(json: &'a Json, name: &str) -> Option<&'a Json>
+    ensures { option_map (λ value. data_of value.now) result ≡ member_of name.now (data_of json.now) }
 {
-    match tree {
+    match json {
         Json::Object(fields) => first_named(fields.as_slice(), name),
         Json::Bool(_) | Json::Integer(_) | Json::String(_) | Json::Array(_) => None,
     }
@@ -18,22 +19,22 @@ pub fn get<'a>(tree: &'a Json, name: &str) -> Option<&'a Json>
 
 /// The same of an ordered value, by halving: a look-up costs the logarithm of the number of fields.
 /// `is_ordered` tests what it asks for.
-pub fn get_ordered<'a>(tree: &'a Json, name: &str) -> Option<&'a Json>
-    requires ordered { IsOrdered (data_of tree.now) }
-    ensures value { option_map (λ value. data_of value.now) result ≡ member_of name.now (data_of tree.now) }
+pub fn get_ordered<'a>(json: &'a Json, name: &str) -> Option<&'a Json>
+    requires ordered { IsOrdered (data_of json.now) }
+    ensures value { option_map (λ value. data_of value.now) result ≡ member_of name.now (data_of json.now) }
     ensures ordered { IfSome result (λ value. IsOrdered (data_of value.now)) }
 {
-    match tree {
+    match json {
         Json::Object(fields) => named_in_order(fields.as_slice(), name),
         Json::Bool(_) | Json::Integer(_) | Json::String(_) | Json::Array(_) => None,
     }
 }
 
-/// The same, taken out of the value.
-pub fn take(tree: Json, name: &str) -> Option<Json>
-    ensures { option_map data_of result ≡ member_of name.now (data_of tree) }
+/// What `get` gives, taken out of the value. Its cost is linear in the number of fields too.
+pub fn take(json: Json, name: &str) -> Option<Json>
+    ensures { option_map data_of result ≡ member_of name.now (data_of json) }
 {
-    match tree {
+    match json {
         Json::Object(fields) => take_first_named(fields.into_vec(), name),
         Json::Bool(_) | Json::Integer(_) | Json::String(_) | Json::Array(_) => None,
     }

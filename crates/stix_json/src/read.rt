@@ -27,12 +27,12 @@ pub(crate) fn read_value(alloc: Global, bytes: &[u8]) -> Result<Value, JsonRefus
 /// The JSON value that bytes are, which is ordered, or why they are none: `NotJson`, else `TooDeep`, else
 /// the first value that `Json` doesn't hold, with its path. Never `NotList`.
 pub fn read_json(alloc: Global, bytes: &[u8]) -> Result<Json, JsonRefusal>
-    ensures ok { IfOk result (λ tree. IsJsonOf bytes.now tree) }
+    ensures ok { IfOk result (λ json. IsJsonOf bytes.now json) }
     ensures err { IfErr result (λ refusal. IsJsonRefusedAs bytes.now refusal) }
 {
     let value = read_value(alloc, bytes)?;
     match judge(alloc, value)? {
-        Entry::Good(tree) => Ok(tree),
+        Entry::Good(json) => Ok(json),
         Entry::Bad(refusal) => Err(refusal),
     }
 }

@@ -12,7 +12,7 @@ use std::test::Fail;
 /// The text of the value that bytes are, or of their refusal.
 fn read_again(alloc: Global, bytes: &[u8]) -> Result<Text, NoMemory> {
     match read_json(alloc, bytes) {
-        Ok(tree) => write_json(alloc, &tree),
+        Ok(value) => write_json(alloc, &value),
         Err(refusal) => refusal_text(alloc, &refusal),
     }
 }

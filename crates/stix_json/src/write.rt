@@ -14,13 +14,13 @@ use std::alloc::{AllocError, Global};
 
 /// The text of an ordered value as compact JSON, with its names in byte order. Where nothing in the
 /// value is refused, the text reads as that value.
-pub fn write_json(alloc: Global, tree: &Json) -> Result<Text, NoMemory>
-    requires { IsOrdered (data_of tree.now) }
-    ensures text { IfOk result (λ text. text ≡ compact_text (data_of tree.now)) }
-    ensures reads_back { IfOk result (λ text. refusal_of (data_of tree.now) ≡ None → IsJsonOf text tree.now) }
+pub fn write_json(alloc: Global, value: &Json) -> Result<Text, NoMemory>
+    requires { IsOrdered (data_of value.now) }
+    ensures text { IfOk result (λ text. text ≡ compact_text (data_of value.now)) }
+    ensures reads_back { IfOk result (λ text. refusal_of (data_of value.now) ≡ None → IsJsonOf text value.now) }
 {
     let mut out = Writer::new(Vec::new(alloc));
-    write_value(tree, &mut out)?;
+    write_value(value, &mut out)?;
     match String::from_utf8(out.into_inner()) {
         Ok(text) => Ok(Text::from_string(text)),
         Err(_) => Err(NoMemory),
@@ -28,11 +28,11 @@ pub fn write_json(alloc: Global, tree: &Json) -> Result<Text, NoMemory>
 }
 
 #[cycle(write)]
-fn write_value(tree: &Json, out: &mut Writer) -> Result<(), AllocError>
-    ensures ok { OnOk result (out.new.tokens ≡ out.old.tokens ++ json_tokens (outline (data_of tree.now))) }
+fn write_value(value: &Json, out: &mut Writer) -> Result<(), AllocError>
+    ensures ok { OnOk result (out.new.tokens ≡ out.old.tokens ++ json_tokens (outline (data_of value.now))) }
     ensures before { out.new.before ≡ out.old.before }
 {
-    match tree {
+    match value {
         Json::Bool(truth) => out.boolean(*truth),
         Json::Integer(whole) => out.i64(*whole),
         Json::String(words) => out.string(words.as_str()),

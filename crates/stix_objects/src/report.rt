@@ -18,12 +18,13 @@ use std::alloc::Global;
 use stix_json::{Json, text_at};
 
 /// The breaks of a value: one for each row of its type that it doesn't meet, in the order of the
-/// rows, the common ones first. A value that is no object has one break.
-pub fn breaks(alloc: Global, tree: &Json) -> Result<Items<Break>, NoMemory>
-    ensures { IfOk result (λ found. AreBreaksOf (data_of tree.now) found) }
+/// rows, the common ones first. A value that is no object has one break. Each row looks its fields up
+/// by `get`, and a type's rows are fixed in number, so the cost is linear in the number of fields.
+pub fn breaks(alloc: Global, value: &Json) -> Result<Items<Break>, NoMemory>
+    ensures { IfOk result (λ found. AreBreaksOf (data_of value.now) found) }
 {
-    match tree {
-        Json::Object(_) => object_breaks(alloc, tree),
+    match value {
+        Json::Object(_) => object_breaks(alloc, value),
         Json::Bool(_) | Json::Integer(_) | Json::String(_) | Json::Array(_) => not_object(alloc),
     }
 }

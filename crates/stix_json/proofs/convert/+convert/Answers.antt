@@ -15,7 +15,7 @@ convert_items-loop-item-preserved t c =
     let converted = c.in-Ok.ensures.ok in (
       inv.0 ∙ ap (λ vs. done ++ vs) c.in-Some.ensures.steps.0 ∙ sym (append_assoc done (v ∷ []) c.next.new.self.rest.items),
       item_passes done v inv.1 converted.0,
-      ap (map data_of) c.in_ok-push-in-Ok.ensures.ok ∙ both_pushed data_of view c.loop-item.row c.in-Ok.tree done v inv.2 converted.1,
+      ap (map data_of) c.in_ok-push-in-Ok.ensures.ok ∙ both_pushed data_of view c.loop-item.row c.in-Ok.value done v inv.2 converted.1,
     )
 
 pub convert_members-loop-name-preserved : goal.convert_members-loop-name-preserved

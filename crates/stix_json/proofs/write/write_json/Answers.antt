@@ -10,12 +10,12 @@ use Rattle.stix_json.proofs.write.write_json.Goals as goal
 
 pub returns-in-Ok : goal.returns-in-Ok
 returns-in-Ok c =
-    let d = data_of c.args.tree.now in
+    let d = data_of c.args.value.now in
     let ts = c.write_value.new.out.tokens in
     let sent : ts ≡ json_tokens (outline d) = search rules in
     let bytes : c.from_string.result ≡ print ts = search rules in
     let utf8 : IsUtf8 c.from_string.result = subst IsUtf8 (sym bytes) c.into_inner.ensures.utf8 in
     record {
       text = bytes ∙ ap print sent ∙ print-outline d;
-      reads_back = λ good. reads_back c.args.tree.now ts c.from_string.result c.requires sent (ap tokens bytes ∙ c.into_inner.ensures.reads_back) utf8 good;
+      reads_back = λ good. reads_back c.args.value.now ts c.from_string.result c.requires sent (ap tokens bytes ∙ c.into_inner.ensures.reads_back) utf8 good;
     }

@@ -20,7 +20,7 @@ returns-then-is_some c =
     let d = data_of c.args.object.now in
     let name = get_or c.args.names.now c.loop-name.name-index none in
     let first = open_at (Lacks d) c.args.names.now c.loop-name.name-index none c.loop-name-test.true in
-    let there = there_of (λ (tree : Bor Json). data_of tree.now) c.get.result (member_of name.now d) c.get.ensures (sym c.if-is_some.ensures) in
+    let there = there_of (λ (value : Bor Json). data_of value.now) c.get.result (member_of name.now d) c.get.ensures (sym c.if-is_some.ensures) in
     (λ f. absurd (cc), λ all. absurd (none_is_there (member_of name.now d) (first (c.loop-name.invariant.0 all)).0 there))
 
 pub loop-name-preserved : goal.loop-name-preserved
@@ -30,5 +30,5 @@ loop-name-preserved c =
     let name = get_or c.args.names.now c.loop-name.name-index none in
     let first = open_at (Lacks d) c.args.names.now c.loop-name.name-index none c.loop-name-test.true in
     let closed = close_at (Lacks d) c.args.names.now c.loop-name.name-index none c.loop-name-test.true in
-    let gone = absent_of (λ (tree : Bor Json). data_of tree.now) c.get.result (member_of name.now d) c.get.ensures (sym c.if-is_some.ensures) in
+    let gone = absent_of (λ (value : Bor Json). data_of value.now) c.get.result (member_of name.now d) c.get.ensures (sym c.if-is_some.ensures) in
     (λ all. (first (c.loop-name.invariant.0 all)).1, λ rest. c.loop-name.invariant.1 (closed (gone, rest)))
