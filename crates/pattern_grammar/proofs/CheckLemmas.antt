@@ -108,15 +108,15 @@ order_found a b x y = record {
   leads = record { go_on = λ k. rw (order_apart a.kind x.of_class, x.of_class, y.of_class) refl };
 }
 
-pub textual_stuck : {ts r1 : List Token} (a : Token) → BeginsLine Textual a ts r1 → Lacks (Only kind.Words) r1 → Stuck IsCheck wants_check ts r1
+pub textual_stuck : {ts r1 : List Token} (a : Token) → BeginsLine Textual a ts r1 → Lacks (Only kind.String) r1 → Stuck IsCheck wants_check ts r1
 textual_stuck {r1 = r1} a x h = record {
   read = a ∷ [];
   all_are = x.all_are;
-  front = record { more = some kind.Words ∷ []; value = _; spells = check_textual a (some kind.Words) x.of_class refl };
-  halts = record { stop = λ k. rw (textual_apart a.kind x.of_class, textual_apart_order a.kind x.of_class, x.of_class) ((halts_one (Only kind.Words) r1 h).stop k) };
+  front = record { more = some kind.String ∷ []; value = _; spells = check_textual a (some kind.String) x.of_class refl };
+  halts = record { stop = λ k. rw (textual_apart a.kind x.of_class, textual_apart_order a.kind x.of_class, x.of_class) ((halts_one (Only kind.String) r1 h).stop k) };
 }
 
-pub textual_found : {ts r1 r2 : List Token} (a b : Token) → BeginsLine Textual a ts r1 → BeginsLine (Only kind.Words) b r1 r2 → Found IsCheck wants_check done ts (check_tree.Textual a b) r2
+pub textual_found : {ts r1 r2 : List Token} (a b : Token) → BeginsLine Textual a ts r1 → BeginsLine (Only kind.String) b r1 r2 → Found IsCheck wants_check done ts (check_tree.Textual a b) r2
 textual_found a b x y = record {
   read = a ∷ b ∷ [];
   all_are = x.all_are ∙ ap (λ r. a ∷ r) y.all_are;

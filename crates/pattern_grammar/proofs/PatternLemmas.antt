@@ -76,31 +76,31 @@ repeats_found a b c x y z = record {
   leads = record { go_on = λ k. rw (only kind.Repeats a x.of_class, y.of_class, z.of_class) refl };
 }
 
-pub between_stuck : {ts r1 : List Token} (a : Token) → BeginsLine (Only kind.Start) a ts r1 → Lacks (Only kind.Time) r1 → Stuck IsQualifier wants_qualifier ts r1
+pub between_stuck : {ts r1 : List Token} (a : Token) → BeginsLine (Only kind.Start) a ts r1 → Lacks (Only kind.Timestamp) r1 → Stuck IsQualifier wants_qualifier ts r1
 between_stuck {r1 = r1} a x h = record {
   read = a ∷ [];
   all_are = x.all_are;
-  front = record { more = some kind.Time ∷ some kind.Stop ∷ some kind.Time ∷ []; value = _; spells = qualifier_between a (some kind.Time) (some kind.Stop) (some kind.Time) x.of_class refl refl refl };
-  halts = record { stop = λ k. rw (only kind.Start a x.of_class) ((halts_one (Only kind.Time) r1 h).stop (one (Only kind.Stop) ∷ one (Only kind.Time) ∷ k)) };
+  front = record { more = some kind.Timestamp ∷ some kind.Stop ∷ some kind.Timestamp ∷ []; value = _; spells = qualifier_between a (some kind.Timestamp) (some kind.Stop) (some kind.Timestamp) x.of_class refl refl refl };
+  halts = record { stop = λ k. rw (only kind.Start a x.of_class) ((halts_one (Only kind.Timestamp) r1 h).stop (one (Only kind.Stop) ∷ one (Only kind.Timestamp) ∷ k)) };
 }
 
-pub between_unstopped : {ts r1 r2 : List Token} (a b : Token) → BeginsLine (Only kind.Start) a ts r1 → BeginsLine (Only kind.Time) b r1 r2 → Lacks (Only kind.Stop) r2 → Stuck IsQualifier wants_qualifier ts r2
+pub between_unstopped : {ts r1 r2 : List Token} (a b : Token) → BeginsLine (Only kind.Start) a ts r1 → BeginsLine (Only kind.Timestamp) b r1 r2 → Lacks (Only kind.Stop) r2 → Stuck IsQualifier wants_qualifier ts r2
 between_unstopped {r2 = r2} a b x y h = record {
   read = a ∷ b ∷ [];
   all_are = x.all_are ∙ ap (λ r. a ∷ r) y.all_are;
-  front = record { more = some kind.Stop ∷ some kind.Time ∷ []; value = _; spells = qualifier_between a b (some kind.Stop) (some kind.Time) x.of_class y.of_class refl refl };
-  halts = record { stop = λ k. rw (only kind.Start a x.of_class, y.of_class) ((halts_one (Only kind.Stop) r2 h).stop (one (Only kind.Time) ∷ k)) };
+  front = record { more = some kind.Stop ∷ some kind.Timestamp ∷ []; value = _; spells = qualifier_between a b (some kind.Stop) (some kind.Timestamp) x.of_class y.of_class refl refl };
+  halts = record { stop = λ k. rw (only kind.Start a x.of_class, y.of_class) ((halts_one (Only kind.Stop) r2 h).stop (one (Only kind.Timestamp) ∷ k)) };
 }
 
-pub between_unended : {ts r1 r2 r3 : List Token} (a b c : Token) → BeginsLine (Only kind.Start) a ts r1 → BeginsLine (Only kind.Time) b r1 r2 → BeginsLine (Only kind.Stop) c r2 r3 → Lacks (Only kind.Time) r3 → Stuck IsQualifier wants_qualifier ts r3
+pub between_unended : {ts r1 r2 r3 : List Token} (a b c : Token) → BeginsLine (Only kind.Start) a ts r1 → BeginsLine (Only kind.Timestamp) b r1 r2 → BeginsLine (Only kind.Stop) c r2 r3 → Lacks (Only kind.Timestamp) r3 → Stuck IsQualifier wants_qualifier ts r3
 between_unended {r3 = r3} a b c x y z h = record {
   read = a ∷ b ∷ c ∷ [];
   all_are = x.all_are ∙ ap (λ r. a ∷ r) (y.all_are ∙ ap (λ r. b ∷ r) z.all_are);
-  front = record { more = some kind.Time ∷ []; value = _; spells = qualifier_between a b c (some kind.Time) x.of_class y.of_class z.of_class refl };
-  halts = record { stop = λ k. rw (only kind.Start a x.of_class, y.of_class, z.of_class) ((halts_one (Only kind.Time) r3 h).stop k) };
+  front = record { more = some kind.Timestamp ∷ []; value = _; spells = qualifier_between a b c (some kind.Timestamp) x.of_class y.of_class z.of_class refl };
+  halts = record { stop = λ k. rw (only kind.Start a x.of_class, y.of_class, z.of_class) ((halts_one (Only kind.Timestamp) r3 h).stop k) };
 }
 
-pub between_found : {ts r1 r2 r3 r4 : List Token} (a b c d : Token) → BeginsLine (Only kind.Start) a ts r1 → BeginsLine (Only kind.Time) b r1 r2 → BeginsLine (Only kind.Stop) c r2 r3 → BeginsLine (Only kind.Time) d r3 r4 → Found IsQualifier wants_qualifier done ts (qualifier_tree.Between a b d) r4
+pub between_found : {ts r1 r2 r3 r4 : List Token} (a b c d : Token) → BeginsLine (Only kind.Start) a ts r1 → BeginsLine (Only kind.Timestamp) b r1 r2 → BeginsLine (Only kind.Stop) c r2 r3 → BeginsLine (Only kind.Timestamp) d r3 r4 → Found IsQualifier wants_qualifier done ts (qualifier_tree.Between a b d) r4
 between_found a b c d x y z w = record {
   read = a ∷ b ∷ c ∷ d ∷ [];
   all_are = x.all_are ∙ ap (λ r. a ∷ r) (y.all_are ∙ ap (λ r. b ∷ r) (z.all_are ∙ ap (λ r. c ∷ r) w.all_are));

@@ -3,12 +3,12 @@ use Rattle.std.proofs.Common.{◌≡◌, ◌⊎◌, inl, inr, Bool, true, false,
 use Rattle.std.proofs.lemmas.Bool.{eqb-true}
 use Rattle.pattern_tokens.specs.declared.token.Token.{Token}
 use Rattle.pattern_tokens.specs.declared.token.TokenKind.{TokenKind}
-use Rattle.pattern_tokens.specs.declared.token.TokenKind.TheVariants.{SquareOpen, SquareClose, RoundOpen, RoundClose, Dot, Colon, Comma, Star, Equal, Differ, Less, LessEqual, Greater, GreaterEqual, And, Or, Not, FollowedBy, Within, Seconds, Repeats, Times, Start, Stop, Among, Like, Subset, Superset, Exists, TrueWord, FalseWord, Word, HyphenWord, Number, Words, Hex, Base, Time}
+use Rattle.pattern_tokens.specs.declared.token.TokenKind.TheVariants.{SquareOpen, SquareClose, RoundOpen, RoundClose, Dot, Colon, Comma, Star, Equal, Differ, Less, LessEqual, Greater, GreaterEqual, And, Or, Not, FollowedBy, Within, Seconds, Repeats, Times, Start, Stop, Among, Like, Subset, Superset, Exists, TrueWord, FalseWord, Word, HyphenWord, Number, String, Hex, Binary, Timestamp}
 use Rattle.pattern_grammar.specs.declared.class.TokenClass.TheVariants.{Only}
 use Rattle.pattern_grammar.specs.TokenClass.{code, same, IsA, is_equality, is_order, is_textual, is_root, is_stepping}
 
 table : List TokenKind
-table = SquareOpen ∷ SquareClose ∷ RoundOpen ∷ RoundClose ∷ Dot ∷ Colon ∷ Comma ∷ Star ∷ Equal ∷ Differ ∷ Less ∷ LessEqual ∷ Greater ∷ GreaterEqual ∷ And ∷ Or ∷ Not ∷ FollowedBy ∷ Within ∷ Seconds ∷ Repeats ∷ Times ∷ Start ∷ Stop ∷ Among ∷ Like ∷ Subset ∷ Superset ∷ Exists ∷ TrueWord ∷ FalseWord ∷ Word ∷ HyphenWord ∷ Number ∷ Words ∷ Hex ∷ Base ∷ Time ∷ []
+table = SquareOpen ∷ SquareClose ∷ RoundOpen ∷ RoundClose ∷ Dot ∷ Colon ∷ Comma ∷ Star ∷ Equal ∷ Differ ∷ Less ∷ LessEqual ∷ Greater ∷ GreaterEqual ∷ And ∷ Or ∷ Not ∷ FollowedBy ∷ Within ∷ Seconds ∷ Repeats ∷ Times ∷ Start ∷ Stop ∷ Among ∷ Like ∷ Subset ∷ Superset ∷ Exists ∷ TrueWord ∷ FalseWord ∷ Word ∷ HyphenWord ∷ Number ∷ String ∷ Hex ∷ Binary ∷ Timestamp ∷ []
 
 code-read : (k : TokenKind) → get_or table (code k) Dot ≡ k
 unfolding table

@@ -148,7 +148,7 @@ abbrev begin_check : TokenKind → List Job → Option (List Job)
 begin_check k s =
     choose k Equality (one Constant ∷ act compare_check ∷ s)
     (choose k Order (one Ordered ∷ act compare_check ∷ s)
-    (choose k Textual (one (Only kind.Words) ∷ act textual_check ∷ s)
+    (choose k Textual (one (Only kind.String) ∷ act textual_check ∷ s)
     (choose k (Only kind.Among) (one (Only kind.RoundOpen) ∷ jobs_constants (one (Only kind.RoundClose) ∷ act among_check ∷ s)) None)))
 
 abbrev begin : WantedLine → TokenKind → List Job → Option (List Job)
@@ -158,7 +158,7 @@ begin start k s =
 begin qualifier k s =
     choose k (Only kind.Within) (one (Only kind.Number) ∷ one (Only kind.Seconds) ∷ act within ∷ s)
     (choose k (Only kind.Repeats) (one (Only kind.Number) ∷ one (Only kind.Times) ∷ act repeats ∷ s)
-    (choose k (Only kind.Start) (one (Only kind.Time) ∷ one (Only kind.Stop) ∷ one (Only kind.Time) ∷ act between ∷ s) None))
+    (choose k (Only kind.Start) (one (Only kind.Timestamp) ∷ one (Only kind.Stop) ∷ one (Only kind.Timestamp) ∷ act between ∷ s) None))
 begin test k s =
     choose k (Only kind.RoundOpen) (jobs_cor (one (Only kind.RoundClose) ∷ act group_test ∷ s))
     (choose k (Only kind.Exists) (jobs_path (act exists_test ∷ s))

@@ -3,7 +3,7 @@
 use Rattle.std.specs.Prelude.{List, [], ◌∷◌, ◌++◌}
 use Rattle.pattern_tokens.specs.declared.token.Token.{Token}
 use Rattle.pattern_tokens.specs.declared.token.TokenKind.{TokenKind}
-use Rattle.pattern_tokens.specs.declared.token.TokenKind.TheVariants.{SquareOpen, SquareClose, RoundOpen, RoundClose, Dot, Colon, Comma, And, Or, Not, FollowedBy, Within, Seconds, Repeats, Times, Start, Stop, Among, Exists, Number, Words, Time}
+use Rattle.pattern_tokens.specs.declared.token.TokenKind.TheVariants.{SquareOpen, SquareClose, RoundOpen, RoundClose, Dot, Colon, Comma, And, Or, Not, FollowedBy, Within, Seconds, Repeats, Times, Start, Stop, Among, Exists, Number, String, Timestamp}
 use Rattle.pattern_grammar.specs.declared.class.TokenClass.{TokenClass}
 use Rattle.pattern_grammar.specs.declared.class.TokenClass.TheVariants.{Only, Root, Name, Index, Equality, Order, Textual, Ordered, Constant}
 use Rattle.pattern_grammar.specs.TokenClass.{IsA}
@@ -45,7 +45,7 @@ rule unit = ((token SquareOpen then line cor then token SquareClose) or (token R
 rule qualifier =
     (token Within then token Number then token Seconds)
     or (token Repeats then token Number then token Times)
-    or (token Start then token Time then token Stop then token Time)
+    or (token Start then token Timestamp then token Stop then token Timestamp)
 rule cor = line cand then many (token Or then line cand)
 rule cand = line test then many (token And then line test)
 rule test =
@@ -56,7 +56,7 @@ rule compare =
     (one Equality then one Constant)
     or (one Order then one Ordered)
     or (token Among then token RoundOpen then one Constant then many (token Comma then one Constant) then token RoundClose)
-    or (one Textual then token Words)
+    or (one Textual then token String)
 rule path = one Root then token Colon then one Name then many ((token Dot then one Name) or (token SquareOpen then one Index then token SquareClose))
 
 -- the tokens are derived from the part

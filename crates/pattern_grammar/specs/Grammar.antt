@@ -35,12 +35,12 @@ pub data AreConstants : List Token → List Token → Type 0 where
 
 -- compare = ("=" | "!=") constant | ("<" | "<=" | ">" | ">=") ordered
 --         | IN "(" constant { "," constant } ")"
---         | LIKE Words | ISSUBSET Words | ISSUPERSET Words
+--         | LIKE String | ISSUBSET String | ISSUPERSET String
 pub data IsCheck : List Token → CheckTree → Type 0 where
   check_equality : (a b : Token) → IsA Equality a → IsA Constant b → IsCheck (a ∷ b ∷ []) (check.Compare a b)
   check_order : (a b : Token) → IsA Order a → IsA Ordered b → IsCheck (a ∷ b ∷ []) (check.Compare a b)
   check_among : (a b c : Token) {ts cs : List Token} → IsA (Only kind.Among) a → IsA (Only kind.RoundOpen) b → AreConstants ts cs → IsA (Only kind.RoundClose) c → IsCheck (a ∷ b ∷ ts ++ c ∷ []) (check.Among cs)
-  check_textual : (a b : Token) → IsA Textual a → IsA (Only kind.Words) b → IsCheck (a ∷ b ∷ []) (check.Textual a b)
+  check_textual : (a b : Token) → IsA Textual a → IsA (Only kind.String) b → IsCheck (a ∷ b ∷ []) (check.Textual a b)
 
 mutual
   -- test = "(" cor ")" | [NOT] EXISTS path | path [NOT] compare
@@ -61,11 +61,11 @@ mutual
     cor_one : {ts : List Token} {c : Comparison} → IsCand ts c → IsCor ts c
     cor_more : {a b : List Token} (o : Token) {c d : Comparison} → IsCor a c → IsA (Only kind.Or) o → IsCand b d → IsCor (a ++ o ∷ b) (any c d)
 
--- qualifier = WITHIN Number SECONDS | REPEATS Number TIMES | START Time STOP Time
+-- qualifier = WITHIN Number SECONDS | REPEATS Number TIMES | START Timestamp STOP Timestamp
 pub data IsQualifier : List Token → Qualifier → Type 0 where
   qualifier_within : (a b c : Token) → IsA (Only kind.Within) a → IsA (Only kind.Number) b → IsA (Only kind.Seconds) c → IsQualifier (a ∷ b ∷ c ∷ []) (qualifier.Within b)
   qualifier_repeats : (a b c : Token) → IsA (Only kind.Repeats) a → IsA (Only kind.Number) b → IsA (Only kind.Times) c → IsQualifier (a ∷ b ∷ c ∷ []) (qualifier.Repeats b)
-  qualifier_between : (a b c d : Token) → IsA (Only kind.Start) a → IsA (Only kind.Time) b → IsA (Only kind.Stop) c → IsA (Only kind.Time) d → IsQualifier (a ∷ b ∷ c ∷ d ∷ []) (qualifier.Between a b d)
+  qualifier_between : (a b c d : Token) → IsA (Only kind.Start) a → IsA (Only kind.Timestamp) b → IsA (Only kind.Stop) c → IsA (Only kind.Timestamp) d → IsQualifier (a ∷ b ∷ c ∷ d ∷ []) (qualifier.Between a b d)
 
 mutual
   -- start = "[" cor "]" | "(" pattern ")"

@@ -2,7 +2,7 @@
 use Rattle.std.specs.Prelude.{◌≡◌, ℕ, Bool, true, false, nat_eq}
 use Rattle.pattern_tokens.specs.declared.token.Token.{Token}
 use Rattle.pattern_tokens.specs.declared.token.TokenKind.{TokenKind}
-use Rattle.pattern_tokens.specs.declared.token.TokenKind.TheVariants.{SquareOpen, SquareClose, RoundOpen, RoundClose, Dot, Colon, Comma, Star, Equal, Differ, Less, LessEqual, Greater, GreaterEqual, And, Or, Not, FollowedBy, Within, Seconds, Repeats, Times, Start, Stop, Among, Like, Subset, Superset, Exists, TrueWord, FalseWord, Word, HyphenWord, Number, Words, Hex, Base, Time}
+use Rattle.pattern_tokens.specs.declared.token.TokenKind.TheVariants.{SquareOpen, SquareClose, RoundOpen, RoundClose, Dot, Colon, Comma, Star, Equal, Differ, Less, LessEqual, Greater, GreaterEqual, And, Or, Not, FollowedBy, Within, Seconds, Repeats, Times, Start, Stop, Among, Like, Subset, Superset, Exists, TrueWord, FalseWord, Word, HyphenWord, Number, String, Hex, Binary, Timestamp}
 use Rattle.pattern_grammar.specs.declared.class.TokenClass.{TokenClass}
 use Rattle.pattern_grammar.specs.declared.class.TokenClass.TheVariants.{Only, Root, Name, Index, Equality, Order, Textual, Ordered, Constant, Qualifying, Stepping}
 
@@ -42,10 +42,10 @@ code FalseWord = 30
 code Word = 31
 code HyphenWord = 32
 code Number = 33
-code Words = 34
+code String = 34
 code Hex = 35
-code Base = 36
-code Time = 37
+code Binary = 36
+code Timestamp = 37
 
 -- the two kinds are one
 abbrev pub same : TokenKind → TokenKind → Bool
@@ -60,7 +60,7 @@ is_root _ = false
 -- a property
 abbrev pub is_name : TokenKind → Bool
 is_name Word = true
-is_name Words = true
+is_name String = true
 is_name _ = false
 
 -- what stands in the brackets of a path
@@ -90,22 +90,22 @@ is_textual Subset = true
 is_textual Superset = true
 is_textual _ = false
 
--- ordered = Number | Words | Hex | Base | Time
+-- ordered = Number | String | Hex | Binary | Timestamp
 abbrev pub is_ordered : TokenKind → Bool
 is_ordered Number = true
-is_ordered Words = true
+is_ordered String = true
 is_ordered Hex = true
-is_ordered Base = true
-is_ordered Time = true
+is_ordered Binary = true
+is_ordered Timestamp = true
 is_ordered _ = false
 
 -- constant = ordered | true | false
 abbrev pub is_constant : TokenKind → Bool
 is_constant Number = true
-is_constant Words = true
+is_constant String = true
 is_constant Hex = true
-is_constant Base = true
-is_constant Time = true
+is_constant Binary = true
+is_constant Timestamp = true
 is_constant TrueWord = true
 is_constant FalseWord = true
 is_constant _ = false

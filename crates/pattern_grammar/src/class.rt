@@ -10,7 +10,7 @@ pub enum TokenClass {
     Only(TokenKind),
     /// A type of object: Word, HyphenWord.
     Root,
-    /// A property: Word, Words.
+    /// A property: Word, String.
     Name,
     /// What stands in the brackets of a path: Number, `*`.
     Index,
@@ -20,7 +20,7 @@ pub enum TokenClass {
     Order,
     /// LIKE, ISSUBSET, ISSUPERSET.
     Textual,
-    /// Number, Words, Hex, Base, Time.
+    /// Number, String, Hex, Binary, Timestamp.
     Ordered,
     /// An ordered one, true, false.
     Constant,
@@ -38,7 +38,7 @@ impl TokenClass {
         match self {
             TokenClass::Only(wanted) => kind == wanted,
             TokenClass::Root => matches!(kind, TokenKind::Word | TokenKind::HyphenWord),
-            TokenClass::Name => matches!(kind, TokenKind::Word | TokenKind::Words),
+            TokenClass::Name => matches!(kind, TokenKind::Word | TokenKind::String),
             TokenClass::Index => matches!(kind, TokenKind::Number | TokenKind::Star),
             TokenClass::Equality => matches!(kind, TokenKind::Equal | TokenKind::Differ),
             TokenClass::Order => matches!(
@@ -57,18 +57,18 @@ impl TokenClass {
             TokenClass::Ordered => matches!(
                 kind,
                 TokenKind::Number
-                    | TokenKind::Words
+                    | TokenKind::String
                     | TokenKind::Hex
-                    | TokenKind::Base
-                    | TokenKind::Time
+                    | TokenKind::Binary
+                    | TokenKind::Timestamp
             ),
             TokenClass::Constant => matches!(
                 kind,
                 TokenKind::Number
-                    | TokenKind::Words
+                    | TokenKind::String
                     | TokenKind::Hex
-                    | TokenKind::Base
-                    | TokenKind::Time
+                    | TokenKind::Binary
+                    | TokenKind::Timestamp
                     | TokenKind::TrueWord
                     | TokenKind::FalseWord
             ),

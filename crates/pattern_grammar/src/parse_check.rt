@@ -41,7 +41,7 @@ fn among<'a>(alloc: Global, tokens: &'a [Token]) -> Result<(CheckTree, &'a [Toke
     Ok((CheckTree::Among(constants), rest))
 }
 
-/// `compare = ("=" | "!=") constant | ("<" | "<=" | ">" | ">=") ordered | IN .. | LIKE Words | ..`
+/// `compare = ("=" | "!=") constant | ("<" | "<=" | ">" | ">=") ordered | IN .. | LIKE String | ..`
 pub(crate) fn check<'a>(
     alloc: Global,
     tokens: &'a [Token],
@@ -58,7 +58,7 @@ pub(crate) fn check<'a>(
         return Ok((CheckTree::Compare { operator, constant }, rest));
     }
     if let Some((operator, rest)) = eat(tokens, TokenClass::Textual) {
-        let (words, rest) = take(rest, TokenClass::Only(TokenKind::Words))?;
+        let (words, rest) = take(rest, TokenClass::Only(TokenKind::String))?;
         return Ok((CheckTree::Textual { operator, words }, rest));
     }
     among(alloc, tokens)

@@ -14,7 +14,7 @@ use flow_values::Items;
 use pattern_tokens::{Token, TokenKind};
 use std::alloc::Global;
 
-/// `qualifier = WITHIN Number SECONDS | REPEATS Number TIMES | START Time STOP Time`
+/// `qualifier = WITHIN Number SECONDS | REPEATS Number TIMES | START Timestamp STOP Timestamp`
 fn qualifier<'a>(tokens: &'a [Token]) -> Result<(Qualifier, &'a [Token]), Stop<'a>>
     ensures ok { IfOk result (λ x. Found IsQualifier wants_qualifier done tokens.now x.0 x.1.now) }
     ensures err { IfErr result (λ e. Refused IsQualifier wants_qualifier tokens.now e) }
@@ -30,9 +30,9 @@ fn qualifier<'a>(tokens: &'a [Token]) -> Result<(Qualifier, &'a [Token]), Stop<'
         return Ok((Qualifier::Repeats(number), rest));
     }
     let (start, rest) = take(tokens, TokenClass::Only(TokenKind::Start))?;
-    let (from, rest) = take(rest, TokenClass::Only(TokenKind::Time))?;
+    let (from, rest) = take(rest, TokenClass::Only(TokenKind::Timestamp))?;
     let (_, rest) = take(rest, TokenClass::Only(TokenKind::Stop))?;
-    let (to, rest) = take(rest, TokenClass::Only(TokenKind::Time))?;
+    let (to, rest) = take(rest, TokenClass::Only(TokenKind::Timestamp))?;
     Ok((Qualifier::Between { start, from, to }, rest))
 }
 

@@ -5,13 +5,13 @@ use Rattle.std.proofs.lemmas.Bool.{false≢true}
 use Rattle.std.proofs.lemmas.Slice.{between_to_end}
 use Rattle.pattern_tokens.specs.declared.token.Token.{Token}
 use Rattle.pattern_tokens.specs.declared.token.TokenKind.{TokenKind}
-use Rattle.pattern_tokens.specs.declared.token.TokenKind.TheVariants.{Number, Words, Hex, Base, Time}
+use Rattle.pattern_tokens.specs.declared.token.TokenKind.TheVariants.{Number, String, Hex, Binary, Timestamp}
 use Rattle.pattern_tokens.specs.declared.refusal.LeftWord.{LeftWord}
 use Rattle.pattern_tokens.specs.declared.refusal.TokenRefusal.{TokenRefusal}
 use Rattle.pattern_tokens.specs.Word.{HasAt}
 use Rattle.pattern_tokens.specs.Spans.{IsCut, text_at}
 use Rattle.pattern_tokens.specs.Values.{HasValue}
-use Rattle.pattern_lexer.specs.Reading.{IsBlank, IsFirst, RunsOn, IsLeftOut, IsUsable, IsNext, AreTokens, TokensOf, IsFault, HasFault}
+use Rattle.pattern_lexer.specs.Reading.{IsBlank, IsFirst, RunsOn, IsLeftOut, IsUsable, IsNext, AreTokens, TokensOf, IsRefusalAt, HasRefusal}
 use Rattle.pattern_lexer.specs.inner.Steps.{IsRun, BeginsToken, ArePassed, StandsAt, ReadUpTo, worthless_refusal}
 use Rattle.pattern_lexer.proofs.TokenEdgeLemmas.{cuts, token_edges}
 
@@ -50,13 +50,13 @@ placed text bytes at kind after utf8 same l begins =
     let first = subst (λ (xs : List ℕ). IsFirst xs kind begins.0 after) whole begins.1 in
     placed_by text at kind begins.0 after (record { kind = kind; from = at; to = length bytes - length after }) (ap (λ (xs : List ℕ). record { kind = kind; from = at; to = length xs - length after }) same) utf8 l first
 
--- the fault of a token that stands for nothing
-pub worthless_fault : (kind : TokenKind) (place : ℕ) (whole part after : List ℕ) → IsFirst whole kind part after → IsUsable kind part after → ¬ HasValue kind part → IsFault place whole (worthless_refusal kind place)
+-- the refusal of a token that stands for nothing
+pub worthless_fault : (kind : TokenKind) (place : ℕ) (whole part after : List ℕ) → IsFirst whole kind part after → IsUsable kind part after → ¬ HasValue kind part → IsRefusalAt place whole (worthless_refusal kind place)
 worthless_fault Number place whole part after first usable none = (refl, record { text = part; after = after; first = first; usable = usable; worthless = none })
-worthless_fault Time place whole part after first usable none = (refl, record { text = part; after = after; first = first; usable = usable; worthless = none })
+worthless_fault Timestamp place whole part after first usable none = (refl, record { text = part; after = after; first = first; usable = usable; worthless = none })
 worthless_fault Hex place whole part after first usable none = (refl, inl (record { text = part; after = after; first = first; usable = usable; worthless = none }))
-worthless_fault Base place whole part after first usable none = (refl, inr (record { text = part; after = after; first = first; usable = usable; worthless = none }))
-worthless_fault Words place whole part after first usable none = absurd (none first.token)
+worthless_fault Binary place whole part after first usable none = (refl, inr (record { text = part; after = after; first = first; usable = usable; worthless = none }))
+worthless_fault String place whole part after first usable none = absurd (none first.token)
 worthless_fault _ place whole part after first usable none = absurd (none tt)
 
 abbrev pub token_of : (bytes : List ℕ) (at : ℕ) (kind : TokenKind) (after : List ℕ) → Token
@@ -82,7 +82,7 @@ stands text bytes at kind after r utf8 same l begins ends is_false used value =
       value = value;
     }
 
-pub stands_for_nothing : (text bytes : List ℕ) (at : ℕ) (kind : TokenKind) (after : List ℕ) (r : Bool) → IsUtf8 text → bytes ≡ text → at < length text → BeginsToken (take (length bytes - at) (drop at bytes)) kind after → IsTrue r ↔ RunsOn kind after → r ≡ false → ((word : LeftWord) → ¬ IsLeftOut word kind (take (length bytes - length after - at) (drop at bytes)) after) → ¬ HasValue kind (text_at text (token_of bytes at kind after)) → IsFault at (drop at text) (worthless_refusal kind at)
+pub stands_for_nothing : (text bytes : List ℕ) (at : ℕ) (kind : TokenKind) (after : List ℕ) (r : Bool) → IsUtf8 text → bytes ≡ text → at < length text → BeginsToken (take (length bytes - at) (drop at bytes)) kind after → IsTrue r ↔ RunsOn kind after → r ≡ false → ((word : LeftWord) → ¬ IsLeftOut word kind (take (length bytes - length after - at) (drop at bytes)) after) → ¬ HasValue kind (text_at text (token_of bytes at kind after)) → IsRefusalAt at (drop at text) (worthless_refusal kind at)
 stands_for_nothing text bytes at kind after r utf8 same l begins ends is_false used value =
     let to : ℕ = length bytes - length after in
     let p = placed text bytes at kind after utf8 same l begins in
@@ -193,7 +193,7 @@ not_blank (c ∷ rest) l none = none
 begins_there : (text : List ℕ) (at : ℕ) → at < length text → ¬ HasAt 0 IsBlank (drop at text) → HasAt 0 (λ c. ¬ IsBlank c) (drop at text)
 begins_there text at l ends = not_blank (drop at text) (let d = length-drop at text in omega arith) ends
 
-pub read_fault : (text : List ℕ) (tokens : List Token) (at : ℕ) (refusal : TokenRefusal) → at < length text → ReadUpTo text tokens at → IsFault at (drop at text) refusal → HasFault text refusal
+pub read_fault : (text : List ℕ) (tokens : List Token) (at : ℕ) (refusal : TokenRefusal) → at < length text → ReadUpTo text tokens at → IsRefusalAt at (drop at text) refusal → HasRefusal text refusal
 read_fault text tokens at refusal l read fault =
     let d : at ≡ length text - length (drop at text) = let n = length-drop at text in omega arith in
     record {
@@ -203,5 +203,5 @@ read_fault text tokens at refusal l read fault =
       stand = subst (λ (xs : List ℕ). AreTokens 0 text tokens xs) read.left read.stand;
       blank = read.blank;
       begins = begins_there text at l read.ends;
-      fault = subst (λ (n : ℕ). IsFault n (drop at text) refusal) d fault;
+      refused = subst (λ (n : ℕ). IsRefusalAt n (drop at text) refusal) d fault;
     }

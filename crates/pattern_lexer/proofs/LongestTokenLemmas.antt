@@ -7,7 +7,7 @@ use Rattle.std.proofs.lemmas.List.Elements.{All-nil, All-cons, All-head, All-tai
 use Rattle.std.proofs.lemmas.List.{length_push}
 use Rattle.std.proofs.lemmas.Str.Parse.{digit_from_value, tells_digits}
 use Rattle.pattern_tokens.specs.declared.token.TokenKind.{TokenKind}
-use Rattle.pattern_tokens.specs.declared.token.TokenKind.TheVariants.{Number, Words}
+use Rattle.pattern_tokens.specs.declared.token.TokenKind.TheVariants.{Number, String}
 use Rattle.pattern_tokens.specs.Word.{IsWordStart, IsHyphenWordPart, HasAt}
 use Rattle.pattern_tokens.specs.Values.{escaped, IsNumberText}
 use Rattle.pattern_tokens.specs.Table.{IsToken}
@@ -274,7 +274,7 @@ words_longest whole inside after words longer more w i e (of_words words2 h) =
     let n : length longer ≡ length (39 ∷ (flat_map escaped words ++ 39 ∷ [])) = ap length h ∙ ap (λ (l : List ℕ). length (39 ∷ (flat_map escaped l ++ 39 ∷ []))) (sym k) in
     omega arith
 
-pub words_first : (whole inside after words : List ℕ) → whole ≡ 39 ∷ inside → inside ≡ flat_map escaped words ++ 39 ∷ after → BeginsToken whole Words after
+pub words_first : (whole inside after words : List ℕ) → whole ≡ 39 ∷ inside → inside ≡ flat_map escaped words ++ 39 ∷ after → BeginsToken whole String after
 words_first whole inside after words w i = (
   39 ∷ (flat_map escaped words ++ 39 ∷ []),
   record {

@@ -5,7 +5,7 @@ use Rattle.std.proofs.lemmas.Bool.Decides.{nat_tests, Decides-eqb}
 use Rattle.std.proofs.lemmas.List.{take_at, drop_at}
 use Rattle.std.proofs.lemmas.List.Elements.{All-head, All-tail}
 use Rattle.pattern_tokens.specs.declared.token.TokenKind.{TokenKind}
-use Rattle.pattern_tokens.specs.declared.token.TokenKind.TheVariants.{SquareOpen, SquareClose, RoundOpen, RoundClose, Dot, Colon, Comma, Star, Equal, Differ, Less, LessEqual, Greater, GreaterEqual, And, Or, Not, FollowedBy, Within, Seconds, Repeats, Times, Start, Stop, Among, Like, Subset, Superset, Exists, TrueWord, FalseWord, Word, HyphenWord, Number, Words, Hex, Base, Time}
+use Rattle.pattern_tokens.specs.declared.token.TokenKind.TheVariants.{SquareOpen, SquareClose, RoundOpen, RoundClose, Dot, Colon, Comma, Star, Equal, Differ, Less, LessEqual, Greater, GreaterEqual, And, Or, Not, FollowedBy, Within, Seconds, Repeats, Times, Start, Stop, Among, Like, Subset, Superset, Exists, TrueWord, FalseWord, Word, HyphenWord, Number, String, Hex, Binary, Timestamp}
 use Rattle.pattern_tokens.specs.Word.{IsWordStart, IsWordPart, IsHyphenWordPart, HasAt, keywords}
 use Rattle.pattern_tokens.specs.Table.{IsToken}
 use Rattle.pattern_lexer.specs.Reading.{IsBlank, IsFirst}
@@ -62,7 +62,7 @@ mark_kind c (d ∷ text) = unwrap_or (double_kind c) Word
 abbrev by_lead : Lead → ℕ → List ℕ → TokenKind
 by_lead letter c text = name_kind c text
 by_lead number c text = Number
-by_lead quote c text = Words
+by_lead quote c text = String
 by_lead other c text = mark_kind c text
 
 -- the kind that a text can have
@@ -187,10 +187,10 @@ kind_is FalseWord text h = ap kind_of h
 kind_is Word text h = word_kind text h
 kind_is HyphenWord text h = hyphen_kind text h
 kind_is Number text h = number_kind text (number_start text h)
-kind_is Words text h = ap kind_of h.1
+kind_is String text h = ap kind_of h.1
 kind_is Hex text h = ap kind_of h.1.spelled
-kind_is Base text h = ap kind_of h.1.spelled
-kind_is Time text h = ap kind_of h.1.spelled
+kind_is Binary text h = ap kind_of h.1.spelled
+kind_is Timestamp text h = ap kind_of h.1.spelled
 
 -- a first token is the only one
 same_front : (xs ys cs bs : List ℕ) → xs ++ cs ≡ ys ++ bs → length xs ≡ length ys → (xs ≡ ys) × (cs ≡ bs)

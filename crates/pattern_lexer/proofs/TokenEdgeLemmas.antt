@@ -7,7 +7,7 @@ use Rattle.std.proofs.lemmas.List.{get_or_append_left, get_or-append-add, take_a
 use Rattle.std.proofs.lemmas.Str.{IsCharBoundary-before_ascii, IsCharBoundary-after_ascii}
 use Rattle.std.proofs.lemmas.Str.Parse.{digit_at}
 use Rattle.pattern_tokens.specs.declared.token.TokenKind.{TokenKind}
-use Rattle.pattern_tokens.specs.declared.token.TokenKind.TheVariants.{SquareOpen, SquareClose, RoundOpen, RoundClose, Dot, Colon, Comma, Star, Equal, Differ, Less, LessEqual, Greater, GreaterEqual, And, Or, Not, FollowedBy, Within, Seconds, Repeats, Times, Start, Stop, Among, Like, Subset, Superset, Exists, TrueWord, FalseWord, Word, HyphenWord, Number, Words, Hex, Base, Time}
+use Rattle.pattern_tokens.specs.declared.token.TokenKind.TheVariants.{SquareOpen, SquareClose, RoundOpen, RoundClose, Dot, Colon, Comma, Star, Equal, Differ, Less, LessEqual, Greater, GreaterEqual, And, Or, Not, FollowedBy, Within, Seconds, Repeats, Times, Start, Stop, Among, Like, Subset, Superset, Exists, TrueWord, FalseWord, Word, HyphenWord, Number, String, Hex, Binary, Timestamp}
 use Rattle.pattern_tokens.specs.Word.{IsWordStart, IsWordPart, IsHyphenWordPart, HasAt}
 use Rattle.pattern_tokens.specs.Values.{escaped, IsNumberText, IsLetteredText}
 use Rattle.pattern_tokens.specs.Table.{IsToken}
@@ -133,10 +133,10 @@ token_edges FalseWord text h = edges_from_test text (ap edges_test h)
 token_edges Word text h = name_edges text h.starts (word_parts text h.parts)
 token_edges HyphenWord text h = name_edges text h.starts h.parts
 token_edges Number text h = number_edges text h
-token_edges Words text h = subst Edges (sym h.1) (edges_between 39 39 (flat_map escaped h.0) (lit< tt) (lit< tt))
+token_edges String text h = subst Edges (sym h.1) (edges_between 39 39 (flat_map escaped h.0) (lit< tt) (lit< tt))
 token_edges Hex text h = lettered_edges 104 text h.0 (lit< tt) h.1
-token_edges Base text h = lettered_edges 98 text h.0 (lit< tt) h.1
-token_edges Time text h = lettered_edges 116 text h.0 (lit< tt) h.1
+token_edges Binary text h = lettered_edges 98 text h.0 (lit< tt) h.1
+token_edges Timestamp text h = lettered_edges 116 text h.0 (lit< tt) h.1
 
 -- a text may be cut around a part with such edges
 pub record Cuts (text : List ℕ) (start end : ℕ) (part : List ℕ) : Type 0 where

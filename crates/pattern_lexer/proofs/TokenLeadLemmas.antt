@@ -2,7 +2,7 @@
 use Rattle.std.proofs.Common.{◌≡◌, ◌≢◌, ℕ, inl, inr, Bool, true, false, ◌&&◌, ◌||◌, ◌==◌, nat_le, nat_lt, if◌then◌else◌, List, [], ◌∷◌, Option, Some, None, IsSome, refl, sym, ap, ◌∙◌, subst, arith}
 use Rattle.std.proofs.lemmas.Bool.Decides.{nat_tests}
 use Rattle.pattern_tokens.specs.declared.token.TokenKind.{TokenKind}
-use Rattle.pattern_tokens.specs.declared.token.TokenKind.TheVariants.{SquareOpen, SquareClose, RoundOpen, RoundClose, Dot, Colon, Comma, Star, Equal, Differ, Less, LessEqual, Greater, GreaterEqual, Hex, Base, Time}
+use Rattle.pattern_tokens.specs.declared.token.TokenKind.TheVariants.{SquareOpen, SquareClose, RoundOpen, RoundClose, Dot, Colon, Comma, Star, Equal, Differ, Less, LessEqual, Greater, GreaterEqual, Hex, Binary, Timestamp}
 use Rattle.pattern_tokens.specs.Word.{IsWordStart}
 use Rattle.pattern_tokens.specs.Values.{IsLetteredText}
 use Rattle.pattern_tokens.specs.Table.{IsToken}
@@ -151,8 +151,8 @@ LetterRow kind c = ((text inside : List ℕ) → IsLetteredText (c ∷ []) text 
 pub letter_row : (c : ℕ) (kind : TokenKind) → letter_kind c ≡ Some kind → LetterRow kind c
 letter_row c kind e0 =
     (chain LetterRow (c == 104) c 104 Hex kind _ refl e0 (λ text inside h. (inside, h), refl) (λ e1.
-    (chain LetterRow (c == 98) c 98 Base kind _ refl e1 (λ text inside h. (inside, h), refl) (λ e2.
-    (chain LetterRow (c == 116) c 116 Time kind _ refl e2 (λ text inside h. (inside, h), refl) (λ e3. absurd (nothing kind e3)))))))
+    (chain LetterRow (c == 98) c 98 Binary kind _ refl e1 (λ text inside h. (inside, h), refl) (λ e2.
+    (chain LetterRow (c == 116) c 116 Timestamp kind _ refl e2 (λ text inside h. (inside, h), refl) (λ e3. absurd (nothing kind e3)))))))
 
 pub some_of : (o : Option TokenKind) → IsSome o → (kind : TokenKind) × (o ≡ Some kind)
 some_of (Some kind) h = (kind, refl)

@@ -3,9 +3,9 @@ use Rattle.std.proofs.Common.{◌≡◌, ℕ, inl, Bool, true, false, ◌&&◌, 
 use Rattle.std.proofs.lemmas.Bool.Decides.{nat_tests}
 use Rattle.std.proofs.lemmas.List.Elements.{All-nil, All-cons}
 use Rattle.pattern_tokens.specs.declared.token.TokenKind.{TokenKind}
-use Rattle.pattern_tokens.specs.declared.token.TokenKind.TheVariants.{SquareOpen, SquareClose, RoundOpen, RoundClose, Dot, Colon, Comma, Star, Equal, Differ, Less, LessEqual, Greater, GreaterEqual, And, Or, Not, FollowedBy, Within, Seconds, Repeats, Times, Start, Stop, Among, Like, Subset, Superset, Exists, TrueWord, FalseWord, Word, HyphenWord, Number, Words, Hex, Base, Time}
+use Rattle.pattern_tokens.specs.declared.token.TokenKind.TheVariants.{SquareOpen, SquareClose, RoundOpen, RoundClose, Dot, Colon, Comma, Star, Equal, Differ, Less, LessEqual, Greater, GreaterEqual, And, Or, Not, FollowedBy, Within, Seconds, Repeats, Times, Start, Stop, Among, Like, Subset, Superset, Exists, TrueWord, FalseWord, Word, HyphenWord, Number, String, Hex, Binary, Timestamp}
 use Rattle.pattern_tokens.specs.Word.{IsWordStart, IsWordPart, IsHyphenWordPart}
-use Rattle.pattern_tokens.specs.Values.{IsNumberText, IsWordsText, IsLetteredText}
+use Rattle.pattern_tokens.specs.Values.{IsNumberText, IsStringText, IsLetteredText}
 use Rattle.pattern_tokens.specs.Table.{IsToken}
 use Rattle.pattern_lexer.specs.inner.Steps.{IsName, letter_kind, single_kind, double_kind}
 
@@ -16,7 +16,7 @@ pub data Shape : List ℕ → Type 0 where
   of_name : {text : List ℕ} → IsName text → Shape text
   of_letter : {text : List ℕ} (letter : ℕ) (inside : List ℕ) → IsSome (letter_kind letter) → IsLetteredText (letter ∷ []) text inside → Shape text
   of_number : {text : List ℕ} → IsNumberText text → Shape text
-  of_words : {text : List ℕ} (words : List ℕ) → IsWordsText text words → Shape text
+  of_words : {text : List ℕ} (words : List ℕ) → IsStringText text words → Shape text
 
 abbrev pub starts : ℕ → Bool
 starts c = (nat_le 65 c && nat_le c 90) || (nat_le 97 c && nat_le c 122) || c == 95
@@ -92,7 +92,7 @@ shape FalseWord text h = of_name (name_by text (ap name_test h))
 shape Word text h = of_name (record { starts = h.starts; parts = word_parts text h.parts })
 shape HyphenWord text h = of_name (record { starts = h.starts; parts = h.parts })
 shape Number text h = of_number h
-shape Words text h = of_words h.0 h.1
+shape String text h = of_words h.0 h.1
 shape Hex text h = of_letter 104 h.0 refl h.1
-shape Base text h = of_letter 98 h.0 refl h.1
-shape Time text h = of_letter 116 h.0 refl h.1
+shape Binary text h = of_letter 98 h.0 refl h.1
+shape Timestamp text h = of_letter 116 h.0 refl h.1

@@ -3,7 +3,7 @@ use Rattle.std.proofs.Common.{◌≡◌, ℕ, ◌-◌, inl, inr, List, [], ◌�
 use Rattle.std.proofs.lemmas.List.Elements.{All-head, All-tail}
 use Rattle.pattern_tokens.specs.declared.token.Token.{Token}
 use Rattle.pattern_tokens.specs.declared.token.TokenKind.{TokenKind}
-use Rattle.pattern_tokens.specs.declared.token.TokenKind.TheVariants.{Word, Equal, Less, Number, Hex, Base, Time}
+use Rattle.pattern_tokens.specs.declared.token.TokenKind.TheVariants.{Word, Equal, Less, Number, Hex, Binary, Timestamp}
 use Rattle.pattern_tokens.specs.declared.refusal.LeftWord.{LeftWord}
 use Rattle.pattern_tokens.specs.declared.refusal.LeftWord.TheVariants.{Matches, Fraction, DoubleEqual, LessGreater}
 use Rattle.pattern_tokens.specs.declared.refusal.TokenRefusal.{TokenRefusal}
@@ -11,7 +11,7 @@ use Rattle.pattern_tokens.specs.declared.refusal.TokenRefusal.TheVariants.{BadTo
 use Rattle.pattern_tokens.specs.Word.{HasAt}
 use Rattle.pattern_tokens.specs.Table.{IsToken}
 use Rattle.pattern_tokens.specs.Values.{HasValue}
-use Rattle.pattern_lexer.specs.Reading.{IsBlank, IsFirst, RunsOn, IsLeftOut, IsUsable, IsNext, AreTokens, HasNoToken, IsEndless, IsUseless, IsWorthless, IsFault, HasFault, Reads}
+use Rattle.pattern_lexer.specs.Reading.{IsBlank, IsFirst, RunsOn, IsLeftOut, IsUsable, IsNext, AreTokens, HasNoToken, IsEndless, IsUseless, IsWorthless, IsRefusalAt, HasRefusal, Reads}
 use Rattle.pattern_lexer.specs.inner.Steps.{worthless_refusal}
 use Rattle.pattern_lexer.proofs.OneKindLemmas.{kind_of, kind_is, one_first, carry, token_not_blank}
 
@@ -63,14 +63,14 @@ pub data Why : ℕ → List ℕ → TokenRefusal → Type 0 where
   useless : {place : ℕ} {whole : List ℕ} {refusal : TokenRefusal} (word : LeftWord) → IsUseless whole word → refusal ≡ LeftOut place word → Why place whole refusal
   worthless : {place : ℕ} {whole : List ℕ} {refusal : TokenRefusal} (kind : TokenKind) → IsWorthless whole kind → refusal ≡ worthless_refusal kind place → Why place whole refusal
 
-why : (place : ℕ) (whole : List ℕ) (refusal : TokenRefusal) → IsFault place whole refusal → Why place whole refusal
+why : (place : ℕ) (whole : List ℕ) (refusal : TokenRefusal) → IsRefusalAt place whole refusal → Why place whole refusal
 why place whole (BadToken at) (e, inl h) = no_token h (ap (λ (n : ℕ). BadToken n) e)
 why place whole (BadToken at) (e, inr h) = endless h (ap (λ (n : ℕ). BadToken n) e)
 why place whole (LeftOut at word) h = useless word h.1 (ap (λ (n : ℕ). LeftOut n word) h.0)
 why place whole (BadNumber at) h = worthless Number h.1 (ap (λ (n : ℕ). BadNumber n) h.0)
-why place whole (BadTime at) h = worthless Time h.1 (ap (λ (n : ℕ). BadTime n) h.0)
+why place whole (BadTime at) h = worthless Timestamp h.1 (ap (λ (n : ℕ). BadTime n) h.0)
 why place whole (BadBytes at) (e, inl h) = worthless Hex h (ap (λ (n : ℕ). BadBytes n) e)
-why place whole (BadBytes at) (e, inr h) = worthless Base h (ap (λ (n : ℕ). BadBytes n) e)
+why place whole (BadBytes at) (e, inr h) = worthless Binary h (ap (λ (n : ℕ). BadBytes n) e)
 
 matches_word : (kind : TokenKind) (text : List ℕ) → IsToken kind text → text ≡ 77 ∷ 65 ∷ 84 ∷ 67 ∷ 72 ∷ 69 ∷ 83 ∷ [] → kind ≡ Word
 matches_word kind text token e = sym (kind_is kind text token) ∙ ap kind_of e
@@ -114,21 +114,21 @@ one_why place whole r s (worthless k h e) (useless w g f) = absurd (h.usable.use
 one_why place whole r s (worthless k h e) (worthless l g f) =
     e ∙ ap (λ (x : TokenKind). worthless_refusal x place) (one_first whole k l h.text g.text h.after g.after h.first g.first).kind ∙ sym f
 
--- a token without fault has none
+-- a token without refusal has none
 no_fault : (place : ℕ) (whole : List ℕ) (r : TokenRefusal) (kind : TokenKind) (text after : List ℕ) → Why place whole r → IsFirst whole kind text after → IsUsable kind text after → HasValue kind text → ⊥
 no_fault place whole r kind text after (no_token h e) first usable value = h kind text after first.spelled first.token
 no_fault place whole r kind text after (endless h e) first usable value = usable.ends (carry (λ k t a. RunsOn k a) whole h.kind kind h.text text h.after after h.first first h.runs_on)
 no_fault place whole r kind text after (useless w h e) first usable value = usable.used w (carry (λ k t a. IsLeftOut w k t a) whole h.kind kind h.text text h.after after h.first first h.left_out)
 no_fault place whole r kind text after (worthless k h e) first usable value = h.worthless (carry (λ k t a. HasValue k t) whole kind k text h.text after h.after first h.first value)
 
--- how a reading ends: with blanks, or with a fault behind them
+-- how a reading ends: with blanks, or with a refusal behind them
 pub record Faulty (size : ℕ) (rest : List ℕ) (refusal : TokenRefusal) : Type 0 where
   pub blanks : List ℕ
   pub left : List ℕ
   pub spelled : rest ≡ blanks ++ left
   pub blank : All IsBlank blanks
   pub begins : HasAt 0 (λ c. ¬ IsBlank c) left
-  pub fault : IsFault (size - length left) left refusal
+  pub refused : IsRefusalAt (size - length left) left refusal
 
 abbrev End : ℕ → List ℕ → Option TokenRefusal → Type 0
 End size rest None = All IsBlank rest
@@ -140,15 +140,15 @@ one_end size rest None (Some s) x y = absurd (blanks_alone y.blanks y.left (subs
 one_end size rest (Some r) None x y = absurd (blanks_alone x.blanks x.left (subst (λ (l : List ℕ). All IsBlank l) x.spelled y) x.begins)
 one_end size rest (Some r) (Some s) x y =
     let e = split_blanks x.blanks y.blanks x.left y.left (sym x.spelled ∙ y.spelled) x.blank y.blank x.begins y.begins in
-    let fault = subst (λ (l : List ℕ). IsFault (size - length l) l s) (sym e.1) y.fault in
-    ap (λ (p : TokenRefusal). Some p) (one_why (size - length x.left) x.left r s (why (size - length x.left) x.left r x.fault) (why (size - length x.left) x.left s fault))
+    let refused = subst (λ (l : List ℕ). IsRefusalAt (size - length l) l s) (sym e.1) y.refused in
+    ap (λ (p : TokenRefusal). Some p) (one_why (size - length x.left) x.left r s (why (size - length x.left) x.left r x.refused) (why (size - length x.left) x.left s fault))
 
 no_next : (size at : ℕ) (left : List ℕ) (o : Option TokenRefusal) (t : Token) (a : List ℕ) → End size left o → IsNext at left t a → ⊥
 no_next size at left None t a x n = blanks_alone n.blanks (n.text ++ a) (subst (λ (l : List ℕ). All IsBlank l) (next_spelled at left t a n) x) (token_not_blank t.kind n.text a n.first.token)
 no_next size at left (Some r) t a x n =
     let e = split_blanks x.blanks n.blanks x.left (n.text ++ a) (sym x.spelled ∙ next_spelled at left t a n) x.blank n.blank x.begins (token_not_blank t.kind n.text a n.first.token) in
     let first = subst (λ (l : List ℕ). IsFirst l t.kind n.text a) (sym e.1) n.first in
-    no_fault (size - length x.left) x.left r t.kind n.text a (why (size - length x.left) x.left r x.fault) first n.usable n.value
+    no_fault (size - length x.left) x.left r t.kind n.text a (why (size - length x.left) x.left r x.refused) first n.usable n.value
 
 one_run : (size at : ℕ) (left : List ℕ) (ts us : List Token) (x y : List ℕ) (a b : Option TokenRefusal) → AreTokens at left ts x → End size x a → AreTokens at left us y → End size y b → (ts ≡ us) × (a ≡ b)
 one_run size at left [] [] x y a b s p t q =
@@ -164,8 +164,8 @@ one_run size at left (t ∷ ts) (u ∷ us) x y a b s p r q =
     let rest : ts ≡ us = h.0 in
     (cc, h.1)
 
-faulty : (text : List ℕ) (refusal : TokenRefusal) → (h : HasFault text refusal) → Faulty (length text) (h.blanks ++ h.rest) refusal
-faulty text refusal h = record { blanks = h.blanks; left = h.rest; spelled = refl; blank = h.blank; begins = h.begins; fault = h.fault }
+faulty : (text : List ℕ) (refusal : TokenRefusal) → (h : HasRefusal text refusal) → Faulty (length text) (h.blanks ++ h.rest) refusal
+faulty text refusal h = record { blanks = h.blanks; left = h.rest; spelled = refl; blank = h.blank; begins = h.begins; refused = h.refused }
 
 -- the answer of a reading that ends so
 abbrev answered : List Token → Option TokenRefusal → Result (List Token) TokenRefusal

@@ -1,9 +1,9 @@
--- What reading the tokens of a text answers: the tokens, or the first fault from the left.
+-- What reading the tokens of a text answers: the tokens, or the first refusal from the left.
 use Rattle.std.specs.Prelude.{◌≡◌, ℕ, ◌+◌, ◌-◌, ◌≤◌, ◌⊎◌, List, [], ◌∷◌, ◌++◌, length, slice_get, Some, All, codes, Result, Ok, Err}
 use Rattle.std.specs.Char.{IsAsciiDigit}
 use Rattle.pattern_tokens.specs.declared.token.Token.{Token}
 use Rattle.pattern_tokens.specs.declared.token.TokenKind.{TokenKind}
-use Rattle.pattern_tokens.specs.declared.token.TokenKind.TheVariants.{Equal, Less, Number, Hex, Base, Time}
+use Rattle.pattern_tokens.specs.declared.token.TokenKind.TheVariants.{Equal, Less, Number, Hex, Binary, Timestamp}
 use Rattle.pattern_tokens.specs.declared.refusal.LeftWord.{LeftWord}
 use Rattle.pattern_tokens.specs.declared.refusal.LeftWord.TheVariants.{Matches, Fraction, DoubleEqual, LessGreater}
 use Rattle.pattern_tokens.specs.declared.refusal.TokenRefusal.{TokenRefusal}
@@ -40,7 +40,7 @@ pub record IsUsable (kind : TokenKind) (text after : List ℕ) : Type 0 where
   pub ends : ¬ RunsOn kind after
   pub used : (word : LeftWord) → ¬ IsLeftOut word kind text after
 
--- the token stands behind blanks in what is left of a text, and has no fault; what is left begins at
+-- the token stands behind blanks in what is left of a text, and has no refusal; what is left begins at
 -- the place
 pub record IsNext (at : ℕ) (left : List ℕ) (token : Token) (after : List ℕ) : Type 0 where
   pub blanks : List ℕ
@@ -95,25 +95,25 @@ pub record IsWorthless (whole : List ℕ) (kind : TokenKind) : Type 0 where
   pub usable : IsUsable kind text after
   pub worthless : ¬ HasValue kind text
 
--- the fault of the token that begins the text, which begins at the place
-abbrev pub IsFault : ℕ → List ℕ → TokenRefusal → Type 0
-IsFault place whole (BadToken at) = (at ≡ place) × (HasNoToken whole ⊎ IsEndless whole)
-IsFault place whole (LeftOut at word) = (at ≡ place) × IsUseless whole word
-IsFault place whole (BadNumber at) = (at ≡ place) × IsWorthless whole Number
-IsFault place whole (BadTime at) = (at ≡ place) × IsWorthless whole Time
-IsFault place whole (BadBytes at) = (at ≡ place) × (IsWorthless whole Hex ⊎ IsWorthless whole Base)
+-- the refusal of the token that begins the text, which begins at the place
+abbrev pub IsRefusalAt : ℕ → List ℕ → TokenRefusal → Type 0
+IsRefusalAt place whole (BadToken at) = (at ≡ place) × (HasNoToken whole ⊎ IsEndless whole)
+IsRefusalAt place whole (LeftOut at word) = (at ≡ place) × IsUseless whole word
+IsRefusalAt place whole (BadNumber at) = (at ≡ place) × IsWorthless whole Number
+IsRefusalAt place whole (BadTime at) = (at ≡ place) × IsWorthless whole Timestamp
+IsRefusalAt place whole (BadBytes at) = (at ≡ place) × (IsWorthless whole Hex ⊎ IsWorthless whole Binary)
 
--- tokens without fault stand in the text, then blanks, then what is no blank and has the fault
-pub record HasFault (text : List ℕ) (refusal : TokenRefusal) : Type 0 where
+-- tokens without refusal stand in the text, then blanks, then what is no blank and has the refusal
+pub record HasRefusal (text : List ℕ) (refusal : TokenRefusal) : Type 0 where
   pub tokens : List Token
   pub blanks : List ℕ
   pub rest : List ℕ
   pub stand : AreTokens 0 text tokens (blanks ++ rest)
   pub blank : All IsBlank blanks
   pub begins : HasAt 0 (λ c. ¬ IsBlank c) rest
-  pub fault : IsFault (length text - length rest) rest refusal
+  pub refused : IsRefusalAt (length text - length rest) rest refusal
 
 -- what reading the tokens of the text answers
 abbrev pub Reads : List ℕ → Result (List Token) TokenRefusal → Type 0
 Reads text (Ok tokens) = TokensOf text tokens
-Reads text (Err refusal) = HasFault text refusal
+Reads text (Err refusal) = HasRefusal text refusal

@@ -2,14 +2,14 @@ ghost use Rattle.std.specs.Prelude.{◌<◌, ◌≤◌, IfOk, length};
 ghost use Rattle.pattern_lexer.specs.Reading.{Reads};
 ghost use Rattle.pattern_lexer.specs.inner.Steps.{ArePassed, ReadsAt};
 
-use crate::faults::{has_value, left_word, runs_on, worthless};
+use crate::refusals::{has_value, left_word, runs_on, worthless};
 use crate::first::first_of;
 use crate::runs::{CharacterClass, split_run};
 use flow_values::{Items, NoMemory};
 use pattern_tokens::{Token, TokenRefusal};
 use std::alloc::Global;
 
-/// The tokens of a text, each the longest at its place, with blanks between them; or the first fault
+/// The tokens of a text, each the longest at its place, with blanks between them; or the first refusal
 /// from the left.
 pub fn tokens(alloc: Global, text: &str) -> Result<Result<Items<Token>, TokenRefusal>, NoMemory>
     ensures { IfOk result (Reads text.now) }
@@ -37,7 +37,7 @@ fn past_blanks(text: &str, at: usize) -> usize
     text.len() - rest.len()
 }
 
-/// The token at a place in the text, or its fault.
+/// The token at a place in the text, or its refusal.
 fn token_at(alloc: Global, text: &str, at: usize) -> Result<Result<Token, TokenRefusal>, NoMemory>
     requires { at < length text.now }
     ensures { IfOk result (ReadsAt text.now at) }

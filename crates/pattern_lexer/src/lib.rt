@@ -2,7 +2,7 @@
 //! tokens from the left, or tells the first place where it can't and why.
 #![tactic(auto)]
 
-mod faults;
+mod refusals;
 mod first;
 pub mod laws;
 mod lexer;

@@ -16,7 +16,7 @@ pub fn first_words(bytes: &[u8]) -> Option<First<'_>>
 {
     let after = behind_words(behind(bytes, b'\'')?)?;
     Some(First {
-        kind: TokenKind::Words,
+        kind: TokenKind::String,
         after,
     })
 }
@@ -74,8 +74,8 @@ fn kind_of_letter(letter: u8) -> Option<TokenKind>
 {
     match letter {
         b'h' => Some(TokenKind::Hex),
-        b'b' => Some(TokenKind::Base),
-        b't' => Some(TokenKind::Time),
+        b'b' => Some(TokenKind::Binary),
+        b't' => Some(TokenKind::Timestamp),
         _ => None,
     }
 }

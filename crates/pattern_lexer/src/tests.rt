@@ -58,10 +58,10 @@ fn tokens_of_texts(rt: HostRuntime) {
             alloc,
             "'é'h'fF'b'/w=='t'2021-06-10T00:00:00Z'",
             &[
-                token(TokenKind::Words, 0, 4),
+                token(TokenKind::String, 0, 4),
                 token(TokenKind::Hex, 4, 9),
-                token(TokenKind::Base, 9, 16),
-                token(TokenKind::Time, 16, 39),
+                token(TokenKind::Binary, 9, 16),
+                token(TokenKind::Timestamp, 16, 39),
             ]
         ),
         "in quotes"

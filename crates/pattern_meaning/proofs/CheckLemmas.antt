@@ -6,7 +6,7 @@ use Rattle.match_cidr.specs.BlockText.{IsBlockText}
 use Rattle.flow_values.specs.Answers.{FindsExactly}
 use Rattle.pattern_tokens.specs.declared.token.Token.{Token}
 use Rattle.pattern_tokens.specs.declared.token.TokenKind.TheVariants as kind
-use Rattle.pattern_tokens.specs.Values.{IsWordsText}
+use Rattle.pattern_tokens.specs.Values.{IsStringText}
 use Rattle.pattern_tokens.specs.Spans.{text_at, At}
 use Rattle.pattern_grammar.specs.declared.comparison.CheckTree.TheVariants as check_tree
 use Rattle.pattern_grammar.specs.declared.comparison.TestTree.{TestTree}
@@ -26,7 +26,7 @@ a_block words (Some block) exact h = (block, (exact block).0 refl)
 a_block words None exact h = absurd (cc)
 
 -- words that are no address block are no range
-pub no_range : (text : List ℕ) (operator token : Token) (words : List ℕ) → ((t a b : List ℕ) → IsWordsText t a → IsWordsText t b → a ≡ b) → (operator.kind ≡ kind.Subset) ⊎ (operator.kind ≡ kind.Superset) → At IsWordsText text token words → ((range : List ℕ) → ¬ ((range ≡ words) × ((block : Block) × IsBlockText range block))) → (other : Check) → ¬ IsSoundCheckOf text (check_tree.Textual operator token) other
+pub no_range : (text : List ℕ) (operator token : Token) (words : List ℕ) → ((t a b : List ℕ) → IsStringText t a → IsStringText t b → a ≡ b) → (operator.kind ≡ kind.Subset) ⊎ (operator.kind ≡ kind.Superset) → At IsStringText text token words → ((range : List ℕ) → ¬ ((range ≡ words) × ((block : Block) × IsBlockText range block))) → (other : Check) → ¬ IsSoundCheckOf text (check_tree.Textual operator token) other
 no_range text operator token words one e at none (check.Like v) h = elim e [ inl x ↦ let g = sym x ∙ h.means.0 in absurd (cc) | inr x ↦ let g = sym x ∙ h.means.0 in absurd (cc) ]
 no_range text operator token words one e at none (check.Subset v) h = none v (one (text_at text token) v words h.means.1.is at.is, h.sound)
 no_range text operator token words one e at none (check.Superset v) h = none v (one (text_at text token) v words h.means.1.is at.is, h.sound)

@@ -2,7 +2,7 @@
 use Rattle.std.proofs.Common.{◌≡◌, inl, inr, ℕ, ℤ, List, sym, ◌∙◌}
 use Rattle.pattern_tokens.specs.declared.token.Token.{Token}
 use Rattle.pattern_tokens.specs.declared.token.TokenKind.TheVariants as kind
-use Rattle.pattern_tokens.specs.Values.{IsHexText, IsMomentText}
+use Rattle.pattern_tokens.specs.Values.{IsHexText, IsTimestampText}
 use Rattle.pattern_types.specs.declared.constant.Constant.{Constant}
 use Rattle.pattern_types.specs.declared.constant.Constant.TheVariants as constant
 use Rattle.pattern_tokens.specs.Spans.{At}
@@ -17,7 +17,7 @@ no_hex text token e none (constant.Hex bytes) h = none bytes h.1
 no_hex text token e none (constant.Binary bytes) h = let g = sym e ∙ h.0 in absurd (cc)
 no_hex text token e none (constant.Timestamp instant) h = let g = sym e ∙ h.0 in absurd (cc)
 
-pub no_time : (text : List ℕ) (token : Token) → token.kind ≡ kind.Time → ((instant : ℤ) → ¬ At IsMomentText text token instant) → (other : Constant) → ¬ IsConstantOf text token other
+pub no_time : (text : List ℕ) (token : Token) → token.kind ≡ kind.Timestamp → ((instant : ℤ) → ¬ At IsTimestampText text token instant) → (other : Constant) → ¬ IsConstantOf text token other
 no_time text token e none (constant.Integer whole) h = let g = sym e ∙ h.0 in absurd (cc)
 no_time text token e none (constant.String words) h = let g = sym e ∙ h.0 in absurd (cc)
 no_time text token e none (constant.Boolean truth) (inl h) = let g = sym e ∙ h.0 in absurd (cc)

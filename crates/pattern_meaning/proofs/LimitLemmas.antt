@@ -2,24 +2,24 @@
 use Rattle.std.proofs.Common.{◌≡◌, ◌↔◌, ℤ, ℕ, List, Bool, true, false, subst}
 use Rattle.std.specs.Prelude.{◌<ℤ◌}
 use Rattle.pattern_tokens.specs.declared.token.Token.{Token}
-use Rattle.pattern_tokens.specs.Values.{IsMomentText}
+use Rattle.pattern_tokens.specs.Values.{IsTimestampText}
 use Rattle.pattern_tokens.specs.Spans.{text_at, At}
 use Rattle.pattern_grammar.specs.declared.qualifier.Qualifier.TheVariants as qualifier
 use Rattle.pattern_types.specs.declared.limit.Limit.{Limit}
 use Rattle.pattern_types.specs.declared.limit.Limit.TheVariants as limit
 use Rattle.pattern_meaning.specs.Refusals.{IsSoundLimitOf}
 
-pub no_start : (text : List ℕ) (start from to : Token) → ((i : ℤ) → ¬ At IsMomentText text from i) → (other : Limit) → ¬ IsSoundLimitOf text (qualifier.Between start from to) other
+pub no_start : (text : List ℕ) (start from to : Token) → ((i : ℤ) → ¬ At IsTimestampText text from i) → (other : Limit) → ¬ IsSoundLimitOf text (qualifier.Between start from to) other
 no_start text start from to h (limit.Within n) x = x.means
 no_start text start from to h (limit.Repeats n) x = x.means
 no_start text start from to h (limit.Between i j) x = h i x.means.0
 
-pub no_stop : (text : List ℕ) (start from to : Token) → ((i : ℤ) → ¬ At IsMomentText text to i) → (other : Limit) → ¬ IsSoundLimitOf text (qualifier.Between start from to) other
+pub no_stop : (text : List ℕ) (start from to : Token) → ((i : ℤ) → ¬ At IsTimestampText text to i) → (other : Limit) → ¬ IsSoundLimitOf text (qualifier.Between start from to) other
 no_stop text start from to h (limit.Within n) x = x.means
 no_stop text start from to h (limit.Repeats n) x = x.means
 no_stop text start from to h (limit.Between i j) x = h j x.means.1
 
-pub no_span : (text : List ℕ) (start from to : Token) (b e : ℤ) (r : Bool) → ((t : List ℕ) (i j : ℤ) → IsMomentText t i → IsMomentText t j → i ≡ j) → At IsMomentText text from b → At IsMomentText text to e
+pub no_span : (text : List ℕ) (start from to : Token) (b e : ℤ) (r : Bool) → ((t : List ℕ) (i j : ℤ) → IsTimestampText t i → IsTimestampText t j → i ≡ j) → At IsTimestampText text from b → At IsTimestampText text to e
     → (r ≡ true) ↔ (b <ℤ e) → r ≡ false → (other : Limit) → ¬ IsSoundLimitOf text (qualifier.Between start from to) other
 no_span text start from to b e r one x y h f (limit.Within n) z = z.means
 no_span text start from to b e r one x y h f (limit.Repeats n) z = z.means

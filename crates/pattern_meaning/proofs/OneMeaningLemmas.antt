@@ -3,7 +3,7 @@ use Rattle.std.proofs.Common.{◌≡◌, inl, inr, ℕ, pos, List, [], ◌∷◌
 use Rattle.pattern_tokens.specs.declared.token.Token.{Token}
 use Rattle.pattern_tokens.specs.declared.token.TokenKind.{TokenKind}
 use Rattle.pattern_tokens.specs.declared.token.TokenKind.TheVariants as kind
-use Rattle.pattern_tokens.specs.Values.{IsWholeText, IsWordsText, IsHexText, IsBaseText, IsMomentText}
+use Rattle.pattern_tokens.specs.Values.{IsIntegerText, IsStringText, IsHexText, IsBinaryText, IsTimestampText}
 use Rattle.pattern_tokens.specs.Spans.{text_at, At}
 use Rattle.pattern_grammar.specs.declared.path.StepTree.{StepTree}
 use Rattle.pattern_grammar.specs.declared.path.StepTree.TheVariants.{Name, Index}
@@ -65,9 +65,9 @@ told_with kind.Subset v = check.Subset v
 told_with kind.Superset v = check.Superset v
 told_with _ v = check.Exists
 
-module _ (one_whole : IsOne IsWholeText) (one_words : IsOne IsWordsText) (one_hex : IsOne IsHexText) (one_base : IsOne IsBaseText) (one_moment : IsOne IsMomentText) where
+module _ (one_whole : IsOne IsIntegerText) (one_words : IsOne IsStringText) (one_hex : IsOne IsHexText) (one_base : IsOne IsBinaryText) (one_timestamp : IsOne IsTimestampText) where
   one_name : (text : List ℕ) (token : Token) (a b : List ℕ) → IsNameOf text token a → IsNameOf text token b → a ≡ b
-  one_name text token a b (inl x) (inl y) = at_one IsWordsText one_words text token a b x.1 y.1
+  one_name text token a b (inl x) (inl y) = at_one IsStringText one_words text token a b x.1 y.1
   one_name text token a b (inl x) (inr y) = absurd (y.0 x.0)
   one_name text token a b (inr x) (inl y) = absurd (x.0 y.0)
   one_name text token a b (inr x) (inr y) = x.1.is ∙ sym y.1.is
@@ -80,7 +80,7 @@ module _ (one_whole : IsOne IsWholeText) (one_words : IsOne IsWordsText) (one_he
   one_step text (Name t) step.Each b x y = absurd x
   one_step text (Index t) (step.Name a) b x y = absurd x
   one_step text (Index t) (step.Place a) (step.Name b) x y = absurd y
-  one_step text (Index t) (step.Place a) (step.Place b) x y = let e = at_one IsWholeText one_whole text t (pos a) (pos b) x.1.whole y.1.whole in cc
+  one_step text (Index t) (step.Place a) (step.Place b) x y = let e = at_one IsIntegerText one_whole text t (pos a) (pos b) x.1.whole y.1.whole in cc
   one_step text (Index t) (step.Place a) step.Each x y = let g = sym x.0 ∙ y in absurd (cc)
   one_step text (Index t) step.Each (step.Name b) x y = absurd y
   one_step text (Index t) step.Each (step.Place b) x y = let g = sym x ∙ y.0 in absurd (cc)
@@ -93,7 +93,7 @@ module _ (one_whole : IsOne IsWholeText) (one_words : IsOne IsWordsText) (one_he
       λ i. record { kind = e i; steps = g i }
 
   one_constant : (text : List ℕ) (token : Token) (a b : Constant) → IsConstantOf text token a → IsConstantOf text token b → a ≡ b
-  one_constant text token (constant.Integer a) (constant.Integer b) x y = ap constant.Integer (at_one IsWholeText one_whole text token a b x.1 y.1)
+  one_constant text token (constant.Integer a) (constant.Integer b) x y = ap constant.Integer (at_one IsIntegerText one_whole text token a b x.1 y.1)
   one_constant text token (constant.Integer a) (constant.String b) x y = let g = sym x.0 ∙ y.0 in absurd (cc)
   one_constant text token (constant.Integer a) (constant.Boolean b) x (inl y) = let g = sym x.0 ∙ y.0 in absurd (cc)
   one_constant text token (constant.Integer a) (constant.Boolean b) x (inr y) = let g = sym x.0 ∙ y.0 in absurd (cc)
@@ -101,7 +101,7 @@ module _ (one_whole : IsOne IsWholeText) (one_words : IsOne IsWordsText) (one_he
   one_constant text token (constant.Integer a) (constant.Binary b) x y = let g = sym x.0 ∙ y.0 in absurd (cc)
   one_constant text token (constant.Integer a) (constant.Timestamp b) x y = let g = sym x.0 ∙ y.0 in absurd (cc)
   one_constant text token (constant.String a) (constant.Integer b) x y = let g = sym x.0 ∙ y.0 in absurd (cc)
-  one_constant text token (constant.String a) (constant.String b) x y = ap constant.String (at_one IsWordsText one_words text token a b x.1 y.1)
+  one_constant text token (constant.String a) (constant.String b) x y = ap constant.String (at_one IsStringText one_words text token a b x.1 y.1)
   one_constant text token (constant.String a) (constant.Boolean b) x (inl y) = let g = sym x.0 ∙ y.0 in absurd (cc)
   one_constant text token (constant.String a) (constant.Boolean b) x (inr y) = let g = sym x.0 ∙ y.0 in absurd (cc)
   one_constant text token (constant.String a) (constant.Hex b) x y = let g = sym x.0 ∙ y.0 in absurd (cc)
@@ -133,7 +133,7 @@ module _ (one_whole : IsOne IsWholeText) (one_words : IsOne IsWordsText) (one_he
   one_constant text token (constant.Binary a) (constant.Boolean b) x (inl y) = let g = sym x.0 ∙ y.0 in absurd (cc)
   one_constant text token (constant.Binary a) (constant.Boolean b) x (inr y) = let g = sym x.0 ∙ y.0 in absurd (cc)
   one_constant text token (constant.Binary a) (constant.Hex b) x y = let g = sym x.0 ∙ y.0 in absurd (cc)
-  one_constant text token (constant.Binary a) (constant.Binary b) x y = ap constant.Binary (at_one IsBaseText one_base text token a b x.1 y.1)
+  one_constant text token (constant.Binary a) (constant.Binary b) x y = ap constant.Binary (at_one IsBinaryText one_base text token a b x.1 y.1)
   one_constant text token (constant.Binary a) (constant.Timestamp b) x y = let g = sym x.0 ∙ y.0 in absurd (cc)
   one_constant text token (constant.Timestamp a) (constant.Integer b) x y = let g = sym x.0 ∙ y.0 in absurd (cc)
   one_constant text token (constant.Timestamp a) (constant.String b) x y = let g = sym x.0 ∙ y.0 in absurd (cc)
@@ -141,7 +141,7 @@ module _ (one_whole : IsOne IsWholeText) (one_words : IsOne IsWordsText) (one_he
   one_constant text token (constant.Timestamp a) (constant.Boolean b) x (inr y) = let g = sym x.0 ∙ y.0 in absurd (cc)
   one_constant text token (constant.Timestamp a) (constant.Hex b) x y = let g = sym x.0 ∙ y.0 in absurd (cc)
   one_constant text token (constant.Timestamp a) (constant.Binary b) x y = let g = sym x.0 ∙ y.0 in absurd (cc)
-  one_constant text token (constant.Timestamp a) (constant.Timestamp b) x y = ap constant.Timestamp (at_one IsMomentText one_moment text token a b x.1 y.1)
+  one_constant text token (constant.Timestamp a) (constant.Timestamp b) x y = ap constant.Timestamp (at_one IsTimestampText one_timestamp text token a b x.1 y.1)
 
   compare_is : (text : List ℕ) (operator token : Token) (c : Check) → IsCheckOf text (check_tree.Compare operator token) c → (v : Constant) × IsConstantOf text token v × (c ≡ compared_with operator.kind v)
   compare_is text operator token (check.Equal v) x = (v, x.1, sym (ap (λ k. compared_with k v) x.0))
@@ -156,7 +156,7 @@ module _ (one_whole : IsOne IsWholeText) (one_words : IsOne IsWordsText) (one_he
   compare_is text operator token (check.Superset v) x = absurd x
   compare_is text operator token check.Exists x = absurd x
 
-  textual_is : (text : List ℕ) (operator token : Token) (c : Check) → IsCheckOf text (check_tree.Textual operator token) c → (v : List ℕ) × At IsWordsText text token v × (c ≡ told_with operator.kind v)
+  textual_is : (text : List ℕ) (operator token : Token) (c : Check) → IsCheckOf text (check_tree.Textual operator token) c → (v : List ℕ) × At IsStringText text token v × (c ≡ told_with operator.kind v)
   textual_is text operator token (check.Like v) x = (v, x.1, sym (ap (λ k. told_with k v) x.0))
   textual_is text operator token (check.Subset v) x = (v, x.1, sym (ap (λ k. told_with k v) x.0))
   textual_is text operator token (check.Superset v) x = (v, x.1, sym (ap (λ k. told_with k v) x.0))
@@ -207,7 +207,7 @@ module _ (one_whole : IsOne IsWholeText) (one_words : IsOne IsWordsText) (one_he
   one_check text (check_tree.Textual operator token) a b x y =
       let p = textual_is text operator token a x in
       let q = textual_is text operator token b y in
-      p.2 ∙ ap (told_with operator.kind) (at_one IsWordsText one_words text token p.0 q.0 p.1 q.1) ∙ sym q.2
+      p.2 ∙ ap (told_with operator.kind) (at_one IsStringText one_words text token p.0 q.0 p.1 q.1) ∙ sym q.2
   one_check text check_tree.Exists a b x y = exists_is text a x ∙ sym (exists_is text b y)
 
   one_test : (text : List ℕ) (tree : TestTree) (a b : Test) → IsTestOf text tree a → IsTestOf text tree b → a ≡ b
@@ -237,19 +237,19 @@ module _ (one_whole : IsOne IsWholeText) (one_words : IsOne IsWordsText) (one_he
     one_any text (any_more h x) (any_more k y) = let e = one_any text h k in let g = one_formula text x y in cc
 
   one_limit : (text : List ℕ) (q : Qualifier) (a b : Limit) → IsLimitOf text q a → IsLimitOf text q b → a ≡ b
-  one_limit text (qualifier.Within n) (limit.Within a) (limit.Within b) x y = let e = at_one IsWholeText one_whole text n (pos a) (pos b) x.whole y.whole in cc
+  one_limit text (qualifier.Within n) (limit.Within a) (limit.Within b) x y = let e = at_one IsIntegerText one_whole text n (pos a) (pos b) x.whole y.whole in cc
   one_limit text (qualifier.Within n) (limit.Within a) (limit.Repeats b) x y = absurd y
   one_limit text (qualifier.Within n) (limit.Within a) (limit.Between b d) x y = absurd y
   one_limit text (qualifier.Within n) (limit.Repeats a) b x y = absurd x
   one_limit text (qualifier.Within n) (limit.Between a c) b x y = absurd x
-  one_limit text (qualifier.Repeats n) (limit.Repeats a) (limit.Repeats b) x y = let e = at_one IsWholeText one_whole text n (pos a) (pos b) x.whole y.whole in cc
+  one_limit text (qualifier.Repeats n) (limit.Repeats a) (limit.Repeats b) x y = let e = at_one IsIntegerText one_whole text n (pos a) (pos b) x.whole y.whole in cc
   one_limit text (qualifier.Repeats n) (limit.Repeats a) (limit.Within b) x y = absurd y
   one_limit text (qualifier.Repeats n) (limit.Repeats a) (limit.Between b d) x y = absurd y
   one_limit text (qualifier.Repeats n) (limit.Within a) b x y = absurd x
   one_limit text (qualifier.Repeats n) (limit.Between a c) b x y = absurd x
   one_limit text (qualifier.Between s from to) (limit.Between a c) (limit.Between b d) x y =
-      let e = at_one IsMomentText one_moment text from a b x.0 y.0 in
-      let g = at_one IsMomentText one_moment text to c d x.1 y.1 in
+      let e = at_one IsTimestampText one_timestamp text from a b x.0 y.0 in
+      let g = at_one IsTimestampText one_timestamp text to c d x.1 y.1 in
       cc
   one_limit text (qualifier.Between s from to) (limit.Between a c) (limit.Within b) x y = absurd y
   one_limit text (qualifier.Between s from to) (limit.Between a c) (limit.Repeats b) x y = absurd y

@@ -2,7 +2,7 @@
 use Rattle.std.specs.Prelude.{◌≡◌, ◌≢◌, ◌⊎◌, ℕ, true, false, List, [], ◌∷◌}
 use Rattle.pattern_tokens.specs.declared.token.Token.{Token}
 use Rattle.pattern_tokens.specs.declared.token.TokenKind.TheVariants as kind
-use Rattle.pattern_tokens.specs.Values.{IsWholeText, IsWordsText, IsHexText, IsBaseText, IsMomentText}
+use Rattle.pattern_tokens.specs.Values.{IsIntegerText, IsStringText, IsHexText, IsBinaryText, IsTimestampText}
 use Rattle.pattern_grammar.specs.declared.path.StepTree.{StepTree}
 use Rattle.pattern_grammar.specs.declared.path.StepTree.TheVariants.{Name, Index}
 use Rattle.pattern_grammar.specs.declared.path.PathTree.{PathTree}
@@ -29,7 +29,7 @@ Each R (x ∷ xs) [] = ⊥
 
 -- a name is a word, or what stands in quotes
 abbrev pub IsNameOf : List ℕ → Token → List ℕ → Type 0
-IsNameOf text token name = ((token.kind ≡ kind.Words) × At IsWordsText text token name) ⊎ ((token.kind ≢ kind.Words) × At IsItself text token name)
+IsNameOf text token name = ((token.kind ≡ kind.String) × At IsStringText text token name) ⊎ ((token.kind ≢ kind.String) × At IsItself text token name)
 
 abbrev pub IsStepOf : List ℕ → StepTree → Step → Type 0
 IsStepOf text (Name token) (step.Name name) = IsNameOf text token name
@@ -44,12 +44,12 @@ pub record IsPathOf (text : List ℕ) (tree : PathTree) (path : Path) : Type 0 w
   pub steps : Each (IsStepOf text) tree.steps path.steps
 
 abbrev pub IsConstantOf : List ℕ → Token → Constant → Type 0
-IsConstantOf text token (constant.Integer whole) = (token.kind ≡ kind.Number) × At IsWholeText text token whole
-IsConstantOf text token (constant.String words) = (token.kind ≡ kind.Words) × At IsWordsText text token words
+IsConstantOf text token (constant.Integer whole) = (token.kind ≡ kind.Number) × At IsIntegerText text token whole
+IsConstantOf text token (constant.String words) = (token.kind ≡ kind.String) × At IsStringText text token words
 IsConstantOf text token (constant.Boolean truth) = ((token.kind ≡ kind.TrueWord) × (truth ≡ true)) ⊎ ((token.kind ≡ kind.FalseWord) × (truth ≡ false))
 IsConstantOf text token (constant.Hex bytes) = (token.kind ≡ kind.Hex) × At IsHexText text token bytes
-IsConstantOf text token (constant.Binary bytes) = (token.kind ≡ kind.Base) × At IsBaseText text token bytes
-IsConstantOf text token (constant.Timestamp instant) = (token.kind ≡ kind.Time) × At IsMomentText text token instant
+IsConstantOf text token (constant.Binary bytes) = (token.kind ≡ kind.Binary) × At IsBinaryText text token bytes
+IsConstantOf text token (constant.Timestamp instant) = (token.kind ≡ kind.Timestamp) × At IsTimestampText text token instant
 
 -- what is asked of a value
 abbrev pub IsCheckOf : List ℕ → CheckTree → Check → Type 0
@@ -60,9 +60,9 @@ IsCheckOf text (check_tree.Compare operator token) (check.LessEqual value) = (op
 IsCheckOf text (check_tree.Compare operator token) (check.Greater value) = (operator.kind ≡ kind.Greater) × IsConstantOf text token value
 IsCheckOf text (check_tree.Compare operator token) (check.GreaterEqual value) = (operator.kind ≡ kind.GreaterEqual) × IsConstantOf text token value
 IsCheckOf text (check_tree.Among tokens) (check.Among values) = Each (IsConstantOf text) tokens values
-IsCheckOf text (check_tree.Textual operator token) (check.Like words) = (operator.kind ≡ kind.Like) × At IsWordsText text token words
-IsCheckOf text (check_tree.Textual operator token) (check.Subset words) = (operator.kind ≡ kind.Subset) × At IsWordsText text token words
-IsCheckOf text (check_tree.Textual operator token) (check.Superset words) = (operator.kind ≡ kind.Superset) × At IsWordsText text token words
+IsCheckOf text (check_tree.Textual operator token) (check.Like words) = (operator.kind ≡ kind.Like) × At IsStringText text token words
+IsCheckOf text (check_tree.Textual operator token) (check.Subset words) = (operator.kind ≡ kind.Subset) × At IsStringText text token words
+IsCheckOf text (check_tree.Textual operator token) (check.Superset words) = (operator.kind ≡ kind.Superset) × At IsStringText text token words
 IsCheckOf text check_tree.Exists check.Exists = Unit {0}
 IsCheckOf text _ _ = ⊥
 

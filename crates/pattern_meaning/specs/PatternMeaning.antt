@@ -1,6 +1,6 @@
 -- What the syntax tree of a pattern means.
 use Rattle.std.specs.Prelude.{ℕ, List}
-use Rattle.pattern_tokens.specs.Values.{IsMomentText}
+use Rattle.pattern_tokens.specs.Values.{IsTimestampText}
 use Rattle.pattern_tokens.specs.Spans.{At}
 use Rattle.pattern_tokens.specs.Numbers.{IsCount}
 use Rattle.pattern_grammar.specs.declared.qualifier.Qualifier.{Qualifier}
@@ -16,7 +16,7 @@ use Rattle.pattern_meaning.specs.LeafMeaning.{Means}
 abbrev pub IsLimitOf : List ℕ → Qualifier → Limit → Type 0
 IsLimitOf text (qualifier.Within number) (limit.Within seconds) = IsCount text number seconds
 IsLimitOf text (qualifier.Repeats number) (limit.Repeats times) = IsCount text number times
-IsLimitOf text (qualifier.Between start from to) (limit.Between begins ends) = At IsMomentText text from begins × At IsMomentText text to ends
+IsLimitOf text (qualifier.Between start from to) (limit.Between begins ends) = At IsTimestampText text from begins × At IsTimestampText text to ends
 IsLimitOf text _ _ = ⊥
 
 -- operators join what both sides mean, and qualifiers limit it, the last one outermost

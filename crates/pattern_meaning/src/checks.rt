@@ -14,7 +14,7 @@ use crate::paths::path_of;
 use flow_values::{NoMemory, Text};
 use match_cidr::read_block;
 use pattern_grammar::{CheckTree, TestTree};
-use pattern_tokens::{Token, TokenKind, one_meaning, words_at};
+use pattern_tokens::{Token, TokenKind, one_meaning, string_at};
 use pattern_types::{Check, Test};
 use std::alloc::Global;
 
@@ -61,7 +61,7 @@ fn textual_of(
     ensures { IfOk result (FindsExactly (IsSoundCheckOf text.now (CheckTree.Textual operator token))) }
 {
     one_meaning();
-    let Some(words) = words_at(alloc, text, token)? else {
+    let Some(words) = string_at(alloc, text, token)? else {
         return Ok(None);
     };
     match operator.kind {

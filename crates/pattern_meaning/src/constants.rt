@@ -4,7 +4,7 @@ ghost use Rattle.pattern_meaning.specs.Meaning.{IsConstantOf, Each};
 ghost use Rattle.pattern_types.specs.declared.constant.Constant.{Constant};
 
 use flow_values::{Items, NoMemory};
-use pattern_tokens::{Token, TokenKind, base_at, hex_at, moment_at, whole_at, words_at};
+use pattern_tokens::{Token, TokenKind, binary_at, hex_at, timestamp_at, integer_at, string_at};
 use pattern_types::Constant;
 use std::alloc::Global;
 
@@ -17,14 +17,14 @@ pub(crate) fn constant_of(
     ensures { IfOk result (λ found. FindsExactly (IsConstantOf text.now token) found) }
 {
     match token.kind {
-        TokenKind::Number => Ok(whole_at(text, token).map(|whole| Constant::Integer(whole))),
-        TokenKind::Time => match moment_at(text, token) {
+        TokenKind::Number => Ok(integer_at(text, token).map(|whole| Constant::Integer(whole))),
+        TokenKind::Timestamp => match timestamp_at(text, token) {
             Some(instant) => Ok(Some(Constant::Timestamp(instant))),
             None => Ok(None),
         },
         TokenKind::TrueWord => Ok(Some(Constant::Boolean(true))),
         TokenKind::FalseWord => Ok(Some(Constant::Boolean(false))),
-        TokenKind::Words => match words_at(alloc, text, token)? {
+        TokenKind::String => match string_at(alloc, text, token)? {
             Some(words) => Ok(Some(Constant::String(words))),
             None => Ok(None),
         },
@@ -32,7 +32,7 @@ pub(crate) fn constant_of(
             Some(bytes) => Ok(Some(Constant::Hex(bytes))),
             None => Ok(None),
         },
-        TokenKind::Base => match base_at(alloc, text, token)? {
+        TokenKind::Binary => match binary_at(alloc, text, token)? {
             Some(bytes) => Ok(Some(Constant::Binary(bytes))),
             None => Ok(None),
         },

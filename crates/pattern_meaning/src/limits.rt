@@ -5,7 +5,7 @@ ghost use Rattle.pattern_types.specs.declared.limit.Limit.{Limit};
 
 use crate::ValueRefusal;
 use pattern_grammar::Qualifier;
-use pattern_tokens::{Token, count_at, moment_at, one_meaning};
+use pattern_tokens::{Token, count_at, timestamp_at, one_meaning};
 use pattern_types::Limit;
 use stix_times::laws::is_before;
 
@@ -14,10 +14,10 @@ fn span_of(text: &str, start: Token, from: Token, to: Token) -> Option<Limit>
     ensures { FindsExactly (IsSoundLimitOf text.now (Qualifier.Between start from to)) result }
 {
     one_meaning();
-    let Some(begins) = moment_at(text, from) else {
+    let Some(begins) = timestamp_at(text, from) else {
         return None;
     };
-    let Some(ends) = moment_at(text, to) else {
+    let Some(ends) = timestamp_at(text, to) else {
         return None;
     };
     if is_before(begins, ends) {

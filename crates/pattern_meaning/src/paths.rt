@@ -10,7 +10,7 @@ use crate::ValueRefusal;
 use crate::outcomes::{both, with_next};
 use flow_values::{Items, NoMemory, Text};
 use pattern_grammar::{PathTree, StepTree};
-use pattern_tokens::{Token, TokenKind, place_at, text_of, words_at};
+use pattern_tokens::{Token, TokenKind, place_at, text_of, string_at};
 use pattern_types::{Path, Step};
 use std::alloc::Global;
 
@@ -21,8 +21,8 @@ const MOST_STEPS: usize = 16;
 fn name_of(alloc: Global, text: &str, token: Token) -> Result<Option<Text>, NoMemory>
     ensures { IfOk result (FindsExactly (IsNameOf text.now token)) }
 {
-    if token.kind == TokenKind::Words {
-        return words_at(alloc, text, token);
+    if token.kind == TokenKind::String {
+        return string_at(alloc, text, token);
     }
     match text_of(text, token) {
         Some(part) => {

@@ -2,7 +2,7 @@
 use Rattle.std.proofs.Common.{◌≡◌, ℕ, ◌<◌, ◌≤◌, List, length, Result, Ok, Err, refl, sym, ap, subst, ◌∙◌, arith}
 use Rattle.pattern_tokens.specs.declared.token.Token.{Token}
 use Rattle.pattern_tokens.specs.declared.refusal.TokenRefusal.{TokenRefusal}
-use Rattle.pattern_lexer.specs.Reading.{TokensOf, HasFault, Reads}
+use Rattle.pattern_lexer.specs.Reading.{TokensOf, HasRefusal, Reads}
 use Rattle.pattern_grammar.specs.declared.refusal.SyntaxRefusal.{SyntaxRefusal}
 use Rattle.pattern_grammar.specs.Tree.{Tree}
 use Rattle.pattern_grammar.specs.Grammar.{IsPattern}
@@ -52,7 +52,7 @@ same_err a b e = cc
 one_tokens : OneReading → (text : List ℕ) (a b : List Token) → TokensOf text a → TokensOf text b → a ≡ b
 one_tokens reading text a b x y = same_ok a b (reading text (Ok a) (Ok b) x y)
 
-no_fault : OneReading → (text : List ℕ) (a : List Token) (r : TokenRefusal) → TokensOf text a → HasFault text r → ⊥
+no_fault : OneReading → (text : List ℕ) (a : List Token) (r : TokenRefusal) → TokensOf text a → HasRefusal text r → ⊥
 no_fault reading text a r x y = let e = reading text (Ok a) (Err r) x y in cc
 
 -- trees

@@ -1,7 +1,7 @@
 -- Which pattern a text is read as, and why the others are refused.
 use Rattle.std.specs.Prelude.{◌<◌, ◌≤◌, ℕ, List, length}
 use Rattle.pattern_tokens.specs.declared.token.Token.{Token}
-use Rattle.pattern_lexer.specs.Reading.{TokensOf, HasFault}
+use Rattle.pattern_lexer.specs.Reading.{TokensOf, HasRefusal}
 use Rattle.pattern_grammar.specs.declared.refusal.SyntaxRefusal.{SyntaxRefusal}
 use Rattle.pattern_grammar.specs.Tree.{Tree}
 use Rattle.pattern_grammar.specs.Place.{IsTreeOf, IsMisread}
@@ -53,7 +53,7 @@ pub record IsWide (text : List ℕ) : Type 0 where
 -- its pattern
 abbrev pub IsRefusedAs : List ℕ → PatternRefusal → Type 0
 IsRefusedAs text TooLong = 65_536 < length text
-IsRefusedAs text (TokenRefused refusal) = IsShort text × HasFault text refusal
+IsRefusedAs text (TokenRefused refusal) = IsShort text × HasRefusal text refusal
 IsRefusedAs text (Syntax refusal) = IsShort text × IsUnspelled text refusal
 IsRefusedAs text (Value refusal) = IsShort text × IsFaulty text refusal
 IsRefusedAs text TooWide = IsShort text × IsWide text

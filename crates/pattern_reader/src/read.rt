@@ -13,7 +13,7 @@ use std::alloc::Global;
 const MAX_TEXT: usize = 65_536;
 
 /// Reads a pattern of STIX 2.1 (section 9), of at most 65,536 bytes; or tells the first reason why the
-/// text is none: TooLong; a fault of its tokens, from the left; Syntax or TooDeep, whichever stands
+/// text is none: TooLong; a refusal of its tokens, from the left; Syntax or TooDeep, whichever stands
 /// first; a value that is refused, by place; TooWide.
 pub fn read_pattern(alloc: Global, text: &str) -> Result<Pattern, PatternRefusal>
     ensures ok { IfOk result (IsReadAs text.now) }

@@ -13,7 +13,7 @@ use std::fmt;
 pub enum PatternRefusal {
     /// The text has more than 65,536 bytes.
     TooLong,
-    /// It isn't cut into tokens: the first fault from the left.
+    /// It isn't cut into tokens: the first refusal from the left.
     Token(TokenRefusal),
     /// Its tokens are no pattern's, or nest too deep: whichever stands first.
     Syntax(SyntaxRefusal),

@@ -1,9 +1,9 @@
 -- The table of tokens (STIX 2.1, section 9): which texts are tokens of a kind.
 use Rattle.std.specs.Prelude.{◌≡◌, ℕ, List, codes}
 use Rattle.pattern_tokens.specs.declared.token.TokenKind.{TokenKind}
-use Rattle.pattern_tokens.specs.declared.token.TokenKind.TheVariants.{SquareOpen, SquareClose, RoundOpen, RoundClose, Dot, Colon, Comma, Star, Equal, Differ, Less, LessEqual, Greater, GreaterEqual, And, Or, Not, FollowedBy, Within, Seconds, Repeats, Times, Start, Stop, Among, Like, Subset, Superset, Exists, TrueWord, FalseWord, Word, HyphenWord, Number, Words, Hex, Base, Time}
+use Rattle.pattern_tokens.specs.declared.token.TokenKind.TheVariants.{SquareOpen, SquareClose, RoundOpen, RoundClose, Dot, Colon, Comma, Star, Equal, Differ, Less, LessEqual, Greater, GreaterEqual, And, Or, Not, FollowedBy, Within, Seconds, Repeats, Times, Start, Stop, Among, Like, Subset, Superset, Exists, TrueWord, FalseWord, Word, HyphenWord, Number, String, Hex, Binary, Timestamp}
 use Rattle.pattern_tokens.specs.Word.{IsWord, IsHyphenWord}
-use Rattle.pattern_tokens.specs.Values.{IsNumberText, IsWordsText, IsLetteredText}
+use Rattle.pattern_tokens.specs.Values.{IsNumberText, IsStringText, IsLetteredText}
 
 -- the text is a token of this kind, whether or not it stands for something
 abbrev pub IsToken : TokenKind → List ℕ → Type 0
@@ -41,7 +41,7 @@ IsToken FalseWord text = text ≡ codes "false"
 IsToken Word text = IsWord text
 IsToken HyphenWord text = IsHyphenWord text
 IsToken Number text = IsNumberText text
-IsToken Words text = (words : List ℕ) × IsWordsText text words
+IsToken String text = (words : List ℕ) × IsStringText text words
 IsToken Hex text = (inside : List ℕ) × IsLetteredText (codes "h") text inside
-IsToken Base text = (inside : List ℕ) × IsLetteredText (codes "b") text inside
-IsToken Time text = (inside : List ℕ) × IsLetteredText (codes "t") text inside
+IsToken Binary text = (inside : List ℕ) × IsLetteredText (codes "b") text inside
+IsToken Timestamp text = (inside : List ℕ) × IsLetteredText (codes "t") text inside

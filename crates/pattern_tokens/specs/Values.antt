@@ -7,7 +7,7 @@ use Rattle.base64.specs.Engines.{standard}
 use Rattle.base64.specs.GeneralPurpose.{encode_of, IsBytes}
 use Rattle.stix_times.specs.Reading.{IsTextOf}
 use Rattle.pattern_tokens.specs.declared.token.TokenKind.{TokenKind}
-use Rattle.pattern_tokens.specs.declared.token.TokenKind.TheVariants.{Number, Words, Hex, Base, Time}
+use Rattle.pattern_tokens.specs.declared.token.TokenKind.TheVariants.{Number, String, Hex, Binary, Timestamp}
 
 -- Number = [ "+" | "-" ] digit { digit }
 abbrev pub IsNumberText : List ℕ → Type 0
@@ -22,7 +22,7 @@ abbrev pub FitsIn64Bits : ℤ → Type 0
 FitsIn64Bits whole = (neg_ℤ (pos 9_223_372_036_854_775_808) ≤ℤ whole) × (whole ≤ℤ pos 9_223_372_036_854_775_807)
 
 -- the Number is this one, in decimal
-pub record IsWholeText (text : List ℕ) (whole : ℤ) : Type 0 where
+pub record IsIntegerText (text : List ℕ) (whole : ℤ) : Type 0 where
   pub number : IsNumberText text
   pub plain : HasNoLeadingZero (without_leading_sign text)
   pub value : whole ≡ signed_digits_value 10 text
@@ -36,15 +36,15 @@ quoted letter inside = letter ++ codes "'" ++ inside ++ codes "'"
 abbrev pub escaped : ℕ → List ℕ
 escaped c = if c == 39 || c == 92 then 92 ∷ c ∷ [] else c ∷ []
 
--- Words = "'" { any character but "'" and "\" | "\'" | "\\" } "'"
-abbrev pub words_text : List ℕ → List ℕ
-words_text words = quoted [] (flat_map escaped words)
+-- String = "'" { any character but "'" and "\" | "\'" | "\\" } "'"
+abbrev pub string_text : List ℕ → List ℕ
+string_text words = quoted [] (flat_map escaped words)
 
--- the Words are these
-abbrev pub IsWordsText : List ℕ → List ℕ → Type 0
-IsWordsText text words = text ≡ words_text words
+-- the String are these
+abbrev pub IsStringText : List ℕ → List ℕ → Type 0
+IsStringText text words = text ≡ string_text words
 
--- Hex, Base, Time = ( "h" | "b" | "t" ) "'" { any character but "'" } "'"
+-- Hex, Binary, Timestamp = ( "h" | "b" | "t" ) "'" { any character but "'" } "'"
 pub record IsLetteredText (letter text inside : List ℕ) : Type 0 where
   pub spelled : text ≡ quoted letter inside
   pub unquoted : All (λ c. c ≢ 39) inside
@@ -53,19 +53,19 @@ pub record IsLetteredText (letter text inside : List ℕ) : Type 0 where
 abbrev pub IsHexText : List ℕ → List ℕ → Type 0
 IsHexText text bytes = (digits : List ℕ) × (text ≡ quoted (codes "h") digits) × (decode_of digits ≡ Ok bytes)
 
--- the Base is that of the bytes: their padded base64 (RFC 4648, section 4)
-abbrev pub IsBaseText : List ℕ → List ℕ → Type 0
-IsBaseText text bytes = IsBytes bytes × (text ≡ quoted (codes "b") (encode_of standard bytes))
+-- the Binary is that of the bytes: their padded base64 (RFC 4648, section 4)
+abbrev pub IsBinaryText : List ℕ → List ℕ → Type 0
+IsBinaryText text bytes = IsBytes bytes × (text ≡ quoted (codes "b") (encode_of standard bytes))
 
--- the Time is that of the instant
-abbrev pub IsMomentText : List ℕ → ℤ → Type 0
-IsMomentText text instant = (time : List ℕ) × (text ≡ quoted (codes "t") time) × IsTextOf time instant
+-- the Timestamp is that of the instant
+abbrev pub IsTimestampText : List ℕ → ℤ → Type 0
+IsTimestampText text instant = (time : List ℕ) × (text ≡ quoted (codes "t") time) × IsTextOf time instant
 
 -- the token of this kind stands for something
 abbrev pub HasValue : TokenKind → List ℕ → Type 0
-HasValue Number text = (whole : ℤ) × IsWholeText text whole
-HasValue Words text = (words : List ℕ) × IsWordsText text words
+HasValue Number text = (whole : ℤ) × IsIntegerText text whole
+HasValue String text = (words : List ℕ) × IsStringText text words
 HasValue Hex text = (bytes : List ℕ) × IsHexText text bytes
-HasValue Base text = (bytes : List ℕ) × IsBaseText text bytes
-HasValue Time text = (instant : ℤ) × IsMomentText text instant
+HasValue Binary text = (bytes : List ℕ) × IsBinaryText text bytes
+HasValue Timestamp text = (instant : ℤ) × IsTimestampText text instant
 HasValue _ text = Unit {0}

@@ -1,14 +1,14 @@
 ghost use Rattle.std.specs.Prelude.{ℕ, IfSome, IfNone};
 ghost use Rattle.pattern_tokens.specs.Numbers.{IsPlace, IsCount};
 
-use crate::{Token, whole_at};
+use crate::{Token, integer_at};
 
 /// The place in a list that the token stands for: 0 to 4294967295. Takes no memory.
 pub fn place_at(text: &str, token: Token) -> Option<u32>
     ensures some { IfSome result (IsPlace text.now token) }
     ensures none { IfNone result ((place : ℕ) → ¬ IsPlace text.now token place) }
 {
-    let Some(whole) = whole_at(text, token) else {
+    let Some(whole) = integer_at(text, token) else {
         return None;
     };
     u32::try_from(whole).ok()

@@ -1,9 +1,9 @@
 ghost use Rattle.std.specs.Prelude.{◌≡◌, ℕ, ℤ, List, IfOk, IfSome, IfNone};
 ghost use Rattle.flow_values.specs.Answers.{FindsExactly};
 ghost use Rattle.pattern_tokens.specs.Spans.{IsCut, text_at, At, IsItself};
-ghost use Rattle.pattern_tokens.specs.Values.{IsWholeText, IsWordsText, IsHexText, IsBaseText, IsMomentText};
+ghost use Rattle.pattern_tokens.specs.Values.{IsIntegerText, IsStringText, IsHexText, IsBinaryText, IsTimestampText};
 
-use crate::{Token, base_of, hex_of, moment_of, whole_of, words_of};
+use crate::{Token, binary_of, hex_of, timestamp_of, integer_of, string_of};
 use flow_values::{Items, NoMemory, Text};
 use std::alloc::Global;
 use stix_times::Instant;
@@ -23,27 +23,27 @@ pub fn text_of<'a>(text: &'a str, token: Token) -> Option<&'a str>
 }
 
 /// The whole number that the token stands for.
-pub fn whole_at(text: &str, token: Token) -> Option<i64>
-    ensures some { IfSome result (At IsWholeText text.now token) }
-    ensures none { IfNone result ((whole : ℤ) → ¬ At IsWholeText text.now token whole) }
+pub fn integer_at(text: &str, token: Token) -> Option<i64>
+    ensures some { IfSome result (At IsIntegerText text.now token) }
+    ensures none { IfNone result ((whole : ℤ) → ¬ At IsIntegerText text.now token whole) }
 {
-    whole_of(text_of(text, token)?)
+    integer_of(text_of(text, token)?)
 }
 
 /// The instant that the token stands for.
-pub fn moment_at(text: &str, token: Token) -> Option<Instant>
-    ensures some { IfSome result (At IsMomentText text.now token) }
-    ensures none { IfNone result ((instant : ℤ) → ¬ At IsMomentText text.now token instant) }
+pub fn timestamp_at(text: &str, token: Token) -> Option<Instant>
+    ensures some { IfSome result (At IsTimestampText text.now token) }
+    ensures none { IfNone result ((instant : ℤ) → ¬ At IsTimestampText text.now token instant) }
 {
-    moment_of(text_of(text, token)?)
+    timestamp_of(text_of(text, token)?)
 }
 
 /// The words that the token stands for.
-pub fn words_at(alloc: Global, text: &str, token: Token) -> Result<Option<Text>, NoMemory>
-    ensures { IfOk result (λ found. FindsExactly (At IsWordsText text.now token) found) }
+pub fn string_at(alloc: Global, text: &str, token: Token) -> Result<Option<Text>, NoMemory>
+    ensures { IfOk result (λ found. FindsExactly (At IsStringText text.now token) found) }
 {
     match text_of(text, token) {
-        Some(part) => words_of(alloc, part),
+        Some(part) => string_of(alloc, part),
         None => Ok(None),
     }
 }
@@ -58,12 +58,12 @@ pub fn hex_at(alloc: Global, text: &str, token: Token) -> Result<Option<Items<u8
     }
 }
 
-/// The bytes that the token, a Base, stands for.
-pub fn base_at(alloc: Global, text: &str, token: Token) -> Result<Option<Items<u8>>, NoMemory>
-    ensures { IfOk result (λ found. FindsExactly (At IsBaseText text.now token) found) }
+/// The bytes that the token, a Binary, stands for.
+pub fn binary_at(alloc: Global, text: &str, token: Token) -> Result<Option<Items<u8>>, NoMemory>
+    ensures { IfOk result (λ found. FindsExactly (At IsBinaryText text.now token) found) }
 {
     match text_of(text, token) {
-        Some(part) => base_of(alloc, part),
+        Some(part) => binary_of(alloc, part),
         None => Ok(None),
     }
 }

@@ -70,13 +70,13 @@ pub enum TokenKind {
     /// An integer, as `-5`.
     Number,
     /// A text in quotes, as `'a'`.
-    Words,
+    String,
     /// Bytes in hexadecimal digits, as `h'ff00'`.
     Hex,
     /// Bytes in base64, as `b'/w=='`.
-    Base,
+    Binary,
     /// A timestamp, as `t'2026-01-01T00:00:00Z'`.
-    Time,
+    Timestamp,
 }
 
 /// A token: its text is the slice of the source from `from` to before `to`.

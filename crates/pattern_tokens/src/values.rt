@@ -1,7 +1,7 @@
 ghost use Rattle.std.specs.Prelude.{◌≡◌, ◌≢◌, ◌++◌, ℕ, ℤ, List, codes, IfOk, IfSome, IfNone, IsTrue, ◌↔◌};
 ghost use Rattle.std.specs.Str.Parse.{without_leading_sign};
 ghost use Rattle.flow_values.specs.Answers.{FindsExactly};
-ghost use Rattle.pattern_tokens.specs.Values.{HasNoLeadingZero, IsWholeText, IsWordsText, IsHexText, IsBaseText, IsMomentText};
+ghost use Rattle.pattern_tokens.specs.Values.{HasNoLeadingZero, IsIntegerText, IsStringText, IsHexText, IsBinaryText, IsTimestampText};
 
 use crate::unescape::unescaped;
 use base64::DecodeAllocError;
@@ -12,9 +12,9 @@ use std::alloc::Global;
 use stix_times::Instant;
 
 /// The number of a Number's text, where it has no leading zero and fits 64 bits. Takes no memory.
-pub fn whole_of(text: &str) -> Option<i64>
-    ensures some { IfSome result (IsWholeText text.now) }
-    ensures none { IfNone result ((whole : ℤ) → ¬ IsWholeText text.now whole) }
+pub fn integer_of(text: &str) -> Option<i64>
+    ensures some { IfSome result (IsIntegerText text.now) }
+    ensures none { IfNone result ((whole : ℤ) → ¬ IsIntegerText text.now whole) }
 {
     if has_leading_zero(text) {
         return None;
@@ -22,9 +22,9 @@ pub fn whole_of(text: &str) -> Option<i64>
     text.parse::<i64>().ok()
 }
 
-/// The text of a Words' text, without the quotes and the backslashes before `'` and `\`.
-pub fn words_of(alloc: Global, text: &str) -> Result<Option<Text>, NoMemory>
-    ensures { IfOk result (λ words. FindsExactly (IsWordsText text.now) words) }
+/// The text of a String' text, without the quotes and the backslashes before `'` and `\`.
+pub fn string_of(alloc: Global, text: &str) -> Result<Option<Text>, NoMemory>
+    ensures { IfOk result (λ words. FindsExactly (IsStringText text.now) words) }
 {
     match inside(text, "'") {
         Some(inside) => unescaped(alloc, inside),
@@ -46,9 +46,9 @@ pub fn hex_of(alloc: Global, text: &str) -> Result<Option<Items<u8>>, NoMemory>
     }
 }
 
-/// The bytes of a Base's text, where it is standard padded base64.
-pub fn base_of(alloc: Global, text: &str) -> Result<Option<Items<u8>>, NoMemory>
-    ensures { IfOk result (λ bytes. FindsExactly (IsBaseText text.now) bytes) }
+/// The bytes of a Binary's text, where it is standard padded base64.
+pub fn binary_of(alloc: Global, text: &str) -> Result<Option<Items<u8>>, NoMemory>
+    ensures { IfOk result (λ bytes. FindsExactly (IsBinaryText text.now) bytes) }
 {
     let Some(symbols) = inside(text, "b'") else {
         return Ok(None);
@@ -60,10 +60,10 @@ pub fn base_of(alloc: Global, text: &str) -> Result<Option<Items<u8>>, NoMemory>
     }
 }
 
-/// The instant of a Time's text, where it names one. Takes no memory.
-pub fn moment_of(text: &str) -> Option<Instant>
-    ensures some { IfSome result (IsMomentText text.now) }
-    ensures none { IfNone result ((instant : ℤ) → ¬ IsMomentText text.now instant) }
+/// The instant of a Timestamp's text, where it names one. Takes no memory.
+pub fn timestamp_of(text: &str) -> Option<Instant>
+    ensures some { IfSome result (IsTimestampText text.now) }
+    ensures none { IfNone result ((instant : ℤ) → ¬ IsTimestampText text.now instant) }
 {
     let time = inside(text, "t'")?;
     stix_times::read(time).ok()

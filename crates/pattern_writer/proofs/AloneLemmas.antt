@@ -6,9 +6,9 @@ use Rattle.std.specs.Str.Parse.{IsNumeral, AllDigits}
 use Rattle.std.proofs.lemmas.Bool.Decides.{eqb_tells}
 use Rattle.std.proofs.lemmas.Str.Parse.{digit_at}
 use Rattle.pattern_tokens.specs.declared.token.TokenKind.{TokenKind}
-use Rattle.pattern_tokens.specs.declared.token.TokenKind.TheVariants.{SquareOpen, SquareClose, RoundOpen, RoundClose, Dot, Colon, Comma, Star, Equal, Differ, Less, LessEqual, Greater, GreaterEqual, And, Or, Not, FollowedBy, Within, Seconds, Repeats, Times, Start, Stop, Among, Like, Subset, Superset, Exists, TrueWord, FalseWord, Word, HyphenWord, Number, Words, Hex, Base, Time}
+use Rattle.pattern_tokens.specs.declared.token.TokenKind.TheVariants.{SquareOpen, SquareClose, RoundOpen, RoundClose, Dot, Colon, Comma, Star, Equal, Differ, Less, LessEqual, Greater, GreaterEqual, And, Or, Not, FollowedBy, Within, Seconds, Repeats, Times, Start, Stop, Among, Like, Subset, Superset, Exists, TrueWord, FalseWord, Word, HyphenWord, Number, String, Hex, Binary, Timestamp}
 use Rattle.pattern_tokens.specs.Word.{IsWordStart, IsHyphenWordPart, HasAt}
-use Rattle.pattern_tokens.specs.Values.{IsNumberText, quoted, escaped, words_text}
+use Rattle.pattern_tokens.specs.Values.{IsNumberText, quoted, escaped, string_text}
 use Rattle.pattern_tokens.specs.Table.{IsToken}
 use Rattle.pattern_writer.proofs.LongestLemmas.{IsSigned, signed}
 
@@ -22,7 +22,7 @@ pub data Opens : List ℕ → Type 0 where
   nothing : Opens []
   mark : (b : ℕ) → b ≢ 39 → Opens (b ∷ [])
   letters : (b : ℕ) (r : List ℕ) → b ≢ 39 → ¬ IsAlone b → get_or r 0 0 ≢ 39 → Opens (b ∷ r)
-  words : (w : List ℕ) → Opens (words_text w)
+  words : (w : List ℕ) → Opens (string_text w)
   lettered : (l : ℕ) (inside : List ℕ) → (l ≡ 104) ⊎ ((l ≡ 98) ⊎ (l ≡ 116)) → All (λ c. c ≢ 39) inside → Opens (quoted (l ∷ []) inside)
 
 letter_alone : (b : ℕ) → 58 < b → b ≢ 91 → ¬ IsAlone b
@@ -155,10 +155,10 @@ opens FalseWord text h = opens_as (codes "false") text refl h
 opens Word text h = opens_word text h.starts (λ k d b. inl (h.parts k d b))
 opens HyphenWord text h = opens_word text h.starts h.parts
 opens Number text h = opens_number text h
-opens Words text h = subst Opens (sym h.1) (words h.0)
+opens String text h = subst Opens (sym h.1) (words h.0)
 opens Hex text h = subst Opens (sym h.1.spelled) (lettered 104 h.0 (inl refl) h.1.unquoted)
-opens Base text h = subst Opens (sym h.1.spelled) (lettered 98 h.0 (inr (inl refl)) h.1.unquoted)
-opens Time text h = subst Opens (sym h.1.spelled) (lettered 116 h.0 (inr (inr refl)) h.1.unquoted)
+opens Binary text h = subst Opens (sym h.1.spelled) (lettered 98 h.0 (inr (inl refl)) h.1.unquoted)
+opens Timestamp text h = subst Opens (sym h.1.spelled) (lettered 116 h.0 (inr (inr refl)) h.1.unquoted)
 
 -- a mark ends by itself
 alone_front : (m : ℕ) (after whole more : List ℕ) → IsAlone m → m ∷ after ≡ whole ++ more → Opens whole → length whole ≤ 1
@@ -244,14 +244,14 @@ same_inside (c ∷ v) (d ∷ w) a b h k e =
     let g : v ≡ w = same_inside v w a b (λ i x l. h (suc i) x (omega arith)) (λ i x l. k (suc i) x (omega arith)) (cc) in
     cc
 
-words_front : (w after whole more : List ℕ) → words_text w ++ after ≡ whole ++ more → Opens whole → length whole ≤ length (words_text w)
+words_front : (w after whole more : List ℕ) → string_text w ++ after ≡ whole ++ more → Opens whole → length whole ≤ length (string_text w)
 words_front w after whole more e nothing = omega arith
 words_front w after whole more e (mark b q) = absurd (q (cc))
 words_front w after whole more e (letters b r q n s) = absurd (q (cc))
 words_front w after whole more e (words v) =
     let f = closed (flat_map escaped w) (flat_map escaped v) after more (rests 39 39 _ _ e) in
     let g : w ≡ v = same_words w v after more f in
-    subst (λ (x : List ℕ). length (words_text x) ≤ length (words_text w)) g (omega arith)
+    subst (λ (x : List ℕ). length (string_text x) ≤ length (string_text w)) g (omega arith)
 words_front w after whole more e (lettered l inside h u) = absurd (letter h)
   where
     first : l ≡ 39
@@ -262,7 +262,7 @@ words_front w after whole more e (lettered l inside h u) = absurd (letter h)
     letter (inr (inl g)) = omega (arith, first)
     letter (inr (inr g)) = omega (arith, first)
 
-pub longest_words : (w after : List ℕ) (other : TokenKind) (whole more : List ℕ) → words_text w ++ after ≡ whole ++ more → IsToken other whole → length whole ≤ length (words_text w)
+pub longest_words : (w after : List ℕ) (other : TokenKind) (whole more : List ℕ) → string_text w ++ after ≡ whole ++ more → IsToken other whole → length whole ≤ length (string_text w)
 longest_words w after other whole more e h = words_front w after whole more e (opens other whole h)
 
 lettered_front : (l : ℕ) (inside after whole more : List ℕ) → l ≢ 39 → All (λ c. c ≢ 39) inside → quoted (l ∷ []) inside ++ after ≡ whole ++ more → Opens whole → length whole ≤ length (quoted (l ∷ []) inside)

@@ -28,7 +28,7 @@ root_flat _ e = absurd (cc)
 
 name_flat : (k : TokenKind) → is_name k ≡ true → is_flat k ≡ true
 name_flat kind.Word e = refl
-name_flat kind.Words e = refl
+name_flat kind.String e = refl
 name_flat _ e = absurd (cc)
 
 index_flat : (k : TokenKind) → is_index k ≡ true → is_flat k ≡ true
@@ -56,18 +56,18 @@ textual_flat _ e = absurd (cc)
 
 ordered_flat : (k : TokenKind) → is_ordered k ≡ true → is_flat k ≡ true
 ordered_flat kind.Number e = refl
-ordered_flat kind.Words e = refl
+ordered_flat kind.String e = refl
 ordered_flat kind.Hex e = refl
-ordered_flat kind.Base e = refl
-ordered_flat kind.Time e = refl
+ordered_flat kind.Binary e = refl
+ordered_flat kind.Timestamp e = refl
 ordered_flat _ e = absurd (cc)
 
 constant_flat : (k : TokenKind) → is_constant k ≡ true → is_flat k ≡ true
 constant_flat kind.Number e = refl
-constant_flat kind.Words e = refl
+constant_flat kind.String e = refl
 constant_flat kind.Hex e = refl
-constant_flat kind.Base e = refl
-constant_flat kind.Time e = refl
+constant_flat kind.Binary e = refl
+constant_flat kind.Timestamp e = refl
 constant_flat kind.TrueWord e = refl
 constant_flat kind.FalseWord e = refl
 constant_flat _ e = absurd (cc)
@@ -89,12 +89,12 @@ pub check_measured : {ts : List Token} {c : CheckTree} → IsCheck ts c → Meas
 check_measured (check_equality a b h k) = flats (a ∷ b ∷ []) (equality_flat a.kind h, (constant_flat b.kind k, tt))
 check_measured (check_order a b h k) = flats (a ∷ b ∷ []) (order_flat a.kind h, (ordered_flat b.kind k, tt))
 check_measured (check_among a b c {ts = ts} h k x l) = among a b c ts h k l (constants_flat x)
-check_measured (check_textual a b h k) = flats (a ∷ b ∷ []) (textual_flat a.kind h, (only_flat kind.Words b.kind k refl, tt))
+check_measured (check_textual a b h k) = flats (a ∷ b ∷ []) (textual_flat a.kind h, (only_flat kind.String b.kind k refl, tt))
 
 pub qualifier_measured : {ts : List Token} {q : Qualifier} → IsQualifier ts q → Measured ts 0 1
 qualifier_measured (qualifier_within a b c h k l) = qualifying kind.Within a (b ∷ c ∷ []) h refl refl (only_flat kind.Number b.kind k refl, (only_flat kind.Seconds c.kind l refl, tt))
 qualifier_measured (qualifier_repeats a b c h k l) = qualifying kind.Repeats a (b ∷ c ∷ []) h refl refl (only_flat kind.Number b.kind k refl, (only_flat kind.Times c.kind l refl, tt))
-qualifier_measured (qualifier_between a b c d h k l m) = qualifying kind.Start a (b ∷ c ∷ d ∷ []) h refl refl (only_flat kind.Time b.kind k refl, (only_flat kind.Stop c.kind l refl, (only_flat kind.Time d.kind m refl, tt)))
+qualifier_measured (qualifier_between a b c d h k l m) = qualifying kind.Start a (b ∷ c ∷ d ∷ []) h refl refl (only_flat kind.Timestamp b.kind k refl, (only_flat kind.Stop c.kind l refl, (only_flat kind.Timestamp d.kind m refl, tt)))
 
 -- how many parentheses the canonical text opens at once: one more for what binds less tightly than is asked
 abbrev pub wrapped : ℕ → ℕ → ℕ → ℕ

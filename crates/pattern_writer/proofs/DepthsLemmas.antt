@@ -15,7 +15,7 @@ use Rattle.pattern_grammar.specs.Depth.{how_many, EndsWithIn, IsDeepOpen, NoneTo
 
 -- tokens of one kind
 table : List TokenKind
-table = kind.SquareOpen ∷ kind.SquareClose ∷ kind.RoundOpen ∷ kind.RoundClose ∷ kind.Dot ∷ kind.Colon ∷ kind.Comma ∷ kind.Star ∷ kind.Equal ∷ kind.Differ ∷ kind.Less ∷ kind.LessEqual ∷ kind.Greater ∷ kind.GreaterEqual ∷ kind.And ∷ kind.Or ∷ kind.Not ∷ kind.FollowedBy ∷ kind.Within ∷ kind.Seconds ∷ kind.Repeats ∷ kind.Times ∷ kind.Start ∷ kind.Stop ∷ kind.Among ∷ kind.Like ∷ kind.Subset ∷ kind.Superset ∷ kind.Exists ∷ kind.TrueWord ∷ kind.FalseWord ∷ kind.Word ∷ kind.HyphenWord ∷ kind.Number ∷ kind.Words ∷ kind.Hex ∷ kind.Base ∷ kind.Time ∷ []
+table = kind.SquareOpen ∷ kind.SquareClose ∷ kind.RoundOpen ∷ kind.RoundClose ∷ kind.Dot ∷ kind.Colon ∷ kind.Comma ∷ kind.Star ∷ kind.Equal ∷ kind.Differ ∷ kind.Less ∷ kind.LessEqual ∷ kind.Greater ∷ kind.GreaterEqual ∷ kind.And ∷ kind.Or ∷ kind.Not ∷ kind.FollowedBy ∷ kind.Within ∷ kind.Seconds ∷ kind.Repeats ∷ kind.Times ∷ kind.Start ∷ kind.Stop ∷ kind.Among ∷ kind.Like ∷ kind.Subset ∷ kind.Superset ∷ kind.Exists ∷ kind.TrueWord ∷ kind.FalseWord ∷ kind.Word ∷ kind.HyphenWord ∷ kind.Number ∷ kind.String ∷ kind.Hex ∷ kind.Binary ∷ kind.Timestamp ∷ []
 
 code-read : (k : TokenKind) → get_or table (code k) kind.Dot ≡ k
 unfolding table

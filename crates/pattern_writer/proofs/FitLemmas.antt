@@ -53,12 +53,12 @@ FitConstant (Timestamp instant) = Unit {0}
 -- the kind of a constant's token
 abbrev pub kind_of : Constant → TokenKind
 kind_of (Integer whole) = kind.Number
-kind_of (String words) = kind.Words
+kind_of (String words) = kind.String
 kind_of (Boolean true) = kind.TrueWord
 kind_of (Boolean false) = kind.FalseWord
 kind_of (Hex bytes) = kind.Hex
-kind_of (Binary bytes) = kind.Base
-kind_of (Timestamp instant) = kind.Time
+kind_of (Binary bytes) = kind.Binary
+kind_of (Timestamp instant) = kind.Timestamp
 
 -- truths have no order
 abbrev pub FitOrdered : Constant → Type 0

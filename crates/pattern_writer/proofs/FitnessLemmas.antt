@@ -80,8 +80,8 @@ fit_path whole ts p path h x m =
     }
 
 -- constants
-same_symbols : (k : TokenKind) (text symbols : List ℕ) → k ≡ kind.Base → IsToken k text → text ≡ quoted (codes "b") symbols → All (λ c. c ≢ 39) symbols
-same_symbols kind.Base text symbols e h f =
+same_symbols : (k : TokenKind) (text symbols : List ℕ) → k ≡ kind.Binary → IsToken k text → text ≡ quoted (codes "b") symbols → All (λ c. c ≢ 39) symbols
+same_symbols kind.Binary text symbols e h f =
     let spelled = h.1.spelled in
     let g : h.0 ++ 39 ∷ [] ≡ symbols ++ 39 ∷ [] = rests 39 39 _ _ (rests 98 98 _ _ (sym spelled ∙ f)) in
     subst (All (λ c. c ≢ 39)) (append_cancel_right h.0 symbols (39 ∷ []) g) h.1.unquoted

@@ -5,9 +5,9 @@ use Rattle.std.specs.Str.Parse.{IsNumeral, AllDigits}
 use Rattle.std.proofs.lemmas.Bool.Decides.{nat_tests, leb_tells}
 use Rattle.std.proofs.lemmas.Str.Parse.{digit_at}
 use Rattle.pattern_tokens.specs.declared.token.TokenKind.{TokenKind}
-use Rattle.pattern_tokens.specs.declared.token.TokenKind.TheVariants.{SquareOpen, SquareClose, RoundOpen, RoundClose, Dot, Colon, Comma, Star, Equal, Differ, Less, LessEqual, Greater, GreaterEqual, And, Or, Not, FollowedBy, Within, Seconds, Repeats, Times, Start, Stop, Among, Like, Subset, Superset, Exists, TrueWord, FalseWord, Word, HyphenWord, Number, Words, Hex, Base, Time}
+use Rattle.pattern_tokens.specs.declared.token.TokenKind.TheVariants.{SquareOpen, SquareClose, RoundOpen, RoundClose, Dot, Colon, Comma, Star, Equal, Differ, Less, LessEqual, Greater, GreaterEqual, And, Or, Not, FollowedBy, Within, Seconds, Repeats, Times, Start, Stop, Among, Like, Subset, Superset, Exists, TrueWord, FalseWord, Word, HyphenWord, Number, String, Hex, Binary, Timestamp}
 use Rattle.pattern_tokens.specs.Word.{IsWordPart, IsHyphenWordPart}
-use Rattle.pattern_tokens.specs.Values.{IsNumberText, IsLetteredText, words_text}
+use Rattle.pattern_tokens.specs.Values.{IsNumberText, IsLetteredText, string_text}
 use Rattle.pattern_tokens.specs.Table.{IsToken}
 
 -- a byte that goes on no token but one in quotes
@@ -133,7 +133,7 @@ not_lettered l [] c r inside some plain stop h = absurd (omega arith)
 not_lettered l (x ∷ []) c r inside some plain stop h = let e = h.spelled in stop.quote (cc)
 not_lettered l (x ∷ y ∷ text) c r inside some plain stop h = let e = h.spelled in plain 1 0 (omega arith) (cc)
 
-not_words : (text : List ℕ) (c : ℕ) (r words : List ℕ) → 0 < length text → All (λ b. b ≢ 39) text → text ++ c ∷ r ≡ words_text words → ⊥
+not_words : (text : List ℕ) (c : ℕ) (r words : List ℕ) → 0 < length text → All (λ b. b ≢ 39) text → text ++ c ∷ r ≡ string_text words → ⊥
 not_words [] c r words some plain h = absurd (omega arith)
 not_words (x ∷ text) c r words some plain h = plain 0 0 (omega arith) (cc)
 
@@ -173,10 +173,10 @@ no_token FalseWord text c r some plain stop h = not_literal (codes "false") refl
 no_token Word text c r some plain stop h = stop.part (inl (subst IsWordPart (at_length text c 0 r) (h.parts (length text) 0 (longer_by_one text c r))))
 no_token HyphenWord text c r some plain stop h = stop.part (subst IsHyphenWordPart (at_length text c 0 r) (h.parts (length text) 0 (longer_by_one text c r)))
 no_token Number text c r some plain stop h = not_number text c r some stop h
-no_token Words text c r some plain stop h = not_words text c r h.0 some plain h.1
+no_token String text c r some plain stop h = not_words text c r h.0 some plain h.1
 no_token Hex text c r some plain stop h = not_lettered 104 text c r h.0 some plain stop h.1
-no_token Base text c r some plain stop h = not_lettered 98 text c r h.0 some plain stop h.1
-no_token Time text c r some plain stop h = not_lettered 116 text c r h.0 some plain stop h.1
+no_token Binary text c r some plain stop h = not_lettered 98 text c r h.0 some plain stop h.1
+no_token Timestamp text c r some plain stop h = not_lettered 116 text c r h.0 some plain stop h.1
 
 -- a longer front of one list goes on with what follows the shorter
 pub data Longer (text after : List ℕ) : List ℕ → Type 0 where

@@ -9,7 +9,7 @@ use Rattle.std.proofs.lemmas.Bool.Decides.{nat_tests}
 use Rattle.std.proofs.lemmas.Int.{ints}
 use Rattle.std.proofs.lemmas.List.{get_or_default}
 use Rattle.std.proofs.lemmas.List.Elements.{All-cons}
-use Rattle.pattern_tokens.specs.Values.{HasNoLeadingZero, FitsIn64Bits, IsWholeText}
+use Rattle.pattern_tokens.specs.Values.{HasNoLeadingZero, FitsIn64Bits, IsIntegerText}
 
 -- digits have no sign
 unsigned : (ds : List ℕ) → IsNumeral 10 ds → (starts_with_minus ds ≡ false) × (without_leading_sign ds ≡ ds)
@@ -35,20 +35,20 @@ numeral n h = (decimal_is_IsNumeral n h).0
 value_from : (ds : List ℕ) (n : ℕ) → starts_with_minus ds ≡ false → without_leading_sign ds ≡ ds → digits_value 10 ds ≡ n → pos n ≡ signed_digits_value 10 ds
 value_from ds n p q e = rw (q, p, e) refl
 
-whole_pos : (n : ℕ) → n < 2 ^ 64 → FitsIn64Bits (pos n) → IsWholeText (decimal n) (pos n)
+whole_pos : (n : ℕ) → n < 2 ^ 64 → FitsIn64Bits (pos n) → IsIntegerText (decimal n) (pos n)
 whole_pos n h fits =
     let d = decimal_is_IsNumeral n h in
     let u = unsigned (decimal n) d.0 in
     record { number = rw u.1 d.0; plain = rw u.1 (plain n h); value = value_from (decimal n) n u.0 u.1 d.1; fits = fits }
 
-pub whole_text : (z : ℤ) → FitsIn64Bits z → IsWholeText (signed_decimal z) z
+pub whole_text : (z : ℤ) → FitsIn64Bits z → IsIntegerText (signed_decimal z) z
 whole_text (pos n) h = whole_pos n (omega (arith, ints, h.1)) h
 whole_text (negsuc n) h =
     let small : suc n < 2 ^ 64 = omega (arith, ints, h.0) in
     let d = decimal_is_IsNumeral (suc n) small in
     record { number = d.0; plain = plain (suc n) small; value = ap (λ (x : ℕ). neg_ℤ (pos x)) (sym d.1); fits = h }
 
-pub count_text : (n : ℕ) → n ≤ 4_294_967_295 → IsWholeText (decimal n) (pos n)
+pub count_text : (n : ℕ) → n ≤ 4_294_967_295 → IsIntegerText (decimal n) (pos n)
 count_text n h = whole_pos n (omega arith) (omega (arith, ints), omega (arith, ints))
 
 -- a number has no quote, and begins with a digit or `-`

@@ -23,8 +23,8 @@ use Rattle.pattern_writer.specs.Leaf.{binds, IsFormulaText, AreTextsOf}
 use Rattle.pattern_writer.specs.Limit.{IsLimitText}
 use Rattle.pattern_writer.specs.Canonical.{level, IsCanonical}
 
-abbrev pub OneMoment : Type 0
-OneMoment = (a b : List ℕ) (i : ℤ) → IsCanonicalTextOf a i → IsCanonicalTextOf b i → a ≡ b
+abbrev pub OneTimestamp : Type 0
+OneTimestamp = (a b : List ℕ) (i : ℤ) → IsCanonicalTextOf a i → IsCanonicalTextOf b i → a ≡ b
 
 -- one text at most is such
 abbrev One : (List ℕ → Type 0) → Type 0
@@ -76,10 +76,10 @@ steps (s ∷ ss) = sides (IsFirstText s) [] (AreJoined [] IsStepText ss) (first 
 path : (p : Path) → One (IsPathText p)
 path p = after (p.kind ++ codes ":") (AreStepsText p.steps) (steps p.steps)
 
-time : OneMoment → (i : ℤ) → One (IsTimeText i)
+time : OneTimestamp → (i : ℤ) → One (IsTimeText i)
 time u i a b h k = h.2 ∙ ap (quoted (codes "t")) (u h.0 k.0 i h.1 k.1) ∙ sym k.2
 
-constant : OneMoment → (c : Constant) → One (IsConstantText c)
+constant : OneTimestamp → (c : Constant) → One (IsConstantText c)
 constant u (Integer z) = λ a b h k. h ∙ sym k
 constant u (String w) = λ a b h k. h ∙ sym k
 constant u (Boolean t) = λ a b h k. h ∙ sym k
@@ -90,7 +90,7 @@ constant u (Timestamp i) = time u i
 words : (w : List ℕ) → One (AreWords w)
 words w a b h k = h ∙ sym k
 
-checked : OneMoment → (p : Path) (negated : Bool) (c : Check) → One (IsCheckedText p negated c)
+checked : OneTimestamp → (p : Path) (negated : Bool) (c : Check) → One (IsCheckedText p negated c)
 checked u p negated (check.Equal v) = sides (IsPathText p) (operator_text negated (codes "=")) (IsConstantText v) (path p) (constant u v)
 checked u p negated (check.Differ v) = sides (IsPathText p) (operator_text negated (codes "!=")) (IsConstantText v) (path p) (constant u v)
 checked u p negated (check.Less v) = sides (IsPathText p) (operator_text negated (codes "<")) (IsConstantText v) (path p) (constant u v)
@@ -104,12 +104,12 @@ checked u p negated (check.Superset w) = sides (IsPathText p) (operator_text neg
 checked u p negated check.Exists = after (not_text negated ++ codes "EXISTS ") (IsPathText p) (path p)
 
 mutual
-  plain_leaf : OneMoment → (f : PlainLeaf) → One (IsFormulaText f)
+  plain_leaf : OneTimestamp → (f : PlainLeaf) → One (IsFormulaText f)
   plain_leaf u (one t) = checked u t.path t.negated t.check
   plain_leaf u (every fs) = λ a b h k. h.2 ∙ ap (joined (codes " AND ")) (parts u fs 2 h.0 k.0 h.1 k.1) ∙ sym k.2
   plain_leaf u (some fs) = λ a b h k. h.2 ∙ ap (joined (codes " OR ")) (parts u fs 1 h.0 k.0 h.1 k.1) ∙ sym k.2
 
-  parts : OneMoment → (fs : PlainLeaves) (least : ℕ) (ts us : List (List ℕ)) → AreTextsOf fs least ts → AreTextsOf fs least us → ts ≡ us
+  parts : OneTimestamp → (fs : PlainLeaves) (least : ℕ) (ts us : List (List ℕ)) → AreTextsOf fs least ts → AreTextsOf fs least us → ts ≡ us
   parts u none least [] [] h k = refl
   parts u none least [] (y ∷ ys) h k = absurd k
   parts u none least (x ∷ xs) us h k = absurd h
@@ -120,12 +120,12 @@ mutual
       let g = parts u fs least xs ys h.1 k.1 in
       ap (λ (z : List ℕ). z ∷ xs) e ∙ ap (λ (zs : List (List ℕ)). y ∷ zs) g
 
-limit : OneMoment → (l : Limit) → One (IsLimitText l)
+limit : OneTimestamp → (l : Limit) → One (IsLimitText l)
 limit u (Within n) = λ a b h k. h ∙ sym k
 limit u (Repeats n) = λ a b h k. h ∙ sym k
 limit u (Between i j) = sides (IsAfter (codes "START ") (IsTimeText i)) (codes " STOP ") (IsTimeText j) (after (codes "START ") (IsTimeText i) (time u i)) (time u j)
 
-pub canonical_once : OneMoment → (m : PlainPattern) → One (IsCanonical m)
+pub canonical_once : OneTimestamp → (m : PlainPattern) → One (IsCanonical m)
 canonical_once u (a_leaf f) = between (codes "[") (codes "]") (IsFormulaText f) (plain_leaf u f)
 canonical_once u (a_both m n) = sides (IsWithin 2 (level m) (IsCanonical m)) (codes " AND ") (IsWithin 3 (level n) (IsCanonical n)) (within 2 (level m) (IsCanonical m) (canonical_once u m)) (within 3 (level n) (IsCanonical n) (canonical_once u n))
 canonical_once u (an_either m n) = sides (IsWithin 1 (level m) (IsCanonical m)) (codes " OR ") (IsWithin 2 (level n) (IsCanonical n)) (within 1 (level m) (IsCanonical m) (canonical_once u m)) (within 2 (level n) (IsCanonical n) (canonical_once u n))

@@ -4,7 +4,7 @@ use Rattle.std.specs.Prelude.{codes, decimal, flat_map}
 use Rattle.pattern_tokens.specs.declared.token.Token.{Token}
 use Rattle.pattern_tokens.specs.declared.token.TokenKind.TheVariants as kind
 use Rattle.pattern_tokens.specs.Word.{IsHyphenWordPart}
-use Rattle.pattern_tokens.specs.Values.{IsWholeText}
+use Rattle.pattern_tokens.specs.Values.{IsIntegerText}
 use Rattle.pattern_tokens.specs.Spans.{At, IsItself}
 use Rattle.pattern_grammar.specs.declared.class.TokenClass.TheVariants.{Only, Root, Name, Index}
 use Rattle.pattern_grammar.specs.declared.path.StepTree.{StepTree}
@@ -106,7 +106,7 @@ further_step (step.Name n) text fit h =
     (pair (IsOne (Only kind.Dot)) (IsOne Name) (λ (whole : List ℕ) (t : Token). Stands whole t kind.Dot (codes ".")) (λ (whole : List ℕ) (t : Token). IsNameOf whole t n) Anything Stops (codes ".") h.0 (λ after e. tt) dot (name n h.0 h.1)))
 further_step (step.Place p) text fit h =
     as_text (sym h) (in_brackets (step.Place p) (decimal p) (λ (whole : List ℕ) (t : Token). Stands whole t kind.Number (decimal p))
-    (λ whole t m. (m.kind, record { whole = at IsWholeText whole t kind.Number (decimal p) (pos p) m (count_text p fit); high = fit }))
+    (λ whole t m. (m.kind, record { whole = at IsIntegerText whole t kind.Number (decimal p) (pos p) m (count_text p fit); high = fit }))
     (number Index (pos p) (decimal p) refl (count_text p fit) (count_shape p (omega arith))))
 further_step step.Each text fit h =
     as_text (sym h) (in_brackets step.Each (codes "*") (λ (whole : List ℕ) (t : Token). Stands whole t kind.Star (codes "*")) (λ whole t m. m.kind)

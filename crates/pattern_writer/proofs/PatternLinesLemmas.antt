@@ -5,7 +5,7 @@ use Rattle.pattern_tokens.specs.declared.token.Token.{Token}
 use Rattle.pattern_tokens.specs.declared.token.TokenKind.{TokenKind}
 use Rattle.pattern_tokens.specs.declared.token.TokenKind.TheVariants as kind
 use Rattle.pattern_tokens.specs.Numbers.{IsCount}
-use Rattle.pattern_tokens.specs.Values.{IsWholeText, IsMomentText}
+use Rattle.pattern_tokens.specs.Values.{IsIntegerText, IsTimestampText}
 use Rattle.pattern_tokens.specs.Spans.{At}
 use Rattle.pattern_grammar.specs.declared.class.TokenClass.TheVariants.{Only}
 use Rattle.pattern_grammar.specs.declared.qualifier.Qualifier.{Qualifier}
@@ -106,11 +106,11 @@ three_within ts x (is_pair (is_one a h) (is_pair (is_one b k) (is_one c l))) = q
 three_repeats : (ts : List Token) (x : Token × (Token × Token)) → IsPair (IsOne (Only kind.Repeats)) (IsPair (IsOne (Only kind.Number)) (IsOne (Only kind.Times))) ts x → IsQualifier ts (qualifier.Repeats x.1.0)
 three_repeats ts x (is_pair (is_one a h) (is_pair (is_one b k) (is_one c l))) = qualifier_repeats a b c h k l
 
-four_between : (ts : List Token) (x : (Token × Token) × (Token × Token)) → IsPair (IsPair (IsOne (Only kind.Start)) (IsOne (Only kind.Time))) (IsPair (IsOne (Only kind.Stop)) (IsOne (Only kind.Time))) ts x → IsQualifier ts (qualifier.Between x.0.0 x.0.1 x.1.1)
+four_between : (ts : List Token) (x : (Token × Token) × (Token × Token)) → IsPair (IsPair (IsOne (Only kind.Start)) (IsOne (Only kind.Timestamp))) (IsPair (IsOne (Only kind.Stop)) (IsOne (Only kind.Timestamp))) ts x → IsQualifier ts (qualifier.Between x.0.0 x.0.1 x.1.1)
 four_between ts x (is_pair (is_pair (is_one a h) (is_one b k)) (is_pair (is_one c l) (is_one d m))) = qualifier_between a b c d h k l m
 
 counted : (n : ℕ) (whole : List ℕ) (t : Token) → (1 ≤ n) × (n ≤ 4_294_967_295) → Stands whole t kind.Number (decimal n) → IsCount whole t n
-counted n whole t fit s = record { whole = at IsWholeText whole t kind.Number (decimal n) (pos n) s (count_text n fit.1); low = fit.0; high = fit.1 }
+counted n whole t fit s = record { whole = at IsIntegerText whole t kind.Number (decimal n) (pos n) s (count_text n fit.1); low = fit.0; high = fit.1 }
 
 count : (n : ℕ) → n ≤ 4_294_967_295 → Written (IsOne (Only kind.Number)) (MeansOne kind.Number (decimal n)) Ends (decimal n)
 count n h = number (Only kind.Number) (pos n) (decimal n) refl (count_text n h) (count_shape n (omega arith))
@@ -132,11 +132,11 @@ limit (Repeats n) text fit h =
     (spaced (pair (IsOne (Only kind.Number)) (IsOne (Only kind.Times)) (MeansOne kind.Number (decimal n)) (MeansOne kind.Times (codes "TIMES")) Ends Stops (decimal n) (32 ∷ codes "TIMES") (λ after e. (stop_space, λ x. omega arith)) (count n fit.1)
     (spaced (sign (Only kind.Times) kind.Times (codes "TIMES") refl refl tt refl (λ e. cc))))))))
 limit (Between i j) text fit h =
-    let start = pair (IsOne (Only kind.Start)) (IsOne (Only kind.Time)) (MeansOne kind.Start (codes "START")) (λ (whole : List ℕ) (t : Token). (t.kind ≡ kind.Time) × At IsMomentText whole t i) Stops Anything (codes "START") (32 ∷ h.2.0) (λ after e. stop_space) (sign (Only kind.Start) kind.Start (codes "START") refl refl tt refl (λ e. cc)) (spaced (time (Only kind.Time) i h.2.0 refl h.2.1)) in
-    let stop = pair (IsOne (Only kind.Stop)) (IsOne (Only kind.Time)) (MeansOne kind.Stop (codes "STOP")) (λ (whole : List ℕ) (t : Token). (t.kind ≡ kind.Time) × At IsMomentText whole t j) Stops Anything (codes "STOP") (32 ∷ h.1) (λ after e. stop_space) (sign (Only kind.Stop) kind.Stop (codes "STOP") refl refl tt refl (λ e. cc)) (spaced (time (Only kind.Time) j h.1 refl h.3)) in
+    let start = pair (IsOne (Only kind.Start)) (IsOne (Only kind.Timestamp)) (MeansOne kind.Start (codes "START")) (λ (whole : List ℕ) (t : Token). (t.kind ≡ kind.Timestamp) × At IsTimestampText whole t i) Stops Anything (codes "START") (32 ∷ h.2.0) (λ after e. stop_space) (sign (Only kind.Start) kind.Start (codes "START") refl refl tt refl (λ e. cc)) (spaced (time (Only kind.Timestamp) i h.2.0 refl h.2.1)) in
+    let stop = pair (IsOne (Only kind.Stop)) (IsOne (Only kind.Timestamp)) (MeansOne kind.Stop (codes "STOP")) (λ (whole : List ℕ) (t : Token). (t.kind ≡ kind.Timestamp) × At IsTimestampText whole t j) Stops Anything (codes "STOP") (32 ∷ h.1) (λ after e. stop_space) (sign (Only kind.Stop) kind.Stop (codes "STOP") refl refl tt refl (λ e. cc)) (spaced (time (Only kind.Timestamp) j h.1 refl h.3)) in
     let text_is : (codes "START " ++ h.2.0) ++ codes " STOP " ++ h.1 ≡ text = ap (λ (x : List ℕ). x ++ codes " STOP " ++ h.1) (sym h.2.2) ∙ sym h.4 in
     before Ends (λ after e. tt) (as_text (sym (append_assoc (codes "START " ++ h.2.0) (codes " STOP ") h.1) ∙ text_is) (as_tree IsQualifier (MeansLimit (Between i j)) (λ whole ts x o m. (qualifier.Between x.0.0 x.0.1 x.1.1, four_between ts x o, (m.0.1.1, m.1.1.1)))
-    (pair (IsPair (IsOne (Only kind.Start)) (IsOne (Only kind.Time))) (IsPair (IsOne (Only kind.Stop)) (IsOne (Only kind.Time))) (MeanPair (MeansOne kind.Start (codes "START")) (λ (whole : List ℕ) (t : Token). (t.kind ≡ kind.Time) × At IsMomentText whole t i)) (MeanPair (MeansOne kind.Stop (codes "STOP")) (λ (whole : List ℕ) (t : Token). (t.kind ≡ kind.Time) × At IsMomentText whole t j)) Anything Anything (codes "START " ++ h.2.0) (32 ∷ (codes "STOP" ++ 32 ∷ h.1)) (λ after e. tt) start (spaced stop))))
+    (pair (IsPair (IsOne (Only kind.Start)) (IsOne (Only kind.Timestamp))) (IsPair (IsOne (Only kind.Stop)) (IsOne (Only kind.Timestamp))) (MeanPair (MeansOne kind.Start (codes "START")) (λ (whole : List ℕ) (t : Token). (t.kind ≡ kind.Timestamp) × At IsTimestampText whole t i)) (MeanPair (MeansOne kind.Stop (codes "STOP")) (λ (whole : List ℕ) (t : Token). (t.kind ≡ kind.Timestamp) × At IsTimestampText whole t j)) Anything Anything (codes "START " ++ h.2.0) (32 ∷ (codes "STOP" ++ 32 ∷ h.1)) (λ after e. tt) start (spaced stop))))
 
 -- patterns
 bracketed : (n : ℕ) (ts : List Token) (x : (Token × Comparison) × Token) → IsPair (IsPair (IsOne (Only kind.SquareOpen)) (IsDeep IsCor n)) (IsOne (Only kind.SquareClose)) ts x → IsDeepLine IsUnit n 0 ts (leaf x.0.1)

@@ -4,7 +4,7 @@ use Rattle.std.specs.Prelude.{codes, flat_map}
 use Rattle.pattern_tokens.specs.declared.token.Token.{Token}
 use Rattle.pattern_tokens.specs.declared.token.TokenKind.{TokenKind}
 use Rattle.pattern_tokens.specs.declared.token.TokenKind.TheVariants as kind
-use Rattle.pattern_tokens.specs.Values.{HasValue, IsWordsText}
+use Rattle.pattern_tokens.specs.Values.{HasValue, IsStringText}
 use Rattle.pattern_tokens.specs.Table.{IsToken}
 use Rattle.pattern_tokens.specs.Spans.{At}
 use Rattle.pattern_grammar.specs.declared.class.TokenClass.{TokenClass}
@@ -79,7 +79,7 @@ equality ts x (is_pair (is_one a h) (is_one b k)) = check_equality a b h k
 order : (ts : List Token) (x : Token × Token) → IsPair (IsOne Order) (IsOne Ordered) ts x → IsCheck ts (check_tree.Compare x.0 x.1)
 order ts x (is_pair (is_one a h) (is_one b k)) = check_order a b h k
 
-textual : (ts : List Token) (x : Token × Token) → IsPair (IsOne Textual) (IsOne (Only kind.Words)) ts x → IsCheck ts (check_tree.Textual x.0 x.1)
+textual : (ts : List Token) (x : Token × Token) → IsPair (IsOne Textual) (IsOne (Only kind.String)) ts x → IsCheck ts (check_tree.Textual x.0 x.1)
 textual ts x (is_pair (is_one a h) (is_one b k)) = check_textual a b h k
 
 equals : (c : Check) (k : TokenKind) (operator : List ℕ) (v : Value) (text : List ℕ) → ((whole : List ℕ) (a b : Token) → a.kind ≡ k → IsConstantOf whole b v → IsCheckOf whole (check_tree.Compare a b) c) → Written (IsOne Equality) (MeansOne k operator) Stops operator → FitConstant v → IsConstantText v text → Written IsCheck (MeansCheck c) Ends (operator ++ 32 ∷ text)
@@ -90,9 +90,9 @@ orders : (c : Check) (k : TokenKind) (operator : List ℕ) (v : Value) (text : L
 orders c k operator v text f w fit h = as_tree IsCheck (MeansCheck c) (λ whole ts x i m. (check_tree.Compare x.0 x.1, order ts x i, f whole x.0 x.1 m.0.kind m.1))
     (operated Order Ordered k operator text (λ (whole : List ℕ) (t : Token). IsConstantOf whole t v) Ends w (constant Ordered v text (ordered_in v fit) (ordered_fit v fit) h))
 
-fits_words : (c : Check) (k : TokenKind) (operator v text : List ℕ) → ((whole : List ℕ) (a b : Token) → a.kind ≡ k → At IsWordsText whole b v → IsCheckOf whole (check_tree.Textual a b) c) → Written (IsOne Textual) (MeansOne k operator) Stops operator → AreWords v text → Written IsCheck (MeansCheck c) Ends (operator ++ 32 ∷ text)
-fits_words c k operator v text f w h = as_tree IsCheck (MeansCheck c) (λ whole ts x i m. (check_tree.Textual x.0 x.1, textual ts x i, f whole x.0 x.1 m.0.kind (at IsWordsText whole x.1 kind.Words text v m.1 h)))
-    (operated Textual (Only kind.Words) k operator text (MeansOne kind.Words text) Ends w (before Ends (λ after e. tt) (subst (λ (x : List ℕ). Written (IsOne (Only kind.Words)) (MeansOne kind.Words x) Anything x) (sym h) (words (Only kind.Words) v refl))))
+fits_words : (c : Check) (k : TokenKind) (operator v text : List ℕ) → ((whole : List ℕ) (a b : Token) → a.kind ≡ k → At IsStringText whole b v → IsCheckOf whole (check_tree.Textual a b) c) → Written (IsOne Textual) (MeansOne k operator) Stops operator → AreWords v text → Written IsCheck (MeansCheck c) Ends (operator ++ 32 ∷ text)
+fits_words c k operator v text f w h = as_tree IsCheck (MeansCheck c) (λ whole ts x i m. (check_tree.Textual x.0 x.1, textual ts x i, f whole x.0 x.1 m.0.kind (at IsStringText whole x.1 kind.String text v m.1 h)))
+    (operated Textual (Only kind.String) k operator text (MeansOne kind.String text) Ends w (before Ends (λ after e. tt) (subst (λ (x : List ℕ). Written (IsOne (Only kind.String)) (MeansOne kind.String x) Anything x) (sym h) (words (Only kind.String) v refl))))
 
 -- lists of constants
 abbrev MeanConstants : List Value → List ℕ → List Token → Type 0

@@ -7,7 +7,7 @@ use Rattle.pattern_tokens.specs.declared.token.Token.{Token}
 use Rattle.pattern_tokens.specs.declared.token.TokenKind.{TokenKind}
 use Rattle.pattern_tokens.specs.declared.token.TokenKind.TheVariants as kind
 use Rattle.pattern_tokens.specs.Word.{IsWordStart, IsHyphenWordPart, HasAt, IsWord, IsHyphenWord}
-use Rattle.pattern_tokens.specs.Values.{HasValue, quoted, words_text, IsWholeText}
+use Rattle.pattern_tokens.specs.Values.{HasValue, quoted, string_text, IsIntegerText}
 use Rattle.pattern_tokens.specs.Table.{IsToken}
 use Rattle.pattern_lexer.specs.Reading.{IsLeftOut, IsUsable}
 use Rattle.pattern_tokens.specs.declared.refusal.LeftWord.{LeftWord}
@@ -176,10 +176,10 @@ root text h free = case h
     case (inr w) = itself kind.HyphenWord (token Root kind.HyphenWord Stops text refl (λ after e. fits_plain kind.HyphenWord text after w tt (plain_name text w.starts w.parts free) e (λ x. absurd (cc))))
 
 -- words in quotes
-pub words : (class : TokenClass) (w : List ℕ) → is_in class kind.Words ≡ true → Written (IsOne class) (λ (whole : List ℕ) (t : Token). Stands whole t kind.Words (words_text w)) Anything (words_text w)
-words class w among = token class kind.Words Anything (words_text w) among (λ after h. record {
+pub words : (class : TokenClass) (w : List ℕ) → is_in class kind.String ≡ true → Written (IsOne class) (λ (whole : List ℕ) (t : Token). Stands whole t kind.String (string_text w)) Anything (string_text w)
+words class w among = token class kind.String Anything (string_text w) among (λ after h. record {
   first = record { spelled = refl; token = (w, refl); longest = longest_words w after };
-  usable = usable_free kind.Words (words_text w) after (record { number = λ e. cc; equal = λ e. cc; less = λ e. cc }) (not_matches (words_text w) (λ e. omega arith));
+  usable = usable_free kind.String (string_text w) after (record { number = λ e. cc; equal = λ e. cc; less = λ e. cc }) (not_matches (string_text w) (λ e. omega arith));
   value = (w, refl);
   some = omega arith;
   ascii = omega arith;
@@ -197,6 +197,6 @@ lettered class k l inside among is value free low high u = token class k Anythin
 })
 
 -- a number
-pub number : (class : TokenClass) (z : ℤ) (text : List ℕ) → is_in class kind.Number ≡ true → IsWholeText text z → IsNumeralShape text → Written (IsOne class) (λ (whole : List ℕ) (t : Token). Stands whole t kind.Number text) Ends text
+pub number : (class : TokenClass) (z : ℤ) (text : List ℕ) → is_in class kind.Number ≡ true → IsIntegerText text z → IsNumeralShape text → Written (IsOne class) (λ (whole : List ℕ) (t : Token). Stands whole t kind.Number text) Ends text
 number class z text among is shape = token class kind.Number Ends text among (λ after e.
     fits_plain kind.Number text after is.number (z, is) (record { some = shape.some; plain = shape.plain; ascii = shape.ascii; free = not_matches text shape.first }) (ends_stops after e) (λ x. e))

@@ -1,7 +1,7 @@
 -- How one comparison is written (STIX 2.1, section 9.6): a path, NOT where it is negated, an operator and
 -- what it compares with.
 use Rattle.std.specs.Prelude.{ℕ, Bool, if◌then◌else◌, List, [], ◌++◌, codes}
-use Rattle.pattern_tokens.specs.Values.{IsWordsText}
+use Rattle.pattern_tokens.specs.Values.{IsStringText}
 use Rattle.pattern_types.specs.declared.path.Path.{Path}
 use Rattle.pattern_types.specs.declared.constant.Constant.{Constant}
 use Rattle.pattern_types.specs.declared.check.Check.{Check}
@@ -29,7 +29,7 @@ AreAmong values = IsBetween (codes "(") (codes ")") (AreJoined (codes ", ") IsCo
 
 -- words in quotes
 abbrev pub AreWords : List ℕ → List ℕ → Type 0
-AreWords words text = IsWordsText text words
+AreWords words text = IsStringText text words
 
 abbrev pub IsCheckedText : Path → Bool → Check → List ℕ → Type 0
 IsCheckedText path negated (Equal value) = IsAsked path negated (codes "=") (IsConstantText value)

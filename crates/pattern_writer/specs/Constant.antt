@@ -5,7 +5,7 @@ use Rattle.hex.specs.Hex.{encode_lower}
 use Rattle.base64.specs.Engines.{standard}
 use Rattle.base64.specs.GeneralPurpose.{encode_of}
 use Rattle.stix_times.specs.Writing.{IsCanonicalTextOf}
-use Rattle.pattern_tokens.specs.Values.{quoted, IsWordsText}
+use Rattle.pattern_tokens.specs.Values.{quoted, IsStringText}
 use Rattle.pattern_types.specs.declared.constant.Constant.{Constant}
 use Rattle.pattern_types.specs.declared.constant.Constant.TheVariants.{Integer, String, Boolean, Hex, Binary, Timestamp}
 
@@ -17,7 +17,7 @@ IsTimeText instant text = (time : List ℕ) × IsCanonicalTextOf time instant ×
 -- or padded base64
 abbrev pub IsConstantText : Constant → List ℕ → Type 0
 IsConstantText (Integer whole) text = text ≡ signed_decimal whole
-IsConstantText (String words) text = IsWordsText text words
+IsConstantText (String words) text = IsStringText text words
 IsConstantText (Boolean truth) text = text ≡ (if truth then codes "true" else codes "false")
 IsConstantText (Hex bytes) text = text ≡ quoted (codes "h") (encode_lower bytes)
 IsConstantText (Binary bytes) text = text ≡ quoted (codes "b") (encode_of standard bytes)

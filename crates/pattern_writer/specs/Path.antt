@@ -1,7 +1,7 @@
 -- How object paths are written (STIX 2.1, section 9.7).
 use Rattle.std.specs.Prelude.{◌≡◌, ◌≢◌, ◌⊎◌, ℕ, List, [], ◌∷◌, ◌++◌, codes, decimal}
 use Rattle.pattern_tokens.specs.Word.{IsWord}
-use Rattle.pattern_tokens.specs.Values.{IsWordsText}
+use Rattle.pattern_tokens.specs.Values.{IsStringText}
 use Rattle.pattern_types.specs.declared.path.Step.{Step}
 use Rattle.pattern_types.specs.declared.path.Step.TheVariants.{Name, Place, Each}
 use Rattle.pattern_types.specs.declared.path.Path.{Path}
@@ -14,7 +14,7 @@ pub record IsBare (name : List ℕ) : Type 0 where
 
 -- a name, bare where it may be, else in quotes
 abbrev pub IsNameText : List ℕ → List ℕ → Type 0
-IsNameText name text = (IsBare name × (text ≡ name)) ⊎ ((¬ IsBare name) × IsWordsText text name)
+IsNameText name text = (IsBare name × (text ≡ name)) ⊎ ((¬ IsBare name) × IsStringText text name)
 
 -- step = "." name | "[" ( Number | "*" ) "]"
 abbrev pub IsStepText : Step → List ℕ → Type 0

@@ -51,7 +51,7 @@ abbrev pub begin_check : TokenKind → List Want → Option (List Want)
 begin_check k s =
     choose k Equality (one Constant ∷ s)
     (choose k Order (one Ordered ∷ s)
-    (choose k Textual (one (Only kind.Words) ∷ s)
+    (choose k Textual (one (Only kind.String) ∷ s)
     (choose k (Only kind.Among) (one (Only kind.RoundOpen) ∷ one Constant ∷ tail commas ∷ one (Only kind.RoundClose) ∷ s) None)))
 
 abbrev pub begin : WantedLine → TokenKind → List Want → Option (List Want)
@@ -61,7 +61,7 @@ begin start k s =
 begin qualifier k s =
     choose k (Only kind.Within) (one (Only kind.Number) ∷ one (Only kind.Seconds) ∷ s)
     (choose k (Only kind.Repeats) (one (Only kind.Number) ∷ one (Only kind.Times) ∷ s)
-    (choose k (Only kind.Start) (one (Only kind.Time) ∷ one (Only kind.Stop) ∷ one (Only kind.Time) ∷ s) None))
+    (choose k (Only kind.Start) (one (Only kind.Timestamp) ∷ one (Only kind.Stop) ∷ one (Only kind.Timestamp) ∷ s) None))
 begin test k s =
     choose k (Only kind.RoundOpen) (wants_cor (one (Only kind.RoundClose) ∷ s))
     (choose k (Only kind.Exists) (wants_path s)

@@ -3,13 +3,13 @@ use Rattle.std.specs.Prelude.{◌≡◌, ◌≢◌, ℕ, ◌<◌, ◌≤◌, ◌
 use Rattle.std.specs.Char.{IsAsciiDigit}
 use Rattle.pattern_tokens.specs.declared.token.Token.{Token}
 use Rattle.pattern_tokens.specs.declared.token.TokenKind.{TokenKind}
-use Rattle.pattern_tokens.specs.declared.token.TokenKind.TheVariants.{SquareOpen, SquareClose, RoundOpen, RoundClose, Dot, Colon, Comma, Star, Equal, Differ, Less, LessEqual, Greater, GreaterEqual, Number, Hex, Base, Time}
+use Rattle.pattern_tokens.specs.declared.token.TokenKind.TheVariants.{SquareOpen, SquareClose, RoundOpen, RoundClose, Dot, Colon, Comma, Star, Equal, Differ, Less, LessEqual, Greater, GreaterEqual, Number, Hex, Binary, Timestamp}
 use Rattle.pattern_tokens.specs.declared.refusal.TokenRefusal.{TokenRefusal}
 use Rattle.pattern_tokens.specs.declared.refusal.TokenRefusal.TheVariants.{BadNumber, BadTime, BadBytes}
 use Rattle.pattern_tokens.specs.Word.{IsWordStart, IsHyphenWordPart, HasAt}
 use Rattle.pattern_tokens.specs.Values.{HasValue}
 use Rattle.pattern_tokens.specs.Spans.{text_at}
-use Rattle.pattern_lexer.specs.Reading.{IsBlank, IsFirst, IsUsable, AreTokens, IsFault}
+use Rattle.pattern_lexer.specs.Reading.{IsBlank, IsFirst, IsUsable, AreTokens, IsRefusalAt}
 use Rattle.pattern_lexer.specs.declared.runs.CharacterClass.{CharacterClass}
 use Rattle.pattern_lexer.specs.declared.runs.CharacterClass.TheVariants.{Blank, Digit, NamePart, Unquoted}
 
@@ -45,7 +45,7 @@ pub record StartsAsMark (whole : List ℕ) : Type 0 where
 abbrev pub BeginsToken : List ℕ → TokenKind → List ℕ → Type 0
 BeginsToken whole kind after = (text : List ℕ) × IsFirst whole kind text after
 
--- the token stands at the place in the text, and has no fault
+-- the token stands at the place in the text, and has no refusal
 pub record StandsAt (text : List ℕ) (at : ℕ) (token : Token) : Type 0 where
   pub from : token.from ≡ at
   pub ordered : token.from < token.to
@@ -57,7 +57,7 @@ pub record StandsAt (text : List ℕ) (at : ℕ) (token : Token) : Type 0 where
 -- what reading the token at the place answers
 abbrev pub ReadsAt : List ℕ → ℕ → Result Token TokenRefusal → Type 0
 ReadsAt text at (Ok token) = StandsAt text at token
-ReadsAt text at (Err refusal) = IsFault at (drop at text) refusal
+ReadsAt text at (Err refusal) = IsRefusalAt at (drop at text) refusal
 
 -- the tokens stand in the text up to blanks that end at the place
 pub record ReadUpTo (text : List ℕ) (tokens : List Token) (at : ℕ) : Type 0 where
@@ -71,7 +71,7 @@ pub record ReadUpTo (text : List ℕ) (tokens : List Token) (at : ℕ) : Type 0 
 
 -- the kind of what a quote behind the letter opens: 104 is `h`, 98 is `b` and 116 is `t`
 abbrev pub letter_kind : ℕ → Option TokenKind
-letter_kind c = if c == 104 then Some Hex else if c == 98 then Some Base else if c == 116 then Some Time else None
+letter_kind c = if c == 104 then Some Hex else if c == 98 then Some Binary else if c == 116 then Some Timestamp else None
 
 -- no text in quotes behind a letter that may stand there begins the text
 abbrev pub HasNoLettered : List ℕ → Type 0
@@ -81,7 +81,7 @@ HasNoLettered whole = (letter : ℕ) (inside more : List ℕ) → IsSome (letter
 -- the refusal of a token that stands for nothing
 abbrev pub worthless_refusal : TokenKind → ℕ → TokenRefusal
 worthless_refusal Number at = BadNumber at
-worthless_refusal Time at = BadTime at
+worthless_refusal Timestamp at = BadTime at
 worthless_refusal _ at = BadBytes at
 
 -- blanks stand from the first place to the second, and none behind

@@ -1,4 +1,4 @@
--- Steps of `words_of`: they serve its private functions alone.
+-- Steps of `string_of`: they serve its private functions alone.
 use Rattle.std.specs.Prelude.{◌≡◌, ◌≢◌, ℕ, ◌⊎◌, List, [], ◌∷◌, flat_map}
 use Rattle.pattern_tokens.specs.Values.{escaped}
 

@@ -1,4 +1,4 @@
-use Rattle.pattern_tokens.specs.declared.token.TokenKind.TheVariants.{Number, Seconds, Times, Start, Time, Stop}
+use Rattle.pattern_tokens.specs.declared.token.TokenKind.TheVariants.{Number, Seconds, Times, Start, Timestamp, Stop}
 use Rattle.pattern_grammar.specs.declared.class.TokenClass.TheVariants.{Only}
 use Rattle.pattern_grammar.proofs.ExitLemmas.{passed, refused_at}
 use Rattle.pattern_grammar.proofs.PatternLemmas.{qualifier_none, within_stuck, within_unended, within_found, repeats_stuck, repeats_unended, repeats_found, between_stuck, between_unstopped, between_unended, between_found}
@@ -26,13 +26,13 @@ pub returns-in_err-start-clause-err : goal.returns-in_err-start-clause-err
 returns-in_err-start-clause-err c = passed _ _ _ c.from_residual-in_err-start.ensures.1 (refused_at (Only Start) _ _ c.in_err-start.ensures.err (qualifier_none c.in_default.ensures.none c.in_default-eat.ensures.none))
 
 pub returns-in_err-from-clause-err : goal.returns-in_err-from-clause-err
-returns-in_err-from-clause-err c = passed _ _ _ c.from_residual-in_err-from.ensures.1 (refused_at (Only Time) _ _ c.in_err-from.ensures.err (between_stuck _ c.in_ok-start.ensures.ok))
+returns-in_err-from-clause-err c = passed _ _ _ c.from_residual-in_err-from.ensures.1 (refused_at (Only Timestamp) _ _ c.in_err-from.ensures.err (between_stuck _ c.in_ok-start.ensures.ok))
 
 pub returns-in_err-rest-3-clause-err : goal.returns-in_err-rest-3-clause-err
 returns-in_err-rest-3-clause-err c = passed _ _ _ c.from_residual-in_err-rest-3.ensures.1 (refused_at (Only Stop) _ _ c.in_err-rest-3.ensures.err (between_unstopped _ _ c.in_ok-start.ensures.ok c.in_ok-from.ensures.ok))
 
 pub returns-in_err-to-clause-err : goal.returns-in_err-to-clause-err
-returns-in_err-to-clause-err c = passed _ _ _ c.from_residual-in_err-to.ensures.1 (refused_at (Only Time) _ _ c.in_err-to.ensures.err (between_unended _ _ _ c.in_ok-start.ensures.ok c.in_ok-from.ensures.ok c.in_ok-rest-3.ensures.ok))
+returns-in_err-to-clause-err c = passed _ _ _ c.from_residual-in_err-to.ensures.1 (refused_at (Only Timestamp) _ _ c.in_err-to.ensures.err (between_unended _ _ _ c.in_ok-start.ensures.ok c.in_ok-from.ensures.ok c.in_ok-rest-3.ensures.ok))
 
 pub returns-clause-ok : goal.returns-clause-ok
 returns-clause-ok c = between_found _ _ _ _ c.in_ok-start.ensures.ok c.in_ok-from.ensures.ok c.in_ok-rest-3.ensures.ok c.in_ok-to.ensures.ok

@@ -1,18 +1,18 @@
-use Rattle.pattern_tokens.proofs.EscapesLemmas.{one_words, one_moment}
+use Rattle.pattern_tokens.proofs.EscapesLemmas.{one_words, one_timestamp}
 use Rattle.pattern_tokens.proofs.HasValueLemmas.{one_whole, one_hex, one_base}
 use Rattle.pattern_tokens.proofs.laws.one_meaning.Goals as goal
 
-pub returns-clause-words : goal.returns-clause-words
-returns-clause-words c = one_words
+pub returns-clause-string : goal.returns-clause-string
+returns-clause-string c = one_words
 
-pub returns-clause-moment : goal.returns-clause-moment
-returns-clause-moment c = one_moment c.one_instant.ensures
+pub returns-clause-timestamp : goal.returns-clause-timestamp
+returns-clause-timestamp c = one_timestamp c.one_instant.ensures
 
-pub returns-clause-whole : goal.returns-clause-whole
-returns-clause-whole c = one_whole
+pub returns-clause-integer : goal.returns-clause-integer
+returns-clause-integer c = one_whole
 
 pub returns-clause-hex : goal.returns-clause-hex
 returns-clause-hex c = one_hex
 
-pub returns-clause-base : goal.returns-clause-base
-returns-clause-base c = one_base
+pub returns-clause-binary : goal.returns-clause-binary
+returns-clause-binary c = one_base

@@ -1,6 +1,6 @@
 ghost use Rattle.std.specs.Prelude.{◌≡◌, ◌↔◌, ℕ, List, IsTrue, IfOk, IfSome, IfNone, Some};
 ghost use Rattle.pattern_tokens.specs.declared.refusal.LeftWord.{LeftWord};
-ghost use Rattle.pattern_tokens.specs.Values.{HasValue, IsHexText, IsBaseText};
+ghost use Rattle.pattern_tokens.specs.Values.{HasValue, IsHexText, IsBinaryText};
 ghost use Rattle.pattern_tokens.specs.Table.{IsToken};
 ghost use Rattle.pattern_tokens.specs.Spans.{IsCut, text_at};
 ghost use Rattle.pattern_lexer.specs.Reading.{RunsOn, IsLeftOut};
@@ -8,7 +8,7 @@ ghost use Rattle.pattern_lexer.specs.inner.Steps.{worthless_refusal};
 
 use flow_values::NoMemory;
 use pattern_tokens::{
-    LeftWord, Token, TokenKind, TokenRefusal, base_at, hex_at, moment_at, whole_at,
+    LeftWord, Token, TokenKind, TokenRefusal, binary_at, hex_at, timestamp_at, integer_at,
 };
 use std::alloc::Global;
 
@@ -42,10 +42,10 @@ pub fn has_value(alloc: Global, text: &str, token: Token) -> Result<bool, NoMemo
     ensures { IfOk result (λ has. IsTrue has ↔ HasValue token.kind (text_at text.now token)) }
 {
     match token.kind {
-        TokenKind::Number => Ok(whole_at(text, token).is_some()),
-        TokenKind::Time => Ok(moment_at(text, token).is_some()),
+        TokenKind::Number => Ok(integer_at(text, token).is_some()),
+        TokenKind::Timestamp => Ok(timestamp_at(text, token).is_some()),
         TokenKind::Hex => is_hex(alloc, text, token),
-        TokenKind::Base => is_base(alloc, text, token),
+        TokenKind::Binary => is_base(alloc, text, token),
         _ => Ok(true),
     }
 }
@@ -60,9 +60,9 @@ fn is_hex(alloc: Global, text: &str, token: Token) -> Result<bool, NoMemory>
 
 fn is_base(alloc: Global, text: &str, token: Token) -> Result<bool, NoMemory>
     requires { IsCut text.now token }
-    ensures { IfOk result (λ is. IsTrue is ↔ ((bytes : List ℕ) × IsBaseText (text_at text.now token) bytes)) }
+    ensures { IfOk result (λ is. IsTrue is ↔ ((bytes : List ℕ) × IsBinaryText (text_at text.now token) bytes)) }
 {
-    let bytes = base_at(alloc, text, token)?;
+    let bytes = binary_at(alloc, text, token)?;
     Ok(bytes.is_some())
 }
 
@@ -72,7 +72,7 @@ pub fn worthless(kind: TokenKind, at: usize) -> TokenRefusal
 {
     match kind {
         TokenKind::Number => TokenRefusal::BadNumber { at },
-        TokenKind::Time => TokenRefusal::BadTime { at },
+        TokenKind::Timestamp => TokenRefusal::BadTime { at },
         _ => TokenRefusal::BadBytes { at },
     }
 }
