@@ -1,9 +1,10 @@
-ghost use Rattle.std.specs.Prelude.{◌≡◌, ◌↔◌, ◌≤◌, ◌∷◌, [], List, All, IsTrue, IfSome, IfNone, IfOk, codes, length};
+ghost use Rattle.std.specs.Prelude.{◌≡◌, ◌↔◌, ◌≤◌, ◌∷◌, [], List, All, IsTrue, IfSome, IfNone, IfOk, Ok, Some, codes, length};
 ghost use Rattle.serde_json.specs.Data.{Data};
 ghost use Rattle.stix_json.specs.Walk.{path_text, place_part};
 ghost use Rattle.stix_json.specs.DataOf.{data_of};
 ghost use Rattle.stix_bundles.specs.Objects.{data_in};
 ghost use Rattle.stix_bundles.specs.Bundle.{IsObject, IsIdentified, IsListOf, FailsAt, IsOutlined};
+ghost use Rattle.stix_bundles.specs.declared.outline.Failure.TheVariants.{NoObject};
 ghost use Rattle.stix_bundles.specs.inner.Failures.{failed_parts, FailsInObjects, FailsInMembers};
 
 use flow_values::{NoMemory, Text};
@@ -28,7 +29,8 @@ pub(crate) enum Failure {
 impl Failure {
     /// The path to what fails.
     pub(crate) fn path(self, alloc: Global) -> Result<Text, NoMemory>
-        ensures { IfOk result (λ path. path ≡ path_text (failed_parts self)) }
+        ensures path { IfOk result (λ path. path ≡ path_text (failed_parts self)) }
+        ensures told { self ≡ NoObject → result ≡ Ok [] }
     {
         match self {
             Failure::NoObject => Ok(Text::new(alloc)),
@@ -51,6 +53,7 @@ fn member_path(alloc: Global, at: u32) -> Result<Text, NoMemory>
 /// The first condition of a bundle that a value fails, if there is one.
 pub(crate) fn first_failure(value: &Json) -> Option<Failure>
     ensures some { IfSome result (λ failure. FailsAt (data_of value.now) (failed_parts failure)) }
+    ensures told { (¬ IsObject (data_of value.now)) → result ≡ Some NoObject }
     ensures none { IfNone result ((objects : List Data) × IsOutlined (data_of value.now) objects) }
 {
     if !is_object(value) {

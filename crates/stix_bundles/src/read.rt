@@ -1,11 +1,11 @@
-ghost use Rattle.std.specs.Prelude.{◌≡◌, ◌⊎◌, ◌≤◌, ◌++◌, List, length, map, All, IfOk, IfErr, OnOk};
+ghost use Rattle.std.specs.Prelude.{◌≡◌, ◌⊎◌, ◌≤◌, ◌++◌, List, [], Err, length, map, All, IfOk, IfErr, OnOk};
 ghost use Rattle.serde_json.specs.Data.{Data};
 ghost use Rattle.stix_json.specs.DataOf.{data_of};
 ghost use Rattle.stix_json.specs.Ordered.{IsOrdered};
 ghost use Rattle.stix_bundles.specs.declared.refusal.BundleRefusal.{BundleRefusal};
 ghost use Rattle.stix_bundles.specs.declared.outline.TheConstants.{MAX_OBJECTS};
 ghost use Rattle.stix_bundles.specs.Objects.{data_in};
-ghost use Rattle.stix_bundles.specs.Bundle.{IsListOf, HasObjects, AreAllBreaks, break_of_object, IsBundle, IsBundleRefused};
+ghost use Rattle.stix_bundles.specs.Bundle.{IsObject, IsListOf, HasObjects, AreAllBreaks, break_of_object, IsBundle, IsBundleRefused};
 
 use crate::latest::index_of;
 use crate::outline::first_failure;
@@ -18,11 +18,12 @@ use stix_objects::{Break, breaks};
 
 /// The bundle that a JSON value is, which takes the value's objects over; or why it is none: the first
 /// condition of a bundle that fails, else all breaks of its objects. What `read_json` gives is ordered,
-/// and `is_ordered` tests it of any value.
+/// and `is_ordered` tests it of any value. What is no object is refused as such also without memory.
 pub fn read_bundle(alloc: Global, value: Json) -> Result<Bundle, BundleRefusal>
     requires { IsOrdered (data_of value) }
     ensures ok { IfOk result (λ bundle. IsBundle (data_of value) (data_in bundle)) }
     ensures err { IfErr result (λ refusal. (refusal ≡ BundleRefusal.NoMemory) ⊎ IsBundleRefused (data_of value) refusal) }
+    ensures told { (¬ IsObject (data_of value)) → result ≡ Err (BundleRefusal.NotBundle []) }
 {
     if let Some(failure) = first_failure(&value) {
         let path = failure.path(alloc)?;
