@@ -31,14 +31,14 @@ all_breaks_more at (y ∷ ys) x breaks own all is =
     )
 
 -- the same in a loop over JSON values
-pub breaks_at : (trees : List Json) (at : ℕ) (tree : Json) (breaks : List ObjectBreak) (own : List Break) → at < length trees
-    → tree ≡ slice_index_or trees at tree → AreAllBreaks 0 (take at (data_in trees)) breaks → AreBreaksOf (data_of tree) own
-    → AreAllBreaks 0 (take (at + 1) (data_in trees)) (breaks ++ map (break_of_object at) own)
-breaks_at trees at tree breaks own inside is all broken =
-    let within : at < length (data_in trees) = subst (λ n. at < n) (sym (length-map trees data_of)) inside in
-    let ds = data_in trees in
-    let x = data_of tree in
-    let there = data_read trees at tree inside is in
+pub breaks_at : (values : List Json) (at : ℕ) (value : Json) (breaks : List ObjectBreak) (own : List Break) → at < length values
+    → value ≡ slice_index_or values at value → AreAllBreaks 0 (take at (data_in values)) breaks → AreBreaksOf (data_of value) own
+    → AreAllBreaks 0 (take (at + 1) (data_in values)) (breaks ++ map (break_of_object at) own)
+breaks_at values at value breaks own inside is all broken =
+    let within : at < length (data_in values) = subst (λ n. at < n) (sym (length-map values data_of)) inside in
+    let ds = data_in values in
+    let x = data_of value in
+    let there = data_read values at value inside is in
     let grown : take (at + 1) ds ≡ take at ds ++ x ∷ [] = take_more ds at x within ∙ ap (λ y. take at ds ++ y ∷ []) (get_or_from_slice_get ds at x x there) in
     let taken : length (take at ds) ≡ at = length-take-le at ds (omega arith) in
     let count : 0 + length (take at ds) ≡ at = omega arith in

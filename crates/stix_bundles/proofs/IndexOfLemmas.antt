@@ -1,20 +1,13 @@
 -- An index of the objects before a place, with the object at the place added.
-use Rattle.std.proofs.Common.{◌≡◌, inl, inr, ◌+◌, ◌<◌, ℕ, ℤ, List, Option, Some, Result, Ok, Err, OnOk, take, slice_get, slice_index_or, length, sym, subst}
+use Rattle.std.proofs.Common.{◌≡◌, inl, inr, ◌+◌, ℕ, ℤ, List, Option, Some, Result, Ok, Err, OnOk, take, slice_get, sym, subst}
 use Rattle.serde_json.specs.Data.{Data}
 use Rattle.flow_values.specs.declared.no_memory.NoMemory.{NoMemory}
 use Rattle.stix_ids.specs.declared.id.Id.{Id}
-use Rattle.stix_json.specs.declared.value.Json.{Json}
-use Rattle.stix_json.specs.DataOf.{data_of}
 use Rattle.stix_bundles.specs.declared.index.Index.{Index}
-use Rattle.stix_bundles.specs.Objects.{data_in}
 use Rattle.stix_objects.specs.Properties.{HasId}
 use Rattle.stix_bundles.specs.Lookup.{IsModified}
 use Rattle.stix_bundles.specs.inner.Index.{position_of, Puts, Overtakes, IsPositionOf, IsIndexOf}
-use Rattle.stix_bundles.proofs.ObjectsLemmas.{data_read}
 use Rattle.stix_bundles.proofs.IndexLemmas.{OneModified, OneId, same_cases, held_beside, held_overtaken, index_put}
-
-pub there_at : (trees : List Json) (at : ℕ) (tree : Json) → at < length trees → tree ≡ slice_index_or trees at tree → slice_get (data_in trees) at ≡ Some (data_of tree)
-there_at = data_read
 
 pub add_beside : (ds : List Data) (at : ℕ) (d : Data) → slice_get ds at ≡ Some d → (index : Index) → ((id : Id) → ¬ HasId d id) → IsIndexOf (take at ds) index
     → IsIndexOf (take (at + 1) ds) index

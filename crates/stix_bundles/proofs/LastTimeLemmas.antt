@@ -11,14 +11,14 @@ use Rattle.stix_bundles.specs.inner.LastTimes.{IsLastTimeOf}
 use Rattle.stix_bundles.proofs.ObjectsLemmas.{data_read}
 use Rattle.stix_bundles.proofs.ObjectsLemmas.{same_some}
 
-pub stands : (read all : List Json) → read ≡ all → (last_time : LastTime) → IsLastTimeOf (data_in all) last_time → (tree : Json) → tree ≡ slice_index_or read last_time.at tree
-    → slice_get (data_in all) last_time.at ≡ Some (data_of tree)
-stands read all same last_time is tree at =
+pub stands : (read all : List Json) → read ≡ all → (last_time : LastTime) → IsLastTimeOf (data_in all) last_time → (value : Json) → value ≡ slice_index_or read last_time.at value
+    → slice_get (data_in all) last_time.at ≡ Some (data_of value)
+stands read all same last_time is value at =
     let inside = slice_get_within (data_in all) last_time.at is.object is.there in
     let count = length-map all data_of in
-    data_read all last_time.at tree (omega arith) (subst (λ (ts : List Json). tree ≡ slice_index_or ts last_time.at tree) same at)
+    data_read all last_time.at value (omega arith) (subst (λ (ts : List Json). value ≡ slice_index_or ts last_time.at value) same at)
 
-pub stands_observed : (read all : List Json) → read ≡ all → (last_time : LastTime) → IsLastTimeOf (data_in all) last_time → (tree : Json) → tree ≡ slice_index_or read last_time.at tree
-    → IsObservedData (data_of tree)
-stands_observed read all same last_time is tree at =
-    subst IsObservedData (same_some is.object (data_of tree) (sym is.there ∙ stands read all same last_time is tree at)) is.observed
+pub stands_observed : (read all : List Json) → read ≡ all → (last_time : LastTime) → IsLastTimeOf (data_in all) last_time → (value : Json) → value ≡ slice_index_or read last_time.at value
+    → IsObservedData (data_of value)
+stands_observed read all same last_time is value at =
+    subst IsObservedData (same_some is.object (data_of value) (sym is.there ∙ stands read all same last_time is value at)) is.observed

@@ -11,11 +11,9 @@ use Rattle.stix_bundles.specs.Objects.{data_in}
 abbrev pub HoldsBefore : (Data → Type 0) → List Data → ℕ → Type 0
 HoldsBefore P xs at = (n : ℕ) (other : Data) → n < at → slice_get xs n ≡ Some other → P other
 
-pub data_at : (trees : List Json) (at : ℕ) (tree : Json) → slice_get trees at ≡ Some tree → slice_get (data_in trees) at ≡ Some (data_of tree)
-data_at trees at tree there = slice_get-map data_of trees at ∙ ap (λ (x : Option Json). option_map data_of x) there
-
-pub data_read : (trees : List Json) (at : ℕ) (tree : Json) → at < length trees → tree ≡ slice_index_or trees at tree → slice_get (data_in trees) at ≡ Some (data_of tree)
-data_read trees at tree inside is = data_at trees at tree (slice_get_read trees (length trees) at tree refl inside is)
+pub data_read : (values : List Json) (at : ℕ) (value : Json) → at < length values → value ≡ slice_index_or values at value → slice_get (data_in values) at ≡ Some (data_of value)
+data_read values at value inside is =
+    slice_get-map data_of values at ∙ ap (λ (x : Option Json). option_map data_of x) (slice_get_read values (length values) at value refl inside is)
 
 pub holds_before_more : (P : Data → Type 0) (xs : List Data) (at : ℕ) (x : Data) → slice_get xs at ≡ Some x → P x → HoldsBefore P xs at → HoldsBefore P xs (at + 1)
 holds_before_more P xs at x there p before n other less is =

@@ -10,6 +10,7 @@ use Rattle.stix_json.specs.DataOf.{data_of}
 use Rattle.stix_bundles.specs.Objects.{data_in}
 use Rattle.stix_bundles.specs.Bundle.{listed, IsObject, IsListOf, HasObjects}
 use Rattle.stix_bundles.specs.declared.outline.Failure.{Failure}
+use Rattle.stix_bundles.specs.declared.outline.TheConstants.{MAX_OBJECTS}
 use Rattle.stix_bundles.specs.declared.outline.Failure.TheVariants.{NoObject, NoType, NoId, NoList, NoMember}
 use Rattle.stix_bundles.specs.inner.Failures.{FailsInObjects, FailsInMembers}
 
@@ -21,14 +22,14 @@ pub data_of-Array : (objects : List Json) → data_of (json.Array objects) ≡ a
 data_of-Array objects = search (rules, the_lemmas)
 
 -- a list of JSON values is a list of members, where it is as long as it may be
-pub row_is_list : (value : Json) (objects : List Json) → value ≡ json.Array objects → 1 ≤ length objects → length objects ≤ 8_388_608
+pub row_is_list : (value : Json) (objects : List Json) → value ≡ json.Array objects → 1 ≤ length objects → length objects ≤ MAX_OBJECTS
     → IsListOf (data_of value) (data_in objects)
 row_is_list value objects is some not_too_many = record {
   items = items_of (data_in objects);
   list = ap (λ (t : Json). as_array (data_of t)) is ∙ ap as_array (data_of-Array objects);
   members_are = sym (listed_items (data_in objects));
   some = subst (λ n. 1 ≤ n) (sym (length-map objects data_of)) some;
-  not_too_many = subst (λ n. n ≤ 8_388_608) (sym (length-map objects data_of)) not_too_many;
+  not_too_many = subst (λ n. n ≤ MAX_OBJECTS) (sym (length-map objects data_of)) not_too_many;
 }
 
 -- and the only one
@@ -56,9 +57,9 @@ list_is_well value members list None all = (members, list, all)
 list_is_well value members list (Some failure) all = all
 
 -- the list that was taken out of a bundle holds its objects
-pub taken_row : (d : Data) (objects : List Data) → HasObjects d objects → (row : Json) (trees : List Json)
-    → get (codes "objects") d ≡ Some (data_of row) → row ≡ json.Array trees → HasObjects d (data_in trees)
-taken_row d objects has row trees got is =
+pub taken_row : (d : Data) (objects : List Data) → HasObjects d objects → (row : Json) (values : List Json)
+    → get (codes "objects") d ≡ Some (data_of row) → row ≡ json.Array values → HasObjects d (data_in values)
+taken_row d objects has row values got is =
     let there : IsListOf (data_of row) objects = subst (λ (o : Option Data). MatchOption o (objects ≡ []) (λ value. IsListOf value objects)) got has in
-    let same = list_is_row row trees objects is there in
-    subst (λ (o : Option Data). MatchOption o (data_in trees ≡ []) (λ value. IsListOf value (data_in trees))) (sym got) (subst (IsListOf (data_of row)) same there)
+    let same = list_is_row row values objects is there in
+    subst (λ (o : Option Data). MatchOption o (data_in values ≡ []) (λ value. IsListOf value (data_in values))) (sym got) (subst (IsListOf (data_of row)) same there)

@@ -20,26 +20,26 @@ less : (a b : ℕ) → true ≡ nat_lt a b → a < b
 less a b is = grind (arith, nat_tests)
 
 -- nothing stands past the end
-pub not_past : (trees : List Json) (at : ℕ) (place : Option ℕ) (time : Option ℤ) → place ≡ Some at → false ≡ nat_lt at (length trees)
-    → ¬ Overtakes (data_in trees) place time
-not_past trees at place time is past over =
-    let there = subst (λ (p : Option ℕ). Overtakes (data_in trees) p time) is over in
-    let inside = slice_get_within (data_in trees) at there.0 there.2 in
-    let count = length-map trees data_of in
-    let outside = not_less at (length trees) past in
+pub not_past : (values : List Json) (at : ℕ) (place : Option ℕ) (time : Option ℤ) → place ≡ Some at → false ≡ nat_lt at (length values)
+    → ¬ Overtakes (data_in values) place time
+not_past values at place time is past over =
+    let there = subst (λ (p : Option ℕ). Overtakes (data_in values) p time) is over in
+    let inside = slice_get_within (data_in values) at there.0 there.2 in
+    let count = length-map values data_of in
+    let outside = not_less at (length values) past in
     absurd (omega arith)
 
-pub overtakes_at : (trees : List Json) (at : ℕ) (place : Option ℕ) (time modified : Option ℤ) (tree : Json) → place ≡ Some at → true ≡ nat_lt at (length trees)
-    → tree ≡ slice_index_or trees at tree → IsModified (data_of tree) modified → IsEarlier time modified → Overtakes (data_in trees) place time
-overtakes_at trees at place time modified tree is inside read when earlier =
-    subst (λ (p : Option ℕ). Overtakes (data_in trees) p time) (sym is)
-    (data_of tree, modified, data_read trees at tree (less at (length trees) inside) read, when, earlier)
+pub overtakes_at : (values : List Json) (at : ℕ) (place : Option ℕ) (time modified : Option ℤ) (value : Json) → place ≡ Some at → true ≡ nat_lt at (length values)
+    → value ≡ slice_index_or values at value → IsModified (data_of value) modified → IsEarlier time modified → Overtakes (data_in values) place time
+overtakes_at values at place time modified value is inside read when earlier =
+    subst (λ (p : Option ℕ). Overtakes (data_in values) p time) (sym is)
+    (data_of value, modified, data_read values at value (less at (length values) inside) read, when, earlier)
 
-pub earlier_at : OneModified → (trees : List Json) (at : ℕ) (place : Option ℕ) (time modified : Option ℤ) (tree : Json) → place ≡ Some at
-    → true ≡ nat_lt at (length trees) → tree ≡ slice_index_or trees at tree → IsModified (data_of tree) modified → Overtakes (data_in trees) place time
+pub earlier_at : OneModified → (values : List Json) (at : ℕ) (place : Option ℕ) (time modified : Option ℤ) (value : Json) → place ≡ Some at
+    → true ≡ nat_lt at (length values) → value ≡ slice_index_or values at value → IsModified (data_of value) modified → Overtakes (data_in values) place time
     → IsEarlier time modified
-earlier_at one trees at place time modified tree is inside read when over =
-    let there = subst (λ (p : Option ℕ). Overtakes (data_in trees) p time) is over in
-    let same : there.0 ≡ data_of tree = same_some there.0 (data_of tree) (sym there.2 ∙ data_read trees at tree (less at (length trees) inside) read) in
-    let its : IsModified (data_of tree) there.1 = subst (λ (d : Data). IsModified d there.1) same there.3 in
-    subst (IsEarlier time) (one (data_of tree) there.1 modified its when) there.4
+earlier_at one values at place time modified value is inside read when over =
+    let there = subst (λ (p : Option ℕ). Overtakes (data_in values) p time) is over in
+    let same : there.0 ≡ data_of value = same_some there.0 (data_of value) (sym there.2 ∙ data_read values at value (less at (length values) inside) read) in
+    let its : IsModified (data_of value) there.1 = subst (λ (d : Data). IsModified d there.1) same there.3 in
+    subst (IsEarlier time) (one (data_of value) there.1 modified its when) there.4

@@ -1,5 +1,5 @@
 -- Bundles (STIX 2.1, section 8): an object of the type `bundle`, with an identifier of that kind and, where there are
--- some, a list of objects. Here it has at most 8,388,608 of them, and each meets the rules of its type.
+-- some, a list of objects. Here it has at most MAX_OBJECTS of them, and each meets the rules of its type.
 use Rattle.std.specs.Prelude.{◌≡◌, ◌≢◌, ◌⊎◌, ℕ, ◌+◌, ◌≤◌, ◌<◌, List, [], ◌∷◌, ◌++◌, length, map, All, slice_get, Some, MatchOption, IsSome, codes}
 use Rattle.serde_json.specs.Data.{Data, Items, no_items, item}
 use Rattle.serde_json.specs.Find.{get, as_array, as_object}
@@ -8,6 +8,7 @@ use Rattle.stix_json.specs.Walk.{path_text, place_part}
 use Rattle.stix_objects.specs.declared.rule_break.Break.{Break}
 use Rattle.stix_json.specs.Properties.{text_at}
 use Rattle.stix_objects.specs.Breaks.{AreBreaksOf}
+use Rattle.stix_bundles.specs.declared.outline.TheConstants.{MAX_OBJECTS}
 use Rattle.stix_bundles.specs.declared.object_break.ObjectBreak.{ObjectBreak}
 use Rattle.stix_bundles.specs.declared.refusal.BundleRefusal.{BundleRefusal}
 use Rattle.stix_bundles.specs.declared.refusal.BundleRefusal.TheVariants.{NotBundle, Breaks, NoMemory}
@@ -29,13 +30,13 @@ IsTyped d = text_at (codes "type") d ≡ Some (codes "bundle")
 abbrev pub IsIdentified : Data → Type 0
 IsIdentified d = (id : Id) × HasId d id × (id.kind ≡ codes "bundle")
 
--- a list, with these members: 1 to 8,388,608 of them
+-- a list, with these members: 1 to MAX_OBJECTS of them
 pub record IsListOf (value : Data) (members : List Data) : Type 0 where
   pub items : Items
   pub list : as_array value ≡ Some items
   pub members_are : members ≡ listed items
   pub some : 1 ≤ length members
-  pub not_too_many : length members ≤ 8_388_608
+  pub not_too_many : length members ≤ MAX_OBJECTS
 
 -- its objects are these: none where it names none, else the members of a list
 abbrev pub HasObjects : Data → List Data → Type 0

@@ -6,4 +6,4 @@ use Rattle.stix_json.specs.DataOf.{data_of}
 
 -- the objects that JSON values are
 abbrev pub data_in : List Json → List Data
-data_in trees = map data_of trees
+data_in values = map data_of values

@@ -3,6 +3,7 @@ ghost use Rattle.stix_ids.specs.PartsOf.{id_of};
 ghost use Rattle.stix_json.specs.Ordered.{IsOrdered};
 ghost use Rattle.stix_bundles.specs.Objects.{data_in};
 ghost use Rattle.stix_bundles.specs.Bundle.{AreAllBreaks};
+ghost use Rattle.stix_bundles.specs.declared.outline.TheConstants.{MAX_OBJECTS};
 ghost use Rattle.stix_bundles.specs.inner.Index.{IsPositionOf, IsIndexed};
 
 use crate::index::Index;
@@ -22,11 +23,11 @@ impl Model for Bundle {
     ghost use Rattle.std.specs.Prelude.{List};
     ghost use Rattle.std.specs.Coded.{codes, coded_list};
     ghost use Rattle.stix_json.specs.declared.value.Json.{Json};
-    ghost use Rattle.stix_json.specs.contracts.value.Json as tree;
+    ghost use Rattle.stix_json.specs.contracts.value.Json as json;
 
     ghost Value = { List Json };
 
-    ghost coded = { coded_list (Prim.hlevel (codes, tree.the_row.coded)) };
+    ghost coded = { coded_list (Prim.hlevel (codes, json.the_row.coded)) };
 
     ghost view = { λ bundle. bundle.objects };
 
@@ -62,7 +63,7 @@ impl Bundle {
     /// Its objects, which are not too many, ordered, and break no rule.
     pub fn objects(&self) -> &[Json]
         ensures value { result.now ≡ self.now }
-        ensures counted { length self.now ≤ 8_388_608 }
+        ensures counted { length self.now ≤ MAX_OBJECTS }
         ensures ordered { All IsOrdered (data_in self.now) }
         ensures unbroken { AreAllBreaks 0 (data_in self.now) [] }
     {
@@ -80,7 +81,7 @@ impl Bundle {
 /// The object at a position, counted from 0. None where the bundle has no more objects. Takes no
 /// memory.
 pub fn object(bundle: &Bundle, at: u32) -> Option<&Json>
-    ensures { option_map (λ tree. tree.now) result ≡ slice_get bundle.now at }
+    ensures { option_map (λ value. value.now) result ≡ slice_get bundle.now at }
 {
     bundle.objects.as_slice().get(at as usize)
 }

@@ -1,5 +1,6 @@
 ghost use Rattle.std.specs.Prelude.{◌≤◌, ◌<◌, [], length, IfSome, IfNone, IfOk};
 ghost use Rattle.stix_bundles.specs.Objects.{data_in};
+ghost use Rattle.stix_bundles.specs.declared.outline.TheConstants.{MAX_OBJECTS};
 ghost use Rattle.stix_bundles.specs.Bundle.{AreAllBreaks};
 ghost use Rattle.stix_bundles.specs.Observations.{IsObservedAt};
 ghost use Rattle.stix_bundles.specs.inner.LastTimes.{IsLastTimeOf, AreLastTimes, AreInOrder};
@@ -25,7 +26,7 @@ pub(crate) fn last_times_in_order(
     alloc: Global,
     objects: &[Json],
 ) -> Result<Vec<LastTime>, NoMemory>
-    requires counted { length objects.now ≤ 8_388_608 }
+    requires counted { length objects.now ≤ MAX_OBJECTS }
     requires unbroken { AreAllBreaks 0 (data_in objects.now) [] }
     ensures all { IfOk result (λ last_times. AreLastTimes (data_in objects.now) last_times.items) }
     ensures ordered { IfOk result (λ last_times. AreInOrder last_times.items) }
@@ -37,7 +38,7 @@ pub(crate) fn last_times_in_order(
 
 /// The same, in the order of the positions.
 fn last_times_of(alloc: Global, objects: &[Json]) -> Result<Vec<LastTime>, NoMemory>
-    requires counted { length objects.now ≤ 8_388_608 }
+    requires counted { length objects.now ≤ MAX_OBJECTS }
     requires unbroken { AreAllBreaks 0 (data_in objects.now) [] }
     ensures { IfOk result (λ last_times. AreLastTimes (data_in objects.now) last_times.items) }
 {

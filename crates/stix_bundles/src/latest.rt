@@ -1,5 +1,6 @@
 ghost use Rattle.std.specs.Prelude.{◌≡◌, ◌↔◌, ◌+◌, ◌≤◌, ◌<◌, length, take as first, IsTrue, IfOk, OnOk};
 ghost use Rattle.stix_bundles.specs.Objects.{data_in};
+ghost use Rattle.stix_bundles.specs.declared.outline.TheConstants.{MAX_OBJECTS};
 ghost use Rattle.stix_bundles.specs.Lookup.{IsEarlier};
 ghost use Rattle.stix_bundles.specs.inner.Index.{IsIndexOf, Overtakes};
 
@@ -16,7 +17,7 @@ use stix_times::laws::is_before;
 
 /// The latest versions of the objects.
 pub(crate) fn index_of(alloc: Global, objects: &[Json]) -> Result<Index, NoMemory>
-    requires { length objects.now ≤ 8_388_608 }
+    requires { length objects.now ≤ MAX_OBJECTS }
     ensures { IfOk result (IsIndexOf (data_in objects.now)) }
 {
     let mut index = Index::new(alloc);
@@ -28,7 +29,7 @@ pub(crate) fn index_of(alloc: Global, objects: &[Json]) -> Result<Index, NoMemor
 
 /// Adds the object at a position to an index of those before it.
 fn add(alloc: Global, objects: &[Json], at: usize, index: &mut Index) -> Result<(), NoMemory>
-    requires within { length objects.now ≤ 8_388_608 }
+    requires within { length objects.now ≤ MAX_OBJECTS }
     requires there { at < length objects.now }
     requires before { IsIndexOf (first at (data_in objects.now)) index.old }
     ensures { OnOk result (IsIndexOf (first (at + 1) (data_in objects.now)) index.new) }

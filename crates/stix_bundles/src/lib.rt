@@ -26,5 +26,6 @@ pub use lookup::find;
 pub use object_break::ObjectBreak;
 pub use observation::{Observation, ObservationRefusal};
 pub use observe::observations;
+pub use outline::MAX_OBJECTS;
 pub use read::read_bundle;
 pub use refusal::BundleRefusal;

@@ -4,6 +4,7 @@ ghost use Rattle.stix_json.specs.DataOf.{data_of};
 ghost use Rattle.stix_objects.specs.Breaks.{AreBreaksOf};
 ghost use Rattle.stix_objects.specs.declared.form.Precision.TheVariants.{Any};
 ghost use Rattle.stix_bundles.specs.Objects.{data_in};
+ghost use Rattle.stix_bundles.specs.declared.outline.TheConstants.{MAX_OBJECTS};
 ghost use Rattle.stix_objects.specs.Properties.{IsTimestampAt, HasId};
 ghost use Rattle.stix_bundles.specs.Lookup.{Means};
 ghost use Rattle.stix_bundles.specs.Observations.{how_many, NoneEmbeds, Embeds, IsFirstEmbedding, IsObservedData, references, AreMeant, IsObservationAt, AreObservations, AreRefused};
@@ -53,7 +54,7 @@ fn all_observed(alloc: Global, bundle: &Bundle, first: u64) -> Result<Items<Obse
 
 /// The first observed-data that holds its objects itself.
 fn first_embedding(objects: &[Json]) -> Option<u32>
-    requires { length objects.now ≤ 8_388_608 }
+    requires { length objects.now ≤ MAX_OBJECTS }
     ensures some { IfSome result (IsFirstEmbedding (data_in objects.now)) }
     ensures none { IfNone result (NoneEmbeds (data_in objects.now)) }
 {

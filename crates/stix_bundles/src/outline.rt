@@ -1,9 +1,10 @@
-ghost use Rattle.std.specs.Prelude.{◌≡◌, ◌↔◌, ◌≤◌, ◌∷◌, [], List, All, IsTrue, IfSome, IfNone, IfOk, codes, length};
+ghost use Rattle.std.specs.Prelude.{◌≡◌, ◌↔◌, ◌≤◌, ◌∷◌, [], List, All, IsTrue, IfSome, IfNone, IfOk, Ok, Some, codes, length};
 ghost use Rattle.serde_json.specs.Data.{Data};
 ghost use Rattle.stix_json.specs.Walk.{path_text, place_part};
 ghost use Rattle.stix_json.specs.DataOf.{data_of};
 ghost use Rattle.stix_bundles.specs.Objects.{data_in};
 ghost use Rattle.stix_bundles.specs.Bundle.{IsObject, IsIdentified, IsListOf, FailsAt, IsOutlined};
+ghost use Rattle.stix_bundles.specs.declared.outline.Failure.TheVariants.{NoObject};
 ghost use Rattle.stix_bundles.specs.inner.Failures.{failed_parts, FailsInObjects, FailsInMembers};
 
 use flow_values::{NoMemory, Text};
@@ -12,7 +13,7 @@ use stix_ids::is_of_kind;
 use stix_json::{Json, get, text_at};
 
 /// How many objects a bundle has at most.
-const MAX_OBJECTS: usize = 8_388_608;
+pub const MAX_OBJECTS: usize = 8_388_608;
 
 /// The first condition of a bundle that fails.
 #[derive(Clone, Copy, Debug)]
@@ -28,7 +29,8 @@ pub(crate) enum Failure {
 impl Failure {
     /// The path to what fails.
     pub(crate) fn path(self, alloc: Global) -> Result<Text, NoMemory>
-        ensures { IfOk result (λ path. path ≡ path_text (failed_parts self)) }
+        ensures path { IfOk result (λ path. path ≡ path_text (failed_parts self)) }
+        ensures told { self ≡ NoObject → result ≡ Ok [] }
     {
         match self {
             Failure::NoObject => Ok(Text::new(alloc)),
@@ -49,27 +51,28 @@ fn member_path(alloc: Global, at: u32) -> Result<Text, NoMemory>
 }
 
 /// The first condition of a bundle that a value fails, if there is one.
-pub(crate) fn first_failure(tree: &Json) -> Option<Failure>
-    ensures some { IfSome result (λ failure. FailsAt (data_of tree.now) (failed_parts failure)) }
-    ensures none { IfNone result ((objects : List Data) × IsOutlined (data_of tree.now) objects) }
+pub(crate) fn first_failure(value: &Json) -> Option<Failure>
+    ensures some { IfSome result (λ failure. FailsAt (data_of value.now) (failed_parts failure)) }
+    ensures told { (¬ IsObject (data_of value.now)) → result ≡ Some NoObject }
+    ensures none { IfNone result ((objects : List Data) × IsOutlined (data_of value.now) objects) }
 {
-    if !is_object(tree) {
+    if !is_object(value) {
         return Some(Failure::NoObject);
     }
-    if text_at(tree, "type") != Some("bundle") {
+    if text_at(value, "type") != Some("bundle") {
         return Some(Failure::NoType);
     }
-    if !has_bundle_id(tree) {
+    if !has_bundle_id(value) {
         return Some(Failure::NoId);
     }
-    failure_in_objects(get(tree, "objects")?)
+    failure_in_objects(get(value, "objects")?)
 }
 
 /// Whether the identifier is of the kind `bundle`.
-fn has_bundle_id(tree: &Json) -> bool
-    ensures { IsTrue result ↔ IsIdentified (data_of tree.now) }
+fn has_bundle_id(value: &Json) -> bool
+    ensures { IsTrue result ↔ IsIdentified (data_of value.now) }
 {
-    match text_at(tree, "id") {
+    match text_at(value, "id") {
         Some(text) => is_of_kind(text, "bundle"),
         None => false,
     }
@@ -91,14 +94,14 @@ fn failure_in_objects(value: &Json) -> Option<Failure>
 
 /// Whether a bundle may have so many objects, where it lists some.
 fn is_count(count: usize) -> bool
-    ensures { IsTrue result ↔ ((1 ≤ count) × (count ≤ 8_388_608)) }
+    ensures { IsTrue result ↔ ((1 ≤ count) × (count ≤ MAX_OBJECTS)) }
 {
     (1..=MAX_OBJECTS).contains(&count)
 }
 
 /// The first member that is no object.
 fn first_no_object(objects: &[Json]) -> Option<Failure>
-    requires { length objects.now ≤ 8_388_608 }
+    requires { length objects.now ≤ MAX_OBJECTS }
     ensures some { IfSome result (FailsInMembers (data_in objects.now)) }
     ensures none { IfNone result (All IsObject (data_in objects.now)) }
 {
@@ -110,8 +113,8 @@ fn first_no_object(objects: &[Json]) -> Option<Failure>
     None
 }
 
-fn is_object(tree: &Json) -> bool
-    ensures { IsTrue result ↔ IsObject (data_of tree.now) }
+fn is_object(value: &Json) -> bool
+    ensures { IsTrue result ↔ IsObject (data_of value.now) }
 {
-    matches!(tree, Json::Object(_))
+    matches!(value, Json::Object(_))
 }

@@ -1,10 +1,11 @@
-ghost use Rattle.std.specs.Prelude.{◌≡◌, ◌⊎◌, ◌≤◌, ◌++◌, List, length, map, All, IfOk, IfErr, OnOk};
+ghost use Rattle.std.specs.Prelude.{◌≡◌, ◌⊎◌, ◌≤◌, ◌++◌, List, [], Err, length, map, All, IfOk, IfErr, OnOk};
 ghost use Rattle.serde_json.specs.Data.{Data};
 ghost use Rattle.stix_json.specs.DataOf.{data_of};
 ghost use Rattle.stix_json.specs.Ordered.{IsOrdered};
 ghost use Rattle.stix_bundles.specs.declared.refusal.BundleRefusal.{BundleRefusal};
+ghost use Rattle.stix_bundles.specs.declared.outline.TheConstants.{MAX_OBJECTS};
 ghost use Rattle.stix_bundles.specs.Objects.{data_in};
-ghost use Rattle.stix_bundles.specs.Bundle.{IsListOf, HasObjects, AreAllBreaks, break_of_object, IsBundle, IsBundleRefused};
+ghost use Rattle.stix_bundles.specs.Bundle.{IsObject, IsListOf, HasObjects, AreAllBreaks, break_of_object, IsBundle, IsBundleRefused};
 
 use crate::latest::index_of;
 use crate::outline::first_failure;
@@ -17,17 +18,18 @@ use stix_objects::{Break, breaks};
 
 /// The bundle that a JSON value is, which takes the value's objects over; or why it is none: the first
 /// condition of a bundle that fails, else all breaks of its objects. What `read_json` gives is ordered,
-/// and `is_ordered` tests it of any value.
-pub fn read_bundle(alloc: Global, tree: Json) -> Result<Bundle, BundleRefusal>
-    requires { IsOrdered (data_of tree) }
-    ensures ok { IfOk result (λ bundle. IsBundle (data_of tree) (data_in bundle)) }
-    ensures err { IfErr result (λ refusal. (refusal ≡ BundleRefusal.NoMemory) ⊎ IsBundleRefused (data_of tree) refusal) }
+/// and `is_ordered` tests it of any value. What is no object is refused as such also without memory.
+pub fn read_bundle(alloc: Global, value: Json) -> Result<Bundle, BundleRefusal>
+    requires { IsOrdered (data_of value) }
+    ensures ok { IfOk result (λ bundle. IsBundle (data_of value) (data_in bundle)) }
+    ensures err { IfErr result (λ refusal. (refusal ≡ BundleRefusal.NoMemory) ⊎ IsBundleRefused (data_of value) refusal) }
+    ensures told { (¬ IsObject (data_of value)) → result ≡ Err (BundleRefusal.NotBundle []) }
 {
-    if let Some(failure) = first_failure(&tree) {
+    if let Some(failure) = first_failure(&value) {
         let path = failure.path(alloc)?;
         return Err(BundleRefusal::NotBundle { path });
     }
-    let objects = take_objects(alloc, tree);
+    let objects = take_objects(alloc, value);
     let breaks = all_breaks(alloc, objects.as_slice())?;
     if !breaks.is_empty() {
         return Err(BundleRefusal::Breaks(breaks));
@@ -37,15 +39,15 @@ pub fn read_bundle(alloc: Global, tree: Json) -> Result<Bundle, BundleRefusal>
 }
 
 /// The objects of a bundle, taken out of it.
-fn take_objects(alloc: Global, tree: Json) -> Items<Json>
-    requires outlined { (objects : List Data) × HasObjects (data_of tree) objects }
-    requires ordered { IsOrdered (data_of tree) }
-    ensures all { HasObjects (data_of tree) (data_in result) }
+fn take_objects(alloc: Global, value: Json) -> Items<Json>
+    requires outlined { (objects : List Data) × HasObjects (data_of value) objects }
+    requires ordered { IsOrdered (data_of value) }
+    ensures all { HasObjects (data_of value) (data_in result) }
     ensures ordered { All IsOrdered (data_in result) }
 {
     ordered_parts();
-    match take(tree, "objects") {
-        Some(value) => items_of(alloc, value),
+    match take(value, "objects") {
+        Some(list) => items_of(alloc, list),
         None => Items::new(alloc),
     }
 }
@@ -65,7 +67,7 @@ fn items_of(alloc: Global, value: Json) -> Items<Json>
 
 /// The breaks of all objects, object by object.
 fn all_breaks(alloc: Global, objects: &[Json]) -> Result<Items<ObjectBreak>, NoMemory>
-    requires { length objects.now ≤ 8_388_608 }
+    requires { length objects.now ≤ MAX_OBJECTS }
     ensures { IfOk result (AreAllBreaks 0 (data_in objects.now)) }
 {
     let mut found = Items::new(alloc);

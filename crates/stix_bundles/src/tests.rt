@@ -9,8 +9,8 @@ use stix_times::nanos;
 fn bundle_of(alloc: Global, objects: &str) -> Result<Bundle, Fail> {
     let id = "\"type\":\"bundle\",\"id\":\"bundle--00000000-0000-4000-8000-00000000000F\"";
     let json = format!(in alloc; "{{{id},\"objects\":[{objects}]}}")?;
-    let tree = read_json(alloc, json.as_bytes())?;
-    Ok(read_bundle(alloc, tree)?)
+    let value = read_json(alloc, json.as_bytes())?;
+    Ok(read_bundle(alloc, value)?)
 }
 
 /// An object of no stated type with an identifier of that last digit, and what else it has.

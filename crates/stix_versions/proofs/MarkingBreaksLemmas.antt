@@ -51,20 +51,20 @@ objects_more place (y ∷ ys) x breaks own all is =
     )
 
 -- the same in a loop over JSON values
-pub breaks_at : (place : ℕ) (d : Data) (trees : List Json) (at : ℕ) (tree : Json) (own : List MarkingBreak) (found : Option MarkingRule) → at < length trees
-    → tree ≡ slice_index_or trees at tree → AreBreaksOfMarkings place d 0 (take at (data_in trees)) own → IsBreakOf d (data_of tree) found
-    → AreBreaksOfMarkings place d 0 (take (at + 1) (data_in trees)) (own ++ told place at found)
-breaks_at place d trees at tree own found inside is all broken =
-    let before = take at (data_in trees) in
-    let count : 0 + length before ≡ at = omega (arith, taken_count trees at (omega arith)) in
-    let more = breaks_more place d 0 before (data_of tree) own found all broken in
-    subst (λ (ys : List Data). AreBreaksOfMarkings place d 0 ys (own ++ told place at found)) (sym (taken_more trees at tree inside is))
-    (subst (λ n. AreBreaksOfMarkings place d 0 (before ++ data_of tree ∷ []) (own ++ told place n found)) count more)
+pub breaks_at : (place : ℕ) (d : Data) (values : List Json) (at : ℕ) (value : Json) (own : List MarkingBreak) (found : Option MarkingRule) → at < length values
+    → value ≡ slice_index_or values at value → AreBreaksOfMarkings place d 0 (take at (data_in values)) own → IsBreakOf d (data_of value) found
+    → AreBreaksOfMarkings place d 0 (take (at + 1) (data_in values)) (own ++ told place at found)
+breaks_at place d values at value own found inside is all broken =
+    let before = take at (data_in values) in
+    let count : 0 + length before ≡ at = omega (arith, taken_count values at (omega arith)) in
+    let more = breaks_more place d 0 before (data_of value) own found all broken in
+    subst (λ (ys : List Data). AreBreaksOfMarkings place d 0 ys (own ++ told place at found)) (sym (taken_more values at value inside is))
+    (subst (λ n. AreBreaksOfMarkings place d 0 (before ++ data_of value ∷ []) (own ++ told place n found)) count more)
 
-pub objects_at : (trees : List Json) (at : ℕ) (tree : Json) (breaks own : List MarkingBreak) → at < length trees → tree ≡ slice_index_or trees at tree
-    → AreMarkingBreaksFrom 0 (take at (data_in trees)) breaks → AreOwnBreaks at (data_of tree) own → AreMarkingBreaksFrom 0 (take (at + 1) (data_in trees)) (breaks ++ own)
-objects_at trees at tree breaks own inside is all broken =
-    let before = take at (data_in trees) in
-    let count : at ≡ 0 + length before = omega (arith, taken_count trees at (omega arith)) in
-    subst (λ (ys : List Data). AreMarkingBreaksFrom 0 ys (breaks ++ own)) (sym (taken_more trees at tree inside is))
-    (objects_more 0 before (data_of tree) breaks own all (subst (λ n. AreOwnBreaks n (data_of tree) own) count broken))
+pub objects_at : (values : List Json) (at : ℕ) (value : Json) (breaks own : List MarkingBreak) → at < length values → value ≡ slice_index_or values at value
+    → AreMarkingBreaksFrom 0 (take at (data_in values)) breaks → AreOwnBreaks at (data_of value) own → AreMarkingBreaksFrom 0 (take (at + 1) (data_in values)) (breaks ++ own)
+objects_at values at value breaks own inside is all broken =
+    let before = take at (data_in values) in
+    let count : at ≡ 0 + length before = omega (arith, taken_count values at (omega arith)) in
+    subst (λ (ys : List Data). AreMarkingBreaksFrom 0 ys (breaks ++ own)) (sym (taken_more values at value inside is))
+    (objects_more 0 before (data_of value) breaks own all (subst (λ n. AreOwnBreaks n (data_of value) own) count broken))

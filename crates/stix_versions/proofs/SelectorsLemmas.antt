@@ -32,45 +32,45 @@ lists_them marking ds is texts same some =
     record { value = found.0; items = items_of ds; there = found.1; list = found.2; texts_are = listed_items ds ∙ same; some = some }
 
 abbrev pub AllSelectorTexts : List Json → Type 0
-AllSelectorTexts trees = All (λ (tree : Json). IsSelectorText (data_of tree)) trees
+AllSelectorTexts values = All (λ (value : Json). IsSelectorText (data_of value)) values
 
-pub texts_of_all : (trees : List Json) → AllSelectorTexts trees → (texts : List (List ℕ)) × (data_in trees ≡ map string texts) × AreSelectors texts
+pub texts_of_all : (values : List Json) → AllSelectorTexts values → (texts : List (List ℕ)) × (data_in values ≡ map string texts) × AreSelectors texts
 texts_of_all [] all = ([], refl, tt)
-texts_of_all (tree ∷ trees) all =
-    let first = All-head (λ (t : Json). IsSelectorText (data_of t)) tree trees all in
-    let rest = texts_of_all trees (All-tail (λ (t : Json). IsSelectorText (data_of t)) tree trees all) in (
+texts_of_all (value ∷ values) all =
+    let first = All-head (λ (t : Json). IsSelectorText (data_of t)) value values all in
+    let rest = texts_of_all values (All-tail (λ (t : Json). IsSelectorText (data_of t)) value values all) in (
       first.text ∷ rest.0,
-      ap (λ (d : Data). d ∷ data_in trees) first.is_text ∙ ap (λ (ds : List Data). string first.text ∷ ds) rest.1,
+      ap (λ (d : Data). d ∷ data_in values) first.is_text ∙ ap (λ (ds : List Data). string first.text ∷ ds) rest.1,
       ((first.parts, first.selector), rest.2),
     )
 
-pub all_of_texts : (trees : List Json) (texts : List (List ℕ)) → data_in trees ≡ map string texts → AreSelectors texts → AllSelectorTexts trees
+pub all_of_texts : (values : List Json) (texts : List (List ℕ)) → data_in values ≡ map string texts → AreSelectors texts → AllSelectorTexts values
 all_of_texts [] texts same are = All-nil (λ (t : Json). IsSelectorText (data_of t))
-all_of_texts (tree ∷ trees) [] same are = absurd cc
-all_of_texts (tree ∷ trees) (text ∷ texts) same are =
-    let first : data_of tree ≡ string text = cc in
-    let rest : data_in trees ≡ map string texts = cc in
-    All-cons (λ (t : Json). IsSelectorText (data_of t)) tree trees (record { text = text; parts = are.0.0; is_text = first; selector = are.0.1 })
-    (all_of_texts trees texts rest are.1)
+all_of_texts (value ∷ values) [] same are = absurd cc
+all_of_texts (value ∷ values) (text ∷ texts) same are =
+    let first : data_of value ≡ string text = cc in
+    let rest : data_in values ≡ map string texts = cc in
+    All-cons (λ (t : Json). IsSelectorText (data_of t)) value values (record { text = text; parts = are.0.0; is_text = first; selector = are.0.1 })
+    (all_of_texts values texts rest are.1)
 
 text_of_some : (o : Option (List ℕ)) (text : List ℕ) → option_map string o ≡ Some (string text) → o ≡ Some text
 text_of_some None text is = absurd cc
 text_of_some (Some other) text is = ap Some (same_text other text (same_Some (string other) (string text) is))
 
-tree_of_some : (o : Option Json) (d : Data) → option_map data_of o ≡ Some d → (tree : Json) × (o ≡ Some tree) × (data_of tree ≡ d)
-tree_of_some None d is = absurd cc
-tree_of_some (Some tree) d is = (tree, refl, same_Some (data_of tree) d is)
+value_of_some : (o : Option Json) (d : Data) → option_map data_of o ≡ Some d → (value : Json) × (o ≡ Some value) × (data_of value ≡ d)
+value_of_some None d is = absurd cc
+value_of_some (Some value) d is = (value, refl, same_Some (data_of value) d is)
 
-pub misses_of_any : (d marking : Data) (trees : List Json) (texts : List (List ℕ)) → ListsSelectors marking texts → data_in trees ≡ map string texts
-    → Any (λ (tree : Json). Misses d (data_of tree)) trees → MissesOne d marking
-misses_of_any d marking trees texts lists same any =
+pub misses_of_any : (d marking : Data) (values : List Json) (texts : List (List ℕ)) → ListsSelectors marking texts → data_in values ≡ map string texts
+    → Any (λ (value : Json). Misses d (data_of value)) values → MissesOne d marking
+misses_of_any d marking values texts lists same any =
     let k = any.0 in
-    let tree = any.1 in
+    let value = any.1 in
     let missed = any.4 in
-    let there : slice_get trees k ≡ Some tree = slice_get_read trees (length trees) k tree refl any.2 (sym any.3) in
-    let value : slice_get (map string texts) k ≡ Some (string missed.text) =
-    ap (λ (ds : List Data). slice_get ds k) (sym same) ∙ slice_get-map data_of trees k ∙ ap (λ (o : Option Json). option_map data_of o) there ∙ ap Some missed.is_text in
-    let text : slice_get texts k ≡ Some missed.text = text_of_some (slice_get texts k) missed.text (sym (slice_get-map string texts k) ∙ value) in
+    let there : slice_get values k ≡ Some value = slice_get_read values (length values) k value refl any.2 (sym any.3) in
+    let mapped : slice_get (map string texts) k ≡ Some (string missed.text) =
+    ap (λ (ds : List Data). slice_get ds k) (sym same) ∙ slice_get-map data_of values k ∙ ap (λ (o : Option Json). option_map data_of o) there ∙ ap Some missed.is_text in
+    let text : slice_get texts k ≡ Some missed.text = text_of_some (slice_get texts k) missed.text (sym (slice_get-map string texts k) ∙ mapped) in
     record {
       texts = texts;
       lists = lists;
@@ -81,18 +81,18 @@ misses_of_any d marking trees texts lists same any =
       missing = missed.missing;
     }
 
-pub any_of_misses : (d marking : Data) (trees : List Json) → IsListAt (codes "selectors") marking (data_in trees) → MissesOne d marking
-    → Any (λ (tree : Json). Misses d (data_of tree)) trees
-any_of_misses d marking trees is one =
+pub any_of_misses : (d marking : Data) (values : List Json) → IsListAt (codes "selectors") marking (data_in values) → MissesOne d marking
+    → Any (λ (value : Json). Misses d (data_of value)) values
+any_of_misses d marking values is one =
     let k = one.one.0 in
-    let same = texts_are marking (data_in trees) is one.texts one.lists in
+    let same = texts_are marking (data_in values) is one.texts one.lists in
     let text : slice_get one.texts k ≡ Some one.text = slice_get-get_or one.texts k one.text one.one.1 ∙ ap Some one.one.2 in
-    let value : slice_get (data_in trees) k ≡ Some (string one.text) =
+    let mapped : slice_get (data_in values) k ≡ Some (string one.text) =
     ap (λ (ds : List Data). slice_get ds k) same ∙ slice_get-map string one.texts k ∙ ap (option_map string) text in
-    let found = tree_of_some (slice_get trees k) (string one.text) (sym (slice_get-map data_of trees k) ∙ value) in (
+    let found = value_of_some (slice_get values k) (string one.text) (sym (slice_get-map data_of values k) ∙ mapped) in (
       k,
       found.0,
-      slice_get_within trees k found.0 found.1,
-      get_or_from_slice_get trees k found.0 found.0 found.1,
+      slice_get_within values k found.0 found.1,
+      get_or_from_slice_get values k found.0 found.0 found.1,
       record { text = one.text; parts = one.parts; is_text = found.2; selector = one.selector; missing = one.missing },
     )

@@ -22,7 +22,8 @@ use Rattle.stix_versions.specs.declared.twins.Twins.{Twins}
 use Rattle.stix_versions.specs.Versions.{IsVersion, BreaksVersionRule}
 use Rattle.stix_versions.specs.inner.Version.{IsVersionAs, IsNoVersion, HasOther}
 use Rattle.stix_versions.specs.inner.Twins.{IsTwin, IsTwinBefore, twin_at, AreTwinsBefore, IsNextTwin}
-use Rattle.stix_versions.proofs.VersionLemmas.{one_some, data_there}
+use Rattle.stix_versions.proofs.FirstObjectsLemmas.{data_read}
+use Rattle.stix_versions.proofs.VersionLemmas.{one_some}
 use Rattle.stix_versions.proofs.FirstValueLemmas.{none_more, kept_beside, kept_first, none_other, other_told, kept_next}
 use Rattle.stix_versions.proofs.IsVersionLemmas.{Laws, one_object, one_version_id, one_modified, one_group, one_grouped}
 
@@ -32,21 +33,21 @@ less a b is = grind (arith, nat_tests)
 not_less : (a b : ℕ) → false ≡ nat_lt a b → b ≤ a
 not_less a b is = grind (arith, nat_tests)
 
-pub stands_here : (trees : List Json) (at : ℕ) (tree : Json) (d : Data) → true ≡ nat_lt at (length trees) → tree ≡ slice_index_or trees at tree → (told : Bool)
-    → (IsTrue told ↔ (data_of tree ≡ d)) → IsTrue told ↔ (slice_get (data_in trees) at ≡ Some d)
-stands_here trees at tree d inside is told same =
-    let there = data_there trees at tree (less at (length trees) inside) is in (
+pub stands_here : (values : List Json) (at : ℕ) (value : Json) (d : Data) → true ≡ nat_lt at (length values) → value ≡ slice_index_or values at value → (told : Bool)
+    → (IsTrue told ↔ (data_of value ≡ d)) → IsTrue told ↔ (slice_get (data_in values) at ≡ Some d)
+stands_here values at value d inside is told same =
+    let there = data_read values at value (less at (length values) inside) is in (
       λ so. there ∙ ap Some (same.0 so),
-      λ stands. same.1 (one_some (data_of tree) d (sym there ∙ stands)),
+      λ stands. same.1 (one_some (data_of value) d (sym there ∙ stands)),
     )
 
-pub stands_nowhere : (trees : List Json) (at : ℕ) (d : Data) → false ≡ nat_lt at (length trees) → IsTrue false ↔ (slice_get (data_in trees) at ≡ Some d)
-stands_nowhere trees at d past = (
+pub stands_nowhere : (values : List Json) (at : ℕ) (d : Data) → false ≡ nat_lt at (length values) → IsTrue false ↔ (slice_get (data_in values) at ≡ Some d)
+stands_nowhere values at d past = (
   λ so. absurd (false≢true so),
   λ stands.
-      let inside = slice_get_within (data_in trees) at d stands in
-      let count = length-map trees data_of in
-      let outside = not_less at (length trees) past in
+      let inside = slice_get_within (data_in values) at d stands in
+      let count = length-map values data_of in
+      let outside = not_less at (length values) past in
       absurd (omega arith),
 )
 

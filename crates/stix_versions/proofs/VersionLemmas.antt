@@ -1,6 +1,5 @@
 -- What reading an object tells of the version that it is.
-use Rattle.std.proofs.Common.{◌≡◌, ◌↔◌, ◌<◌, ℕ, ℤ, List, length, Option, Some, None, IsTrue, IfNone, unwrap_or, slice_get, slice_index_or, codes, sym, ap, refl, subst, ◌∙◌, option_map}
-use Rattle.std.proofs.lemmas.Option.{slice_get-map, slice_get_read}
+use Rattle.std.proofs.Common.{◌≡◌, ◌↔◌, ◌<◌, ℕ, ℤ, List, length, Option, Some, None, IsTrue, IfNone, unwrap_or, slice_get, slice_index_or, codes, sym, ap, subst, ◌∙◌}
 use Rattle.serde_json.specs.Data.{Data}
 use Rattle.stix_ids.specs.declared.id.Id.{Id}
 use Rattle.stix_ids.specs.Identifier.{IsTextOf}
@@ -14,6 +13,7 @@ use Rattle.stix_bundles.specs.Lookup.{IsOf, Means}
 use Rattle.stix_versions.specs.declared.version.Version.{Version}
 use Rattle.stix_versions.specs.Versions.{IsObservable, IsVersion, IsRevoked}
 use Rattle.stix_versions.specs.inner.Version.{IsVersionAs, IsNoVersion}
+use Rattle.stix_versions.proofs.FirstObjectsLemmas.{data_read}
 
 pub one_some : {A : Type 0} (x y : A) → Some x ≡ Some y → x ≡ y
 one_some {A} x y e = ap (λ (o : Option A). unwrap_or o x) e
@@ -21,9 +21,6 @@ one_some {A} x y e = ap (λ (o : Option A). unwrap_or o x) e
 pub if_none : {A : Type 0} (P : Type 0) (o : Option A) → P → IfNone o P
 if_none P None p = p
 if_none P (Some x) p = tt
-
-pub data_there : (trees : List Json) (at : ℕ) (tree : Json) → at < length trees → tree ≡ slice_index_or trees at tree → slice_get (data_in trees) at ≡ Some (data_of tree)
-data_there trees at tree inside is = slice_get-map data_of trees at ∙ ap (λ (x : Option Json). option_map data_of x) (slice_get_read trees (length trees) at tree refl inside is)
 
 -- a version at the place is one of the object there
 pub version_of : (objects : List Data) (at : ℕ) (d : Data) → slice_get objects at ≡ Some d → (id : Id) (created modified : ℤ) (other : Data)
@@ -81,6 +78,6 @@ seen_as objects at d there seen versioned text named means created modified revo
 }
 
 -- the object that the code reads
-pub object_there : (trees read : List Json) → read ≡ trees → (at : ℕ) (tree : Json) → at < length trees → tree ≡ slice_index_or read at tree
-    → slice_get (data_in trees) at ≡ Some (data_of tree)
-object_there trees read same at tree inside is = data_there trees at tree inside (subst (λ (xs : List Json). tree ≡ slice_index_or xs at tree) same is)
+pub object_there : (values read : List Json) → read ≡ values → (at : ℕ) (value : Json) → at < length values → value ≡ slice_index_or read at value
+    → slice_get (data_in values) at ≡ Some (data_of value)
+object_there values read same at value inside is = data_read values at value inside (subst (λ (xs : List Json). value ≡ slice_index_or xs at value) same is)

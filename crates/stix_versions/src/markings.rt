@@ -2,6 +2,7 @@ ghost use Rattle.std.specs.Prelude.{◌≡◌, ◌++◌, ◌≤◌, List, All, l
 ghost use Rattle.stix_json.specs.DataOf.{data_of};
 ghost use Rattle.stix_json.specs.Ordered.{IsOrdered};
 ghost use Rattle.stix_bundles.specs.Objects.{data_in};
+ghost use Rattle.stix_bundles.specs.declared.outline.TheConstants.{MAX_OBJECTS};
 ghost use Rattle.stix_versions.specs.declared.marking_break.MarkingBreak.{MarkingBreak};
 ghost use Rattle.stix_versions.specs.Markings.{AreBreaksOfMarkings, AreMarkingBreaks};
 ghost use Rattle.stix_versions.specs.inner.Selectors.{AreOwnBreaks};
@@ -24,7 +25,7 @@ pub fn marking_breaks(alloc: Global, bundle: &Bundle) -> Result<Items<MarkingBre
 
 /// The same of a list of objects.
 fn all_breaks(alloc: Global, objects: &[Json]) -> Result<Items<MarkingBreak>, NoMemory>
-    requires counted { length objects.now ≤ 8_388_608 }
+    requires counted { length objects.now ≤ MAX_OBJECTS }
     requires ordered { All IsOrdered (data_in objects.now) }
     ensures { IfOk result (AreMarkingBreaks (data_in objects.now)) }
 {

@@ -2,6 +2,7 @@ ghost use Rattle.std.specs.Prelude.{◌≡◌, ◌↔◌, ◌+◌, ◌<◌, ◌�
 ghost use Rattle.serde_json.specs.Data.{Data};
 ghost use Rattle.stix_json.specs.DataOf.{data_of};
 ghost use Rattle.stix_bundles.specs.Objects.{data_in};
+ghost use Rattle.stix_bundles.specs.declared.outline.TheConstants.{MAX_OBJECTS};
 ghost use Rattle.stix_versions.specs.declared.version_break.VersionRule.TheVariants as rule;
 ghost use Rattle.stix_versions.specs.Versions.{BreaksVersionRule};
 ghost use Rattle.stix_versions.specs.inner.Version.{IsVersionAs};
@@ -49,7 +50,7 @@ impl Twins {
         at: usize,
         version: &Version,
     ) -> Result<bool, NoMemory>
-        requires counted { length objects.now ≤ 8_388_608 }
+        requires counted { length objects.now ≤ MAX_OBJECTS }
         requires there { at < length objects.now }
         requires version { IsVersionAs (data_in objects.now) at version.now }
         requires before { AreTwinsBefore (data_in objects.now) at self.old }

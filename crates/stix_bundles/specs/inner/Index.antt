@@ -6,6 +6,7 @@ use Rattle.serde_json.specs.Data.{Data}
 use Rattle.stix_ids.specs.declared.id.Id.{Id}
 use Rattle.stix_json.specs.Ordered.{IsOrdered}
 use Rattle.stix_bundles.specs.declared.index.Index.{Index}
+use Rattle.stix_bundles.specs.declared.outline.TheConstants.{MAX_OBJECTS}
 use Rattle.stix_bundles.specs.Bundle.{AreAllBreaks}
 use Rattle.stix_bundles.specs.Lookup.{IsModified, IsEarlier, IsOf, IsLatest}
 
@@ -38,7 +39,7 @@ IsIndexOf objects index = (id : Id) → IsPositionOf objects id (position_of ind
 
 -- what is true of the objects of each bundle and its index
 pub record IsIndexed (objects : List Data) (index : Index) : Type 0 where
-  pub counted : length objects ≤ 8_388_608
+  pub counted : length objects ≤ MAX_OBJECTS
   pub unbroken : AreAllBreaks 0 objects []
   pub ordered : All IsOrdered objects
   pub indexed : IsIndexOf objects index

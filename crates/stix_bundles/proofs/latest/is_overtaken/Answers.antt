@@ -3,12 +3,12 @@ use Rattle.stix_bundles.proofs.latest.is_overtaken.Goals as goal
 
 pub returns-in-Some-get : goal.returns-in-Some-get
 returns-in-Some-get c =
-    let trees = c.args.objects.now in
+    let values = c.args.objects.now in
     let at = c.in-Some.at in
-    let tree = c.in-Some-get.object.now in
+    let value = c.in-Some-get.object.now in
     let lookup = c.in-Some-get.ensures.lookup in (
-      λ is. overtakes_at trees at c.args.at c.args.time c.modified.result tree c.in-Some.is lookup.0 lookup.1 c.modified.ensures (c.is_earlier.ensures.0 is),
-      λ over. c.is_earlier.ensures.1 (earlier_at c.one_modified.ensures trees at c.args.at c.args.time c.modified.result tree c.in-Some.is lookup.0 lookup.1
+      λ is. overtakes_at values at c.args.at c.args.time c.modified.result value c.in-Some.is lookup.0 lookup.1 c.modified.ensures (c.is_earlier.ensures.0 is),
+      λ over. c.is_earlier.ensures.1 (earlier_at c.one_modified.ensures values at c.args.at c.args.time c.modified.result value c.in-Some.is lookup.0 lookup.1
           c.modified.ensures over),
     )
 

@@ -10,6 +10,6 @@ pub returns : goal.returns
 returns c =
     let ds = data_in c.args.bundle.now in
     let ms = c.in_ok-last_times.last_times.items in
-    let are = subst (λ (trees : List Json). AreLastTimes (data_in trees) ms) c.objects.ensures.value c.in_ok-last_times.ensures.all in
+    let are = subst (λ (values : List Json). AreLastTimes (data_in values) ms) c.objects.ensures.value c.in_ok-last_times.ensures.all in
     let told = subst (λ (slice : List LastTime). IfOk c.observed.result (AreObservationsAt ds c.args.first slice)) c.as_slice.ensures.value c.observed.ensures in
     observations_well ds c.args.first ms are c.in_ok-last_times.ensures.ordered c.observed.result told

@@ -11,15 +11,15 @@ use Rattle.stix_bundles.proofs.observe.observation.Goals as goal
 
 pub own_id-requires : goal.own_id-requires
 own_id-requires c =
-    let tree = c.index-objects-last_time.result in
-    let there = stands c.objects.result.now c.args.bundle.now c.objects.ensures.value c.args.last_time c.requires tree c.index-objects-last_time.is in
-    unbroken_at 0 (data_in c.args.bundle.now) c.objects.ensures.unbroken c.args.last_time.at (data_of tree) there
+    let value = c.index-objects-last_time.result in
+    let there = stands c.objects.result.now c.args.bundle.now c.objects.ensures.value c.args.last_time c.requires value c.index-objects-last_time.is in
+    unbroken_at 0 (data_in c.args.bundle.now) c.objects.ensures.unbroken c.args.last_time.at (data_of value) there
 
 pub first_observed-requires-clause-unbroken : goal.first_observed-requires-clause-unbroken
 first_observed-requires-clause-unbroken c =
-    let tree = c.index-objects-last_time.result in
-    let there = stands c.objects.result.now c.args.bundle.now c.objects.ensures.value c.args.last_time c.requires tree c.index-objects-last_time.is in
-    unbroken_at 0 (data_in c.args.bundle.now) c.objects.ensures.unbroken c.args.last_time.at (data_of tree) there
+    let value = c.index-objects-last_time.result in
+    let there = stands c.objects.result.now c.args.bundle.now c.objects.ensures.value c.args.last_time c.requires value c.index-objects-last_time.is in
+    unbroken_at 0 (data_in c.args.bundle.now) c.objects.ensures.unbroken c.args.last_time.at (data_of value) there
 
 pub first_observed-requires-clause-observed : goal.first_observed-requires-clause-observed
 first_observed-requires-clause-observed c =
@@ -27,13 +27,13 @@ first_observed-requires-clause-observed c =
 
 pub returns-clause-seen : goal.returns-clause-seen
 returns-clause-seen c =
-    let tree = c.index-objects-last_time.result in
-    let there = stands c.objects.result.now c.args.bundle.now c.objects.ensures.value c.args.last_time c.requires tree c.index-objects-last_time.is in
-    let same = same_some c.requires.object (data_of tree) (sym c.requires.there ∙ there) in
+    let value = c.index-objects-last_time.result in
+    let there = stands c.objects.result.now c.args.bundle.now c.objects.ensures.value c.args.last_time c.requires value c.index-objects-last_time.is in
+    let same = same_some c.requires.object (data_of value) (sym c.requires.there ∙ there) in
     record {
-      object = data_of tree;
+      object = data_of value;
       there = there;
-      observed = stands_observed c.objects.result.now c.args.bundle.now c.objects.ensures.value c.args.last_time c.requires tree c.index-objects-last_time.is;
+      observed = stands_observed c.objects.result.now c.args.bundle.now c.objects.ensures.value c.args.last_time c.requires value c.index-objects-last_time.is;
       numbered = refl;
       named = c.in_ok-id.ensures;
       first = c.first_observed.ensures;

@@ -4,6 +4,7 @@ use Rattle.std.proofs.lemmas.List.{length-map}
 use Rattle.serde_json.specs.Data.{Data}
 use Rattle.stix_json.specs.declared.value.Json.{Json}
 use Rattle.stix_bundles.specs.Bundle.{IsObject}
+use Rattle.stix_bundles.specs.declared.outline.TheConstants.{MAX_OBJECTS}
 use Rattle.stix_bundles.specs.inner.Failures.{FailsInMembers}
 use Rattle.stix_json.specs.DataOf.{data_of}
 use Rattle.stix_bundles.specs.Objects.{data_in}
@@ -21,7 +22,7 @@ pub returns-clause-some : goal.returns-clause-some
 returns-clause-some c =
     let objects = c.in-Array.objects in
     let count = c.is_count.ensures.0 c.if-not-is_count.false in
-    let list = row_is_list c.args.value.now objects c.in-Array.is (subst (λ n. 1 ≤ n) c.len.ensures count.0) (subst (λ n. n ≤ 8_388_608) c.len.ensures count.1) in
+    let list = row_is_list c.args.value.now objects c.in-Array.is (subst (λ n. 1 ≤ n) c.len.ensures count.0) (subst (λ n. n ≤ MAX_OBJECTS) c.len.ensures count.1) in
     fails_in_list (data_of c.args.value.now) (data_in objects) list c.first_no_object.result
     (subst (λ (ts : List Json). IfSome c.first_no_object.result (FailsInMembers (data_in ts))) c.as_slice.ensures c.first_no_object.ensures.some)
 
@@ -29,6 +30,6 @@ pub returns-clause-none : goal.returns-clause-none
 returns-clause-none c =
     let objects = c.in-Array.objects in
     let count = c.is_count.ensures.0 c.if-not-is_count.false in
-    let list = row_is_list c.args.value.now objects c.in-Array.is (subst (λ n. 1 ≤ n) c.len.ensures count.0) (subst (λ n. n ≤ 8_388_608) c.len.ensures count.1) in
+    let list = row_is_list c.args.value.now objects c.in-Array.is (subst (λ n. 1 ≤ n) c.len.ensures count.0) (subst (λ n. n ≤ MAX_OBJECTS) c.len.ensures count.1) in
     list_is_well (data_of c.args.value.now) (data_in objects) list c.first_no_object.result
     (subst (λ (ts : List Json). IfNone c.first_no_object.result (All IsObject (data_in ts))) c.as_slice.ensures c.first_no_object.ensures.none)

@@ -9,12 +9,12 @@ pub returns-then-is_empty : goal.returns-then-is_empty
 returns-then-is_empty c =
     let d = data_of c.args.object.now in
     let marking = data_of c.args.marking.now in
-    let trees = c.args.selectors.now in
+    let values = c.args.selectors.now in
     elim c.then-is_empty.branch [
       | then-is_empty-via-then-is_empty w ↦
-          empty_list d marking trees c.requires.named c.requires.listed (none_there trees c.is_empty.result c.is_empty.ensures w.if-is_empty.true)
+          empty_list d marking values c.requires.named c.requires.listed (none_there values c.is_empty.result c.is_empty.ensures w.if-is_empty.true)
       | then-is_empty-via-else-is_empty+then-not-are_selectors w ↦
-          no_selectors d marking trees c.requires.named c.requires.listed (λ all. false≢true (sym w.if-not-are_selectors.true ∙ w.are_selectors.ensures.1 all))
+          no_selectors d marking values c.requires.named c.requires.listed (λ all. false≢true (sym w.if-not-are_selectors.true ∙ w.are_selectors.ensures.1 all))
     ]
 
 pub returns-then-misses_one : goal.returns-then-misses_one

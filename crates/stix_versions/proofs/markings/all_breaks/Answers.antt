@@ -11,10 +11,10 @@ use Rattle.stix_versions.proofs.markings.all_breaks.Goals as goal
 
 pub loop-at-preserved : goal.loop-at-preserved
 loop-at-preserved c =
-    let trees = c.args.objects.now in
+    let values = c.args.objects.now in
     let own = c.in_ok-add_breaks.ensures in
-    let grown = objects_at trees c.loop-at.at c.index-objects-at.result c.loop-at.found own.0 c.loop-at-test.true c.index-objects-at.is c.loop-at.invariant own.1 in
-    subst (λ (found : List MarkingBreak). AreMarkingBreaksFrom 0 (take (c.loop-at.at + 1) (data_in trees)) found) (sym own.2) grown
+    let grown = objects_at values c.loop-at.at c.index-objects-at.result c.loop-at.found own.0 c.loop-at-test.true c.index-objects-at.is c.loop-at.invariant own.1 in
+    subst (λ (found : List MarkingBreak). AreMarkingBreaksFrom 0 (take (c.loop-at.at + 1) (data_in values)) found) (sym own.2) grown
 
 pub add_breaks-requires : goal.add_breaks-requires
 add_breaks-requires c =

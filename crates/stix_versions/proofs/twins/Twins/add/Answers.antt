@@ -8,7 +8,8 @@ use Rattle.stix_json.specs.DataOf.{data_of}
 use Rattle.stix_bundles.specs.Objects.{data_in}
 use Rattle.stix_versions.specs.declared.twins.FirstTwin.{FirstTwin}
 use Rattle.stix_versions.specs.inner.Twins.{twin_at, IsNextTwin}
-use Rattle.stix_versions.proofs.VersionLemmas.{one_some, data_there}
+use Rattle.stix_versions.proofs.FirstObjectsLemmas.{data_read}
+use Rattle.stix_versions.proofs.VersionLemmas.{one_some}
 use Rattle.stix_versions.proofs.IsVersionLemmas.{Laws}
 use Rattle.stix_versions.proofs.TwinsLemmas.{key_cmp, twins_more, twins_told}
 use Rattle.stix_versions.proofs.twins.Twins.add.Goals as goal
@@ -23,7 +24,7 @@ returns-clause-told c =
     let time : to_z w128 (of_z w128 c.nanos.result) ≡ seen.modified = to_z-of_z w128 c.nanos.result (search rules) ∙ c.nanos.ensures.value in
     let first : c.copied-first.result ≡ twin_at c.args.self.now seen.group seen.modified =
     c.copied-first.ensures ∙ c.get.ensures.value ∙ ap (λ (t : ℤ). twin_at c.args.self.now seen.group t) time in
-    let there = data_there c.args.objects.now c.args.at c.index-objects-at.result c.requires.there c.index-objects-at.is in
+    let there = data_read c.args.objects.now c.args.at c.index-objects-at.result c.requires.there c.index-objects-at.is in
     let object : data_of c.index-objects-at.result ≡ is.object = one_some (data_of c.index-objects-at.result) is.object (sym there ∙ is.version.there) in
     let is_next : IsNextTwin objects (twin_at c.args.self.now seen.group seen.modified) is.object c.args.at next =
     subst (λ (o : Option FirstTwin). IsNextTwin objects o is.object c.args.at next) first
@@ -40,7 +41,7 @@ returns-clause-kept c =
     let time : to_z w128 (of_z w128 c.nanos.result) ≡ seen.modified = to_z-of_z w128 c.nanos.result (search rules) ∙ c.nanos.ensures.value in
     let first : c.copied-first.result ≡ twin_at c.args.self.now seen.group seen.modified =
     c.copied-first.ensures ∙ c.get.ensures.value ∙ ap (λ (t : ℤ). twin_at c.args.self.now seen.group t) time in
-    let there = data_there c.args.objects.now c.args.at c.index-objects-at.result c.requires.there c.index-objects-at.is in
+    let there = data_read c.args.objects.now c.args.at c.index-objects-at.result c.requires.there c.index-objects-at.is in
     let object : data_of c.index-objects-at.result ≡ is.object = one_some (data_of c.index-objects-at.result) is.object (sym there ∙ is.version.there) in
     let is_next : IsNextTwin objects (twin_at c.args.self.now seen.group seen.modified) is.object c.args.at next =
     subst (λ (o : Option FirstTwin). IsNextTwin objects o is.object c.args.at next) first
