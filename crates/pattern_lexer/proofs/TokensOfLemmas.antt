@@ -141,7 +141,7 @@ one_end size rest (Some r) None x y = absurd (blanks_alone x.blanks x.left (subs
 one_end size rest (Some r) (Some s) x y =
     let e = split_blanks x.blanks y.blanks x.left y.left (sym x.spelled ∙ y.spelled) x.blank y.blank x.begins y.begins in
     let refused = subst (λ (l : List ℕ). IsRefusalAt (size - length l) l s) (sym e.1) y.refused in
-    ap (λ (p : TokenRefusal). Some p) (one_why (size - length x.left) x.left r s (why (size - length x.left) x.left r x.refused) (why (size - length x.left) x.left s fault))
+    ap (λ (p : TokenRefusal). Some p) (one_why (size - length x.left) x.left r s (why (size - length x.left) x.left r x.refused) (why (size - length x.left) x.left s refused))
 
 no_next : (size at : ℕ) (left : List ℕ) (o : Option TokenRefusal) (t : Token) (a : List ℕ) → End size left o → IsNext at left t a → ⊥
 no_next size at left None t a x n = blanks_alone n.blanks (n.text ++ a) (subst (λ (l : List ℕ). All IsBlank l) (next_spelled at left t a n) x) (token_not_blank t.kind n.text a n.first.token)
