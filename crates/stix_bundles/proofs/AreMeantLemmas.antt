@@ -41,7 +41,7 @@ pub meant_step : (objects : List Data) (items : List Json) (k : ℕ) (item : Jso
 meant_step objects items k item places place inside read are is =
     let grown : take (k + 1) items ≡ take k items ++ item ∷ [] = take_more items k item inside ∙ ap (λ (x : Json). take k items ++ x ∷ []) read in
     let mapped : data_in (take (k + 1) items) ≡ data_in (take k items) ++ data_of item ∷ [] =
-    ap (λ (ts : List Json). data_in ts) grown ∙ map-append data_of (take k items) (item ∷ []) in
+    ap (λ (values : List Json). data_in values) grown ∙ map-append data_of (take k items) (item ∷ []) in
     let texts : texts_of items (k + 1) ≡ texts_of items k ++ cons_option (as_str (data_of item)) [] =
     ap (filter_map as_str) mapped ∙ filter_map-append as_str (data_in (take k items)) (data_of item ∷ []) in
     subst (λ (ts : List (List ℕ)). AreMeant objects ts (places ++ option_to_list place)) (sym texts)

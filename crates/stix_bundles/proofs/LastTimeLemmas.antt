@@ -16,7 +16,7 @@ pub stands : (read all : List Json) → read ≡ all → (last_time : LastTime) 
 stands read all same last_time is value at =
     let inside = slice_get_within (data_in all) last_time.at is.object is.there in
     let count = length-map all data_of in
-    data_read all last_time.at value (omega arith) (subst (λ (ts : List Json). value ≡ slice_index_or ts last_time.at value) same at)
+    data_read all last_time.at value (omega arith) (subst (λ (values : List Json). value ≡ slice_index_or values last_time.at value) same at)
 
 pub stands_observed : (read all : List Json) → read ≡ all → (last_time : LastTime) → IsLastTimeOf (data_in all) last_time → (value : Json) → value ≡ slice_index_or read last_time.at value
     → IsObservedData (data_of value)

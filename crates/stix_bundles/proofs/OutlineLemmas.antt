@@ -26,7 +26,7 @@ pub row_is_list : (value : Json) (objects : List Json) → value ≡ json.Array 
     → IsListOf (data_of value) (data_in objects)
 row_is_list value objects is some not_too_many = record {
   items = items_of (data_in objects);
-  list = ap (λ (t : Json). as_array (data_of t)) is ∙ ap as_array (data_of-Array objects);
+  list = ap (λ (value : Json). as_array (data_of value)) is ∙ ap as_array (data_of-Array objects);
   members_are = sym (listed_items (data_in objects));
   some = subst (λ n. 1 ≤ n) (sym (length-map objects data_of)) some;
   not_too_many = subst (λ n. n ≤ MAX_OBJECTS) (sym (length-map objects data_of)) not_too_many;
@@ -36,7 +36,7 @@ row_is_list value objects is some not_too_many = record {
 pub list_is_row : (value : Json) (objects : List Json) (members : List Data) → value ≡ json.Array objects → IsListOf (data_of value) members
     → members ≡ data_in objects
 list_is_row value objects members is list =
-    let array_is : Some list.items ≡ Some (items_of (data_in objects)) = sym list.list ∙ ap (λ (t : Json). as_array (data_of t)) is ∙ ap as_array (data_of-Array objects) in
+    let array_is : Some list.items ≡ Some (items_of (data_in objects)) = sym list.list ∙ ap (λ (value : Json). as_array (data_of value)) is ∙ ap as_array (data_of-Array objects) in
     let items : list.items ≡ items_of (data_in objects) = ap (λ (o : Option Items). unwrap_or o list.items) array_is in
     list.members_are ∙ ap listed items ∙ listed_items (data_in objects)
 

@@ -16,5 +16,5 @@ pub references_of : (d : Data) (row : Json) (items : List Json) → Some (data_o
     → references d ≡ filter_map as_str (data_in items)
 references_of d row items there is =
     let value : get (codes "object_refs") d ≡ Some (array (items_of (data_in items))) =
-    sym there ∙ ap (λ (t : Json). Some (data_of t)) is ∙ ap Some (data_of-Array items) in
+    sym there ∙ ap (λ (value : Json). Some (data_of value)) is ∙ ap Some (data_of-Array items) in
     ap (λ (o : Option Data). filter_map as_str (option_map_or listed (option_and_then as_array o) [])) value ∙ ap (filter_map as_str) (listed_items (data_in items))

@@ -16,7 +16,7 @@ pub fn read_id(alloc: Global, text: &str) -> Result<Id, IdRefusal>
     ensures ok { IfOk result (IsTextOf text.now) }
     ensures err { IfErr result (IsRefused text.now) }
     ensures named { (id : Id) → IsTextOf text.now id → (result ≡ Ok id) ⊎ (result ≡ Err NoMemory) }
-    ensures told { (refusal : IdRefusal) → refusal ≢ NoMemory → IsRefused text.now refusal
+    ensures refused { (refusal : IdRefusal) → refusal ≢ NoMemory → IsRefused text.now refusal
         → result ≡ Err refusal }
 {
     let parts = Parts::read(text)?;

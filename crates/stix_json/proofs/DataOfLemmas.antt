@@ -35,7 +35,7 @@ abbrev mutual
   MembersHaveSigns (member k d ms) = HasSigns d × MembersHaveSigns ms
 
 abbrev JsonHasSigns : Json → Type 0
-JsonHasSigns t = HasSigns (data_of t)
+JsonHasSigns value = HasSigns (data_of value)
 
 -- the member that a field is, as the fold gives it
 abbrev member_of : Field → Member
@@ -48,16 +48,16 @@ signed : (z : ℤ) → IsSigned (of_integer z)
 signed (pos n) = tt
 signed (negsuc n) = tt
 
-signs_in_items : (ts : List ((t : Json) × JsonHasSigns t)) → ItemsHaveSigns (items_of (map data_of (map (λ e. e.0) ts)))
+signs_in_items : (values : List ((value : Json) × JsonHasSigns value)) → ItemsHaveSigns (items_of (map data_of (map (λ e. e.0) values)))
 signs_in_items [] = tt
-signs_in_items (t ∷ ts) = (t.1, signs_in_items ts)
+signs_in_items (value ∷ values) = (value.1, signs_in_items values)
 
 signs_in_fields : (fs : List ((f : Field) × FieldHasSigns f)) → MembersHaveSigns (members_of (map member_of (map (λ e. e.0) fs)))
 signs_in_fields [] = tt
 signs_in_fields (f ∷ fs) = (f.1, signs_in_fields fs)
 
 abbrev SignedValues : Type 0
-SignedValues = (t : Json) × JsonHasSigns t
+SignedValues = (value : Json) × JsonHasSigns value
 
 abbrev SignedFields : Type 0
 SignedFields = (f : Field) × FieldHasSigns f
@@ -66,7 +66,7 @@ level_signs : (y : Json-F SignedValues SignedFields) → HasSigns (json_level (m
 level_signs (Json-F.Bool b) = tt
 level_signs (Json-F.Integer z) = signed z
 level_signs (Json-F.String s) = tt
-level_signs (Json-F.Array ts) = signs_in_items ts
+level_signs (Json-F.Array values) = signs_in_items values
 level_signs (Json-F.Object fs) = signs_in_fields fs
 
 rolled : (z : Json-F Json Field) → HasSigns (json_level (map-Json Json Field Data Member data_of member_of z)) → JsonHasSigns (roll-Json z)
@@ -76,7 +76,7 @@ rolled_field : (z : Field-F Json Field) → HasSigns (data_of z.value) → Field
 rolled_field z h = subst (λ (m : Member). HasSigns m.value) (sym (fold-roll-Field Data Member json_level field_level z)) h
 
 -- every Json has
-pub json_signs : (t : Json) → HasSigns (data_of t)
+pub json_signs : (value : Json) → HasSigns (data_of value)
 json_signs = ind-Json JsonHasSigns FieldHasSigns
     (λ x y is. subst (λ (z : Json-F Json Field). JsonHasSigns (roll-Json z)) is (rolled (map-Json SignedValues SignedFields Json Field (λ e. e.0) (λ e. e.0) y) (level_signs y)))
     (λ x y is. subst (λ (z : Field-F Json Field). FieldHasSigns (roll-Field z)) is (rolled_field (map-Field SignedValues SignedFields Json Field (λ e. e.0) (λ e. e.0) y) y.value.1))

@@ -97,5 +97,5 @@ same_length f g (x ∷ xs) [] h = absurd (cc)
 same_length f g (x ∷ xs) (y ∷ ys) h = let rest : map f xs ≡ map g ys = cc in let e = same_length f g xs ys rest in omega (arith, e)
 
 -- a field is the member that its entry was
-pub same_member : {name bytes : List ℕ} {d : Data} (t : Json) → name ≡ bytes → data_of t ≡ d → field_data (roll-Field (record { name = name; value = t })) ≡ record { name = bytes; value = d }
-same_member t named is = rw (named, is) refl
+pub same_member : {name bytes : List ℕ} {d : Data} (value : Json) → name ≡ bytes → data_of value ≡ d → field_data (roll-Field (record { name = name; value = value })) ≡ record { name = bytes; value = d }
+same_member value named is = rw (named, is) refl

@@ -95,12 +95,12 @@ pub read_ordered : (text : List ℕ) (d : Data) → read text ≡ Some d → IsO
 read_ordered text d is = on_some (read text) d is (whole_ordered (option_and_then (λ p. json.if_last p.0 p.1) (json.value max_depth (tokens text))))
 
 -- a Json that is the value of some bytes and has nothing refused is theirs
-pub json_of : (bytes : List ℕ) (d : Data) (t : Json) → IsValueOf bytes d → IsJsonAs d t → IsJsonOf bytes t
-json_of bytes d t value good =
+pub json_of : (bytes : List ℕ) (d : Data) (value : Json) → IsValueOf bytes d → IsJsonAs d value → IsJsonOf bytes value
+json_of bytes d value read good =
     let Q : Data → Type 0 = λ e. IsValueOf bytes e in
     let R : Data → Type 0 = λ e. refusal_of e ≡ None in
     record {
-      value = subst Q (sym good.same) value;
+      value = subst Q (sym good.same) read;
       good = subst R (sym good.same) good.good;
       ordered = subst IsOrdered (sym good.same) good.ordered;
     }

@@ -204,13 +204,13 @@ text_back d ts text ordered sent lexed shallow =
     ap (option_and_then (λ j. of_json j)) (ap (option_and_then (λ p. json.if_last p.0 p.1)) (ap (json.value max_depth) (lexed ∙ sent ∙ sym (append-nil _)) ∙ value-json_tokens (outline d) max_depth [] (let h = depth_same d in omega (arith, h, shallow)))) ∙ of_outline d ordered
 
 -- the text of an ordered value with nothing refused is of that value
-pub reads_back : (t : Json) (ts : List Token) (text : List ℕ) → IsOrdered (data_of t) → ts ≡ json_tokens (outline (data_of t)) → tokens text ≡ ts → IsUtf8 text
-    → refusal_of (data_of t) ≡ None → IsJsonOf text t
-reads_back t ts text ordered sent lexed utf8 good =
-    let found = nothing_found (data_of t) good in
-    let low : depth (data_of t) ≤ max_depth = let h = shallow MAX_LEVELS (data_of t) found.0 in omega (arith, h) in
+pub reads_back : (value : Json) (ts : List Token) (text : List ℕ) → IsOrdered (data_of value) → ts ≡ json_tokens (outline (data_of value)) → tokens text ≡ ts → IsUtf8 text
+    → refusal_of (data_of value) ≡ None → IsJsonOf text value
+reads_back value ts text ordered sent lexed utf8 good =
+    let found = nothing_found (data_of value) good in
+    let low : depth (data_of value) ≤ max_depth = let h = shallow MAX_LEVELS (data_of value) found.0 in omega (arith, h) in
     record {
-      value = record { text = utf8; value = text_back (data_of t) ts text (written (data_of t) ordered (json_signs t) found.1) sent lexed low };
+      value = record { text = utf8; value = text_back (data_of value) ts text (written (data_of value) ordered (json_signs value) found.1) sent lexed low };
       good = good;
       ordered = ordered;
     }

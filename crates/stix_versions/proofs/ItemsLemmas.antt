@@ -34,7 +34,7 @@ pub item_read : (value : Json) (items : List Json) → value ≡ json.Array item
     → option_map (λ item. item.now) found ≡ slice_get items n → option_map (λ item. data_of item.now) found ≡ at_place n (data_of value)
 item_read value items row n found is =
     data_within found ∙ ap (λ (o : Option Json). option_map data_of o) is ∙ sym (slice_get-map data_of items n) ∙ sym (item_of_list (data_in items) n)
-    ∙ sym (ap (at_place n) (data_of-Array items)) ∙ sym (ap (λ (t : Json). at_place n (data_of t)) row)
+    ∙ sym (ap (at_place n) (data_of-Array items)) ∙ sym (ap (λ (value : Json). at_place n (data_of value)) row)
 
 pub item_looked_up : (items : List Json) (at : ℕ) (found : Option (Bor Json)) → IfSome found (λ item. item.now ≡ get_or items at item.now)
     → MatchOption found (length items ≤ at) (λ item. (at < length items) × HoldsAt (λ t. item.now ≡ t) items at) → option_map (λ item. item.now) found ≡ slice_get items at

@@ -37,20 +37,20 @@ AllSelectorTexts values = All (λ (value : Json). IsSelectorText (data_of value)
 pub texts_of_all : (values : List Json) → AllSelectorTexts values → (texts : List (List ℕ)) × (data_in values ≡ map string texts) × AreSelectors texts
 texts_of_all [] all = ([], refl, tt)
 texts_of_all (value ∷ values) all =
-    let first = All-head (λ (t : Json). IsSelectorText (data_of t)) value values all in
-    let rest = texts_of_all values (All-tail (λ (t : Json). IsSelectorText (data_of t)) value values all) in (
+    let first = All-head (λ (json : Json). IsSelectorText (data_of json)) value values all in
+    let rest = texts_of_all values (All-tail (λ (json : Json). IsSelectorText (data_of json)) value values all) in (
       first.text ∷ rest.0,
       ap (λ (d : Data). d ∷ data_in values) first.is_text ∙ ap (λ (ds : List Data). string first.text ∷ ds) rest.1,
       ((first.parts, first.selector), rest.2),
     )
 
 pub all_of_texts : (values : List Json) (texts : List (List ℕ)) → data_in values ≡ map string texts → AreSelectors texts → AllSelectorTexts values
-all_of_texts [] texts same are = All-nil (λ (t : Json). IsSelectorText (data_of t))
+all_of_texts [] texts same are = All-nil (λ (json : Json). IsSelectorText (data_of json))
 all_of_texts (value ∷ values) [] same are = absurd cc
 all_of_texts (value ∷ values) (text ∷ texts) same are =
     let first : data_of value ≡ string text = cc in
     let rest : data_in values ≡ map string texts = cc in
-    All-cons (λ (t : Json). IsSelectorText (data_of t)) value values (record { text = text; parts = are.0.0; is_text = first; selector = are.0.1 })
+    All-cons (λ (json : Json). IsSelectorText (data_of json)) value values (record { text = text; parts = are.0.0; is_text = first; selector = are.0.1 })
     (all_of_texts values texts rest are.1)
 
 text_of_some : (o : Option (List ℕ)) (text : List ℕ) → option_map string o ≡ Some (string text) → o ≡ Some text

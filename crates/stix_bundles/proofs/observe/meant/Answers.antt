@@ -31,5 +31,5 @@ pub returns : goal.returns
 returns c =
     let items = c.args.items.now in
     let past : length items ≤ c.loop-item.item-index = omega arith in
-    subst (λ (ts : List Json). AreMeant (data_in c.args.bundle.now) (filter_map as_str (data_in ts)) c.loop-item.places) (take_all c.loop-item.item-index items past)
+    subst (λ (values : List Json). AreMeant (data_in c.args.bundle.now) (filter_map as_str (data_in values)) c.loop-item.places) (take_all c.loop-item.item-index items past)
     c.loop-item.invariant

@@ -24,7 +24,7 @@ returns-clause-some c =
     let count = c.is_count.ensures.0 c.if-not-is_count.false in
     let list = row_is_list c.args.value.now objects c.in-Array.is (subst (λ n. 1 ≤ n) c.len.ensures count.0) (subst (λ n. n ≤ MAX_OBJECTS) c.len.ensures count.1) in
     fails_in_list (data_of c.args.value.now) (data_in objects) list c.first_no_object.result
-    (subst (λ (ts : List Json). IfSome c.first_no_object.result (FailsInMembers (data_in ts))) c.as_slice.ensures c.first_no_object.ensures.some)
+    (subst (λ (values : List Json). IfSome c.first_no_object.result (FailsInMembers (data_in values))) c.as_slice.ensures c.first_no_object.ensures.some)
 
 pub returns-clause-none : goal.returns-clause-none
 returns-clause-none c =
@@ -32,4 +32,4 @@ returns-clause-none c =
     let count = c.is_count.ensures.0 c.if-not-is_count.false in
     let list = row_is_list c.args.value.now objects c.in-Array.is (subst (λ n. 1 ≤ n) c.len.ensures count.0) (subst (λ n. n ≤ MAX_OBJECTS) c.len.ensures count.1) in
     list_is_well (data_of c.args.value.now) (data_in objects) list c.first_no_object.result
-    (subst (λ (ts : List Json). IfNone c.first_no_object.result (All IsObject (data_in ts))) c.as_slice.ensures c.first_no_object.ensures.none)
+    (subst (λ (values : List Json). IfNone c.first_no_object.result (All IsObject (data_in values))) c.as_slice.ensures c.first_no_object.ensures.none)

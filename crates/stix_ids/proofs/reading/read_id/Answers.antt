@@ -11,15 +11,15 @@ returns-in_err-parts-clause-named c = λ id named.
     let err = c.in_err-parts.ensures.err in
     absurd (err.0 (not_refused c.args.text.now id e named err.1))
 
-pub returns-in_err-parts-clause-told : goal.returns-in_err-parts-clause-told
-returns-in_err-parts-clause-told c = λ refusal other refused.
+pub returns-in_err-parts-clause-refused : goal.returns-in_err-parts-clause-refused
+returns-in_err-parts-clause-refused c = λ refusal other refused.
     let e = c.in_err-parts.field-0.0 in
     let err = c.in_err-parts.ensures.err in
     let p = err_from_is_err_and c.from_residual.result c.from_residual.ensures.1 in
     p.1 ∙ ap Err (p.2 ∙ one_refusal c.args.text.now e refusal err.0 other err.1 refused)
 
-pub returns-in_err-kind-clause-told : goal.returns-in_err-kind-clause-told
-returns-in_err-kind-clause-told c = λ refusal other refused.
+pub returns-in_err-kind-clause-refused : goal.returns-in_err-kind-clause-refused
+returns-in_err-kind-clause-refused c = λ refusal other refused.
     let id = id_of c.in_ok-parts.parts in
     absurd (other (not_refused c.args.text.now id refusal c.in_ok-parts.ensures.ok refused))
 
@@ -36,7 +36,7 @@ returns-clause-named c = λ id named.
     let kept : Id = record { kind = c.in_ok-kind.kind; number = c.in_ok-parts.parts.number } in
     inl (ap Ok (one_identifier c.args.text.now kept id (returns-clause-ok c) named))
 
-pub returns-clause-told : goal.returns-clause-told
-returns-clause-told c = λ refusal other refused.
+pub returns-clause-refused : goal.returns-clause-refused
+returns-clause-refused c = λ refusal other refused.
     let kept : Id = record { kind = c.in_ok-kind.kind; number = c.in_ok-parts.parts.number } in
     absurd (other (not_refused c.args.text.now kept refusal (returns-clause-ok c) refused))

@@ -18,5 +18,5 @@ loop-at-preserved c =
 
 pub add_breaks-requires : goal.add_breaks-requires
 add_breaks-requires c =
-    subst (λ (t : Json). IsOrdered (data_of t)) (sym c.index-objects-at.is)
+    subst (λ (value : Json). IsOrdered (data_of value)) (sym c.index-objects-at.is)
     (ordered_each c.args.objects.now c.requires.ordered c.loop-at.at c.index-objects-at.result c.loop-at-test.true)

@@ -21,7 +21,7 @@ returns-in_default-clause-kept c = record {
 
 pub add-requires-2-clause-before : goal.add-requires-2-clause-before
 add-requires-2-clause-before c =
-    subst (λ (ts : List Json). AreTwinsBefore (data_in ts) c.args.at c.args.seen.now.twins) (sym c.objects-objects.ensures.value) c.requires.before.twins
+    subst (λ (values : List Json). AreTwinsBefore (data_in values) c.args.at c.args.seen.now.twins) (sym c.objects-objects.ensures.value) c.requires.before.twins
 
 pub returns-clause-told : goal.returns-clause-told
 returns-clause-told c =
@@ -33,7 +33,7 @@ returns-clause-told c =
     let twice = c.in_ok-twice.twice in
     let first = c.in_ok-changed.ensures.told objects at is c.requires.before.created in
     let second = c.precedes-after.ensures objects at is c.requires.revoked in
-    let third = subst (λ (ts : List Json). IsTrue twice ↔ BreaksVersionRule (data_in ts) at SameVersionTwice) c.objects-objects.ensures.value c.in_ok-twice.ensures.told in (
+    let third = subst (λ (values : List Json). IsTrue twice ↔ BreaksVersionRule (data_in values) at SameVersionTwice) c.objects-objects.ensures.value c.in_ok-twice.ensures.told in (
       so changed CreatedChanged ++ (so after AfterRevoked ++ (so twice SameVersionTwice ++ [])),
       broken_where (BreaksVersionRule objects at) changed after twice first second third,
       told_where at c.args.found.now c.add-3.new.found c.add-4.new.found c.add-5.new.found changed after twice c.in_ok-add.ensures c.in_ok-add-2.ensures c.in_ok-add-3.ensures,
@@ -42,5 +42,5 @@ returns-clause-told c =
 pub returns-clause-kept : goal.returns-clause-kept
 returns-clause-kept c = record {
   created = c.in_ok-changed.ensures.kept (data_in c.args.bundle.now) c.args.at c.in-Some.ensures.some c.requires.before.created;
-  twins = subst (λ (ts : List Json). AreTwinsBefore (data_in ts) (c.args.at + 1) c.add-2.new.self) c.objects-objects.ensures.value c.in_ok-twice.ensures.kept;
+  twins = subst (λ (values : List Json). AreTwinsBefore (data_in values) (c.args.at + 1) c.add-2.new.self) c.objects-objects.ensures.value c.in_ok-twice.ensures.kept;
 }

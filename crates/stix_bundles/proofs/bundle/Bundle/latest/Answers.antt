@@ -9,4 +9,4 @@ pub returns : goal.returns
 returns c =
     let id = id_of c.args.id in
     subst (λ (o : Option ℕ). IsPositionOf (data_in c.args.self.now) id o) (sym c.get.ensures)
-    (subst (λ (ts : List Json). IsPositionOf (data_in ts) id (position_of c.self.inside.index id)) c.self.view_is (c.self.invariant.indexed id))
+    (subst (λ (values : List Json). IsPositionOf (data_in values) id (position_of c.self.inside.index id)) c.self.view_is (c.self.invariant.indexed id))
