@@ -2,8 +2,8 @@ ghost use Rattle.std.specs.Prelude.{◌<◌, ◌≤◌, IfOk, length};
 ghost use Rattle.pattern_lexer.specs.Reading.{Reads};
 ghost use Rattle.pattern_lexer.specs.inner.Steps.{ArePassed, ReadsAt};
 
-use crate::refusals::{has_value, left_word, runs_on, worthless};
 use crate::first::first_of;
+use crate::refusals::{has_value, left_word, runs_on, worthless};
 use crate::runs::{CharacterClass, split_run};
 use flow_values::{Items, NoMemory};
 use pattern_tokens::{Token, TokenRefusal};

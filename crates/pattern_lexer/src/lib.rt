@@ -2,7 +2,6 @@
 //! tokens from the left, or tells the first place where it can't and why.
 #![tactic(auto)]
 
-mod refusals;
 mod first;
 pub mod laws;
 mod lexer;
@@ -10,6 +9,7 @@ mod marks;
 mod names;
 mod numbers;
 mod quoted;
+mod refusals;
 mod runs;
 
 pub use lexer::tokens;

@@ -8,7 +8,7 @@ ghost use Rattle.pattern_lexer.specs.inner.Steps.{worthless_refusal};
 
 use flow_values::NoMemory;
 use pattern_tokens::{
-    LeftWord, Token, TokenKind, TokenRefusal, binary_at, hex_at, timestamp_at, integer_at,
+    LeftWord, Token, TokenKind, TokenRefusal, binary_at, hex_at, integer_at, timestamp_at,
 };
 use std::alloc::Global;
 

@@ -122,7 +122,7 @@ limited_pair : (text : List ℕ) (p : Tree) (q : Qualifier) (a : Result (Option 
     → b ≡ ok_or found (limit_refusal q) → c ≡ d → IsJoined (λ x y. (x, y)) a b c → FindsExactly (IsSoundLimitOf text q) found → IsPartOutcome text p a → IsLimited text p q d
 limited_pair text p q a found b c d g e j h x =
     pair_outcome (IsPartOf text p) (IsSoundLimitOf text q) (RefusalOf text p) (Lacks (IsSoundLimitOf text q) (limit_refusal q)) a b c d e j x
-      (subst (IsOutcome (IsSoundLimitOf text q) (Lacks (IsSoundLimitOf text q) (limit_refusal q))) (sym g) (found_outcome (IsSoundLimitOf text q) (limit_refusal q) found h))
+    (subst (IsOutcome (IsSoundLimitOf text q) (Lacks (IsSoundLimitOf text q) (limit_refusal q))) (sym g) (found_outcome (IsSoundLimitOf text q) (limit_refusal q) found h))
 
 pub limited_ok : (text : List ℕ) (p : Tree) (q : Qualifier) (a : Result (Option Measured) ValueRefusal) (found : Option Limit) (b : Result Limit ValueRefusal) (c : Result (Option Measured × Limit) ValueRefusal) (part : Option Measured) (l : Limit) (w : Option Measured)
     → b ≡ ok_or found (limit_refusal q) → c ≡ Ok (part, l) → IsJoined (λ x y. (x, y)) a b c → FindsExactly (IsSoundLimitOf text q) found → (IsPartOf text p part → IsSoundLimitOf text q l → IsPartOf text (qualified p q) w)

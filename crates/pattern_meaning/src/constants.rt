@@ -4,7 +4,7 @@ ghost use Rattle.pattern_meaning.specs.Meaning.{IsConstantOf, Each};
 ghost use Rattle.pattern_types.specs.declared.constant.Constant.{Constant};
 
 use flow_values::{Items, NoMemory};
-use pattern_tokens::{Token, TokenKind, binary_at, hex_at, timestamp_at, integer_at, string_at};
+use pattern_tokens::{Token, TokenKind, binary_at, hex_at, integer_at, string_at, timestamp_at};
 use pattern_types::Constant;
 use std::alloc::Global;
 

@@ -5,7 +5,7 @@ ghost use Rattle.pattern_types.specs.declared.limit.Limit.{Limit};
 
 use crate::ValueRefusal;
 use pattern_grammar::Qualifier;
-use pattern_tokens::{Token, count_at, timestamp_at, one_meaning};
+use pattern_tokens::{Token, count_at, one_meaning, timestamp_at};
 use pattern_types::Limit;
 use stix_times::laws::is_before;
 

@@ -10,7 +10,7 @@ use crate::ValueRefusal;
 use crate::outcomes::{both, with_next};
 use flow_values::{Items, NoMemory, Text};
 use pattern_grammar::{PathTree, StepTree};
-use pattern_tokens::{Token, TokenKind, place_at, text_of, string_at};
+use pattern_tokens::{Token, TokenKind, place_at, string_at, text_of};
 use pattern_types::{Path, Step};
 use std::alloc::Global;
 

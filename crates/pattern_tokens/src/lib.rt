@@ -16,9 +16,9 @@ mod word;
 pub use laws::one_meaning;
 pub use numbers::{count_at, place_at};
 pub use refusal::{LeftWord, TokenRefusal};
-pub use spans::{binary_at, hex_at, timestamp_at, text_of, integer_at, string_at};
+pub use spans::{binary_at, hex_at, integer_at, string_at, text_of, timestamp_at};
 pub use token::{Token, TokenKind};
-pub use values::{binary_of, hex_of, timestamp_of, integer_of, string_of};
+pub use values::{binary_of, hex_of, integer_of, string_of, timestamp_of};
 pub use word::is_word;
 
 #[cfg(test)]

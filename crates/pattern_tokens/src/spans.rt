@@ -3,7 +3,7 @@ ghost use Rattle.flow_values.specs.Answers.{FindsExactly};
 ghost use Rattle.pattern_tokens.specs.Spans.{IsCut, text_at, At, IsItself};
 ghost use Rattle.pattern_tokens.specs.Values.{IsIntegerText, IsStringText, IsHexText, IsBinaryText, IsTimestampText};
 
-use crate::{Token, binary_of, hex_of, timestamp_of, integer_of, string_of};
+use crate::{Token, binary_of, hex_of, integer_of, string_of, timestamp_of};
 use flow_values::{Items, NoMemory, Text};
 use std::alloc::Global;
 use stix_times::Instant;

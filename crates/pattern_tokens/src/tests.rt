@@ -1,4 +1,4 @@
-use crate::{binary_of, hex_of, timestamp_of, integer_of, string_of};
+use crate::{binary_of, hex_of, integer_of, string_of, timestamp_of};
 use std::test::Fail;
 use stix_times::nanos;
 

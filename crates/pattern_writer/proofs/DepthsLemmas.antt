@@ -249,8 +249,8 @@ among a b c ts h k l f =
       keeps = λ before x o. subst (λ z. Behind z x) (append_assoc before (a ∷ []) (b ∷ ts ++ c ∷ [])) (round_keeps b c ts 0 0 k l m (before ++ a ∷ []) x (opened_more before a false false x x (ap (same kind.RoundOpen) e) (ap (same kind.RoundClose) e) refl o.opened));
       needs = λ before x o low d. omega arith;
       fits = λ before x o low. (
-          not_deep before a (ap (same kind.RoundOpen) e),
-          (λ d. d.groups (record { front = before; last = a; spelled = refl; among = h }), round_deep b c ts 0 0 k l m ((before ++ a ∷ []) ++ b ∷ []) (flats_deep ((before ++ a ∷ []) ++ b ∷ []) ts f)),
+        not_deep before a (ap (same kind.RoundOpen) e),
+        (λ d. d.groups (record { front = before; last = a; spelled = refl; among = h }), round_deep b c ts 0 0 k l m ((before ++ a ∷ []) ++ b ∷ []) (flats_deep ((before ++ a ∷ []) ++ b ∷ []) ts f)),
       );
       qualifiers = omega (arith, many_first Qualifying a (b ∷ ts ++ c ∷ []) false (ap is_qualifying e), round_qualifiers b c ts 0 0 k l m);
     }
