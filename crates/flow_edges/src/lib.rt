@@ -19,5 +19,5 @@ pub use memory::{MemorySink, MemorySource};
 pub use pieces::write_pieces;
 pub use quiet::{QuietSink, QuietSource};
 pub use sink::{Sink, write_whole};
-pub use source::Source;
+pub use source::{MAX_READ, Source};
 pub use system::{ReadSource, WriteSink};

@@ -1,8 +1,12 @@
 ghost use Rattle.std.specs.Prelude.{◌≡◌, ℕ, ◌≤◌, ◌<◌, List, Option, Ok, length, take, IfOk, OnErr};
+ghost use Rattle.flow_edges.specs.declared.source.TheConstants.{MAX_READ};
 ghost use Rattle.flow_edges.specs.Faults.{Causes};
 ghost use Rattle.flow_edges.specs.Flow.{left_after, IsNextOf, IsAtEnd};
 
 use flow_values::Fault;
+
+/// The most bytes that a read asks for.
+pub const MAX_READ: usize = 65_536;
 
 /// Where bytes come from: a file, a terminal, or bytes in memory.
 pub trait Source {
@@ -18,7 +22,7 @@ pub trait Source {
     /// Each caller asks for a byte at least, and for 65,536 at most.
     fn read(&mut self, buffer: &mut [u8]) -> Result<usize, Fault>
         requires room { 0 < length buffer.now }
-        requires asks { length buffer.now ≤ 65536 }
+        requires asks { length buffer.now ≤ MAX_READ }
         ensures within { IfOk result (λ n. n ≤ length buffer.old) }
         ensures given { IfOk result (λ n. IsNextOf (take n buffer.new) (left self.old)) }
         ensures rest { IfOk result (λ n. left self.new ≡ left_after n (left self.old)) }

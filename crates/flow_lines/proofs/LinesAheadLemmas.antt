@@ -2,6 +2,7 @@
 use Rattle.std.proofs.Common.{◌≡◌, ℕ, ◌+◌, ◌<◌, ◌≤◌, Bool, true, false, List, [], ◌∷◌, ◌++◌, length, Option, Some, None, option_map, IfSome, if◌then◌else◌, refl, sym, ap, subst, ◌∙◌, arith, append_assoc, MatchBool}
 use Rattle.std.proofs.lemmas.List.{append-nil}
 use Rattle.std.proofs.lemmas.Bool.Decides.{nat_tests}
+use Rattle.flow_edges.specs.declared.source.TheConstants.{MAX_READ}
 use Rattle.flow_lines.specs.declared.refusal.TheConstants.{MAX_INPUT}
 use Rattle.flow_lines.specs.declared.refusal.LineRefusal.{LineRefusal}
 use Rattle.flow_edges.specs.Flow.{IsAtEnd}
@@ -159,7 +160,7 @@ pub reads-next : (chunk line_new chunk_new bytes : List ℕ) (count given wide :
     → MatchBool closed (ReadsToLineFeed (count + 1) given (bytes_ahead [] chunk left) left_new line_new chunk_new) (ReadsLast (count + 1) given (bytes_ahead [] chunk left) left_new line_new chunk_new)
     → wide ≡ width (record { bytes = line_new; closed = closed }) → ¬ (wide ≡ 0)
     → bytes ≡ content (record { bytes = line_new; closed = closed })
-    → length chunk_new ≤ 65536 → count ≤ given
+    → length chunk_new ≤ MAX_READ → count ≤ given
     → ReadsNext chunk chunk_new count (count + 1) given (given + wide) bytes left left_new
 reads-next chunk line_new chunk_new bytes count given wide left left_new closed reads is some same room numbered = record {
   ahead = ahead-next chunk line_new chunk_new bytes count given (given + wide) left left_new closed reads (omega (arith, is)) same (ap (λ w. given + w) is);

@@ -6,6 +6,7 @@ use Rattle.std.proofs.lemmas.List.Splits.{slice_split_at, slice_split_none}
 use Rattle.std.proofs.lemmas.Bool.{eqb-true}
 use Rattle.std.proofs.lemmas.Bool.Decides.{nat_tests}
 use Rattle.std.specs.List.{slice_split}
+use Rattle.flow_edges.specs.declared.source.TheConstants.{MAX_READ}
 use Rattle.flow_lines.specs.declared.refusal.TheConstants.{MAX_LINE, MAX_INPUT}
 use Rattle.flow_lines.specs.declared.refusal.LineRefusal.{LineRefusal}
 use Rattle.flow_lines.specs.declared.refusal.LineRefusal.TheVariants.{Fault, LineTooLong, InputTooLong, NoMemory}
@@ -145,7 +146,7 @@ on_err (Ok value) fact = tt
 on_err (Err refusal) fact = fact
 
 -- what a line and one read have taken where the reader stops
-pub takes-part : (all left left_new : Option (List ℕ)) (line chunk : List ℕ) → all ≡ bytes_ahead line chunk left → left_new ≡ left → length line ≤ MAX_LINE → length chunk ≤ 65536
+pub takes-part : (all left left_new : Option (List ℕ)) (line chunk : List ℕ) → all ≡ bytes_ahead line chunk left → left_new ≡ left → length line ≤ MAX_LINE → length chunk ≤ MAX_READ
     → TakesPart all left_new
 takes-part all left left_new line chunk is same short room = record {
   taken = line ++ chunk;

@@ -3,6 +3,7 @@
 use Rattle.std.specs.Prelude.{◌≡◌, ◌⊎◌, ⊤, ◌<◌, ◌≤◌, All, IfSome, Result, Ok, Err, ℕ, ◌+◌, ◌==◌, ◌||◌, ◌&&◌, List, [], ◌∷◌, ◌++◌, length, not, Bool, true, false, nat_lt, nat_le, if◌then◌else◌, Option, Some, None, option_map}
 use Rattle.std.specs.List.{slice_split, list_all, list_any, flat_map}
 use Rattle.std.specs.Str.Lines.{strip_carriage_return}
+use Rattle.flow_edges.specs.declared.source.TheConstants.{MAX_READ}
 use Rattle.flow_lines.specs.declared.refusal.TheConstants.{MAX_LINE, MAX_INPUT}
 use Rattle.flow_lines.specs.declared.refusal.LineRefusal.{LineRefusal}
 use Rattle.flow_lines.specs.declared.refusal.LineRefusal.TheVariants.{Fault, LineTooLong, InputTooLong, NoMemory}
@@ -141,7 +142,7 @@ pub record GivesLine (before after : LinesState) (left left_after : Option (List
   pub count : number ≡ after.count
   pub moved : before.given < after.given
   pub within : after.given ≤ MAX_INPUT
-  pub room : length after.held ≤ 65536
+  pub room : length after.held ≤ MAX_READ
 
 -- no line came yet, and all bytes are given
 pub record GivesEnd (before after : LinesState) (left left_after : Option (List ℕ)) : Type 0 where
@@ -173,7 +174,7 @@ IsOfLine number NoMemory = ⊤
 pub record StopsInLine (before : LinesState) (left left_after : Option (List ℕ)) (refusal : LineRefusal) : Type 0 where
   pub at : LinesState
   pub line : IsOfLine (at.count + 1) refusal
-  pub few : length at.held ≤ MAX_LINE + 65536
+  pub few : length at.held ≤ MAX_LINE + MAX_READ
   pub accounts : GoesOnAccounting before at left left_after
   pub lines : lines_ahead at left_after ≡ lines_ahead before left
 

@@ -1,16 +1,14 @@
 ghost use Rattle.std.specs.Prelude.{◌≡◌, ℕ, ◌≤◌, ◌++◌, [], Ok, length, IfOk, OnOk, OnErr, MatchOption};
+ghost use Rattle.flow_edges.specs.declared.source.TheConstants.{MAX_READ};
 ghost use Rattle.flow_edges.specs.Faults.{Causes};
 ghost use Rattle.flow_edges.specs.Flow.{left_after, IsNextOf, IsAtEnd};
 ghost use Rattle.flow_lines.specs.inner.Reading.{TakesToLineFeed, TakesAll};
 
-use flow_edges::Source;
+use flow_edges::{MAX_READ, Source};
 use flow_values::{Fault, NoMemory};
 use memchr::memchr;
 use std::alloc::Global;
 use std::marker::Model;
-
-/// How many bytes a read asks for.
-const CHUNK: usize = 65_536;
 
 /// Says that the bytes taken so far hold no whole line, so that a read is due. Only taking them all
 /// gives it, and each read takes one, so that no read is made where it isn't needed.
@@ -28,13 +26,14 @@ pub struct Chunk {
 }
 
 impl Model for Chunk {
+    ghost use Rattle.flow_edges.specs.declared.source.TheConstants.{MAX_READ};
     ghost use Rattle.std.specs.Prelude.{◌≡◌, ℕ, List, take, drop, length, ◌-◌, ◌≤◌};
 
     ghost Value = { List ℕ };
 
     ghost view = { λ chunk. take (chunk.to - chunk.from) (drop chunk.from chunk.bytes.items) };
 
-    ghost invariant = { λ chunk. (chunk.from ≤ chunk.to) × (chunk.to ≤ length chunk.bytes.items) × (length chunk.bytes.items ≡ 65536) };
+    ghost invariant = { λ chunk. (chunk.from ≤ chunk.to) × (chunk.to ≤ length chunk.bytes.items) × (length chunk.bytes.items ≡ MAX_READ) };
 }
 
 impl Chunk {
@@ -42,7 +41,7 @@ impl Chunk {
     pub fn new(alloc: Global) -> Result<Chunk, NoMemory>
         ensures { IfOk result (λ chunk. chunk ≡ []) }
     {
-        let bytes = vec![in alloc; 0u8; CHUNK]?;
+        let bytes = vec![in alloc; 0u8; MAX_READ]?;
         Ok(Chunk {
             bytes,
             from: 0,
@@ -58,7 +57,7 @@ impl Chunk {
         ensures end { result ≡ Ok 0 → IsAtEnd (S.left source.old) }
         ensures empty { OnErr result (self.new ≡ []) }
         ensures err { OnErr result (S.left source.new ≡ S.left source.old) }
-        ensures room { length self.new ≤ 65536 }
+        ensures room { length self.new ≤ MAX_READ }
         ensures causes { Causes (S.faults source.old) (S.faults source.new) result }
     {
         self.from = 0;
@@ -75,7 +74,7 @@ impl Chunk {
             (TakesToLineFeed self.old self.new line.old.items line.new.items)
             (λ _. TakesAll self.old self.new line.old.items line.new.items)) }
         ensures err { OnErr result ((self.new ≡ self.old) × (line.new.items ≡ line.old.items)) }
-        ensures room { length self.new ≤ 65536 }
+        ensures room { length self.new ≤ MAX_READ }
     {
         let rest = &self.bytes[self.from..self.to];
         match memchr(b'\n', rest) {

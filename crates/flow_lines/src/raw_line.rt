@@ -1,4 +1,5 @@
 ghost use Rattle.std.specs.Prelude.{◌≡◌, ◌≢◌, ℕ, ◌≤◌, [], ◌⊎◌, Some, None, Ok, Err, length, IfOk, IfErr, IfSome, OnErr, MatchBool};
+ghost use Rattle.flow_edges.specs.declared.source.TheConstants.{MAX_READ};
 ghost use Rattle.flow_edges.specs.Faults.{Rose, Causes};
 ghost use Rattle.flow_lines.specs.Lines.{NoLineFeed, length_refusal, IsOfLine};
 ghost use Rattle.flow_lines.specs.inner.Reading.{bytes_ahead, ReadsToLineFeed, ReadsLast, ReadsPart, TakesPart, IsHeld, IsFirstRefused, IsForLength};
@@ -42,7 +43,7 @@ pub fn read_line<S: Source>(
 ) -> Result<bool, LineRefusal>
     requires place { start.place ≤ MAX_INPUT }
     requires empty { line.old.items ≡ [] }
-    requires room { length chunk.old ≤ 65536 }
+    requires room { length chunk.old ≤ MAX_READ }
 
     ensures line { IfOk result (λ closed. let all = bytes_ahead [] chunk.old (S.left source.old) in MatchBool closed
         (ReadsToLineFeed start.number start.place all (S.left source.new) line.new.items chunk.new)
@@ -56,7 +57,7 @@ pub fn read_line<S: Source>(
     ensures failed { result ≡ Err LineRefusal.Fault → Rose (S.faults source.old) (S.faults source.new) }
     ensures quiet { result ≢ Err LineRefusal.Fault → S.faults source.new ≡ S.faults source.old }
     ensures later { S.faults source.old ≤ S.faults source.new }
-    ensures small { length chunk.new ≤ 65536 }
+    ensures small { length chunk.new ≤ MAX_READ }
     ensures unread { ¬ (NoLineFeed chunk.old) → source.new ≡ source.old }
     ensures held { IfOk result (λ closed. ¬ (NoLineFeed chunk.old) → IsHeld chunk.old chunk.new line.new.items closed) }
 {

@@ -2,6 +2,7 @@
 use Rattle.std.proofs.Common.{◌≡◌, ℕ, ℤ, ◌+◌, length, List, [], ◌∷◌, ◌++◌, Option, Some, None, Ok, Err, ◌<◌, ◌≤◌, option_map, IfSome, refl, sym, ap, subst, ◌∙◌, append_assoc, arith}
 use Rattle.std.proofs.lemmas.List.{append-nil}
 use Rattle.serde_json.specs.Data.{Data}
+use Rattle.flow_edges.specs.declared.source.TheConstants.{MAX_READ}
 use Rattle.flow_edges.specs.Flow.{written_with}
 use Rattle.flow_lines.specs.Lines.{Lined, ended, refused, line_then, lines_of, LinesState, lines_start, lines_ahead, AccountsFor, GoesOnAccounting, StopsInLine, AnswersLine, GivesLine}
 use Rattle.flow_lines.specs.declared.line.Line.{Line}
@@ -108,7 +109,7 @@ stops-in_line line refusal before first left left_after from stops is = record {
 
 -- it stopped behind that line
 stops-behind : (line : ℕ) (before after : LinesState) (first left left_after : Option (List ℕ)) → AccountsFor lines_start before first left
-    → GoesOnAccounting before after left left_after → line ≡ after.count → length after.held ≤ 65536 → StopsAt line first left_after
+    → GoesOnAccounting before after left left_after → line ≡ after.count → length after.held ≤ MAX_READ → StopsAt line first left_after
 stops-behind line before after first left left_after from goes_on is room = record { at = after; lines = omega (arith, is); few = omega (arith, room); accounts = goes_on lines_start first from }
 
 -- ---- the loop over lines

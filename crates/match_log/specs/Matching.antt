@@ -1,6 +1,7 @@
 -- What a run over a log has done, by how it ended.
 use Rattle.std.specs.Prelude.{◌≡◌, ⊤, ℕ, ◌+◌, ◌≤◌, ℤ, List, length, Option, IsTrue, ◌↔◌}
 use Rattle.serde_json.specs.Data.{Data}
+use Rattle.flow_edges.specs.declared.source.TheConstants.{MAX_READ}
 use Rattle.flow_edges.specs.Flow.{IsAtEnd, written_with}
 use Rattle.flow_lines.specs.Lines.{LinesState, lines_start, AccountsFor}
 use Rattle.flow_lines.specs.declared.refusal.TheConstants.{MAX_LINE}
@@ -30,7 +31,7 @@ pub record ListsWhole (form : FirstForm) (before after : Streams) (observations 
 pub record StopsAt (line : ℕ) (left left_after : Option (List ℕ)) : Type 0 where
   pub at : LinesState
   pub lines : at.count ≤ line
-  pub few : length at.held ≤ MAX_LINE + 65536
+  pub few : length at.held ≤ MAX_LINE + MAX_READ
   pub accounts : AccountsFor lines_start at left left_after
 
 -- the log before the first refused line was read and listed, and little more was read

@@ -16,6 +16,7 @@ use Rattle.pattern_meaning.specs.Soundness.{IsSoundPattern}
 use Rattle.pattern_meaning.specs.ValueRefusal.{IsEarliest}
 use Rattle.pattern_meaning.specs.Refusals.{RefusalOf}
 use Rattle.pattern_meaning.specs.Answer.{IsMeant}
+use Rattle.pattern_reader.specs.declared.read.TheConstants.{MAX_TEXT}
 use Rattle.pattern_reader.specs.declared.refusal.PatternRefusal.{PatternRefusal}
 use Rattle.pattern_reader.specs.declared.refusal.PatternRefusal.TheVariants as refused
 use Rattle.pattern_reader.specs.Read.{IsSpelled, IsReadAs, IsUnspelled, IsRefusedAs}
@@ -86,7 +87,7 @@ not_refused reading tree misread meaning faulty text p refused.TooWide x y =
 not_refused reading tree misread meaning faulty text p refused.NoMemory x y = y
 
 -- of two refusals of one text, none is told earlier than the other
-too_long : (text : List ℕ) → 65_536 < length text → length text ≤ 65_536 → ⊥
+too_long : (text : List ℕ) → MAX_TEXT < length text → length text ≤ MAX_TEXT → ⊥
 too_long text h k = omega (arith, h, k)
 
 pub one_refused : OneReading → OneTree → NoneMisread → OneMisread → NoneFaulty → OneFault → (text : List ℕ) (r s : PatternRefusal) → IsRefusedAs text r → IsRefusedAs text s → r ≡ s

@@ -11,12 +11,13 @@ use Rattle.pattern_meaning.specs.declared.refusal.ValueRefusal.{ValueRefusal}
 use Rattle.pattern_meaning.specs.ValueRefusal.{IsEarliest}
 use Rattle.pattern_meaning.specs.Refusals.{RefusalOf}
 use Rattle.pattern_meaning.specs.Answer.{IsNarrowlyMeant, IsWidelyMeant}
+use Rattle.pattern_reader.specs.declared.read.TheConstants.{MAX_TEXT}
 use Rattle.pattern_reader.specs.declared.refusal.PatternRefusal.{PatternRefusal}
 use Rattle.pattern_reader.specs.declared.refusal.PatternRefusal.TheVariants.{TooLong, Token as TokenRefused, Syntax, Value, TooWide, NoMemory}
 
 -- the text isn't too long
 abbrev pub IsShort : List ℕ → Type 0
-IsShort text = length text ≤ 65_536
+IsShort text = length text ≤ MAX_TEXT
 
 -- the tokens of the text spell the tree, within the limits of depth
 pub record IsSpelled (text : List ℕ) (tree : Tree) : Type 0 where
@@ -52,7 +53,7 @@ pub record IsWide (text : List ℕ) : Type 0 where
 -- why a text is refused: by its length; by its tokens, by their order, by their values; by the width of
 -- its pattern
 abbrev pub IsRefusedAs : List ℕ → PatternRefusal → Type 0
-IsRefusedAs text TooLong = 65_536 < length text
+IsRefusedAs text TooLong = MAX_TEXT < length text
 IsRefusedAs text (TokenRefused refusal) = IsShort text × HasRefusal text refusal
 IsRefusedAs text (Syntax refusal) = IsShort text × IsUnspelled text refusal
 IsRefusedAs text (Value refusal) = IsShort text × IsFaulty text refusal

@@ -9,5 +9,5 @@ mod refusal;
 mod tests;
 
 pub use pattern_types::{Check, Constant, Leaf, Path, Pattern, Step, Test, leaf_count};
-pub use read::read_pattern;
+pub use read::{MAX_TEXT, read_pattern};
 pub use refusal::PatternRefusal;

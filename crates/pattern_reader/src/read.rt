@@ -1,4 +1,5 @@
 ghost use Rattle.std.specs.Prelude.{◌≡◌, ◌≢◌, ◌<◌, IfOk, IfErr, IsErrAnd, length};
+ghost use Rattle.pattern_reader.specs.declared.read.TheConstants.{MAX_TEXT};
 ghost use Rattle.pattern_reader.specs.Read.{IsReadAs, IsRefusedAs};
 ghost use Rattle.pattern_reader.specs.declared.refusal.PatternRefusal.TheVariants as PatternRefusal;
 
@@ -10,7 +11,7 @@ use pattern_types::Pattern;
 use std::alloc::Global;
 
 /// The most bytes of a pattern's text.
-const MAX_TEXT: usize = 65_536;
+pub const MAX_TEXT: usize = 65_536;
 
 /// Reads a pattern of STIX 2.1 (section 9), of at most 65,536 bytes; or tells the first reason why the
 /// text is none: TooLong; a refusal of its tokens, from the left; Syntax or TooDeep, whichever stands
@@ -18,7 +19,7 @@ const MAX_TEXT: usize = 65_536;
 pub fn read_pattern(alloc: Global, text: &str) -> Result<Pattern, PatternRefusal>
     ensures ok { IfOk result (IsReadAs text.now) }
     ensures err { IfErr result (λ refusal. refusal ≢ PatternRefusal.NoMemory → IsRefusedAs text.now refusal) }
-    ensures long { 65_536 < length text.now → IsErrAnd result (λ refusal. refusal ≡ PatternRefusal.TooLong) }
+    ensures long { MAX_TEXT < length text.now → IsErrAnd result (λ refusal. refusal ≡ PatternRefusal.TooLong) }
 {
     if text.len() > MAX_TEXT {
         return Err(PatternRefusal::TooLong);

@@ -6,6 +6,7 @@ use Rattle.pattern_grammar.specs.Tree.{Tree}
 use Rattle.pattern_types.specs.declared.pattern.Pattern.{Pattern}
 use Rattle.pattern_types.specs.PlainPattern.{PlainPattern, plain_pattern}
 use Rattle.pattern_meaning.specs.PatternMeaning.{MeansPattern}
+use Rattle.pattern_reader.specs.declared.read.TheConstants.{MAX_TEXT}
 use Rattle.pattern_reader.specs.declared.refusal.PatternRefusal.{PatternRefusal}
 use Rattle.pattern_reader.specs.declared.refusal.PatternRefusal.TheVariants as refused
 use Rattle.pattern_reader.specs.Read.{IsSpelled, IsReadAs, IsRefusedAs}
@@ -55,7 +56,7 @@ limits m text tree s means =
     let e = wrapped_least (level m) (need m) in
     (omega (arith, a, g, e), low.1)
 
-pub reads_back : (p : Pattern) (text canonical : List ℕ) → IsReadAs text p → IsCanonical (plain_pattern p) canonical → length canonical ≤ 65_536 → IsReadAs canonical p
+pub reads_back : (p : Pattern) (text canonical : List ℕ) → IsReadAs text p → IsCanonical (plain_pattern p) canonical → length canonical ≤ MAX_TEXT → IsReadAs canonical p
 reads_back p text canonical r h short =
     let m = plain_pattern p in
     let means = r.meant.meant.means in
@@ -68,10 +69,10 @@ reads_back p text canonical r h short =
       meant = record { meant = record { means = again.means; sound = r.meant.meant.sound }; narrow = r.meant.narrow };
     }
 
-too_long : (text : List ℕ) → 65_536 < length text → length text ≤ 65_536 → ⊥
+too_long : (text : List ℕ) → MAX_TEXT < length text → length text ≤ MAX_TEXT → ⊥
 too_long text h k = omega (arith, h, k)
 
-pub only_too_long : (text : List ℕ) (r : PatternRefusal) → 65_536 < length text → IsRefusedAs text r → r ≡ refused.TooLong
+pub only_too_long : (text : List ℕ) (r : PatternRefusal) → MAX_TEXT < length text → IsRefusedAs text r → r ≡ refused.TooLong
 only_too_long text refused.TooLong h x = refl
 only_too_long text (refused.Token r) h x = absurd (too_long text h x.0)
 only_too_long text (refused.Syntax r) h x = absurd (too_long text h x.0)

@@ -5,6 +5,7 @@ ghost use Rattle.pattern_types.specs.PlainPattern.{PlainPattern, plain_pattern};
 ghost use Rattle.pattern_reader.specs.declared.refusal.PatternRefusal.{PatternRefusal};
 ghost use Rattle.pattern_reader.specs.declared.refusal.PatternRefusal.TheVariants as PatternRefusal;
 ghost use Rattle.pattern_types.specs.declared.pattern.Pattern.{Pattern};
+ghost use Rattle.pattern_reader.specs.declared.read.TheConstants.{MAX_TEXT};
 ghost use Rattle.pattern_reader.specs.Read.{IsReadAs, IsRefusedAs};
 ghost use Rattle.pattern_writer.specs.Canonical.{IsCanonical};
 
@@ -22,7 +23,7 @@ pub fn one_text()
 /// 65,536 bytes is refused as TooLong, and as nothing else.
 pub fn reads_back()
     ensures back { (pattern : Pattern) (text canonical : List ℕ) → IsReadAs text pattern
-        → IsCanonical (plain_pattern pattern) canonical → length canonical ≤ 65_536 → IsReadAs canonical pattern }
-    ensures long { (canonical : List ℕ) (refusal : PatternRefusal) → 65_536 < length canonical
+        → IsCanonical (plain_pattern pattern) canonical → length canonical ≤ MAX_TEXT → IsReadAs canonical pattern }
+    ensures long { (canonical : List ℕ) (refusal : PatternRefusal) → MAX_TEXT < length canonical
         → IsRefusedAs canonical refusal → refusal ≡ PatternRefusal.TooLong }
 {}

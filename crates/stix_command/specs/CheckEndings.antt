@@ -1,5 +1,6 @@
 -- What `check` writes, and what an ending of it says of its input and of what was written; its status, and its reason as a text.
 use Rattle.std.specs.Prelude.{◌≡◌, ℕ, ◌+◌, List, [], ◌++◌, flat_map, codes, decimal, Option}
+use Rattle.flow_edges.specs.declared.source.TheConstants.{MAX_READ}
 use Rattle.flow_edges.specs.Flow.{TakesAtMost, written_with, WritesPrefix}
 use Rattle.flow_lines.specs.declared.whole_input.TheConstants.{MAX_WHOLE_INPUT}
 use Rattle.flow_lines.specs.WholeInput.{IsWhole, IsTooLong}
@@ -44,7 +45,7 @@ pub record IsVerdictOn (before after : Streams) (found : Verdict) : Type 0 where
 
 abbrev pub EndsCheck : Streams → Streams → CheckEnding → Type 0
 EndsCheck before after (Judged found) = IsVerdictOn before after found × (after.written ≡ written_with (verdict_text found) before.written)
-EndsCheck before after TooLong = IsTooLong before.left × TakesAtMost (MAX_WHOLE_INPUT + 65536) before.left after.left × (after.written ≡ before.written)
+EndsCheck before after TooLong = IsTooLong before.left × TakesAtMost (MAX_WHOLE_INPUT + MAX_READ) before.left after.left × (after.written ≡ before.written)
 EndsCheck before after ReadFault = after.written ≡ before.written
 EndsCheck before after WriteFault = (found : Verdict) × IsVerdictOn before after found × WritesPrefix (verdict_text found) before.written after.written
 EndsCheck before after NoMemory = after.written ≡ before.written

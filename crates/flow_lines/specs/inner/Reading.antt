@@ -1,5 +1,6 @@
 -- What the private parts of a reader of lines do: its chunk of bytes, the line that it reads, and its cursor. No public contract cites these.
 use Rattle.std.specs.Prelude.{Bool, true, ◌≡◌, ◌<◌, ◌≤◌, ⊤, ℕ, ◌+◌, length, List, [], ◌∷◌, ◌++◌, true, false, Option, Some, None, option_map}
+use Rattle.flow_edges.specs.declared.source.TheConstants.{MAX_READ}
 use Rattle.flow_lines.specs.declared.refusal.TheConstants.{MAX_LINE, MAX_INPUT}
 use Rattle.flow_lines.specs.Lines.{NoLineFeed, RawLine, raw_lines, refusal_of, LinesState, unless_blank, lines_ahead}
 use Rattle.flow_lines.specs.declared.refusal.LineRefusal.{LineRefusal}
@@ -51,7 +52,7 @@ pub record ReadsPart (all left : Option (List ℕ)) (line chunk : List ℕ) : Ty
 -- so many bytes are taken, at most a line and one read
 pub record TakesPart (all left : Option (List ℕ)) : Type 0 where
   pub taken : List ℕ
-  pub few : length taken ≤ MAX_LINE + 65536
+  pub few : length taken ≤ MAX_LINE + MAX_READ
   pub bytes : all ≡ bytes_ahead taken [] left
 
 -- the first line of the bytes is refused so
@@ -71,7 +72,7 @@ IsForLength NoMemory = ⊥
 -- a reader of lines between two lines
 pub record IsBetweenLines (line chunk : List ℕ) (count given : ℕ) : Type 0 where
   pub empty : line ≡ []
-  pub room : length chunk ≤ 65536
+  pub room : length chunk ≤ MAX_READ
   pub numbered : count ≤ given
   pub within : given ≤ MAX_INPUT
 
@@ -84,6 +85,6 @@ pub record ReadsNext (chunk_old chunk_new : List ℕ) (count_old count_new given
   pub ahead : lines_ahead (lines_state [] chunk_old count_old given_old) left
       ≡ option_map (λ later. unless_blank count_new bytes later) (lines_ahead (lines_state [] chunk_new count_new given_new) left_after)
   pub moved : given_old < given_new
-  pub room : length chunk_new ≤ 65536
+  pub room : length chunk_new ≤ MAX_READ
   pub numbered : count_new ≤ given_new
   pub within : given_new ≤ MAX_INPUT

@@ -1,4 +1,5 @@
 use Rattle.std.proofs.Common.{◌≡◌, ◌≤◌, ◌+◌, ◌-◌, [], length}
+use Rattle.flow_edges.specs.declared.source.TheConstants.{MAX_READ}
 use Rattle.flow_lines.specs.declared.refusal.TheConstants.{MAX_LINE, MAX_INPUT}
 use Rattle.flow_lines.specs.inner.Reading.{bytes_ahead}
 use Rattle.flow_lines.specs.Lines.{NoLineFeed}
@@ -10,7 +11,7 @@ invariant-reads g l = record {
   plain : NoLineFeed l.line.items;
   short : length l.line.items ≤ MAX_LINE;
   within : l.start.place + length l.line.items ≤ MAX_INPUT;
-  room : length l.chunk ≤ 65536;
+  room : length l.chunk ≤ MAX_READ;
   held : ¬ (NoLineFeed l.fn.chunk) → (l.source ≡ l.fn.source) × (l.chunk ≡ l.fn.chunk) × (l.line.items ≡ []);
   quiet : g.S.Source.faults l.source ≡ g.S.Source.faults l.fn.source;
 }
