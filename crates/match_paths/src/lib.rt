@@ -1,0 +1,11 @@
+//! The values that an object path selects in a bundle (STIX 2.1, section 9.7).
+//!
+//! `values` gives them one after another, from the object at a position on. It takes no memory.
+#![tactic(auto)]
+
+pub mod laws;
+mod object;
+mod root;
+mod step;
+
+pub use root::root_of;
