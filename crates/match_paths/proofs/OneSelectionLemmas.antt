@@ -10,10 +10,10 @@ use Rattle.match_paths.specs.Selection.{LeadsTo, StepSelects, last_name, Joined,
 use Rattle.match_paths.proofs.ReferenceLemmas.{OneMeaning, one_lead}
 
 -- there is one such value
-abbrev One : {A : Type 0} → (A → Type 0) → Type 0
+abbrev pub One : {A : Type 0} → (A → Type 0) → Type 0
 One {A} Rule = (first second : A) → Rule first → Rule second → first ≡ second
 
-one_found : {A : Type 0} (Rule : A → Type 0) → One Rule → One (FindsExactly Rule)
+pub one_found : {A : Type 0} (Rule : A → Type 0) → One Rule → One (FindsExactly Rule)
 one_found Rule one None None is also = refl
 one_found Rule one None (Some second) is also = absurd (is second also)
 one_found Rule one (Some first) None is also = absurd (also first is)
@@ -40,7 +40,7 @@ one_steps one objects last (step ∷ steps) value first second is also =
     let next = one_step one objects last step value is.0 also.0 is.1 also.1 in
     one_joined below (one_steps one objects (last_name last step) steps) also.0 first second (subst (λ (ds : List Data). Joined below ds first) next is.2) also.2
 
-one_root : (objects : List Data) (root : ℕ) (kind : List ℕ) → One (IsRoot objects root kind)
+pub one_root : (objects : List Data) (root : ℕ) (kind : List ℕ) → One (IsRoot objects root kind)
 one_root objects root kind first second is also = same_Some first second (sym is.there ∙ also.there)
 
 one_from : OneMeaning → (objects : List Data) (path : Path) (found : Option Data)

@@ -3,9 +3,13 @@
 //! `values` gives them one after another, from the object at a position on. It takes no memory.
 #![tactic(auto)]
 
+mod frame;
 pub mod laws;
 mod object;
+mod path_values;
 mod root;
 mod step;
+mod walk;
 
+pub use path_values::{PathValues, values};
 pub use root::root_of;

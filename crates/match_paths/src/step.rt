@@ -1,4 +1,4 @@
-ghost use Rattle.std.specs.Prelude.{◌≡◌, ◌↔◌, IsTrue, None, MatchOption, IfSome, All, length, option_map, option_to_list, slice_get};
+ghost use Rattle.std.specs.Prelude.{◌≡◌, ◌↔◌, ◌<◌, ◌≤◌, ◌^◌, IsTrue, None, MatchOption, IfSome, All, length, option_map, option_to_list, slice_get};
 ghost use Rattle.serde_json.specs.Find.{as_str};
 ghost use Rattle.flow_values.specs.Answers.{FindsExactly};
 ghost use Rattle.stix_json.specs.DataOf.{data_of};
@@ -25,6 +25,7 @@ pub(crate) fn selected<'a>(
     requires { IsOrdered (data_of value.now) }
     ensures all { StepSelects (data_in bundle.now) (option_map (λ name. name.now) last.entry) step.now (data_of value.now) (data_in result.now) }
     ensures ordered { All IsOrdered (data_in result.now) }
+    ensures counted { length result.now < 2 ^ 64 }
 {
     match step {
         Step::Name(name) => slice_of(named(bundle, last, name.as_str(), value)),
@@ -34,9 +35,10 @@ pub(crate) fn selected<'a>(
 }
 
 /// One value as a slice.
-fn slice_of<'a>(found: Option<&'a Json>) -> &'a [Json]
+pub(crate) fn slice_of<'a>(found: Option<&'a Json>) -> &'a [Json]
     ensures all { data_in result.now ≡ option_to_list (option_map (λ tree. data_of tree.now) found.entry) }
     ensures ordered { IfSome found.entry (λ tree. IsOrdered (data_of tree.now)) → All IsOrdered (data_in result.now) }
+    ensures counted { length result.now ≤ 1 }
 {
     match found {
         Some(value) => slice::from_ref(value),
@@ -48,10 +50,14 @@ fn slice_of<'a>(found: Option<&'a Json>) -> &'a [Json]
 fn members_of(value: &Json) -> &[Json]
     ensures all { data_in result.now ≡ members (data_of value.now) }
     ensures ordered { IsOrdered (data_of value.now) → All IsOrdered (data_in result.now) }
+    ensures counted { length result.now < 2 ^ 64 }
 {
     ordered_parts();
     match list_of(value) {
-        Some(items) => items,
+        Some(items) => {
+            let _count = items.len();
+            items
+        }
         None => &[],
     }
 }
