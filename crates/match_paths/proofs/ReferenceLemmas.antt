@@ -70,16 +70,16 @@ one_lead one objects last name value first second (by_reference {object = a} is 
 leads_by : OneMeaning → (objects : List Data) (last : Option (List ℕ)) (name : List ℕ) (value meant : Data) (found : Option Data) → get name meant ≡ found
     → get name value ≡ None → RefersTo objects last value meant → FindsExactly (LeadsTo objects last name value) found
 leads_by one objects last name value meant None is without refers = λ found leads. elim leads [
-    | by_property has ↦ none-some found (sym without ∙ has)
-    | by_reference {object = other} also has ↦ none-some found (sym is ∙ ap (get name) (one_reference one objects last value meant other refers also) ∙ has)
-  ]
+  | by_property has ↦ none-some found (sym without ∙ has)
+  | by_reference {object = other} also has ↦ none-some found (sym is ∙ ap (get name) (one_reference one objects last value meant other refers also) ∙ has)
+]
 leads_by one objects last name value meant (Some found) is without refers = by_reference refers is
 
 -- without the property it is that of what the value refers to
 pub leads_exactly : OneMeaning → (objects : List Data) (last : Option (List ℕ)) (name : List ℕ) (value : Data) (meant : Option Data)
     → get name value ≡ None → FindsExactly (RefersTo objects last value) meant → FindsExactly (LeadsTo objects last name value) (option_and_then (get name) meant)
 leads_exactly one objects last name value None without refers = λ found leads. elim leads [
-    | by_property has ↦ none-some found (sym without ∙ has)
-    | by_reference {object = other} is has ↦ refers other is
-  ]
+  | by_property has ↦ none-some found (sym without ∙ has)
+  | by_reference {object = other} is has ↦ refers other is
+]
 leads_exactly one objects last name value (Some meant) without refers = leads_by one objects last name value meant (get name meant) refl without refers

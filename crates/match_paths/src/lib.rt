@@ -9,6 +9,8 @@ mod object;
 mod path_values;
 mod root;
 mod step;
+#[cfg(test)]
+mod tests;
 mod walk;
 
 pub use path_values::{PathValues, values};
