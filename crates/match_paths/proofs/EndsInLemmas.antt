@@ -1,5 +1,5 @@
 -- A test of how a name ends.
-use Rattle.std.proofs.Common.{arith, ◌≡◌, ◌↔◌, ◌≢◌, ℕ, ◌-◌, ◌+◌, List, ◌++◌, length, drop, take, Bool, true, false, IsTrue, nat_eq, sym, ap, subst, ◌∙◌, refl}
+use Rattle.std.proofs.Common.{arith, ◌≡◌, ◌↔◌, ℕ, ◌-◌, ◌+◌, List, ◌++◌, length, drop, take, Bool, true, false, IsTrue, nat_eq, sym, ap, ◌∙◌, refl}
 use Rattle.std.specs.List.{ends_with}
 use Rattle.std.specs.Cmp.Lexicographic.{same_text, other_text}
 use Rattle.std.proofs.lemmas.List.{length-append, take-append-drop, drop_at}

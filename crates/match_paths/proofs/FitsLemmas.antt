@@ -1,5 +1,5 @@
 -- The frames of a walk have room, their values are ordered, and their weight falls with each value that is visited.
-use Rattle.std.proofs.Common.{arith, ◌≡◌, ℕ, suc, ◌+◌, ◌*◌, ◌<◌, ◌≤◌, ◌^◌, List, [], ◌∷◌, length, All, sym, ap, subst, ◌∙◌, refl, Bor}
+use Rattle.std.proofs.Common.{arith, ◌≡◌, ℕ, suc, ◌+◌, ◌*◌, ◌<◌, ◌≤◌, ◌^◌, List, [], ◌∷◌, length, All, ap, subst, ◌∙◌, Bor}
 use Rattle.std.proofs.Math.Nat.{mul-le-mul_right}
 use Rattle.serde_json.specs.Data.{Data}
 use Rattle.stix_json.specs.declared.value.Json.{Json}

@@ -1,5 +1,5 @@
 -- Frames put onto a walk.
-use Rattle.std.proofs.Common.{arith, ◌≡◌, ◌↔◌, ◌<◌, ℕ, length, refl, List, [], ◌∷◌, ◌++◌, reverse, ap, ◌∙◌}
+use Rattle.std.proofs.Common.{arith, ◌≡◌, ◌↔◌, ◌<◌, length, refl, List, [], ◌∷◌, ◌++◌, reverse, ap, ◌∙◌}
 use Rattle.std.proofs.lemmas.List.{reverse-append}
 use Rattle.serde_json.specs.Data.{Data}
 use Rattle.match_paths.specs.declared.frame.Frame.{Frame}

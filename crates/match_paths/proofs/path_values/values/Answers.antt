@@ -1,4 +1,4 @@
-use Rattle.std.proofs.Common.{◌≡◌, ◌↔◌, List, [], ◌∷◌, ◌++◌, None, option_map, reverse, sym, ap, subst, ◌∙◌, refl, Bor}
+use Rattle.std.proofs.Common.{◌↔◌, List, ◌∷◌, None, option_map, reverse, sym, ap, subst, ◌∙◌, refl, Bor}
 use Rattle.serde_json.specs.Data.{Data}
 use Rattle.stix_json.specs.declared.value.Json.{Json}
 use Rattle.stix_json.specs.DataOf.{data_of}

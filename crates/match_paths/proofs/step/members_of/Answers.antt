@@ -1,4 +1,4 @@
-use Rattle.std.proofs.Common.{◌≡◌, List, [], Option, Some, option_map, sym, ap, ◌∙◌, Bor}
+use Rattle.std.proofs.Common.{[], Option, sym, ap, ◌∙◌}
 use Rattle.std.specs.Option.{option_map_or}
 use Rattle.serde_json.specs.Data.{Items}
 use Rattle.stix_bundles.specs.Bundle.{listed}

@@ -1,4 +1,4 @@
-use Rattle.std.proofs.Common.{Option, option_map, sym, subst, List, ℕ, Some, None, Bor}
+use Rattle.std.proofs.Common.{option_map, sym, subst, List, ℕ, Some, None, Bor}
 use Rattle.flow_values.specs.Answers.{FindsExactly}
 use Rattle.stix_json.specs.DataOf.{data_of}
 use Rattle.stix_bundles.specs.Objects.{data_in}

@@ -1,5 +1,4 @@
-use Rattle.std.proofs.Common.{rules, Option, option_map, sym, subst, List, ℕ, Some, None, Bor}
-use Rattle.serde_json.specs.Data.{Data}
+use Rattle.std.proofs.Common.{rules, option_map, sym, subst, List, ℕ, Some, None, Bor}
 use Rattle.flow_values.specs.Answers.{FindsExactly}
 use Rattle.stix_json.specs.DataOf.{data_of}
 use Rattle.stix_bundles.specs.Objects.{data_in}

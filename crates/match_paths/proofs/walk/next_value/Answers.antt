@@ -1,4 +1,4 @@
-use Rattle.std.proofs.Common.{arith, ◌≡◌, ◌<◌, [], ◌∷◌, List, reverse, sym, subst, ap, ◌∙◌}
+use Rattle.std.proofs.Common.{arith, List, reverse, subst, ap}
 use Rattle.std.proofs.lemmas.Bool.{false≢true}
 use Rattle.stix_bundles.specs.Objects.{data_in}
 use Rattle.match_paths.specs.declared.frame.Frame.{Frame}
