@@ -6,3 +6,5 @@ pub mod OneSelectionLemmas
 pub mod LeftLemmas
 pub mod FitsLemmas
 pub mod WalkLemmas
+pub mod SomeSelectionLemmas
+pub mod TakenLemmas

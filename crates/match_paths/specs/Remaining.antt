@@ -1,5 +1,5 @@
 -- What an iterator over the values of a path has yet to give.
-use Rattle.std.specs.Prelude.{◌≡◌, ◌↔◌, ℕ, List, [], reverse, Option, Some, None}
+use Rattle.std.specs.Prelude.{◌≡◌, ◌↔◌, ℕ, List, [], ◌++◌, map, reverse, Option, Some, None}
 use Rattle.std.specs.Borrow.{Bor}
 use Rattle.serde_json.specs.Data.{Data}
 use Rattle.stix_json.specs.declared.value.Json.{Json}
@@ -24,3 +24,11 @@ Gives before (Some value) after = (values : List Data) → Left before values �
 -- no more than so many are left
 abbrev pub most_left : PathValues → ℕ
 most_left walk = weight (reverse walk.frames.items)
+
+-- the values that were taken
+abbrev pub taken_data : List (Bor Json) → List Data
+taken_data taken = map (λ value. data_of value.now) taken
+
+-- the values that were taken, and then others of which the fact holds
+abbrev pub Follows : List Data → (List Data → Type 0) → List Data → Type 0
+Follows taken Rest values = (rest : List Data) × (values ≡ taken ++ rest) × Rest rest
