@@ -1,0 +1,75 @@
+-- What an object path selects (STIX 2.1, section 9.7), from one object of a bundle on. A name leads to a property, and
+-- from the text of a reference, whose name ends in `_ref` or `_refs`, to a property of the object that the text means.
+use Rattle.std.specs.Prelude.{◌≡◌, ◌⊎◌, ℕ, List, [], ◌∷◌, ◌++◌, Option, Some, None, MatchOption, slice_get, option_to_list, codes}
+use Rattle.std.specs.Option.{option_map_or}
+use Rattle.serde_json.specs.Data.{Data}
+use Rattle.serde_json.specs.Find.{get, as_str, as_array}
+use Rattle.flow_values.specs.Answers.{FindsExactly}
+use Rattle.stix_json.specs.Properties.{text_at}
+use Rattle.stix_bundles.specs.Bundle.{listed}
+use Rattle.stix_bundles.specs.Lookup.{Means}
+use Rattle.pattern_types.specs.declared.path.Path.{Path}
+use Rattle.pattern_types.specs.declared.path.Step.{Step}
+use Rattle.pattern_types.specs.declared.path.Step.TheVariants.{Name, Place, Each}
+
+-- the name ends so
+abbrev pub EndsIn : List ℕ → List ℕ → Type 0
+EndsIn suffix name = (front : List ℕ) × (name ≡ front ++ suffix)
+
+-- the last name before a step is that of a reference, or of a list of them
+abbrev pub IsReference : Option (List ℕ) → Type 0
+IsReference None = ⊥
+IsReference (Some name) = EndsIn (codes "_ref") name ⊎ EndsIn (codes "_refs") name
+
+-- the text of a value, behind such a name, refers to the object
+pub record RefersTo (objects : List Data) (last : Option (List ℕ)) (value object : Data) : Type 0 where
+  pub named : IsReference last
+  pub text : List ℕ
+  pub is_text : as_str value ≡ Some text
+  pub at : ℕ
+  pub means : Means objects text (Some at)
+  pub there : slice_get objects at ≡ Some object
+
+-- a name leads to the property of an object, or of the object that a text refers to
+pub data LeadsTo (objects : List Data) (last : Option (List ℕ)) (name : List ℕ) (value : Data) : Data → Type 0 where
+  by_property : {found : Data} → get name value ≡ Some found → LeadsTo objects last name value found
+  by_reference : {object found : Data} → RefersTo objects last value object → get name object ≡ Some found
+      → LeadsTo objects last name value found
+
+-- the members of a list; anything else has none
+abbrev pub members : Data → List Data
+members value = option_map_or listed (as_array value) []
+
+-- what one step selects, from a value behind that last name
+abbrev pub StepSelects : List Data → Option (List ℕ) → Step → Data → List Data → Type 0
+StepSelects objects last (Name name) value values = (found : Option Data)
+    × FindsExactly (LeadsTo objects last name value) found × (values ≡ option_to_list found)
+StepSelects objects last (Place n) value values = values ≡ option_to_list (slice_get (members value) n)
+StepSelects objects last Each value values = values ≡ members value
+
+-- the last name behind a step
+abbrev pub last_name : Option (List ℕ) → Step → Option (List ℕ)
+last_name last (Name name) = Some name
+last_name last (Place n) = last
+last_name last Each = last
+
+-- what is selected from each of these, one after another
+abbrev pub Joined : (Data → List Data → Type 0) → List Data → List Data → Type 0
+Joined Selects [] values = values ≡ []
+Joined Selects (d ∷ ds) values = (own rest : List Data) × Selects d own × Joined Selects ds rest × (values ≡ own ++ rest)
+
+-- what the steps select
+abbrev pub StepsSelect : List Data → Option (List ℕ) → List Step → Data → List Data → Type 0
+StepsSelect objects last [] value values = values ≡ value ∷ []
+StepsSelect objects last (step ∷ steps) value values = (next : List Data) × StepSelects objects last step value next
+    × Joined (StepsSelect objects (last_name last step) steps) next values
+
+-- the object at the position, which has the path's type
+pub record IsRoot (objects : List Data) (root : ℕ) (kind : List ℕ) (object : Data) : Type 0 where
+  pub there : slice_get objects root ≡ Some object
+  pub typed : text_at (codes "type") object ≡ Some kind
+
+-- what a path selects from the object at a position: nothing where there is none of its type
+abbrev pub Selects : List Data → ℕ → Path → List Data → Type 0
+Selects objects root path values = (found : Option Data) × FindsExactly (IsRoot objects root path.kind) found
+    × MatchOption found (values ≡ []) (λ object. StepsSelect objects None path.steps object values)

@@ -1,0 +1,25 @@
+use arrayvec::ArrayVec;
+use pattern_types::Step;
+use stix_json::Json;
+
+/// Values that are yet to be visited, and the steps that lead on from each of them.
+#[derive(Clone, Copy)]
+pub(crate) struct Frame<'a> {
+    /// The last name that led to them.
+    pub(crate) last: Option<&'a str>,
+    pub(crate) steps: &'a [Step],
+    pub(crate) values: &'a [Json],
+}
+
+impl Default for Frame<'_> {
+    fn default() -> Self {
+        Frame {
+            last: None,
+            steps: &[],
+            values: &[],
+        }
+    }
+}
+
+/// The frames of a walk, the deepest last: one for the root, and one for each of 16 steps.
+pub(crate) type Frames<'a> = ArrayVec<Frame<'a>, 17>;

@@ -1,0 +1,34 @@
+//! What follows from the definitions: the contracts are the laws, and the functions do nothing.
+
+ghost use Rattle.std.specs.Prelude.{◌≡◌, ◌↔◌, ℕ, List, Option};
+ghost use Rattle.std.specs.Borrow.{Bor};
+ghost use Rattle.std.specs.Iterator.{Yields, Drains};
+ghost use Rattle.serde_json.specs.Data.{Data};
+ghost use Rattle.stix_json.specs.declared.value.Json.{Json};
+ghost use Rattle.stix_bundles.specs.Lookup.{Means};
+ghost use Rattle.pattern_types.specs.declared.path.Path.{Path};
+ghost use Rattle.match_paths.specs.declared.path_values.PathValues.{PathValues};
+ghost use Rattle.match_paths.specs.Selection.{Selects};
+ghost use Rattle.match_paths.specs.Remaining.{Left, Gives, taken_data, Follows};
+
+use stix_bundles::laws::one_meaning;
+
+/// A path selects one list of values from an object. It selects some, where each text means a place or
+/// none.
+pub fn one_selection()
+    ensures one { (objects : List Data) (root : ℕ) (path : Path) (first second : List Data)
+        → Selects objects root path first → Selects objects root path second → first ≡ second }
+    ensures some { (objects : List Data) → ((text : List ℕ) → (meant : Option ℕ) × Means objects text meant)
+        → (root : ℕ) (path : Path) → (values : List Data) × Selects objects root path values }
+{
+    one_meaning();
+}
+
+/// What calls of `next` took stands before what is left, and is all that was left where they came to
+/// the end.
+pub fn taken_first()
+    ensures before { (before after : PathValues) (taken : List (Bor Json)) → Yields Gives before taken after
+        → (values : List Data) → Left before values ↔ Follows (taken_data taken) (Left after) values }
+    ensures whole { (before : PathValues) (taken : List (Bor Json)) → Drains Gives before taken
+        → Left before (taken_data taken) }
+{}
