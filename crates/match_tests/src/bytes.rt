@@ -1,0 +1,57 @@
+ghost use Rattle.std.specs.Prelude.{◌≡◌, ◌↔◌, List, ℕ, Some, Ok, IfOk, IsTrue, option_map, codes};
+ghost use Rattle.hex.specs.Hex.{decode_of};
+ghost use Rattle.base64.specs.Engines.{standard};
+ghost use Rattle.base64.specs.GeneralPurpose.{encode_of, IsBytes};
+ghost use Rattle.match_paths.specs.Selection.{EndsIn};
+ghost use Rattle.match_tests.specs.Tests.{IsBytesOf};
+
+use base64::DecodeAllocError;
+use base64::engine::general_purpose::STANDARD;
+use flow_values::{Items, NoMemory};
+use hex::FromHexError;
+use std::alloc::Global;
+
+/// The bytes that a text stands for, by the name of its property.
+pub(crate) fn bytes_of(alloc: Global, last: Option<&str>, text: &str) -> Result<Option<Items<u8>>, NoMemory>
+    ensures { IfOk result (λ found. (bytes : List ℕ) → IsBytesOf (option_map (λ name. name.now) last.entry) text.now bytes ↔ (found ≡ Some bytes)) }
+{
+    let Some(name) = last else {
+        return Ok(None);
+    };
+    if ends_in(name, "_hex") {
+        hex_of(alloc, text)
+    } else if ends_in(name, "_bin") {
+        binary_of(alloc, text)
+    } else {
+        Ok(None)
+    }
+}
+
+/// The bytes of a hexadecimal text.
+fn hex_of(alloc: Global, text: &str) -> Result<Option<Items<u8>>, NoMemory>
+    ensures { IfOk result (λ found. (bytes : List ℕ) → (decode_of text.now ≡ Ok bytes) ↔ (found ≡ Some bytes)) }
+{
+    match hex::decode(alloc, text) {
+        Ok(bytes) => Ok(Some(Items::from_vec(bytes))),
+        Err(FromHexError::OutOfMemory) => Err(NoMemory),
+        Err(_) => Ok(None),
+    }
+}
+
+/// The bytes of a padded base64 text.
+fn binary_of(alloc: Global, text: &str) -> Result<Option<Items<u8>>, NoMemory>
+    ensures { IfOk result (λ found. (bytes : List ℕ) → (IsBytes bytes × (text.now ≡ encode_of standard bytes)) ↔ (found ≡ Some bytes)) }
+{
+    match STANDARD.decode(alloc, text.as_bytes()) {
+        Ok(bytes) => Ok(Some(Items::from_vec(bytes))),
+        Err(DecodeAllocError::OutOfMemory) => Err(NoMemory),
+        Err(DecodeAllocError::DecodeError(_)) => Ok(None),
+    }
+}
+
+/// Whether a name ends so.
+fn ends_in(name: &str, suffix: &str) -> bool
+    ensures { IsTrue result ↔ EndsIn suffix.now name.now }
+{
+    name.as_bytes().ends_with(suffix.as_bytes())
+}

@@ -1,0 +1,107 @@
+ghost use Rattle.std.specs.Prelude.{◌↔◌, ◌⊎◌, List, ℕ, Option, IfOk, IsTrue, option_map};
+ghost use Rattle.std.specs.declared.cmp.Ordering.TheVariants.{Equal};
+ghost use Rattle.stix_json.specs.DataOf.{data_of};
+ghost use Rattle.pattern_types.specs.declared.check.Check.TheVariants.{Among, Like};
+ghost use Rattle.match_tests.specs.Tests.{Compares, Meets, MeetsTest};
+
+use crate::block::{holds_block, lies_in};
+use crate::compare::compared;
+use flow_values::NoMemory;
+use match_like::like;
+use pattern_types::{Check, Constant, Test};
+use std::alloc::Global;
+use std::cmp::Ordering;
+use stix_json::{Json, text_of};
+
+/// Whether a value meets a test, behind that last name.
+pub(crate) fn meets_test(
+    alloc: Global,
+    last: Option<&str>,
+    value: &Json,
+    test: &Test,
+) -> Result<bool, NoMemory>
+    ensures { IfOk result (λ met. IsTrue met ↔ MeetsTest (option_map (λ name. name.now) last.entry) (data_of value.now) test.now) }
+{
+    let met = meets(alloc, last, value, &test.check)?;
+    if test.negated { Ok(!met) } else { Ok(met) }
+}
+
+/// Whether a value meets a check, behind that last name.
+fn meets(
+    alloc: Global,
+    last: Option<&str>,
+    value: &Json,
+    check: &Check,
+) -> Result<bool, NoMemory>
+    ensures { IfOk result (λ met. IsTrue met ↔ Meets (option_map (λ name. name.now) last.entry) (data_of value.now) check.now) }
+{
+    match check {
+        Check::Equal(constant) => compares(alloc, last, value, constant, Ordering::Equal),
+        Check::Differ(constant) => Ok(!compares(alloc, last, value, constant, Ordering::Equal)?),
+        Check::Less(constant) => compares(alloc, last, value, constant, Ordering::Less),
+        Check::LessEqual(constant) => reaches(alloc, last, value, constant, Ordering::Less),
+        Check::Greater(constant) => compares(alloc, last, value, constant, Ordering::Greater),
+        Check::GreaterEqual(constant) => reaches(alloc, last, value, constant, Ordering::Greater),
+        Check::Among(constants) => equals_some(alloc, last, value, constants.as_slice()),
+        Check::Like(pattern) => Ok(is_like(value, pattern.as_str())),
+        Check::Subset(words) => Ok(lies_in(value, words.as_str())),
+        Check::Superset(words) => Ok(holds_block(value, words.as_str())),
+        Check::Exists => Ok(true),
+    }
+}
+
+/// Whether a value compares so with the constant.
+fn compares(
+    alloc: Global,
+    last: Option<&str>,
+    value: &Json,
+    constant: &Constant,
+    wanted: Ordering,
+) -> Result<bool, NoMemory>
+    ensures { IfOk result (λ so. IsTrue so ↔ Compares (option_map (λ name. name.now) last.entry) (data_of value.now) constant.now wanted) }
+{
+    let found = compared(alloc, last, value, constant)?;
+    Ok(found == Some(wanted))
+}
+
+/// Whether a value compares so with the constant, or equals it.
+fn reaches(
+    alloc: Global,
+    last: Option<&str>,
+    value: &Json,
+    constant: &Constant,
+    wanted: Ordering,
+) -> Result<bool, NoMemory>
+    ensures { IfOk result (λ so. IsTrue so ↔ Compares (option_map (λ name. name.now) last.entry) (data_of value.now) constant.now wanted
+        ⊎ Compares (option_map (λ name. name.now) last.entry) (data_of value.now) constant.now Equal) }
+{
+    let found = compared(alloc, last, value, constant)?;
+    Ok(found == Some(wanted) || found == Some(Ordering::Equal))
+}
+
+/// Whether a value equals one of the constants.
+fn equals_some(
+    alloc: Global,
+    last: Option<&str>,
+    value: &Json,
+    constants: &[Constant],
+) -> Result<bool, NoMemory>
+    ensures { IfOk result (λ met. IsTrue met ↔ Meets (option_map (λ name. name.now) last.entry) (data_of value.now) (Among constants.now)) }
+{
+    for constant in constants {
+        if compares(alloc, last, value, constant, Ordering::Equal)? {
+            return Ok(true);
+        }
+    }
+    Ok(false)
+}
+
+/// Whether a value is a text that is like the pattern.
+fn is_like(value: &Json, pattern: &str) -> bool
+    ensures { (last : Option (List ℕ)) → IsTrue result ↔ Meets last (data_of value.now) (Like pattern.now) }
+{
+    match text_of(value) {
+        Some(text) => like(text, pattern),
+        None => false,
+    }
+}

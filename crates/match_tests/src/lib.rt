@@ -1,0 +1,13 @@
+//! Whether a bracket of a pattern holds for an observation (STIX 2.1, section 9.6).
+//!
+//! `holds` tells it of one test and one object, `leaf_holds` of a whole bracket.
+#![tactic(auto)]
+
+mod block;
+mod bytes;
+mod check;
+mod compare;
+mod met;
+mod last;
+
+pub use met::holds;
