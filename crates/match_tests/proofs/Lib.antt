@@ -1,3 +1,4 @@
 pub mod CompareLemmas
 pub mod FoundLemmas
 pub mod BlockLemmas
+pub mod MetLemmas

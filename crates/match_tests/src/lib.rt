@@ -9,5 +9,7 @@ mod check;
 mod compare;
 mod met;
 mod last;
+mod leaf;
 
+pub use leaf::leaf_holds;
 pub use met::holds;

@@ -1,8 +1,6 @@
-ghost use Rattle.std.specs.Prelude.{◌≡◌, ◌↔◌, ◌≤◌, [], List, IfOk, IsTrue, length};
-ghost use Rattle.serde_json.specs.Data.{Data};
+ghost use Rattle.std.specs.Prelude.{◌≡◌, ◌↔◌, ◌≤◌, [], IfOk, IsTrue, length};
 ghost use Rattle.stix_bundles.specs.Objects.{data_in};
-ghost use Rattle.match_paths.specs.Selection.{Selects};
-ghost use Rattle.match_tests.specs.Tests.{TestHolds, IsAbsence, SomeMeets, AreMet, IsShort, SelectsSo};
+ghost use Rattle.match_tests.specs.Tests.{TestHolds, IsAbsence, SomeMeets, AreMet, SelectsSo};
 
 use crate::check::meets_test;
 use crate::last::last_name;
@@ -59,7 +57,6 @@ fn selects_none(bundle: &Bundle, root: u32, path: &Path) -> bool
     requires { length path.now.steps ≤ 16 }
     ensures { IsTrue result ↔ SelectsSo (λ values. values ≡ []) (data_in bundle.now) root path.now }
 {
-    one_selection();
     values(bundle, root, path).next().is_none()
 }
 
