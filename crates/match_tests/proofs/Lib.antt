@@ -2,3 +2,4 @@ pub mod CompareLemmas
 pub mod FoundLemmas
 pub mod BlockLemmas
 pub mod MetLemmas
+pub mod LeavesLemmas

@@ -1,0 +1,28 @@
+use Rattle.std.proofs.Common.{rules, List, sym, subst}
+use Rattle.stix_bundles.specs.Objects.{data_in}
+use Rattle.pattern_types.specs.declared.leaf.Leaf.{Leaf, the_lemmas}
+use Rattle.pattern_types.specs.PlainLeaf.{plain_leaf, listed}
+use Rattle.match_tests.specs.Tests.{AreShortAt, AreShort}
+use Rattle.match_tests.proofs.LeavesLemmas.{short_all, short_any, ok_all, ok_any}
+use Rattle.match_tests.proofs.leaf.+leaves.Goals as goal
+
+pub holds_at-all_hold-requires : goal.holds_at-all_hold-requires
+holds_at-all_hold-requires t c =
+    let short = short_all c.in-All.parts (subst (λ (l : Leaf). AreShortAt (plain_leaf l)) c.in-All.is c.requires) in
+    (search (rules, the_lemmas), subst (λ (ls : List Leaf). AreShort (listed ls)) (sym c.as_slice.ensures) short)
+
+pub holds_at-some_hold-requires : goal.holds_at-some_hold-requires
+holds_at-some_hold-requires t c =
+    let short = short_any c.in-Any.parts (subst (λ (l : Leaf). AreShortAt (plain_leaf l)) c.in-Any.is c.requires) in
+    (search (rules, the_lemmas), subst (λ (ls : List Leaf). AreShort (listed ls)) (sym c.as_slice-in-Any.ensures) short)
+
+pub holds_at-returns-in-Test : goal.holds_at-returns-in-Test
+holds_at-returns-in-Test t c = rw c.in-Test.is c.holds.ensures
+
+pub holds_at-returns-in-All : goal.holds_at-returns-in-All
+holds_at-returns-in-All t c =
+    rw c.in-All.is (ok_all c.all_hold.result (data_in c.args.bundle.now) c.args.root c.in-All.parts (rw c.as_slice.ensures at c.all_hold.ensures))
+
+pub holds_at-returns-in-Any : goal.holds_at-returns-in-Any
+holds_at-returns-in-Any t c =
+    rw c.in-Any.is (ok_any c.some_hold.result (data_in c.args.bundle.now) c.args.root c.in-Any.parts (rw c.as_slice-in-Any.ensures at c.some_hold.ensures))
