@@ -1,0 +1,29 @@
+-- The truths of a pattern's brackets for an observation (STIX 2.1, section 9.5).
+use Rattle.std.specs.Prelude.{◌≡◌, ◌↔◌, ℕ, Bool, IsTrue, List, [], ◌∷◌, ◌++◌}
+use Rattle.serde_json.specs.Data.{Data}
+use Rattle.pattern_types.specs.PlainPattern.{PlainPattern, a_leaf, a_both, an_either, a_then, a_limited}
+use Rattle.match_tests.specs.Tests.{LeafHolds, AreShortAt}
+
+-- those of the left side, and then those of the right
+abbrev pub AreOfBoth : (List Bool → Type 0) → (List Bool → Type 0) → List Bool → Type 0
+AreOfBoth AreLeft AreRight truths = (lefts rights : List Bool) × AreLeft lefts × AreRight rights × (truths ≡ lefts ++ rights)
+
+-- one truth for each leaf of a pattern, from left to right
+abbrev pub AreTruths : List Data → List ℕ → PlainPattern → List Bool → Type 0
+AreTruths objects roots (a_leaf leaf) truths = (truth : Bool) × (truths ≡ truth ∷ []) × (IsTrue truth ↔ LeafHolds objects roots leaf)
+AreTruths objects roots (a_both left right) truths = AreOfBoth (AreTruths objects roots left) (AreTruths objects roots right) truths
+AreTruths objects roots (an_either left right) truths = AreOfBoth (AreTruths objects roots left) (AreTruths objects roots right) truths
+AreTruths objects roots (a_then left right) truths = AreOfBoth (AreTruths objects roots left) (AreTruths objects roots right) truths
+AreTruths objects roots (a_limited part limit) truths = AreTruths objects roots part truths
+
+-- each test of a pattern is short
+abbrev pub AreShortIn : PlainPattern → Type 0
+AreShortIn (a_leaf leaf) = AreShortAt leaf
+AreShortIn (a_both left right) = AreShortIn left × AreShortIn right
+AreShortIn (an_either left right) = AreShortIn left × AreShortIn right
+AreShortIn (a_then left right) = AreShortIn left × AreShortIn right
+AreShortIn (a_limited part limit) = AreShortIn part
+
+-- truths of which the fact holds are added at the end
+abbrev pub Adds : (List Bool → Type 0) → List Bool → List Bool → Type 0
+Adds Fact old new = (own : List Bool) × Fact own × (new ≡ old ++ own)
