@@ -12,7 +12,11 @@ use hex::FromHexError;
 use std::alloc::Global;
 
 /// The bytes that a text stands for, by the name of its property.
-pub(crate) fn bytes_of(alloc: Global, last: Option<&str>, text: &str) -> Result<Option<Items<u8>>, NoMemory>
+pub(crate) fn bytes_of(
+    alloc: Global,
+    last: Option<&str>,
+    text: &str,
+) -> Result<Option<Items<u8>>, NoMemory>
     ensures { IfOk result (λ found. (bytes : List ℕ) → IsBytesOf (option_map (λ name. name.now) last.entry) text.now bytes ↔ (found ≡ Some bytes)) }
 {
     let Some(name) = last else {

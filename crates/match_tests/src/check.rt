@@ -27,12 +27,7 @@ pub(crate) fn meets_test(
 }
 
 /// Whether a value meets a check, behind that last name.
-fn meets(
-    alloc: Global,
-    last: Option<&str>,
-    value: &Json,
-    check: &Check,
-) -> Result<bool, NoMemory>
+fn meets(alloc: Global, last: Option<&str>, value: &Json, check: &Check) -> Result<bool, NoMemory>
     ensures { IfOk result (λ met. IsTrue met ↔ Meets (option_map (λ name. name.now) last.entry) (data_of value.now) check.now) }
 {
     match check {

@@ -35,6 +35,7 @@ pub(crate) fn compared(
     }
 }
 
+/// The same with a whole number.
 fn compared_whole(value: &Json, whole: i64) -> Option<Ordering>
     ensures { (last : Option (List ℕ)) (order : Ordering) → Compares last (data_of value.now) (Integer whole) order ↔ (result ≡ Some order) }
 {
@@ -44,6 +45,7 @@ fn compared_whole(value: &Json, whole: i64) -> Option<Ordering>
     }
 }
 
+/// The same with a text.
 fn compared_words(value: &Json, words: &str) -> Option<Ordering>
     ensures { (last : Option (List ℕ)) (order : Ordering) → Compares last (data_of value.now) (String words.now) order ↔ (result ≡ Some order) }
 {
@@ -53,6 +55,7 @@ fn compared_words(value: &Json, words: &str) -> Option<Ordering>
     }
 }
 
+/// The same with a truth.
 fn compared_truth(value: &Json, truth: bool) -> Option<Ordering>
     ensures { (last : Option (List ℕ)) (order : Ordering) → Compares last (data_of value.now) (Boolean truth) order ↔ (result ≡ Some order) }
 {
@@ -62,6 +65,7 @@ fn compared_truth(value: &Json, truth: bool) -> Option<Ordering>
     }
 }
 
+/// The same with an instant.
 fn compared_instant(value: &Json, instant: Instant) -> Option<Ordering>
     ensures { (last : Option (List ℕ)) (order : Ordering) → Compares last (data_of value.now) (Timestamp instant) order ↔ (result ≡ Some order) }
 {
@@ -81,6 +85,7 @@ fn compared_time(text: &str, instant: Instant) -> Option<Ordering>
     }
 }
 
+/// The same with bytes.
 fn compared_bytes(
     alloc: Global,
     last: Option<&str>,

@@ -40,6 +40,7 @@ fn holds_at(alloc: Global, leaf: &Leaf, bundle: &Bundle, root: u32) -> Result<bo
     }
 }
 
+/// Whether a root meets each of the parts.
 #[cycle(leaves)]
 fn all_hold(alloc: Global, parts: &[Leaf], bundle: &Bundle, root: u32) -> Result<bool, NoMemory>
     requires { AreShort (listed parts.now) }
@@ -53,6 +54,7 @@ fn all_hold(alloc: Global, parts: &[Leaf], bundle: &Bundle, root: u32) -> Result
     Ok(true)
 }
 
+/// Whether a root meets some part.
 #[cycle(leaves)]
 fn some_hold(alloc: Global, parts: &[Leaf], bundle: &Bundle, root: u32) -> Result<bool, NoMemory>
     requires { AreShort (listed parts.now) }

@@ -8,12 +8,12 @@ mod block;
 mod bytes;
 mod check;
 mod compare;
+mod last;
+mod leaf;
 mod met;
 #[cfg(test)]
 mod tests;
 mod truths;
-mod last;
-mod leaf;
 
 pub use leaf::leaf_holds;
 pub use met::holds;

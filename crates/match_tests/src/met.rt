@@ -13,12 +13,7 @@ use stix_bundles::Bundle;
 
 /// Whether the object at a position has the type of a test's path, and what the path selects from it
 /// meets the test.
-pub fn holds(
-    alloc: Global,
-    test: &Test,
-    bundle: &Bundle,
-    root: u32,
-) -> Result<bool, NoMemory>
+pub fn holds(alloc: Global, test: &Test, bundle: &Bundle, root: u32) -> Result<bool, NoMemory>
     requires { length test.now.path.steps ≤ 16 }
     ensures { IfOk result (λ holds. IsTrue holds ↔ TestHolds (data_in bundle.now) root test.now) }
 {
@@ -29,12 +24,7 @@ pub fn holds(
 }
 
 /// Whether what a test's path selects meets the test.
-fn are_met(
-    alloc: Global,
-    test: &Test,
-    bundle: &Bundle,
-    root: u32,
-) -> Result<bool, NoMemory>
+fn are_met(alloc: Global, test: &Test, bundle: &Bundle, root: u32) -> Result<bool, NoMemory>
     requires { length test.now.path.steps ≤ 16 }
     ensures { IfOk result (λ met. IsTrue met ↔ SelectsSo (AreMet test.now) (data_in bundle.now) root test.now.path) }
 {
@@ -62,12 +52,7 @@ fn selects_none(bundle: &Bundle, root: u32, path: &Path) -> bool
 
 /// Whether some value that a test's path selects meets the test. After the first one that does, the
 /// others are only walked over.
-fn some_meets(
-    alloc: Global,
-    test: &Test,
-    bundle: &Bundle,
-    root: u32,
-) -> Result<bool, NoMemory>
+fn some_meets(alloc: Global, test: &Test, bundle: &Bundle, root: u32) -> Result<bool, NoMemory>
     requires { length test.now.path.steps ≤ 16 }
     ensures { IfOk result (λ met. IsTrue met ↔ SelectsSo (SomeMeets test.now) (data_in bundle.now) root test.now.path) }
 {

@@ -6,7 +6,7 @@ use std::test::Fail;
 use stix_bundles::{Bundle, read_bundle};
 use stix_json::read_json;
 
-/// A bundle of two files at 0 and 1, and an observation of both.
+/// A bundle of two files at 0 and 1.
 fn bundle(alloc: Global) -> Result<Bundle, Fail> {
     let id = "x-file--00000000-0000-4000-8000-00000000000";
     let first = format!(in alloc;
@@ -15,16 +15,8 @@ fn bundle(alloc: Global) -> Result<Bundle, Fail> {
     let second = format!(in alloc;
         "{{\"type\":\"x-file\",\"id\":\"{id}2\",\"name\":\"b.exe\",\"size\":7,\"net\":\"192.0.2.0/24\"}}"
     )?;
-    let time = "2021-05-01T00:00:00.000Z";
-    let head = "\"type\":\"observed-data\",\"spec_version\":\"2.1\",\"id\":\"observed-data--00000000-0000-4000-8000-000000000003\"";
-    let times = format!(in alloc;
-        "\"created\":\"{time}\",\"modified\":\"{time}\",\"first_observed\":\"{time}\",\"last_observed\":\"{time}\""
-    )?;
-    let seen = format!(in alloc;
-        "{{{head},{times},\"number_observed\":1,\"object_refs\":[\"{id}1\",\"{id}2\"]}}"
-    )?;
     let json = format!(in alloc;
-        "{{\"type\":\"bundle\",\"id\":\"bundle--00000000-0000-4000-8000-000000000000\",\"objects\":[{first},{second},{seen}]}}"
+        "{{\"type\":\"bundle\",\"id\":\"bundle--00000000-0000-4000-8000-000000000000\",\"objects\":[{first},{second}]}}"
     )?;
     let tree = read_json(alloc, json.as_bytes())?;
     Ok(read_bundle(alloc, tree)?)
