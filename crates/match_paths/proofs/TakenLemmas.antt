@@ -1,5 +1,5 @@
 -- What calls of `next` took stands before what is left.
-use Rattle.std.proofs.Common.{◌≡◌, ◌↔◌, List, [], ◌∷◌, ◌++◌, map, append-nil, sym, ap, subst, ◌∙◌, refl, Bor}
+use Rattle.std.proofs.Common.{◌↔◌, List, [], ◌∷◌, ◌++◌, append-nil, sym, ap, subst, ◌∙◌, refl, Bor}
 use Rattle.std.specs.Iterator.{Yields, Drains}
 use Rattle.serde_json.specs.Data.{Data}
 use Rattle.stix_json.specs.declared.value.Json.{Json}
