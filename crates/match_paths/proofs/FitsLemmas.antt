@@ -8,7 +8,7 @@ use Rattle.stix_json.specs.DataOf.{data_of}
 use Rattle.stix_bundles.specs.Objects.{data_in}
 use Rattle.pattern_types.specs.declared.path.Step.{Step}
 use Rattle.match_paths.specs.declared.frame.Frame.{Frame}
-use Rattle.match_paths.specs.Left.{Fits, weight_of, weight}
+use Rattle.match_paths.specs.inner.Frames.{Fits, weight_of, weight}
 use Rattle.match_paths.proofs.LeftLemmas.{with_values}
 
 ordered_rest : (d : Data) (ds : List Data) → All IsOrdered (d ∷ ds) → All IsOrdered ds

@@ -9,7 +9,8 @@ use Rattle.pattern_types.specs.declared.path.Path.{Path}
 use Rattle.pattern_types.specs.declared.path.Step.{Step}
 use Rattle.match_paths.specs.declared.frame.Frame.{Frame}
 use Rattle.match_paths.specs.Selection.{StepSelects, last_name, Joined, StepsSelect, IsRoot, Selects}
-use Rattle.match_paths.specs.Left.{last_of, FrameSelects, LeftIn, Begins}
+use Rattle.match_paths.specs.Remaining.{Follows}
+use Rattle.match_paths.specs.inner.Frames.{last_of, FrameSelects, LeftIn}
 use Rattle.match_paths.proofs.ReferenceLemmas.{OneMeaning}
 use Rattle.match_paths.proofs.OneSelectionLemmas.{one_step, one_found, one_root}
 
@@ -31,7 +32,7 @@ left_without objects frame frames empty values =
 -- no step leads on from the first value
 pub left_given : (objects : List Data) (frame : Frame) (frames : List Frame) (first : Json) (others : Bor (List Json))
     → frame.values.now ≡ first ∷ others.now → frame.steps.now ≡ []
-    → (values : List Data) → LeftIn objects (frame ∷ frames) values ↔ Begins (data_of first) (LeftIn objects (with_values frame others ∷ frames)) values
+    → (values : List Data) → LeftIn objects (frame ∷ frames) values ↔ Follows (data_of first ∷ []) (LeftIn objects (with_values frame others ∷ frames)) values
 left_given objects frame frames first others row no_steps values =
     let d = data_of first in
     let Chosen : List Data → List Json → Type 0 = λ own r. Joined (StepsSelect objects (last_of frame) frame.steps.now) (data_in r) own in

@@ -33,7 +33,7 @@ decide_reference (Some name) =
       | inl ends ↦ inl (inl ends)
       | inr other ↦ elim (decide_end many name (ends_with nat_eq name many) refl) [
         | inl ends ↦ inl (inr ends)
-        | inr neither ↦ inr (λ named. elim named [ | inl ends ↦ other ends | inr ends ↦ neither ends ])
+        | inr neither ↦ inr (λ named. elim named [ inl ends ↦ other ends | inr ends ↦ neither ends ])
       ]
     ]
 
@@ -45,11 +45,11 @@ some_place objects all (Some text) = all text
 some_reference : OneMeaning → (objects : List Data) → AllMean objects → (last : Option (List ℕ)) (value : Data)
     → (meant : Option Data) × FindsExactly (RefersTo objects last value) meant
 some_reference one objects all last value = elim (decide_reference last) [
-    | inr none ↦ (None, λ meant is. none is.named)
-    | inl named ↦
-        let place = some_place objects all (as_str value) in
-        (option_and_then (λ n. slice_get objects n) place.0, refers_exactly one objects last value place.0 named place.1)
-  ]
+  | inr none ↦ (None, λ meant is. none is.named)
+  | inl named ↦
+      let place = some_place objects all (as_str value) in
+      (option_and_then (λ n. slice_get objects n) place.0, refers_exactly one objects last value place.0 named place.1)
+]
 
 some_lead : OneMeaning → (objects : List Data) → AllMean objects → (last : Option (List ℕ)) (name : List ℕ) (value : Data) (own : Option Data) → get name value ≡ own
     → (found : Option Data) × FindsExactly (LeadsTo objects last name value) found
@@ -85,17 +85,21 @@ root_by : (objects : List Data) (root : ℕ) (kind : List ℕ) (there : Data) �
     → (answer : Bool) → answer ≡ pointwise nat_eq text kind → (found : Option Data) × FindsExactly (IsRoot objects root kind) found
 root_by objects root kind there is text typed true same =
     (Some there, record { there = is; typed = typed ∙ ap Some (same_text text kind same) })
-root_by objects root kind there is text typed false other =
-    (None, λ found root_is.
+root_by objects root kind there is text typed false other = (
+  None,
+  λ found root_is.
       let one = same_Some there found (sym is ∙ root_is.there) in
-      other_text text kind other (same_Some text kind (sym typed ∙ ap (text_at (codes "type")) one ∙ root_is.typed)))
+      other_text text kind other (same_Some text kind (sym typed ∙ ap (text_at (codes "type")) one ∙ root_is.typed)),
+)
 
 root_at : (objects : List Data) (root : ℕ) (kind : List ℕ) (there : Data) → slice_get objects root ≡ Some there → (text : Option (List ℕ)) → text_at (codes "type") there ≡ text
     → (found : Option Data) × FindsExactly (IsRoot objects root kind) found
-root_at objects root kind there is None typed =
-    (None, λ found root_is.
+root_at objects root kind there is None typed = (
+  None,
+  λ found root_is.
       let one = same_Some there found (sym is ∙ root_is.there) in
-      none-some kind (sym typed ∙ ap (text_at (codes "type")) one ∙ root_is.typed))
+      none-some kind (sym typed ∙ ap (text_at (codes "type")) one ∙ root_is.typed),
+)
 root_at objects root kind there is (Some text) typed = root_by objects root kind there is text typed (pointwise nat_eq text kind) refl
 
 some_root : (objects : List Data) (root : ℕ) (kind : List ℕ) (there : Option Data) → slice_get objects root ≡ there

@@ -1,3 +1,3 @@
 pub mod Selection
-pub mod Left
 pub mod Remaining
+pub mod inner

@@ -3,7 +3,8 @@ ghost use Rattle.serde_json.specs.Data.{Data};
 ghost use Rattle.stix_json.specs.DataOf.{data_of};
 ghost use Rattle.stix_bundles.specs.Objects.{data_in};
 ghost use Rattle.match_paths.specs.Selection.{last_name};
-ghost use Rattle.match_paths.specs.Left.{LeftIn, Begins, Fits, weight};
+ghost use Rattle.match_paths.specs.Remaining.{Follows};
+ghost use Rattle.match_paths.specs.inner.Frames.{LeftIn, Fits, weight};
 
 use crate::frame::{Frame, Frames};
 use crate::step::selected;
@@ -16,7 +17,7 @@ use stix_json::Json;
 pub(crate) fn next_value<'a>(bundle: &'a Bundle, frames: &mut Frames<'a>) -> Option<&'a Json>
     requires { Fits (reverse frames.old.items) }
     ensures some { IfSome result (λ value. (values : List Data) → LeftIn (data_in bundle.now) (reverse frames.old.items) values
-        ↔ Begins (data_of value.now) (LeftIn (data_in bundle.now) (reverse frames.new.items)) values) }
+        ↔ Follows (data_of value.now ∷ []) (LeftIn (data_in bundle.now) (reverse frames.new.items)) values) }
     ensures none { IfNone result ((values : List Data) → LeftIn (data_in bundle.now) (reverse frames.old.items) values
         ↔ LeftIn (data_in bundle.now) [] values) }
     ensures fits { Fits (reverse frames.new.items) }
@@ -35,7 +36,7 @@ pub(crate) fn next_value<'a>(bundle: &'a Bundle, frames: &mut Frames<'a>) -> Opt
 fn visit<'a>(bundle: &'a Bundle, frame: Frame<'a>, frames: &mut Frames<'a>) -> Option<&'a Json>
     requires { Fits (frame ∷ reverse frames.old.items) }
     ensures some { IfSome result (λ value. (values : List Data) → LeftIn (data_in bundle.now) (frame.entry ∷ reverse frames.old.items) values
-        ↔ Begins (data_of value.now) (LeftIn (data_in bundle.now) (reverse frames.new.items)) values) }
+        ↔ Follows (data_of value.now ∷ []) (LeftIn (data_in bundle.now) (reverse frames.new.items)) values) }
     ensures none { IfNone result ((values : List Data) → LeftIn (data_in bundle.now) (frame.entry ∷ reverse frames.old.items) values
         ↔ LeftIn (data_in bundle.now) (reverse frames.new.items) values) }
     ensures fits { Fits (reverse frames.new.items) }

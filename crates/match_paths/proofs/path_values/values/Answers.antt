@@ -5,7 +5,7 @@ use Rattle.stix_json.specs.DataOf.{data_of}
 use Rattle.stix_bundles.specs.Objects.{data_in}
 use Rattle.match_paths.specs.declared.frame.Frame.{Frame}
 use Rattle.match_paths.specs.Selection.{Selects}
-use Rattle.match_paths.specs.Left.{LeftIn}
+use Rattle.match_paths.specs.inner.Frames.{LeftIn}
 use Rattle.match_paths.proofs.LeftLemmas.{left_at_root}
 use Rattle.match_paths.proofs.WalkLemmas.{pushed}
 use Rattle.match_paths.proofs.path_values.values.Goals as goal

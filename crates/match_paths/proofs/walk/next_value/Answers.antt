@@ -2,7 +2,7 @@ use Rattle.std.proofs.Common.{arith, List, reverse, subst, ap}
 use Rattle.std.proofs.lemmas.Bool.{false≢true}
 use Rattle.stix_bundles.specs.Objects.{data_in}
 use Rattle.match_paths.specs.declared.frame.Frame.{Frame}
-use Rattle.match_paths.specs.Left.{LeftIn, Fits, weight}
+use Rattle.match_paths.specs.inner.Frames.{LeftIn, Fits, weight}
 use Rattle.match_paths.proofs.WalkLemmas.{pushed, none_there, Same, same_itself, same_through}
 use Rattle.match_paths.proofs.walk.next_value.Goals as goal
 

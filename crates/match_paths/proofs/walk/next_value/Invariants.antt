@@ -1,6 +1,6 @@
 use Rattle.std.proofs.Common.{◌≤◌, reverse}
 use Rattle.stix_bundles.specs.Objects.{data_in}
-use Rattle.match_paths.specs.Left.{LeftIn, Fits, weight}
+use Rattle.match_paths.specs.inner.Frames.{LeftIn, Fits, weight}
 use Rattle.match_paths.proofs.WalkLemmas.{Same}
 use Rattle.match_paths.proofs.walk.next_value.Given as goal
 

@@ -1,9 +1,10 @@
-use Rattle.std.proofs.Common.{◌↔◌, ◌<◌, List, ◌∷◌, reverse, sym, subst, refl}
+use Rattle.std.proofs.Common.{◌↔◌, ◌<◌, List, [], ◌∷◌, reverse, sym, subst, refl}
 use Rattle.serde_json.specs.Data.{Data}
 use Rattle.stix_json.specs.DataOf.{data_of}
 use Rattle.stix_bundles.specs.Objects.{data_in}
 use Rattle.match_paths.specs.declared.frame.Frame.{Frame}
-use Rattle.match_paths.specs.Left.{LeftIn, Begins, Fits, weight}
+use Rattle.match_paths.specs.Remaining.{Follows}
+use Rattle.match_paths.specs.inner.Frames.{LeftIn, Fits, weight}
 use Rattle.match_paths.proofs.LeftLemmas.{with_values, left_given, left_below}
 use Rattle.match_paths.proofs.FitsLemmas.{fits_others, fits_below, falls_below}
 use Rattle.match_paths.proofs.WalkLemmas.{no_items, pushed, pushed_twice}
@@ -16,7 +17,7 @@ returns-in_default-split_first-clause-some c =
     let is = pushed c.args.frames.now.items c.push.new.self.items (with_values c.args.frame c.in-Some.others) c.push.ensures.items in
     let no_steps = no_items c.args.frame.steps.now c.in_default-split_first.ensures.cases in
     let LeadsTo : List Frame → Type 0 = λ now.
-    (values : List Data) → LeftIn objects (c.args.frame ∷ frames) values ↔ Begins (data_of c.in-Some.value.now) (LeftIn objects now) values in
+    (values : List Data) → LeftIn objects (c.args.frame ∷ frames) values ↔ Follows (data_of c.in-Some.value.now ∷ []) (LeftIn objects now) values in
     subst LeadsTo (sym is) (left_given objects c.args.frame frames c.in-Some.value.now c.in-Some.others c.in-Some.ensures.cases.0 no_steps)
 
 pub returns-in_default-split_first-clause-fits : goal.returns-in_default-split_first-clause-fits

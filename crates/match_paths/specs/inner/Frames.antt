@@ -1,4 +1,4 @@
--- What a walk has yet to give: of its frames, the deepest first, what the steps of each select from its values.
+-- For private clauses: the frames of a walk, the deepest first, and what their steps have yet to select from their values.
 use Rattle.std.specs.Prelude.{◌≡◌, ⊤, ℕ, ◌+◌, ◌*◌, ◌^◌, ◌≤◌, List, [], ◌∷◌, ◌++◌, length, All, Option, option_map}
 use Rattle.std.specs.Borrow.{Bor}
 use Rattle.serde_json.specs.Data.{Data}
@@ -21,10 +21,6 @@ abbrev pub LeftIn : List Data → List Frame → List Data → Type 0
 LeftIn objects [] values = values ≡ []
 LeftIn objects (frame ∷ frames) values = (own rest : List Data) × FrameSelects objects frame own × LeftIn objects frames rest
     × (values ≡ own ++ rest)
-
--- the first value, and then others of which the fact holds
-abbrev pub Begins : Data → (List Data → Type 0) → List Data → Type 0
-Begins first Rest values = (rest : List Data) × (values ≡ first ∷ rest) × Rest rest
 
 -- each frame has room above it for a frame for each of its steps, and its values are ordered
 abbrev pub Fits : List Frame → Type 0
