@@ -1,5 +1,5 @@
 -- How the bytes and the instant of a text compare, where the text stands for one value at most.
-use Rattle.std.proofs.Common.{arith, ◌≡◌, ◌↔◌, ◌⊎◌, inl, inr, ℕ, ◌-◌, ◌+◌, ℤ, List, ◌++◌, length, drop, Option, Some, None, Result, Ok, Err, IfOk, slice_get, codes, nat_eq, sym, ap, subst, ◌∙◌, Ordering}
+use Rattle.std.proofs.Common.{arith, ◌≡◌, ◌↔◌, inl, inr, ℕ, ◌-◌, ◌+◌, ℤ, List, length, drop, Option, Some, None, Result, Ok, Err, IfOk, slice_get, codes, nat_eq, sym, ap, subst, ◌∙◌, Ordering}
 use Rattle.std.specs.Ordering.{int_cmp}
 use Rattle.std.proofs.lemmas.List.{length-append, drop_at}
 use Rattle.std.proofs.lemmas.Bool.{false≢true}

@@ -3,7 +3,7 @@ use Rattle.std.proofs.Common.{arith, lit<, ◌≡◌, ◌↔◌, ℕ, zero, suc,
 use Rattle.std.specs.Prelude.{Contains}
 use Rattle.std.proofs.lemmas.Bool.{false≢true}
 use Rattle.std.proofs.lemmas.List.{map-append}
-use Rattle.std.proofs.lemmas.List.Elements.{Contains-append_left, Contains-append_right, Contains-append_cases}
+use Rattle.std.proofs.lemmas.List.Elements.{Contains-append_right, Contains-append_cases}
 use Rattle.serde_json.specs.Data.{Data}
 use Rattle.stix_json.specs.declared.value.Json.{Json}
 use Rattle.stix_json.specs.DataOf.{data_of}

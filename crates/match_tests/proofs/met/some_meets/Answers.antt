@@ -1,9 +1,9 @@
-use Rattle.std.proofs.Common.{◌≡◌, ◌↔◌, IsTrue, List, ℕ, Option, option_map, Bor, subst}
+use Rattle.std.proofs.Common.{◌≡◌, ◌↔◌, IsTrue, List, ℕ, Option, subst}
 use Rattle.stix_json.specs.DataOf.{data_of}
 use Rattle.stix_bundles.specs.Objects.{data_in}
 use Rattle.match_paths.specs.declared.path_values.PathValues.{PathValues}
 use Rattle.match_paths.specs.Remaining.{Left, taken_data}
-use Rattle.match_tests.specs.Tests.{MeetsTest, SomeMeets, last_of}
+use Rattle.match_tests.specs.Tests.{MeetsTest, SomeMeets}
 use Rattle.match_tests.proofs.MetLemmas.{meets_next, so_selected}
 use Rattle.match_tests.proofs.met.some_meets.Goals as goal
 
