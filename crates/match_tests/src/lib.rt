@@ -11,8 +11,6 @@ mod compare;
 mod last;
 mod leaf;
 mod met;
-#[cfg(test)]
-mod tests;
 mod truths;
 
 pub use leaf::leaf_holds;
