@@ -1,8 +1,8 @@
--- What is candidates for a pattern is its bindings that fit the window, each once.
+-- What is candidates for a pattern is its bindings that fit the bounds, each once.
 use Rattle.std.proofs.Common.{◌≡◌, ℕ, zero, suc, ◌+◌, ◌*◌, ◌≤◌, ◌<◌, List, [], ◌∷◌, ◌++◌, refl, sym, ◌∙◌, ap, arith}
 use Rattle.std.specs.Prelude.{Bool, true, false, ◌&&◌, nat_eq, map, filter, cond}
 use Rattle.std.proofs.lemmas.Bool.{eqb-true, eqb-false, ne_eqb}
-use Rattle.match_bindings.specs.declared.window.Window.{Window}
+use Rattle.match_bindings.specs.declared.bounds.Bounds.{Bounds}
 use Rattle.match_bindings.specs.declared.join.Join.{Join}
 use Rattle.match_bindings.specs.declared.join.Join.TheVariants as join
 use Rattle.match_bindings.specs.NumberedPattern.{NumberedPattern, Leaf, Both, Then, Either, Within, Between, Repeats}
@@ -14,26 +14,26 @@ use Rattle.match_bindings.proofs.PairsLemmas.{pairs}
 use Rattle.match_bindings.specs.inner.Candidates.{span_of, joined_span, fits, within, between, lies_within, lies_between, SpannedTree, hold, spanned_with, joined_tree, admits, may_join, joined_spanned, join_row, joins, one_if, ones, repeats_of, candidates}
 use Rattle.match_bindings.proofs.ListLemmas.{map_append, map_map, map_agree, filter_map}
 use Rattle.match_bindings.proofs.OnceLemmas.{Joins, count_append, count_pairs, count_others, count_under, count_not_under}
-use Rattle.match_bindings.proofs.WindowLemmas.{fits_parts, fits_within, fits_between}
+use Rattle.match_bindings.proofs.BoundsLemmas.{fits_parts, fits_within, fits_between}
 
 pub exactly_same : (f g : BindTree → Bool) (xs : List BindTree) → ((x : BindTree) → f x ≡ g x) → Exactly f xs → Exactly g xs
 exactly_same f g xs h e x = e x ∙ ap bit (h x)
 
 -- a binding that fits
-abbrev fitting : Observed → Window → (BindTree → Bool) → BindTree → Bool
+abbrev fitting : Observed → Bounds → (BindTree → Bool) → BindTree → Bool
 fitting o w f x = f x && fits w (span_of o x)
 
 -- the spanned_trees are those trees that pass and fit, each once, with their spans
-abbrev pub AreAll : Observed → Window → (BindTree → Bool) → List SpannedTree → Type 0
+abbrev pub AreAll : Observed → Bounds → (BindTree → Bool) → List SpannedTree → Type 0
 AreAll o w f spanned_trees = (xs : List BindTree) × (spanned_trees ≡ map (hold o) xs) × Exactly (λ x. f x && fits w (span_of o x)) xs
 
 -- ---- leaves
 
 -- whether an observation is candidates at a leaf
-abbrev here : Observed → Window → ℕ → ℕ → Bool
+abbrev here : Observed → Bounds → ℕ → ℕ → Bool
 here o w k i = o.holds k i && fits w (span_of o (One i))
 
-abbrev one_trees : Observed → Window → ℕ → ℕ → List BindTree
+abbrev one_trees : Observed → Bounds → ℕ → ℕ → List BindTree
 one_trees o w k zero = []
 one_trees o w k (suc n) = one_trees o w k n ++ cond (here o w k (suc n)) (One (suc n) ∷ []) []
 
@@ -41,7 +41,7 @@ map_cond : {A B : Type 0} (f : A → B) (b : Bool) (x : A) → cond b (f x ∷ [
 map_cond f true x = refl
 map_cond f false x = refl
 
-ones_are : (o : Observed) (w : Window) (k n : ℕ) → ones o w k n ≡ map (hold o) (one_trees o w k n)
+ones_are : (o : Observed) (w : Bounds) (k n : ℕ) → ones o w k n ≡ map (hold o) (one_trees o w k n)
 ones_are o w k zero = refl
 ones_are o w k (suc n) =
     ap (λ z. z ++ one_if (o.holds k (suc n)) w (hold o (One (suc n)))) (ones_are o w k n)
@@ -52,7 +52,7 @@ count_cond : (x y : BindTree) (b : Bool) → count x (cond b (y ∷ []) []) ≡ 
 count_cond x y true = omega arith
 count_cond x y false = refl
 
-count_more : (o : Observed) (w : Window) (k n : ℕ) (x : BindTree) →
+count_more : (o : Observed) (w : Bounds) (k n : ℕ) (x : BindTree) →
     count x (one_trees o w k (suc n)) ≡ count x (one_trees o w k n) + bit (here o w k (suc n) && same x (One (suc n)))
 count_more o w k n x =
     count_append x (one_trees o w k n) (cond (here o w k (suc n)) (One (suc n) ∷ []) [])
@@ -67,12 +67,12 @@ and_yes true = refl
 and_yes false = refl
 
 -- a tree of another kind isn't there
-no_others : (o : Observed) (w : Window) (k n : ℕ) (x : BindTree) → ((i : ℕ) → same x (One i) ≡ false) → count x (one_trees o w k n) ≡ 0
+no_others : (o : Observed) (w : Bounds) (k n : ℕ) (x : BindTree) → ((i : ℕ) → same x (One i) ≡ false) → count x (one_trees o w k n) ≡ 0
 no_others o w k zero x h = refl
 no_others o w k (suc n) x h =
     count_more o w k n x ∙ (let isnt = h (suc n) in let none = and_no (here o w k (suc n)) in rw (isnt, none) (omega (arith, no_others o w k n x h)))
 
-above : (o : Observed) (w : Window) (k n i : ℕ) → n < i → count (One i) (one_trees o w k n) ≡ 0
+above : (o : Observed) (w : Bounds) (k n i : ℕ) → n < i → count (One i) (one_trees o w k n) ≡ 0
 above o w k zero i h = refl
 above o w k (suc n) i h =
     count_more o w k n (One i)
@@ -81,7 +81,7 @@ above o w k (suc n) i h =
     let rest : count (One i) (one_trees o w k n) ≡ 0 = above o w k n i (omega arith) in
     rw (other, none) (omega (arith, rest)))
 
-below : (o : Observed) (w : Window) (k i : ℕ) → count (One 0) (one_trees o w k i) ≡ 0
+below : (o : Observed) (w : Bounds) (k i : ℕ) → count (One 0) (one_trees o w k i) ≡ 0
 below o w k zero = refl
 below o w k (suc n) =
     count_more o w k n (One 0)
@@ -89,7 +89,7 @@ below o w k (suc n) =
     let none = and_no (here o w k (suc n)) in
     rw (other, none) (omega (arith, below o w k n)))
 
-inside : (o : Observed) (w : Window) (k n i : ℕ) → 0 < i → i ≤ n → count (One i) (one_trees o w k n) ≡ bit (here o w k i)
+inside : (o : Observed) (w : Bounds) (k n i : ℕ) → 0 < i → i ≤ n → count (One i) (one_trees o w k n) ≡ bit (here o w k i)
 inside o w k zero i a b = absurd (omega arith)
 inside o w k (suc n) i a b = count_more o w k n (One i) ∙ by_test (λ b. inside o w k n i a b) (nat_eq i (suc n)) refl where
   by_test : (i ≤ n → count (One i) (one_trees o w k n) ≡ bit (here o w k i)) → (t : Bool) → nat_eq i (suc n) ≡ t →
@@ -111,7 +111,7 @@ pub record Rows (o : Observed) (n : ℕ) : Type 0 where
   pub from : (k i : ℕ) → o.holds k i ≡ true → 0 < i
   pub upto : (k i : ℕ) → o.holds k i ≡ true → i ≤ n
 
-one_listed : (o : Observed) (w : Window) (k n : ℕ) → Rows o n → (i : ℕ) → count (One i) (one_trees o w k n) ≡ bit (here o w k i)
+one_listed : (o : Observed) (w : Bounds) (k n : ℕ) → Rows o n → (i : ℕ) → count (One i) (one_trees o w k n) ≡ bit (here o w k i)
 one_listed o w k n rows i = by_test (o.holds k i) refl where
   outside : o.holds k i ≡ false → (m : ℕ) → count (One i) (one_trees o w k m) ≡ 0
   outside h zero = refl
@@ -128,7 +128,7 @@ one_listed o w k n rows i = by_test (o.holds k i) refl where
   by_test true h = inside o w k n i (rows.from k i h) (rows.upto k i h)
   by_test false h = rw (h, outside h n) refl
 
-leaf_found : (o : Observed) (n : ℕ) → Rows o n → (w : Window) (k : ℕ) → Exactly (λ x. is_binding o (Leaf k) x && fits w (span_of o x)) (one_trees o w k n)
+leaf_found : (o : Observed) (n : ℕ) → Rows o n → (w : Bounds) (k : ℕ) → Exactly (λ x. is_binding o (Leaf k) x && fits w (span_of o x)) (one_trees o w k n)
 leaf_found o n rows w k (One i) = one_listed o w k n rows i
 leaf_found o n rows w k (Pair a b) = no_others o w k n (Pair a b) (λ i. refl)
 leaf_found o n rows w k (First a) = no_others o w k n (First a) (λ i. refl)
@@ -147,7 +147,7 @@ AreMade j mk (x ∷ xs) = ((b : BindTree) → joined_tree j x b ≡ mk x b) × A
 record Makes (o : Observed) (mk : BindTree → BindTree → BindTree) : Type 0 where
   makes : (a b : BindTree) → joined_span (span_of o a) (span_of o b) ≡ span_of o (mk a b)
 
-row_is : (o : Observed) (j : Join) (w : Window) (mk : BindTree → BindTree → BindTree) → Makes o mk → (x : BindTree) → ((b : BindTree) → joined_tree j x b ≡ mk x b) → (ys : List BindTree) →
+row_is : (o : Observed) (j : Join) (w : Bounds) (mk : BindTree → BindTree → BindTree) → Makes o mk → (x : BindTree) → ((b : BindTree) → joined_tree j x b ≡ mk x b) → (ys : List BindTree) →
     join_row j w (hold o x) (map (hold o) ys) ≡ map (hold o) (map (mk x) (filter (λ y. may_join j w (hold o x) (hold o y)) ys))
 row_is o j w mk k x made ys =
     ap (map (joined_spanned j (hold o x))) (filter_map (hold o) (may_join j w (hold o x)) ys)
@@ -157,7 +157,7 @@ row_is o j w mk k x made ys =
       each : (y : BindTree) → joined_spanned j (hold o x) (hold o y) ≡ hold o (mk x y)
       each y = let t = made y in let s = k.makes x y in λ i. record { tree = t i; span = s i }
 
-joins_are : (o : Observed) (j : Join) (w : Window) (mk : BindTree → BindTree → BindTree) → Makes o mk → (xs ys : List BindTree) → AreMade j mk xs →
+joins_are : (o : Observed) (j : Join) (w : Bounds) (mk : BindTree → BindTree → BindTree) → Makes o mk → (xs ys : List BindTree) → AreMade j mk xs →
     joins j w (map (hold o) xs) (map (hold o) ys) ≡ map (hold o) (pairs mk (λ a b. may_join j w (hold o a) (hold o b)) xs ys)
 joins_are o j w mk k [] ys made = refl
 joins_are o j w mk k (x ∷ xs) ys made =
@@ -181,7 +181,7 @@ fit_bits f g a d x y true h =
       bits false g a d = omega arith
 
 -- a pair stands there once where both sides do and it fits
-pair_found : (o : Observed) (j : Join) (w : Window) (mk : BindTree → BindTree → BindTree) → Joins mk → (f g : BindTree → Bool) (xs ys : List BindTree) →
+pair_found : (o : Observed) (j : Join) (w : Bounds) (mk : BindTree → BindTree → BindTree) → Joins mk → (f g : BindTree → Bool) (xs ys : List BindTree) →
     Exactly (λ x. f x && fits w (span_of o x)) xs → Exactly (λ y. g y && fits w (span_of o y)) ys → (a b : BindTree) →
     count (mk a b) (pairs mk (λ a b. may_join j w (hold o a) (hold o b)) xs ys)
     ≡ bit (((f a && g b) && (admits j (span_of o a) (span_of o b) && disjoint a b)) && fits w (joined_span (span_of o a) (span_of o b)))
@@ -201,11 +201,11 @@ pair_joins = record { tells = λ a b c d. refl }
 more_joins : Joins More
 more_joins = record { tells = λ a b c d. refl }
 
-no_pairs : (o : Observed) (j : Join) (w : Window) (xs ys : List BindTree) (x : BindTree) → ((a b : BindTree) → same x (Pair a b) ≡ false) →
+no_pairs : (o : Observed) (j : Join) (w : Bounds) (xs ys : List BindTree) (x : BindTree) → ((a b : BindTree) → same x (Pair a b) ≡ false) →
     count x (pairs Pair (λ a b. may_join j w (hold o a) (hold o b)) xs ys) ≡ 0
 no_pairs o j w xs ys x h = count_others Pair (λ a b. may_join j w (hold o a) (hold o b)) x h xs ys
 
-both_found : (o : Observed) (w : Window) (p q : NumberedPattern) (xs ys : List BindTree) →
+both_found : (o : Observed) (w : Bounds) (p q : NumberedPattern) (xs ys : List BindTree) →
     Exactly (λ x. is_binding o p x && fits w (span_of o x)) xs → Exactly (λ y. is_binding o q y && fits w (span_of o y)) ys →
     Exactly (λ x. is_binding o (Both p q) x && fits w (span_of o x)) (pairs Pair (λ a b. may_join join.Both w (hold o a) (hold o b)) xs ys)
 both_found o w p q xs ys hx hy (Pair a b) = pair_found o join.Both w Pair pair_joins (is_binding o p) (is_binding o q) xs ys hx hy a b
@@ -216,7 +216,7 @@ both_found o w p q xs ys hx hy Empty = no_pairs o join.Both w xs ys Empty (λ a 
 both_found o w p q xs ys hx hy (Single a) = no_pairs o join.Both w xs ys (Single a) (λ a b. refl)
 both_found o w p q xs ys hx hy (More m a) = no_pairs o join.Both w xs ys (More m a) (λ a b. refl)
 
-then_found : (o : Observed) (w : Window) (p q : NumberedPattern) (xs ys : List BindTree) →
+then_found : (o : Observed) (w : Bounds) (p q : NumberedPattern) (xs ys : List BindTree) →
     Exactly (λ x. is_binding o p x && fits w (span_of o x)) xs → Exactly (λ y. is_binding o q y && fits w (span_of o y)) ys →
     Exactly (λ x. is_binding o (Then p q) x && fits w (span_of o x)) (pairs Pair (λ a b. may_join join.Then w (hold o a) (hold o b)) xs ys)
 then_found o w p q xs ys hx hy (Pair a b) = pair_found o join.Then w Pair pair_joins (is_binding o p) (is_binding o q) xs ys hx hy a b
@@ -227,7 +227,7 @@ then_found o w p q xs ys hx hy Empty = no_pairs o join.Then w xs ys Empty (λ a 
 then_found o w p q xs ys hx hy (Single a) = no_pairs o join.Then w xs ys (Single a) (λ a b. refl)
 then_found o w p q xs ys hx hy (More m a) = no_pairs o join.Then w xs ys (More m a) (λ a b. refl)
 
-joined_found : (o : Observed) (j : Join) (w : Window) (us vs : List SpannedTree) (xs ys : List BindTree) → ((a b : BindTree) → joined_tree j a b ≡ Pair a b) →
+joined_found : (o : Observed) (j : Join) (w : Bounds) (us vs : List SpannedTree) (xs ys : List BindTree) → ((a b : BindTree) → joined_tree j a b ≡ Pair a b) →
     us ≡ map (hold o) xs → vs ≡ map (hold o) ys → joins j w us vs ≡ map (hold o) (pairs Pair (λ a b. may_join j w (hold o a) (hold o b)) xs ys)
 joined_found o j w us vs xs ys made e e' =
     ap (λ z. joins j w z vs) e ∙ ap (λ z. joins j w (map (hold o) xs) z) e'
@@ -235,7 +235,7 @@ joined_found o j w us vs xs ys made e e' =
 
 -- ---- the sides of an OR
 
-either_found : (o : Observed) (w : Window) (p q : NumberedPattern) (xs ys : List BindTree) →
+either_found : (o : Observed) (w : Bounds) (p q : NumberedPattern) (xs ys : List BindTree) →
     Exactly (λ x. is_binding o p x && fits w (span_of o x)) xs → Exactly (λ y. is_binding o q y && fits w (span_of o y)) ys →
     Exactly (λ x. is_binding o (Either p q) x && fits w (span_of o x)) (map First xs ++ map Second ys)
 either_found o w p q xs ys hx hy x = count_append x (map First xs) (map Second ys) ∙ each x where
@@ -277,28 +277,28 @@ single_chains : (xs : List BindTree) → AreChains (map Single xs)
 single_chains [] = tt
 single_chains (x ∷ xs) = ((λ b. refl), single_chains xs)
 
-abbrev sets_of : Observed → Window → List BindTree → ℕ → List BindTree
+abbrev sets_of : Observed → Bounds → List BindTree → ℕ → List BindTree
 sets_of o w parts zero = []
 sets_of o w parts (suc zero) = map Single parts
 sets_of o w parts (suc (suc n)) = pairs More (λ a b. may_join join.Repeats w (hold o a) (hold o b)) (sets_of o w parts (suc n)) parts
 
-sets_chains : (o : Observed) (w : Window) (parts : List BindTree) (n : ℕ) → AreChains (sets_of o w parts n)
+sets_chains : (o : Observed) (w : Bounds) (parts : List BindTree) (n : ℕ) → AreChains (sets_of o w parts n)
 sets_chains o w parts zero = tt
 sets_chains o w parts (suc zero) = single_chains parts
 sets_chains o w parts (suc (suc n)) = pairs_chains (λ a b. may_join join.Repeats w (hold o a) (hold o b)) (sets_of o w parts (suc n)) parts
 
-repeats_are : (o : Observed) (w : Window) (parts : List BindTree) (n : ℕ) → repeats_of w (map (hold o) parts) n ≡ map (hold o) (sets_of o w parts n)
+repeats_are : (o : Observed) (w : Bounds) (parts : List BindTree) (n : ℕ) → repeats_of w (map (hold o) parts) n ≡ map (hold o) (sets_of o w parts n)
 repeats_are o w parts zero = refl
 repeats_are o w parts (suc zero) = under_is o Single (λ x. refl) parts
 repeats_are o w parts (suc (suc n)) =
     ap (λ z. joins join.Repeats w z (map (hold o) parts)) (repeats_are o w parts (suc n))
     ∙ joins_are o join.Repeats w More (record { makes = λ a b. refl }) (sets_of o w parts (suc n)) parts (sets_chains o w parts (suc n))
 
-no_more : (o : Observed) (w : Window) (xs ys : List BindTree) (x : BindTree) → ((a b : BindTree) → same x (More a b) ≡ false) →
+no_more : (o : Observed) (w : Bounds) (xs ys : List BindTree) (x : BindTree) → ((a b : BindTree) → same x (More a b) ≡ false) →
     count x (pairs More (λ a b. may_join join.Repeats w (hold o a) (hold o b)) xs ys) ≡ 0
 no_more o w xs ys x h = count_others More (λ a b. may_join join.Repeats w (hold o a) (hold o b)) x h xs ys
 
-sets_found : (o : Observed) (w : Window) (f : BindTree → Bool) (parts : List BindTree) → Exactly (λ x. f x && fits w (span_of o x)) parts → (n : ℕ) →
+sets_found : (o : Observed) (w : Bounds) (f : BindTree → Bool) (parts : List BindTree) → Exactly (λ x. f x && fits w (span_of o x)) parts → (n : ℕ) →
     Exactly (λ x. are_repeats f n x && fits w (span_of o x)) (sets_of o w parts n)
 sets_found o w f parts h zero x = refl
 sets_found o w f parts h (suc zero) (Single a) = count_under Single (λ a b. refl) a parts ∙ h a
@@ -323,7 +323,7 @@ and_and : (p q r : Bool) → (p && (q && r)) ≡ ((p && q) && r)
 and_and true q r = refl
 and_and false q r = refl
 
-pub all_found : (o : Observed) (n : ℕ) → Rows o n → (w : Window) (p : NumberedPattern) → AreAll o w (is_binding o p) (candidates o n w p)
+pub all_found : (o : Observed) (n : ℕ) → Rows o n → (w : Bounds) (p : NumberedPattern) → AreAll o w (is_binding o p) (candidates o n w p)
 all_found o n rows w (Leaf k) = (one_trees o w k n, ones_are o w k n, leaf_found o n rows w k)
 all_found o n rows w (Both p q) =
     let left = all_found o n rows w p in let right = all_found o n rows w q in (

@@ -7,7 +7,7 @@ pub mod IsBindingLemmas
 pub mod IsBindingTestLemmas
 pub mod PairsLemmas
 pub mod OnceLemmas
-pub mod WindowLemmas
+pub mod BoundsLemmas
 pub mod CandidatesLemmas
 pub mod SortedLemmas
 pub mod FlatLemmas

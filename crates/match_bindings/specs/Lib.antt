@@ -2,6 +2,7 @@ pub mod NumberedPattern
 pub mod BindTree
 pub mod Log
 pub mod Span
+pub mod Bounds
 pub mod Binding
 pub mod Test
 pub mod Once

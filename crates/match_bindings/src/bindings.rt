@@ -9,7 +9,7 @@ ghost use Rattle.match_bindings.specs.inner.Candidates.{spanned_trees, trees_of}
 use crate::candidates::candidates;
 use crate::order::in_order;
 use crate::spanned_bind::SpannedBind;
-use crate::window::Window;
+use crate::bounds::Bounds;
 use crate::{Bind, Log};
 use flow_values::{Items, NoMemory};
 use pattern_types::Pattern;
@@ -20,7 +20,7 @@ pub fn listing(alloc: Global, pattern: &Pattern, log: &Log) -> Result<Items<Bind
     requires { leaves pattern.now < 2 ^ 32 }
     ensures { IfOk result (λ binds. IsListing (observed_in log.now) (numbered_pattern pattern.now) (map tree_of binds)) }
 {
-    let held = candidates(alloc, pattern, 0, log, &Window::open())?;
+    let held = candidates(alloc, pattern, 0, log, &Bounds::open())?;
     let binds = binds_of(alloc, held)?;
     let sorted = in_order(alloc, binds)?;
     Ok(Items::from_vec(sorted))

@@ -8,70 +8,70 @@ ghost use Rattle.match_bindings.specs.inner.Candidates.{spanned_trees, spanned_w
 use crate::copy::copy_bind;
 use crate::join::Join;
 use crate::spanned_bind::SpannedBind;
-use crate::window::Window;
+use crate::bounds::Bounds;
 use crate::{Bind, Log};
 use flow_values::{Items, NoMemory};
 use pattern_types::{Pattern, leaf_count};
 use std::alloc::Global;
 
-/// The bindings of a pattern that fit the window, where its leftmost leaf has the number `leaf`.
+/// The bindings of a pattern that fit the bounds, where its leftmost leaf has the number `leaf`.
 pub(crate) fn candidates(
     alloc: Global,
     pattern: &Pattern,
     leaf: u32,
     log: &Log,
-    window: &Window,
+    bounds: &Bounds,
 ) -> Result<Vec<SpannedBind>, NoMemory>
     requires { leaf + leaves pattern.now < 2 ^ 32 }
     ensures { IfOk result (λ out. spanned_trees out.items
-        ≡ candidates (observed_in log.now) (length log.now) window.now (numbered_from leaf pattern.now)) }
+        ≡ candidates (observed_in log.now) (length log.now) bounds.now (numbered_from leaf pattern.now)) }
 {
     match pattern {
-        Pattern::Leaf(_) => found_at_leaf(alloc, leaf, log, window),
+        Pattern::Leaf(_) => found_at_leaf(alloc, leaf, log, bounds),
         Pattern::Both(left, right) => {
-            let firsts = candidates(alloc, left, leaf, log, window)?;
-            let seconds = candidates(alloc, right, leaf + leaf_count(left), log, window)?;
-            Join::Both.join(alloc, window, &firsts, &seconds)
+            let firsts = candidates(alloc, left, leaf, log, bounds)?;
+            let seconds = candidates(alloc, right, leaf + leaf_count(left), log, bounds)?;
+            Join::Both.join(alloc, bounds, &firsts, &seconds)
         }
         Pattern::Then(left, right) => {
-            let firsts = candidates(alloc, left, leaf, log, window)?;
-            let seconds = candidates(alloc, right, leaf + leaf_count(left), log, window)?;
-            Join::Then.join(alloc, window, &firsts, &seconds)
+            let firsts = candidates(alloc, left, leaf, log, bounds)?;
+            let seconds = candidates(alloc, right, leaf + leaf_count(left), log, bounds)?;
+            Join::Then.join(alloc, bounds, &firsts, &seconds)
         }
         Pattern::Either(left, right) => {
-            let firsts = candidates(alloc, left, leaf, log, window)?;
-            let seconds = candidates(alloc, right, leaf + leaf_count(left), log, window)?;
+            let firsts = candidates(alloc, left, leaf, log, bounds)?;
+            let seconds = candidates(alloc, right, leaf + leaf_count(left), log, bounds)?;
             either_of(alloc, firsts, seconds)
         }
         Pattern::Within(part, seconds) => {
-            let narrow = window.within(*seconds);
+            let narrow = bounds.within(*seconds);
             candidates(alloc, part, leaf, log, &narrow)
         }
         Pattern::Between(part, start, stop) => {
-            let narrow = window.between(*start, *stop);
+            let narrow = bounds.between(*start, *stop);
             candidates(alloc, part, leaf, log, &narrow)
         }
         Pattern::Repeats(part, count) => {
-            let parts = candidates(alloc, part, leaf, log, window)?;
-            repeats_of(alloc, window, &parts, *count)
+            let parts = candidates(alloc, part, leaf, log, bounds)?;
+            repeats_of(alloc, bounds, &parts, *count)
         }
     }
 }
 
-/// The observations that fit the window and for which a leaf holds.
+/// The observations that fit the bounds and for which a leaf holds.
 fn found_at_leaf(
     alloc: Global,
     leaf: u32,
     log: &Log,
-    window: &Window,
+    bounds: &Bounds,
 ) -> Result<Vec<SpannedBind>, NoMemory>
-    ensures { IfOk result (λ out. spanned_trees out.items ≡ ones (observed_in log.now) window.now leaf (length log.now)) }
+    ensures { IfOk result (λ out. spanned_trees out.items ≡ ones (observed_in log.now) bounds.now leaf (length log.now)) }
 {
     let mut out = Vec::new(alloc);
     for at in 0..log.len() {
         let number = at + 1;
         if let Some(span) = log.span_of(leaf, number) {
-            if window.fits(&span) {
+            if bounds.fits(&span) {
                 let bind = Bind::One(number);
                 out.push(SpannedBind { bind, span })?;
             }
@@ -130,11 +130,11 @@ fn push_seconds(
 /// The binds of so many of the parts.
 fn repeats_of(
     alloc: Global,
-    window: &Window,
+    bounds: &Bounds,
     parts: &[SpannedBind],
     count: u32,
 ) -> Result<Vec<SpannedBind>, NoMemory>
-    ensures { IfOk result (λ out. spanned_trees out.items ≡ repeats_of window.now (spanned_trees parts.now) count) }
+    ensures { IfOk result (λ out. spanned_trees out.items ≡ repeats_of bounds.now (spanned_trees parts.now) count) }
 {
     if count == 0 {
         return Ok(Vec::new(alloc));
@@ -142,7 +142,7 @@ fn repeats_of(
     let mut sets = singles(alloc, parts)?;
     for level in 1..count {
         let _ = level;
-        sets = Join::Repeats.join(alloc, window, &sets, parts)?;
+        sets = Join::Repeats.join(alloc, bounds, &sets, parts)?;
     }
     Ok(sets)
 }

@@ -8,7 +8,7 @@ use crate::copy::{copy_bind, copy_binds};
 use crate::numbers::are_disjoint;
 use crate::span::Span;
 use crate::spanned_bind::SpannedBind;
-use crate::window::Window;
+use crate::bounds::Bounds;
 use flow_values::{Items, NoMemory};
 use std::alloc::Global;
 
@@ -50,11 +50,11 @@ impl Join {
     }
 
     /// Whether two binds are joined.
-    fn may_join(self, window: &Window, first: &SpannedBind, second: &SpannedBind) -> bool
-        ensures { result ≡ may_join self window.now (spanned_tree first.now) (spanned_tree second.now) }
+    fn may_join(self, bounds: &Bounds, first: &SpannedBind, second: &SpannedBind) -> bool
+        ensures { result ≡ may_join self bounds.now (spanned_tree first.now) (spanned_tree second.now) }
     {
         self.admits(&first.span, &second.span)
-            && window.fits(&first.span.joined(&second.span))
+            && bounds.fits(&first.span.joined(&second.span))
             && are_disjoint(&first.bind, &second.bind)
     }
 
@@ -62,15 +62,15 @@ impl Join {
     fn join_row(
         self,
         alloc: Global,
-        window: &Window,
+        bounds: &Bounds,
         first: &SpannedBind,
         seconds: &[SpannedBind],
         out: &mut Vec<SpannedBind>,
     ) -> Result<(), NoMemory>
-        ensures { OnOk result (spanned_trees out.new.items ≡ spanned_trees out.old.items ++ join_row self window.now (spanned_tree first.now) (spanned_trees seconds.now)) }
+        ensures { OnOk result (spanned_trees out.new.items ≡ spanned_trees out.old.items ++ join_row self bounds.now (spanned_tree first.now) (spanned_trees seconds.now)) }
     {
         for second in seconds {
-            if self.may_join(window, first, second) {
+            if self.may_join(bounds, first, second) {
                 let bind = self.bind(alloc, &first.bind, &second.bind)?;
                 let span = first.span.joined(&second.span);
                 out.push(SpannedBind { bind, span })?;
@@ -83,15 +83,15 @@ impl Join {
     pub fn join(
         self,
         alloc: Global,
-        window: &Window,
+        bounds: &Bounds,
         firsts: &[SpannedBind],
         seconds: &[SpannedBind],
     ) -> Result<Vec<SpannedBind>, NoMemory>
-        ensures { IfOk result (λ out. spanned_trees out.items ≡ joins self window.now (spanned_trees firsts.now) (spanned_trees seconds.now)) }
+        ensures { IfOk result (λ out. spanned_trees out.items ≡ joins self bounds.now (spanned_trees firsts.now) (spanned_trees seconds.now)) }
     {
         let mut out = Vec::new(alloc);
         for first in firsts {
-            self.join_row(alloc, window, first, seconds, &mut out)?;
+            self.join_row(alloc, bounds, first, seconds, &mut out)?;
         }
         Ok(out)
     }

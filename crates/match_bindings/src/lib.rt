@@ -6,6 +6,7 @@
 
 mod bind;
 mod bindings;
+mod bounds;
 mod candidates;
 mod check;
 mod copy;
@@ -22,10 +23,10 @@ mod span;
 mod spanned_bind;
 #[cfg(test)]
 mod tests;
-mod window;
 
 pub use bind::Bind;
 pub use bindings::listing;
+pub use bounds::Bounds;
 pub use check::check_binding;
 pub use copy::copy_bind;
 pub use flat_list::flat;

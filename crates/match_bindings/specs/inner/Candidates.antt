@@ -1,13 +1,14 @@
--- For private clauses: the plain program as lists. The qualifiers above a part are a window, and what doesn't fit it is left
+-- For private clauses: the plain program as lists. What doesn't fit the bounds above a part is left
 -- out at once. The lemmas of proofs/ say that what is candidates for a pattern is its bindings, each once.
 use Rattle.std.specs.Prelude.{ℕ, zero, suc, nat_lt, min, max, ℤ, int_le, int_lt, Bool, true, ◌&&◌, cond, List, [], ◌∷◌, ◌++◌, map, filter, Option, Some, None}
 use Rattle.std.specs.Int.{int_min, int_max}
 use Rattle.std.specs.List.{flat_map}
 use Rattle.match_bindings.specs.declared.span.Span.{Span}
-use Rattle.match_bindings.specs.declared.window.Window.{Window}
+use Rattle.match_bindings.specs.declared.bounds.Bounds.{Bounds}
 use Rattle.match_bindings.specs.declared.spanned_bind.SpannedBind.{SpannedBind}
 use Rattle.match_bindings.specs.declared.join.Join.{Join}
 use Rattle.match_bindings.specs.declared.join.Join.TheVariants as join
+use Rattle.match_bindings.specs.Bounds.{within, between}
 use Rattle.match_bindings.specs.NumberedPattern.{NumberedPattern, Leaf, Both, Then, Either, Within, Between, Repeats}
 use Rattle.match_bindings.specs.BindTree.{BindTree, One, Pair, First, Second, Single, More, tree_of, disjoint, greatest}
 use Rattle.match_bindings.specs.Log.{Observed}
@@ -44,29 +45,9 @@ abbrev pub before_stop : Option ℤ → Span → Bool
 before_stop None s = true
 before_stop (Some y) s = int_lt s.latest y
 
--- whether a span meets all qualifiers of a window
-abbrev pub fits : Window → Span → Bool
+-- whether a span lies in all bounds
+abbrev pub fits : Bounds → Span → Bool
 fits w s = in_seconds w.seconds s && (from_start w.start s && before_stop w.stop s)
-
-abbrev pub least_seconds : Option ℕ → ℕ → Option ℕ
-least_seconds None x = Some x
-least_seconds (Some y) x = Some (min y x)
-
-abbrev pub latest_start : Option ℤ → ℤ → Option ℤ
-latest_start None x = Some x
-latest_start (Some y) x = Some (int_max y x)
-
-abbrev pub earliest_stop : Option ℤ → ℤ → Option ℤ
-earliest_stop None x = Some x
-earliest_stop (Some y) x = Some (int_min y x)
-
--- the window of the part of a Within
-abbrev pub within : Window → ℕ → Window
-within w x = record { seconds = least_seconds w.seconds x; start = w.start; stop = w.stop }
-
--- the window of the part of a Between
-abbrev pub between : Window → ℤ → ℤ → Window
-between w x y = record { seconds = w.seconds; start = latest_start w.start x; stop = earliest_stop w.stop y }
 
 -- a tree with its span
 pub record SpannedTree : Type 0 where
@@ -107,37 +88,37 @@ admits join.Then a b = int_le a.latest b.earliest
 admits join.Repeats a b = nat_lt a.greatest b.greatest
 
 -- whether two spanned_trees are joined
-abbrev pub may_join : Join → Window → SpannedTree → SpannedTree → Bool
+abbrev pub may_join : Join → Bounds → SpannedTree → SpannedTree → Bool
 may_join j w a b = (admits j a.span b.span && fits w (joined_span a.span b.span)) && disjoint a.tree b.tree
 
 abbrev pub joined_spanned : Join → SpannedTree → SpannedTree → SpannedTree
 joined_spanned j a b = record { tree = joined_tree j a.tree b.tree; span = joined_span a.span b.span }
 
 -- a thing with each of ys that it is joined with
-abbrev pub join_row : Join → Window → SpannedTree → List SpannedTree → List SpannedTree
+abbrev pub join_row : Join → Bounds → SpannedTree → List SpannedTree → List SpannedTree
 join_row j w x ys = map (joined_spanned j x) (filter (may_join j w x) ys)
 
 -- each of xs with each of ys that it is joined with
-abbrev pub joins : Join → Window → List SpannedTree → List SpannedTree → List SpannedTree
+abbrev pub joins : Join → Bounds → List SpannedTree → List SpannedTree → List SpannedTree
 joins j w xs ys = flat_map (λ x. join_row j w x ys) xs
 
 -- an observation, where the test passes and it fits
-abbrev pub one_if : Bool → Window → SpannedTree → List SpannedTree
+abbrev pub one_if : Bool → Bounds → SpannedTree → List SpannedTree
 one_if b w x = cond (b && fits w x.span) (x ∷ []) []
 
 -- the first n observations for which leaf k holds
-abbrev pub ones : Observed → Window → ℕ → ℕ → List SpannedTree
+abbrev pub ones : Observed → Bounds → ℕ → ℕ → List SpannedTree
 ones o w k zero = []
 ones o w k (suc n) = ones o w k n ++ one_if (o.holds k (suc n)) w (hold o (One (suc n)))
 
 -- the chains of n of the parts
-abbrev pub repeats_of : Window → List SpannedTree → ℕ → List SpannedTree
+abbrev pub repeats_of : Bounds → List SpannedTree → ℕ → List SpannedTree
 repeats_of w parts zero = []
 repeats_of w parts (suc zero) = map (spanned_with Single) parts
 repeats_of w parts (suc (suc n)) = joins join.Repeats w (repeats_of w parts (suc n)) parts
 
--- what is candidates for a pattern under a window in the first n observations
-abbrev pub candidates : Observed → ℕ → Window → NumberedPattern → List SpannedTree
+-- what is candidates for a pattern under bounds in the first n observations
+abbrev pub candidates : Observed → ℕ → Bounds → NumberedPattern → List SpannedTree
 candidates o n w (Leaf k) = ones o w k n
 candidates o n w (Both p q) = joins join.Both w (candidates o n w p) (candidates o n w q)
 candidates o n w (Then p q) = joins join.Then w (candidates o n w p) (candidates o n w q)

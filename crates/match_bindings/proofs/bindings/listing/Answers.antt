@@ -4,7 +4,7 @@ use Rattle.std.specs.Prelude.{Bool, true, false, ◌&&◌, map, None}
 use Rattle.std.specs.List.Sorted.{IsSortedBy}
 use Rattle.match_bindings.specs.declared.bind.Bind.{Bind}
 use Rattle.match_bindings.specs.declared.log_entry.LogEntry.{LogEntry}
-use Rattle.match_bindings.specs.declared.window.Window.{Window}
+use Rattle.match_bindings.specs.declared.bounds.Bounds.{Bounds}
 use Rattle.match_bindings.specs.NumberedPattern.{NumberedPattern, numbered_pattern}
 use Rattle.match_bindings.specs.BindTree.{BindTree, tree_of}
 use Rattle.match_bindings.specs.Log.{Observed, observed_in}
@@ -26,7 +26,7 @@ and_yes : (b : Bool) → (b && true) ≡ b
 and_yes true = refl
 and_yes false = refl
 
-abbrev open_window : Window
+abbrev open_window : Bounds
 open_window = record { seconds = None; start = None; stop = None }
 
 -- the trees of what is candidates without qualifiers are the bindings, each once
@@ -49,5 +49,5 @@ returns c =
     let p = numbered_pattern c.args.pattern.now in
     subst (λ (binds : List Bind). IsListing (observed_in log) p (map tree_of binds)) (sym c.from_vec.ensures)
     (sorted_bindings log p (spanned_trees c.in_ok-held.held.items) (map tree_of c.in_ok-binds.binds.items) (map tree_of c.in_ok-sorted.sorted.items)
-    (c.in_ok-held.ensures ∙ ap (λ (w : Window). candidates (observed_in log) (length log) w p) c.open.ensures) c.in_ok-binds.ensures
+    (c.in_ok-held.ensures ∙ ap (λ (w : Bounds). candidates (observed_in log) (length log) w p) c.open.ensures) c.in_ok-binds.ensures
     c.in_ok-sorted.ensures.counts c.in_ok-sorted.ensures.rises)

@@ -4,4 +4,4 @@ use Rattle.match_bindings.specs.inner.Candidates.{spanned_trees, ones}
 use Rattle.match_bindings.proofs.candidates.found_at_leaf.Given as goal
 
 abbrev pub invariant-loop-at : goal.invariant-loop-at
-invariant-loop-at l = spanned_trees l.out.items ≡ ones (observed_in l.log) l.window l.leaf l.at
+invariant-loop-at l = spanned_trees l.out.items ≡ ones (observed_in l.log) l.bounds l.leaf l.at

@@ -4,4 +4,4 @@ use Rattle.match_bindings.specs.inner.Candidates.{spanned_trees, joins}
 use Rattle.match_bindings.proofs.join.Join.join.Given as goal
 
 abbrev pub invariant-loop-first : goal.invariant-loop-first
-invariant-loop-first l = spanned_trees l.out.items ≡ joins l.self l.window (spanned_trees (take l.first-index l.firsts)) (spanned_trees l.seconds)
+invariant-loop-first l = spanned_trees l.out.items ≡ joins l.self l.bounds (spanned_trees (take l.first-index l.firsts)) (spanned_trees l.seconds)

@@ -5,4 +5,4 @@ use Rattle.match_bindings.proofs.join.Join.join_row.Given as goal
 
 abbrev pub invariant-loop-second : goal.invariant-loop-second
 invariant-loop-second l =
-    spanned_trees l.out.items ≡ spanned_trees l.fn.out.items ++ join_row l.self l.window (spanned_tree l.first) (spanned_trees (take l.second-index l.seconds))
+    spanned_trees l.out.items ≡ spanned_trees l.fn.out.items ++ join_row l.self l.bounds (spanned_tree l.first) (spanned_trees (take l.second-index l.seconds))

@@ -1,11 +1,11 @@
--- What fits a window.
+-- What fits a bounds.
 use Rattle.std.proofs.Common.{◌≡◌, ℕ, ◌*◌, min, ℤ, pos, ◌+ℤ◌, ◌<ℤ◌, ◌≤ℤ◌, refl, sym, arith}
 use Rattle.std.specs.Prelude.{Bool, true, false, ◌&&◌, int_lt, int_le, Option, Some, None}
 use Rattle.std.specs.Int.{int_min, int_max}
 use Rattle.std.proofs.lemmas.Bool.{and_parts, and_from}
 use Rattle.std.proofs.lemmas.Int.{ints, clamps}
 use Rattle.match_bindings.specs.declared.span.Span.{Span}
-use Rattle.match_bindings.specs.declared.window.Window.{Window}
+use Rattle.match_bindings.specs.declared.bounds.Bounds.{Bounds}
 use Rattle.match_bindings.specs.Span.{later_by}
 use Rattle.match_bindings.specs.inner.Candidates.{joined_span, lies_within, lies_between, in_seconds, from_start, before_stop, fits, least_seconds, latest_start, earliest_stop, within, between}
 use Rattle.match_bindings.proofs.IsBindingLemmas.{lt_true, true_lt, le_true, true_le}
@@ -55,7 +55,7 @@ stop_parts (Some y) a b h =
     (true_lt a.latest y (stop_left a.latest b.latest y e), true_lt b.latest y (stop_right a.latest b.latest y e))
 
 -- what fits together fits alone
-pub fits_parts : (w : Window) (a b : Span) → fits w (joined_span a b) ≡ true → (fits w a ≡ true) × (fits w b ≡ true)
+pub fits_parts : (w : Bounds) (a b : Span) → fits w (joined_span a b) ≡ true → (fits w a ≡ true) × (fits w b ≡ true)
 fits_parts w a b h =
     let parts = and_parts (in_seconds w.seconds (joined_span a b)) (from_start w.start (joined_span a b) && before_stop w.stop (joined_span a b)) h in
     let rest = and_parts (from_start w.start (joined_span a b)) (before_stop w.stop (joined_span a b)) parts.1 in
@@ -122,8 +122,8 @@ within_bits true q r = refl
 within_bits false true r = refl
 within_bits false false r = refl
 
--- the window of the part of a Within asks for its seconds too
-pub fits_within : (w : Window) (n : ℕ) (s : Span) → fits (within w n) s ≡ (lies_within n s && fits w s)
+-- the bounds of the part of a Within asks for its seconds too
+pub fits_within : (w : Bounds) (n : ℕ) (s : Span) → fits (within w n) s ≡ (lies_within n s && fits w s)
 fits_within w n s =
     let one = seconds_narrowed w.seconds n s in
     rw one (within_bits (in_seconds w.seconds s) (lies_within n s) (from_start w.start s && before_stop w.stop s))
@@ -144,7 +144,7 @@ between_bits false q r true true = refl
 between_bits false q r true false = refl
 
 -- that of a Between asks for its start and stop
-pub fits_between : (w : Window) (start stop : ℤ) (s : Span) → fits (between w start stop) s ≡ (lies_between start stop s && fits w s)
+pub fits_between : (w : Bounds) (start stop : ℤ) (s : Span) → fits (between w start stop) s ≡ (lies_between start stop s && fits w s)
 fits_between w start stop s =
     let one = start_narrowed w.start start s in
     let two = stop_narrowed w.stop stop s in

@@ -1,32 +1,35 @@
-ghost use Rattle.std.specs.Prelude.{◌≡◌, None};
-ghost use Rattle.match_bindings.specs.inner.Candidates.{fits, within, between};
+ghost use Rattle.std.specs.Prelude.{◌≡◌};
+ghost use Rattle.match_bindings.specs.Bounds.{no_bounds, within, between};
+ghost use Rattle.match_bindings.specs.inner.Candidates.{fits};
 
 use crate::span::Span;
 use stix_times::Instant;
 
-/// What the qualifiers above a part of a pattern leave it: the least seconds of a `WITHIN`, the latest
-/// start and the earliest stop.
-#[derive(Drop)]
-pub(crate) struct Window {
+/// What the qualifiers above a part of a pattern leave it, together (STIX 2.1, section 9.4).
+#[derive(Clone, Copy, Debug)]
+pub struct Bounds {
+    /// The least seconds of a `WITHIN`, where there is one.
     pub seconds: Option<u32>,
+    /// The latest start of a `START`.
     pub start: Option<Instant>,
+    /// The earliest stop of a `STOP`.
     pub stop: Option<Instant>,
 }
 
-impl Window {
-    /// The window without a qualifier.
-    pub fn open() -> Window
-        ensures { result ≡ record { seconds = None; start = None; stop = None } }
+impl Bounds {
+    /// Those of a part that no qualifier limits.
+    pub fn open() -> Bounds
+        ensures { result ≡ no_bounds }
     {
-        Window {
+        Bounds {
             seconds: None,
             start: None,
             stop: None,
         }
     }
 
-    /// Whether a span meets all the qualifiers.
-    pub fn fits(&self, span: &Span) -> bool
+    /// Whether a span lies in all of them.
+    pub(crate) fn fits(&self, span: &Span) -> bool
         ensures { result ≡ fits self.now span.now }
     {
         let in_seconds = match self.seconds {
@@ -44,23 +47,23 @@ impl Window {
         in_seconds && from_start && before_stop
     }
 
-    /// The window below a `WITHIN`.
-    pub fn within(&self, seconds: u32) -> Window
+    /// Those below a `WITHIN` of so many seconds.
+    pub fn within(&self, seconds: u32) -> Bounds
         ensures { result ≡ within self.now seconds }
     {
         let least = match self.seconds {
             Some(other) => other.min(seconds),
             None => seconds,
         };
-        Window {
+        Bounds {
             seconds: Some(least),
             start: self.start,
             stop: self.stop,
         }
     }
 
-    /// The window below a `START` and `STOP`.
-    pub fn between(&self, start: Instant, stop: Instant) -> Window
+    /// Those below a `START` and `STOP`.
+    pub fn between(&self, start: Instant, stop: Instant) -> Bounds
         ensures { result ≡ between self.now start stop }
     {
         let latest_start = match self.start {
@@ -73,7 +76,7 @@ impl Window {
             Some(_) => stop,
             None => stop,
         };
-        Window {
+        Bounds {
             seconds: self.seconds,
             start: Some(latest_start),
             stop: Some(earliest_stop),
