@@ -1,7 +1,7 @@
 -- The line of a refusal, as its pieces tell it.
 use Rattle.std.proofs.Common.{◌≡◌, ℕ, List, [], ◌∷◌, ◌++◌, codes, append_assoc, refl, sym, ap, ◌∙◌}
-use Rattle.match_log.specs.Texts.{at_path, line_of_text}
-use Rattle.match_log.specs.inner.Reason.{broken_words, path_lead}
+use Rattle.match_input.specs.Texts.{at_path, line_of_text}
+use Rattle.match_input.specs.inner.Reason.{broken_words, path_lead}
 
 told : (name object rule tail : List ℕ) → name ++ (codes " object " ++ (object ++ (codes ": " ++ (rule ++ tail)))) ≡ (name ++ broken_words object rule) ++ tail
 told name object rule tail =

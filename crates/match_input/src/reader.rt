@@ -1,4 +1,4 @@
-ghost use Rattle.std.specs.Prelude.{◌≡◌, ◌≢◌, ◌≤◌, ◌×◌, Err, Ok, None, IfOk, IfErr};
+ghost use Rattle.std.specs.Prelude.{◌≡◌, ◌≢◌, ◌≤◌, Err, Ok, None, IfOk, IfErr};
 ghost use Rattle.flow_edges.specs.Faults.{Rose};
 ghost use Rattle.match_input.specs.Ahead.{reader_start, HoldsLines, AnswersNext};
 

@@ -1,4 +1,4 @@
-ghost use Rattle.std.specs.Prelude.{◌≡◌, ◌≢◌, ◌≤◌, ◌×◌, Err, Ok, None};
+ghost use Rattle.std.specs.Prelude.{◌≡◌, ◌≢◌, ◌≤◌, Err, Ok, None};
 ghost use Rattle.flow_edges.specs.Faults.{Rose};
 ghost use Rattle.match_input.specs.Ahead.{HoldsLines};
 ghost use Rattle.match_input.specs.inner.Turn.{AnswersTurn};
@@ -39,7 +39,7 @@ impl Stage {
     {
         let line = match self {
             Stage::Lines(lines) => lines.next_line(source)?,
-            Stage::Whole => Some(whole_line(alloc, source)?),
+            Stage::Whole => whole_line(alloc, source)?,
             Stage::AtEnd => return Ok(None),
             Stage::Ended => return Err(ReadEnd::Ended),
         };
@@ -51,14 +51,14 @@ impl Stage {
 }
 
 /// The whole input as line 1.
-fn whole_line<S: Source>(alloc: Global, source: &mut S) -> Result<Line, ReadEnd>
-    ensures lines { AnswersTurn Stage.Whole Stage.AtEnd (S.left source.old) (S.left source.new) (result_map Some result) }
+fn whole_line<S: Source>(alloc: Global, source: &mut S) -> Result<Option<Line>, ReadEnd>
+    ensures lines { AnswersTurn Stage.Whole Stage.AtEnd (S.left source.old) (S.left source.new) result }
     ensures failed { result ≡ Err ReadEnd.ReadFault → Rose (S.faults source.old) (S.faults source.new) }
     ensures quiet { result ≢ Err ReadEnd.ReadFault → S.faults source.new ≡ S.faults source.old }
     ensures later { S.faults source.old ≤ S.faults source.new }
 {
     let bytes = read_whole(alloc, source)?;
-    Ok(Line { number: 1, bytes })
+    Ok(Some(Line { number: 1, bytes }))
 }
 
 impl From<LineRefusal> for ReadEnd {
