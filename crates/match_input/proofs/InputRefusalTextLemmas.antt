@@ -24,3 +24,10 @@ pub broken_line : (line name object rule path : List ℕ)
 broken_line line name object rule path =
     ap (λ (xs : List ℕ). codes "line " ++ (line ++ (codes " refused: " ++ xs)))
     (told name object rule (path_lead path ++ (path ++ codes "\n")) ∙ led (name ++ broken_words object rule) path)
+
+pub times_line : (line last now : List ℕ)
+    → codes "line " ++ (line ++ (codes " refused: OutOfOrder last " ++ (last ++ (codes " now " ++ (now ++ codes "\n")))))
+    ≡ line_of_text line (codes "OutOfOrder last " ++ (last ++ (codes " now " ++ now)))
+times_line line last now =
+    ap (λ (xs : List ℕ). codes "line " ++ (line ++ (codes " refused: OutOfOrder last " ++ xs)))
+    (sym (append_assoc last (codes " now " ++ now) (codes "\n")))

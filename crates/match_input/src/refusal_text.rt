@@ -39,6 +39,18 @@ fn write_embedded<S: Sink>(line: u64, object: u32, sink: &mut S) -> Result<(), F
     let line = buffer.format(line);
     let mut buffer = Buffer::new();
     let object = buffer.format(object);
+    write_object(line, object, sink)
+}
+
+/// Writes the same line, of the texts of both numbers.
+fn write_object<'a, S: Sink>(
+    line: &'a str,
+    object: &'a str,
+    sink: &mut S,
+) -> Result<(), Fault>
+    ensures text { WritesWhole (line_of_text line.now (codes "EmbeddedObjects object " ++ object.now)) (S.written sink.old) (S.written sink.new) result }
+    ensures causes { Causes (S.faults sink.old) (S.faults sink.new) result }
+{
     write_pieces(
         sink,
         &[
@@ -62,6 +74,8 @@ fn write_out_of_order<S: Sink>(
         × WritesWhole text (S.written sink.old) (S.written sink.new) result }
     ensures causes { Causes (S.faults sink.old) (S.faults sink.new) result }
 {
+    let mut buffer = Buffer::new();
+    let line = buffer.format(line);
     let mut last_text = [0u8; 32];
     let last_length = stix_times::write(last, &mut last_text);
     let mut now_text = [0u8; 32];
@@ -69,19 +83,17 @@ fn write_out_of_order<S: Sink>(
     write_times(line, &last_text[..last_length], &now_text[..now_length], sink)
 }
 
-/// Writes the same line, of the texts of both times.
+/// Writes the same line, of the texts of the number and of both times.
 fn write_times<'a, S: Sink>(
-    line: u64,
+    line: &'a str,
     last: &'a [u8],
     now: &'a [u8],
     sink: &mut S,
 ) -> Result<(), Fault>
-    ensures text { WritesWhole (refused_line_text line (codes "OutOfOrder last " ++ (last.now ++ (codes " now " ++ now.now))))
+    ensures text { WritesWhole (line_of_text line.now (codes "OutOfOrder last " ++ (last.now ++ (codes " now " ++ now.now))))
         (S.written sink.old) (S.written sink.new) result }
     ensures causes { Causes (S.faults sink.old) (S.faults sink.new) result }
 {
-    let mut buffer = Buffer::new();
-    let line = buffer.format(line);
     write_pieces(
         sink,
         &[
