@@ -1,6 +1,6 @@
 ghost use Rattle.std.specs.Prelude.{◌≡◌, ◌≢◌, ◌≤◌, Err, Ok, None, IfOk, IfErr};
 ghost use Rattle.flow_edges.specs.Faults.{Rose};
-ghost use Rattle.match_input.specs.Ahead.{reader_start, HoldsLines, AnswersNext};
+ghost use Rattle.match_input.specs.Ahead.{reader_start, IsOpen, HoldsLines, AnswersNext};
 
 use crate::bundle_line::{BundleLine, last_time, read_line};
 use crate::stage::Stage;
@@ -54,14 +54,14 @@ impl Reader {
     /// only where the bytes taken hold no whole line. After a `ReadEnd` each later call answers `Ended`,
     /// without reading.
     pub fn next<S: Source>(&mut self, source: &mut S) -> Result<Option<Batch>, ReadEnd>
-        ensures next { self.old.stage ≢ Stage.Ended
+        ensures next { IsOpen self.old.stage
             → AnswersNext self.old self.new (S.left source.old) (S.left source.new) result }
         ensures unread { HoldsLines self.old.stage → source.new ≡ source.old }
         ensures at_end { self.old.stage ≡ Stage.AtEnd → (result ≡ Ok None) × (self.new ≡ self.old) × (source.new ≡ source.old) }
         ensures ended { self.old.stage ≡ Stage.Ended
             → (result ≡ Err ReadEnd.Ended) × (self.new ≡ self.old) × (source.new ≡ source.old) }
         ensures ends { IfErr result (λ _. self.new.stage ≡ Stage.Ended) }
-        ensures failed { result ≡ Err ReadEnd.ReadFault → Rose (S.faults source.old) (S.faults source.new) }
+        ensures failed { IsOpen self.old.stage → result ≡ Err ReadEnd.ReadFault → Rose (S.faults source.old) (S.faults source.new) }
         ensures quiet { result ≢ Err ReadEnd.ReadFault → S.faults source.new ≡ S.faults source.old }
         ensures later { S.faults source.old ≤ S.faults source.new }
     {

@@ -1,6 +1,6 @@
 ghost use Rattle.std.specs.Prelude.{◌≡◌, ◌≢◌, ◌≤◌, Err, Ok, None};
 ghost use Rattle.flow_edges.specs.Faults.{Rose};
-ghost use Rattle.match_input.specs.Ahead.{HoldsLines};
+ghost use Rattle.match_input.specs.Ahead.{IsOpen, HoldsLines};
 ghost use Rattle.match_input.specs.inner.Turn.{AnswersTurn};
 
 use crate::{InputRule, ReadEnd};
@@ -29,16 +29,19 @@ impl Stage {
         alloc: Global,
         source: &mut S,
     ) -> Result<Option<Line>, ReadEnd>
-        ensures lines { AnswersTurn self.old self.new (S.left source.old) (S.left source.new) result }
+        ensures lines { IsOpen self.old → AnswersTurn self.old self.new (S.left source.old) (S.left source.new) result }
         ensures unread { HoldsLines self.old → source.new ≡ source.old }
         ensures at_end { self.old ≡ Stage.AtEnd → (result ≡ Ok None) × (self.new ≡ self.old) × (source.new ≡ source.old) }
         ensures ended { self.old ≡ Stage.Ended → (result ≡ Err ReadEnd.Ended) × (source.new ≡ source.old) }
-        ensures failed { result ≡ Err ReadEnd.ReadFault → Rose (S.faults source.old) (S.faults source.new) }
+        ensures failed { IsOpen self.old → result ≡ Err ReadEnd.ReadFault → Rose (S.faults source.old) (S.faults source.new) }
         ensures quiet { result ≢ Err ReadEnd.ReadFault → S.faults source.new ≡ S.faults source.old }
         ensures later { S.faults source.old ≤ S.faults source.new }
     {
         let line = match self {
-            Stage::Lines(lines) => lines.next_line(source)?,
+            Stage::Lines(lines) => match lines.next_line(source) {
+                Ok(line) => line,
+                Err(refusal) => return Err(ReadEnd::from(refusal)),
+            },
             Stage::Whole => whole_line(alloc, source)?,
             Stage::AtEnd => return Ok(None),
             Stage::Ended => return Err(ReadEnd::Ended),
