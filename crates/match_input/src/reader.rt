@@ -2,35 +2,30 @@ ghost use Rattle.std.specs.Prelude.{◌≡◌, ◌≢◌, ◌≤◌, Err, Ok, No
 ghost use Rattle.flow_edges.specs.Faults.{Rose};
 ghost use Rattle.match_input.specs.Ahead.{reader_start, IsOpen, HoldsLines, AnswersNext};
 
-use crate::bundle_line::{BundleLine, last_time, read_line};
-use crate::stage::Stage;
-use crate::{Batch, Mode, ReadEnd};
+use crate::progress::Progress;
+use crate::{Batch, Mode, ReadEnd, Stage};
 use flow_edges::Source;
 use flow_lines::Lines;
 use flow_values::NoMemory;
 use std::alloc::Global;
 use std::marker::Model;
-use stix_times::Instant;
 
 /// A reader of the bundles of an input, with their observations. Contracts see how far the input is
 /// read, how many observations were given, and when the last of them was last observed.
 #[derive(Drop)]
 pub struct Reader {
-    alloc: Global,
-    stage: Stage,
-    observations: u64,
-    last: Option<Instant>,
+    progress: Progress,
 }
 
 impl Model for Reader {
     ghost use Rattle.match_input.specs.Ahead.{ReaderState};
-    ghost use Rattle.match_input.specs.inner.Turn.{AreFew};
+    ghost use Rattle.match_input.specs.inner.Turn.{state_of, AreFew};
 
     ghost Value = { ReaderState };
 
-    ghost view = { λ reader. record { stage = reader.stage; observations = reader.observations; last = reader.last } };
+    ghost view = { λ reader. state_of reader.progress };
 
-    ghost invariant = { λ reader. AreFew reader.stage reader.observations };
+    ghost invariant = { λ reader. AreFew reader.progress.stage reader.progress.observations };
 }
 
 impl Reader {
@@ -43,10 +38,12 @@ impl Reader {
             Mode::Whole => Stage::Whole,
         };
         Ok(Reader {
-            alloc,
-            stage,
-            observations: 0,
-            last: None,
+            progress: Progress {
+                alloc,
+                stage,
+                observations: 0,
+                last: None,
+            },
         })
     }
 
@@ -65,56 +62,12 @@ impl Reader {
         ensures quiet { result ≢ Err ReadEnd.ReadFault → S.faults source.new ≡ S.faults source.old }
         ensures later { S.faults source.old ≤ S.faults source.new }
     {
-        match next_bundle(self.alloc, &mut self.stage, self.observations, self.last, source) {
-            Ok(Some(numbered)) => {
-                let BundleLine {
-                    bundle,
-                    observations,
-                } = numbered.read;
-                self.last = last_time(self.last, observations.as_slice());
-                self.observations += observations.len() as u64;
-                Ok(Some(Batch {
-                    line: numbered.line,
-                    bundle,
-                    observations,
-                }))
-            }
-            Ok(None) => Ok(None),
+        match self.progress.next_batch(source) {
+            Ok(batch) => Ok(batch),
             Err(end) => {
-                self.stage = Stage::Ended;
+                self.progress.stage = Stage::Ended;
                 Err(end)
             }
         }
-    }
-}
-
-/// A line that was read, with its number.
-#[derive(Drop)]
-struct NumberedLine {
-    line: u64,
-    read: BundleLine,
-}
-
-/// Takes the next line, and reads the bundle that it is.
-fn next_bundle<S: Source>(
-    alloc: Global,
-    stage: &mut Stage,
-    observations: u64,
-    last: Option<Instant>,
-    source: &mut S,
-) -> Result<Option<NumberedLine>, ReadEnd>
-{
-    let Some(line) = stage.next_line(alloc, source)? else {
-        return Ok(None);
-    };
-    match read_line(alloc, last, observations + 1, line.bytes.as_slice())? {
-        Ok(read) => Ok(Some(NumberedLine {
-            line: line.number,
-            read,
-        })),
-        Err(rule) => Err(ReadEnd::Input {
-            line: line.number,
-            rule,
-        }),
     }
 }

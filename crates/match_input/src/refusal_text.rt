@@ -43,11 +43,7 @@ fn write_embedded<S: Sink>(line: u64, object: u32, sink: &mut S) -> Result<(), F
 }
 
 /// Writes the same line, of the texts of both numbers.
-fn write_object<'a, S: Sink>(
-    line: &'a str,
-    object: &'a str,
-    sink: &mut S,
-) -> Result<(), Fault>
+fn write_object<'a, S: Sink>(line: &'a str, object: &'a str, sink: &mut S) -> Result<(), Fault>
     ensures text { WritesWhole (line_of_text line.now (codes "EmbeddedObjects object " ++ object.now)) (S.written sink.old) (S.written sink.new) result }
     ensures causes { Causes (S.faults sink.old) (S.faults sink.new) result }
 {
@@ -80,7 +76,12 @@ fn write_out_of_order<S: Sink>(
     let last_length = stix_times::write(last, &mut last_text);
     let mut now_text = [0u8; 32];
     let now_length = stix_times::write(now, &mut now_text);
-    write_times(line, &last_text[..last_length], &now_text[..now_length], sink)
+    write_times(
+        line,
+        &last_text[..last_length],
+        &now_text[..now_length],
+        sink,
+    )
 }
 
 /// Writes the same line, of the texts of the number and of both times.

@@ -32,7 +32,7 @@ impl Stage {
         ensures lines { IsOpen self.old → AnswersTurn self.old self.new (S.left source.old) (S.left source.new) result }
         ensures unread { HoldsLines self.old → source.new ≡ source.old }
         ensures at_end { self.old ≡ Stage.AtEnd → (result ≡ Ok None) × (self.new ≡ self.old) × (source.new ≡ source.old) }
-        ensures ended { self.old ≡ Stage.Ended → (result ≡ Err ReadEnd.Ended) × (source.new ≡ source.old) }
+        ensures ended { self.old ≡ Stage.Ended → (result ≡ Err ReadEnd.Ended) × (self.new ≡ self.old) × (source.new ≡ source.old) }
         ensures failed { IsOpen self.old → result ≡ Err ReadEnd.ReadFault → Rose (S.faults source.old) (S.faults source.new) }
         ensures quiet { result ≢ Err ReadEnd.ReadFault → S.faults source.new ≡ S.faults source.old }
         ensures later { S.faults source.old ≤ S.faults source.new }

@@ -12,5 +12,5 @@ returns-in-Embedded-clause-text g c =
 pub returns-in-OutOfOrder-clause-text : goal.returns-in-OutOfOrder-clause-text
 returns-in-OutOfOrder-clause-text g c =
     subst (λ (rule : InputRule). (text : List ℕ) × IsInputRefusalText c.args.line rule text
-      × WritesWhole text (g.S.Sink.written c.args.sink.now) (g.S.Sink.written c.write_out_of_order.new.sink) c.write_out_of_order.result)
+    × WritesWhole text (g.S.Sink.written c.args.sink.now) (g.S.Sink.written c.write_out_of_order.new.sink) c.write_out_of_order.result)
     (sym c.in-OutOfOrder.is) c.write_out_of_order.ensures.text
