@@ -11,6 +11,8 @@ mod compare;
 mod last;
 mod leaf;
 mod met;
+mod search;
+mod searched;
 mod truths;
 
 pub use leaf::leaf_holds;
