@@ -18,29 +18,11 @@ one_root : (objects : List Data) (root : ℕ) (kind : List ℕ) (first second : 
 one_root objects root kind first second is also = same_Some first second (sym is.there ∙ also.there)
 
 module _ (objects : List Data) (root : ℕ) (test : Test) where
-  pub no_root : ((object : Data) → ¬ IsRoot objects root test.path.kind object) → IsTrue false ↔ TestHolds objects root test
-  no_root none = (λ yes. absurd (false≢true yes), λ holds. absurd (none holds.object holds.is_root))
-
   module _ (object : Data) (is_root : IsRoot objects root test.path.kind object) where
     from_here : (other value : Data) → IsRoot objects root test.path.kind other → Reaches objects None test.path.steps other value
         → Reaches objects None test.path.steps object value
     from_here other value is reached =
         subst (λ (o : Data). Reaches objects None test.path.steps o value) (one_root objects root test.path.kind other object is is_root) reached
-
-    pub some_met : (answer : Bool) → (¬ IsAbsence test) → IsTrue answer ↔ ReachesMet objects test test.negated object → IsTrue answer ↔ TestHolds objects root test
-    some_met answer present exact = (
-      λ yes.
-          let met = exact.0 yes in
-          record {
-            object = object;
-            is_root = is_root;
-            nothing = λ absent. absurd (present absent);
-            something = λ other. (met.0, record { object = object; is_root = is_root; reached = met.1 }, met.2)
-          },
-      λ holds.
-          let some = holds.something present in
-          exact.1 (some.0, from_here some.1.object some.0 some.1.is_root some.1.reached, some.2),
-    )
 
     there_is : (check : Check) → check ≡ Exists → (value : Data) → Meets (last_of test.path) value check
     there_is check is value = subst (Meets (last_of test.path) value) (sym is) tt

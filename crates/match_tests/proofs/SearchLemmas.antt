@@ -10,8 +10,7 @@ use Rattle.stix_json.specs.DataOf.{data_of}
 use Rattle.stix_json.specs.Ordered.{IsOrdered}
 use Rattle.stix_bundles.specs.Objects.{data_in}
 use Rattle.pattern_types.specs.declared.path.Step.{Step}
-use Rattle.pattern_types.specs.declared.path.Step.TheVariants.{Name}
-use Rattle.match_paths.specs.Selection.{RefersTo, LeadsTo, StepReaches, last_name, Reaches}
+use Rattle.match_paths.specs.Selection.{StepReaches, last_name, Reaches}
 use Rattle.match_tests.specs.declared.search.Search.{Search}
 use Rattle.match_tests.specs.declared.searched.Searched.{Searched}
 use Rattle.match_tests.specs.inner.Search.{Has, IsWanted, Finds, SomeFinds, FindsAt, AreLast, AreBarren}
@@ -32,28 +31,9 @@ next_step objects P last step rest value values reached = (
   λ from. let next = from.1 in (next.0, (reached next.0).1 next.1, (from.0, next.2, from.2)),
 )
 
--- from a reference a name leads where it leads from the object
-abbrev pub SameLead : Type 0
-SameLead = (objects : List Data) (last : Option (List ℕ)) (value object : Data) (at : ℕ) (name : List ℕ)
-    → RefersTo objects last value at → slice_get objects at ≡ Some object
-    → (found : Data) → LeadsTo objects last name value found ↔ LeadsTo objects None name object found
-
 -- the object at the place, and from there the steps reach such a value
 abbrev pub FromAt : List Data → (Data → Type 0) → List Step → ℕ → Type 0
 FromAt objects P steps at = (object : Data) × (slice_get objects at ≡ Some object) × From objects P None steps object
-
-pub through_reference : SameLead → (objects : List Data) (P : Data → Type 0) (last : Option (List ℕ)) (name : List ℕ) (rest : List Step) (value : Data) (at : ℕ)
-    → RefersTo objects last value at → From objects P last (Name name ∷ rest) value ↔ FromAt objects P (Name name ∷ rest) at
-through_reference same objects P last name rest value at refers = (
-  λ from.
-      let version = refers.means.2.version in
-      let next = from.1 in
-      (version.object, version.there, (from.0, (next.0, (same objects last value version.object at name refers version.there next.0).0 next.1, next.2), from.2)),
-  λ there.
-      let from = there.2 in
-      let next = from.1 in
-      (from.0, (next.0, (same objects last value there.0 at name refers there.1 next.0).1 next.1, next.2), from.2),
-)
 
 pub at_object : (objects : List Data) (P : Data → Type 0) (steps : List Step) (at : ℕ) (meant : Data) → slice_get objects at ≡ Some meant
     → From objects P None steps meant ↔ FromAt objects P steps at

@@ -18,9 +18,9 @@ use stix_bundles::Bundle;
 use stix_json::Json;
 
 /// Whether the object at a position has the type of a test's path, and what the path selects from it
-/// meets the test. It stops at the first value that does, and goes to no object twice for one step; so
-/// it costs no more than the number of steps times the size of the bundle. It takes memory only where
-/// constants are compared as bytes, or the path goes on behind a `[*]`.
+/// meets the test. The search stops at the first value that does, and goes to no object by a reference
+/// twice for one step: so it costs at most the number of steps times the size of the bundle, however
+/// many ways there are. It takes memory where bytes are compared, and where the path has a `[*]`.
 pub fn holds(alloc: Global, test: &Test, bundle: &Bundle, root: u32) -> Result<bool, NoMemory>
     requires { IsSoundTest test.now }
     ensures { IfOk result (λ holds. IsTrue holds ↔ TestHolds (data_in bundle.now) root test.now) }
