@@ -4,4 +4,4 @@ pub mod BlockLemmas
 pub mod MetLemmas
 pub mod LeavesLemmas
 pub mod SearchLemmas
-pub mod SearchedLemmas
+pub mod DeadEndsLemmas

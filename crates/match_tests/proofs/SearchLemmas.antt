@@ -12,8 +12,9 @@ use Rattle.stix_bundles.specs.Objects.{data_in}
 use Rattle.pattern_types.specs.declared.path.Step.{Step}
 use Rattle.match_paths.specs.Selection.{StepReaches, last_name, Reaches}
 use Rattle.match_tests.specs.declared.search.Search.{Search}
-use Rattle.match_tests.specs.declared.searched.Searched.{Searched}
-use Rattle.match_tests.specs.inner.Search.{Has, IsWanted, Finds, SomeFinds, FindsAt, AreLast, AreBarren}
+use Rattle.match_tests.specs.declared.dead_ends.DeadEnds.{DeadEnds}
+use Rattle.match_tests.specs.inner.DeadEnds.{Has}
+use Rattle.match_tests.specs.inner.Search.{IsWanted, Finds, SomeFinds, FindsAt, AreLast, AreDeadEnds}
 
 -- the steps reach a value that the fact holds of
 abbrev pub From : List Data → (Data → Type 0) → Option (List ℕ) → List Step → Data → Type 0
@@ -55,13 +56,13 @@ same_last : (search : Search) (steps others : List Step) → AreLast search step
 same_last search steps others last also count =
     sym (same_end search.steps.now last.0 steps (length others) last.1 count) ∙ same_end search.steps.now also.0 others (length others) also.1 refl
 
--- one that was searched without success is added
-pub barren_more : (search : Search) (old new : Searched) (step : Step) (rest : List Step) (at : ℕ) → AreBarren search old → AreLast search (step ∷ rest)
+-- one more dead end
+pub one_more_end : (search : Search) (old new : DeadEnds) (step : Step) (rest : List Step) (at : ℕ) → AreDeadEnds search old → AreLast search (step ∷ rest)
     → ¬ FindsAt search (step ∷ rest) at → ((count place : ℕ) → Has new count place ↔ (Has old count place ⊎ ((count ≡ length rest) × (place ≡ at))))
-    → AreBarren search new
-barren_more search old new step rest at barren last without added = λ other others place also has finds.
+    → AreDeadEnds search new
+one_more_end search old new step rest at dead last without added = λ other others place also has finds.
     elim ((added (length others) place).0 has) [
-      | inl before ↦ barren other others place also before finds
+      | inl before ↦ dead other others place also before finds
       | inr now ↦
           let same = same_last search (other ∷ others) (step ∷ rest) also last (ap suc now.0) in
           without (subst (FindsAt search (step ∷ rest)) now.1 (subst (λ (steps : List Step). FindsAt search steps place) same finds))

@@ -9,7 +9,7 @@ ghost use Rattle.match_tests.specs.Tests.{TestHolds, IsAbsence, Turned, Meets, l
 
 use crate::last::last_name;
 use crate::search::{Search, finds};
-use crate::searched::Searched;
+use crate::dead_ends::DeadEnds;
 use flow_values::NoMemory;
 use match_paths::root_of;
 use pattern_types::{Check, Step, Test};
@@ -68,6 +68,6 @@ fn is_reached(
         negated,
         branches: steps.iter().any(|step| matches!(step, Step::Each)),
     };
-    let mut searched = Searched::new(alloc);
-    finds(&search, &mut searched, None, steps, object)
+    let mut ends = DeadEnds::new(alloc);
+    finds(&search, &mut ends, None, steps, object)
 }

@@ -4,10 +4,10 @@ ghost use Rattle.stix_json.specs.Ordered.{IsOrdered};
 ghost use Rattle.stix_bundles.specs.Objects.{data_in};
 ghost use Rattle.pattern_types.specs.declared.path.Step.{Step};
 ghost use Rattle.pattern_types.specs.Soundness.{IsSoundCheck};
-ghost use Rattle.match_tests.specs.inner.Search.{name_of, Finds, SomeFinds, FindsAt, AreLast, AreBarren};
+ghost use Rattle.match_tests.specs.inner.Search.{name_of, Finds, SomeFinds, FindsAt, AreLast, AreDeadEnds};
 
 use crate::check::meets_turned;
-use crate::searched::Searched;
+use crate::dead_ends::DeadEnds;
 use flow_values::NoMemory;
 use match_paths::laws::same_lead;
 use match_paths::{name_behind, object_at, reference, selected};
@@ -27,7 +27,7 @@ pub(crate) struct Search<'a> {
     pub(crate) last: Option<&'a str>,
     pub(crate) check: &'a Check,
     pub(crate) negated: bool,
-    /// Whether there is more than one way: only then may two of them go to one object.
+    /// Whether the path has a `[*]`: else there is one way at most, and dead ends are of no use.
     pub(crate) branches: bool,
 }
 
@@ -35,7 +35,7 @@ pub(crate) struct Search<'a> {
 #[cycle(search)]
 pub(crate) fn finds(
     search: &Search<'_>,
-    searched: &mut Searched,
+    ends: &mut DeadEnds,
     last: Option<&str>,
     steps: &[Step],
     value: &Json,
@@ -43,18 +43,18 @@ pub(crate) fn finds(
     requires sound { IsSoundCheck search.now.check.now }
     requires last { AreLast search.now steps.now }
     requires ordered { IsOrdered (data_of value.now) }
-    requires barren { AreBarren search.now searched.old }
+    requires dead { AreDeadEnds search.now ends.old }
     ensures found { IfOk result (λ found. IsTrue found ↔ Finds search.now (name_of last.entry) steps.now (data_of value.now)) }
-    ensures barren { OnOk result (AreBarren search.now searched.new) }
+    ensures dead { OnOk result (AreDeadEnds search.now ends.new) }
 {
     let Some((step, rest)) = steps.split_first() else {
         return meets_turned(search.alloc, search.last, value, search.check, search.negated);
     };
     if let Some(at) = referred(search, last, step, value) {
-        return finds_at(search, searched, step, rest, at);
+        return finds_at(search, ends, step, rest, at);
     }
     let values = selected(search.bundle, last, step, value);
-    some_finds(search, searched, name_behind(last, step), rest, values)
+    some_finds(search, ends, name_behind(last, step), rest, values)
 }
 
 /// The position of the object from which a step goes on, where it leads through a reference.
@@ -73,7 +73,7 @@ fn referred(search: &Search<'_>, last: Option<&str>, step: &Step, value: &Json) 
 #[cycle(search)]
 fn some_finds(
     search: &Search<'_>,
-    searched: &mut Searched,
+    ends: &mut DeadEnds,
     last: Option<&str>,
     steps: &[Step],
     values: &[Json],
@@ -81,43 +81,44 @@ fn some_finds(
     requires sound { IsSoundCheck search.now.check.now }
     requires last { AreLast search.now steps.now }
     requires ordered { All IsOrdered (data_in values.now) }
-    requires barren { AreBarren search.now searched.old }
+    requires dead { AreDeadEnds search.now ends.old }
     ensures found { IfOk result (λ found. IsTrue found ↔ SomeFinds search.now (name_of last.entry) steps.now (data_in values.now)) }
-    ensures barren { OnOk result (AreBarren search.now searched.new) }
+    ensures dead { OnOk result (AreDeadEnds search.now ends.new) }
 {
     for value in values {
-        if finds(search, searched, last, steps, value)? {
+        if finds(search, ends, last, steps, value)? {
             return Ok(true);
         }
     }
     Ok(false)
 }
 
-/// Whether they reach one from the object at a position. An object is searched once for each step.
+/// Whether they reach one from the object at a position. From a dead end it isn't searched again: so
+/// each object is searched once for each step, and not once for each way there.
 #[cycle(search)]
 fn finds_at(
     search: &Search<'_>,
-    searched: &mut Searched,
+    ends: &mut DeadEnds,
     step: &Step,
     rest: &[Step],
     at: u32,
 ) -> Result<bool, NoMemory>
     requires sound { IsSoundCheck search.now.check.now }
     requires last { AreLast search.now (step.now ∷ rest.now) }
-    requires barren { AreBarren search.now searched.old }
+    requires dead { AreDeadEnds search.now ends.old }
     ensures found { IfOk result (λ found. IsTrue found ↔ FindsAt search.now (step.now ∷ rest.now) at) }
-    ensures barren { OnOk result (AreBarren search.now searched.new) }
+    ensures dead { OnOk result (AreDeadEnds search.now ends.new) }
 {
-    if searched.has(rest.len(), at) {
+    if ends.has(rest.len(), at) {
         return Ok(false);
     }
     let Some(object) = object_at(search.bundle, at) else {
         return Ok(false);
     };
     let values = selected(search.bundle, None, step, object);
-    let found = some_finds(search, searched, name_behind(None, step), rest, values)?;
+    let found = some_finds(search, ends, name_behind(None, step), rest, values)?;
     if search.branches && !found {
-        searched.add(rest.len(), at)?;
+        ends.add(rest.len(), at)?;
     }
     Ok(found)
 }

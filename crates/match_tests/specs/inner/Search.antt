@@ -1,21 +1,14 @@
--- For private clauses: a search for a value that a path reaches and that meets a check, and the objects that it left
--- without success.
-use Rattle.std.specs.Prelude.{◌≡◌, ℕ, List, ◌∷◌, ◌++◌, length, Contains, Option, Some, None, IsTrue, slice_get, option_map}
+-- For private clauses: a search for a value that a path reaches and that meets a check, and that its dead ends are such.
+use Rattle.std.specs.Prelude.{◌≡◌, ℕ, List, ◌∷◌, ◌++◌, length, Contains, Option, Some, None, slice_get, option_map}
 use Rattle.std.specs.Borrow.{Bor}
-use Rattle.std.specs.BTreeSet.{contains}
-use Rattle.std.specs.Ordering.{nat_cmp, ordering_then}
 use Rattle.serde_json.specs.Data.{Data}
 use Rattle.stix_bundles.specs.Objects.{data_in}
 use Rattle.pattern_types.specs.declared.path.Step.{Step}
 use Rattle.match_paths.specs.Selection.{Reaches}
 use Rattle.match_tests.specs.Tests.{Turned, Meets}
 use Rattle.match_tests.specs.declared.search.Search.{Search}
-use Rattle.match_tests.specs.declared.searched.Searched.{Searched}
-
--- the pair is one of the searched
-abbrev pub Has : Searched → ℕ → ℕ → Type 0
-Has searched left at =
-    IsTrue (contains (λ (x y : ℕ × ℕ). ordering_then (nat_cmp x.0 y.0) (nat_cmp x.1 y.1)) searched.pairs (left, at))
+use Rattle.match_tests.specs.declared.dead_ends.DeadEnds.{DeadEnds}
+use Rattle.match_tests.specs.inner.DeadEnds.{Has}
 
 -- the name that a lent text is
 abbrev pub name_of : Option (Bor (List ℕ)) → Option (List ℕ)
@@ -41,7 +34,7 @@ FindsAt search steps at = (object : Data) × (slice_get (data_in search.bundle.n
 abbrev pub AreLast : Search → List Step → Type 0
 AreLast search steps = (front : List Step) × (search.steps.now ≡ front ++ steps)
 
--- of each pair: that many steps behind a name, the path reaches nothing that is searched for from the object at the place
-abbrev pub AreBarren : Search → Searched → Type 0
-AreBarren search searched = (step : Step) (rest : List Step) (at : ℕ) → AreLast search (step ∷ rest)
-    → Has searched (length rest) at → ¬ FindsAt search (step ∷ rest) at
+-- from the object of each dead end, a step and those that are left behind it reach no value that is searched for
+abbrev pub AreDeadEnds : Search → DeadEnds → Type 0
+AreDeadEnds search ends = (step : Step) (rest : List Step) (at : ℕ) → AreLast search (step ∷ rest)
+    → Has ends (length rest) at → ¬ FindsAt search (step ∷ rest) at

@@ -7,7 +7,7 @@ use Rattle.stix_bundles.specs.Objects.{data_in}
 use Rattle.pattern_types.specs.declared.path.Step.{Step}
 use Rattle.match_tests.specs.inner.Search.{name_of, Finds, FindsAt, AreLast}
 use Rattle.match_tests.proofs.FoundLemmas.{none_next, none_at_all}
-use Rattle.match_tests.proofs.SearchLemmas.{ok_same, finds_here, finds_next, finds_there, last_rest, barren_more, ordered_tree, some_tree}
+use Rattle.match_tests.proofs.SearchLemmas.{ok_same, finds_here, finds_next, finds_there, last_rest, one_more_end, ordered_tree, some_tree}
 use Rattle.match_tests.proofs.search.+search.Goals as goal
 
 pub finds-returns-in_default-clause-found : goal.finds-returns-in_default-clause-found
@@ -27,7 +27,7 @@ finds-returns-in-Some-referred-clause-found t c =
 pub finds-some_finds-requires : goal.finds-some_finds-requires
 finds-some_finds-requires t c =
     let rest = last_rest c.args.search.now c.in-Some.step.now c.in-Some.rest.now (subst (AreLast c.args.search.now) c.in-Some.ensures.cases.0 c.requires.last) in
-    (omega (arith, ap length c.in-Some.ensures.cases.0), (c.requires.sound, (rest, (c.selected-values.ensures.ordered, c.requires.barren))))
+    (omega (arith, ap length c.in-Some.ensures.cases.0), (c.requires.sound, (rest, (c.selected-values.ensures.ordered, c.requires.dead))))
 
 pub finds-returns-clause-found : goal.finds-returns-clause-found
 finds-returns-clause-found t c =
@@ -37,21 +37,21 @@ finds-returns-clause-found t c =
 
 pub finds_at-returns-then-has-clause-found : goal.finds_at-returns-then-has-clause-found
 finds_at-returns-then-has-clause-found t c =
-    (λ yes. absurd (false≢true yes), λ there. absurd (c.requires.barren c.args.step.now c.args.rest.now c.args.at c.requires.last (c.has.ensures.0 c.if-has.true) there))
+    (λ yes. absurd (false≢true yes), λ there. absurd (c.requires.dead c.args.step.now c.args.rest.now c.args.at c.requires.last (c.has.ensures.0 c.if-has.true) there))
 
 pub finds_at-some_finds-requires : goal.finds_at-some_finds-requires
 finds_at-some_finds-requires t c =
     let rest = last_rest c.args.search.now c.args.step.now c.args.rest.now c.requires.last in
-    (omega arith, (c.requires.sound, (rest, (c.selected-values.ensures.ordered, c.requires.barren))))
+    (omega arith, (c.requires.sound, (rest, (c.selected-values.ensures.ordered, c.requires.dead))))
 
-pub finds_at-returns-in_ok-add-clause-barren : goal.finds_at-returns-in_ok-add-clause-barren
-finds_at-returns-in_ok-add-clause-barren t c =
+pub finds_at-returns-in_ok-add-clause-dead : goal.finds_at-returns-in_ok-add-clause-dead
+finds_at-returns-in_ok-add-clause-dead t c =
     let sought = c.args.search.now in
     let step = c.args.step.now in
     let rest = c.args.rest.now in
     let off : c.in_ok-found.found ≡ false = search rules in
     let there = finds_there sought step rest c.args.at (data_of c.in-Some.object.now) _ (data_in c.selected-values.result.now) (sym c.in-Some.ensures.value) c.name_behind.ensures c.selected-values.ensures.reached in
-    barren_more sought c.some_finds.new.searched c.add.new.self step rest c.args.at c.in_ok-found.ensures.barren c.requires.last
+    one_more_end sought c.some_finds.new.ends c.add.new.self step rest c.args.at c.in_ok-found.ensures.dead c.requires.last
     (λ finds. false≢true (sym off ∙ c.in_ok-found.ensures.found.1 (there.1 finds))) c.in_ok-add.ensures
 
 pub some_finds-finds-requires : goal.some_finds-finds-requires
@@ -70,7 +70,7 @@ pub some_finds-loop-value-preserved : goal.some_finds-loop-value-preserved
 some_finds-loop-value-preserved t c =
     let P = λ (tree : Json). Finds c.args.search.now (name_of c.args.last) c.args.steps.now (data_of tree) in
     let other = λ (finds : P c.value-item.result). false≢true (sym c.if-branch.false ∙ c.in_ok-finds.ensures.found.1 finds) in
-    (c.in_ok-finds.ensures.barren, none_next P c.args.values.now c.loop-value.value-index c.value-item.result c.loop-value-test.true c.value-item.is c.loop-value.invariant.1 other)
+    (c.in_ok-finds.ensures.dead, none_next P c.args.values.now c.loop-value.value-index c.value-item.result c.loop-value-test.true c.value-item.is c.loop-value.invariant.1 other)
 
 pub some_finds-returns-clause-found : goal.some_finds-returns-clause-found
 some_finds-returns-clause-found t c =

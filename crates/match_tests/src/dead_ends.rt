@@ -1,28 +1,28 @@
 ghost use Rattle.std.specs.Prelude.{◌≡◌, ◌↔◌, ◌⊎◌, ℕ, IsTrue, OnOk};
-ghost use Rattle.match_tests.specs.inner.Search.{Has};
+ghost use Rattle.match_tests.specs.inner.DeadEnds.{Has};
 
 use flow_values::NoMemory;
 use std::alloc::Global;
 use std::collections::BTreeSet;
 
-/// The objects that a search went to by a reference and left without success: for each how many steps
-/// were left behind the name, and its position.
+/// The objects that a search went to by a reference, and from which it found nothing: of each its
+/// position, and how many steps stood behind the name that led on from there.
 #[derive(Drop)]
-pub(crate) struct Searched {
+pub(crate) struct DeadEnds {
     pairs: BTreeSet<(usize, u32)>,
 }
 
-impl Searched {
-    /// None of them.
-    pub(crate) fn new(alloc: Global) -> Searched
+impl DeadEnds {
+    /// No dead ends.
+    pub(crate) fn new(alloc: Global) -> DeadEnds
         ensures { (left at : ℕ) → ¬ Has result left at }
     {
-        Searched {
+        DeadEnds {
             pairs: BTreeSet::new(alloc),
         }
     }
 
-    /// Whether the object is one of them, with so many steps left.
+    /// Whether the object at a position is one, with so many steps left.
     pub(crate) fn has(&self, left: usize, at: u32) -> bool
         ensures { IsTrue result ↔ Has self.now left at }
     {

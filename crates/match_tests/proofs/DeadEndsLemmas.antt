@@ -1,12 +1,12 @@
--- A pair more in a set of pairs.
+-- One more dead end.
 use Rattle.std.proofs.Common.{◌≡◌, ◌↔◌, ◌⊎◌, inl, inr, ℕ, Bool, true, false, cond, sym, ap, subst, ◌∙◌, refl, Ordering}
 use Rattle.std.proofs.lemmas.Map.Lookups.{exact_pairs, exact_unsigned}
 use Rattle.std.proofs.lemmas.Map.Views.{tells_apart}
 use Rattle.std.specs.BTreeSet.{contains}
 use Rattle.std.specs.BTreeMap.{is_at}
 use Rattle.std.specs.Ordering.{nat_cmp, ordering_then}
-use Rattle.match_tests.specs.declared.searched.Searched.{Searched}
-use Rattle.match_tests.specs.inner.Search.{Has}
+use Rattle.match_tests.specs.declared.dead_ends.DeadEnds.{DeadEnds}
+use Rattle.match_tests.specs.inner.DeadEnds.{Has}
 
 -- the order of pairs
 abbrev pub pair_cmp : ℕ × ℕ → ℕ × ℕ → Ordering
@@ -20,7 +20,7 @@ kept : (new here before : Bool) → new ≡ cond here true before → before ≡
 kept new true before is has = is
 kept new false before is has = is ∙ has
 
-pub one_more : (left at : ℕ) (old new : Searched)
+pub one_more : (left at : ℕ) (old new : DeadEnds)
     → ((q : ℕ × ℕ) → contains pair_cmp new.pairs q ≡ cond (is_at (pair_cmp (left, at)) q) true (contains pair_cmp old.pairs q)) → Has new left at
     → (count place : ℕ) → Has new count place ↔ (Has old count place ⊎ ((count ≡ left) × (place ≡ at)))
 one_more left at old new each itself count place =
