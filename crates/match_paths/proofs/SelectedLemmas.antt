@@ -1,5 +1,5 @@
 -- What a path selects is what its steps reach.
-use Rattle.std.proofs.Common.{arith, lit<, ◌≡◌, ◌↔◌, inl, inr, ℕ, zero, suc, ◌<◌, List, [], ◌∷◌, ◌++◌, get_or, Option, Some, None, MatchOption, option_to_list, slice_get, sym, ap, subst, ◌∙◌, refl}
+use Rattle.std.proofs.Common.{arith, lit<, ◌≡◌, ◌↔◌, inl, inr, ℕ, zero, suc, ◌<◌, List, [], ◌∷◌, get_or, Option, Some, None, MatchOption, option_to_list, slice_get, sym, ap, subst, refl}
 use Rattle.std.specs.Prelude.{Contains}
 use Rattle.std.proofs.lemmas.Option.{none-some, same_Some}
 use Rattle.std.proofs.lemmas.List.Elements.{Contains-append_left, Contains-append_right, Contains-append_cases}

@@ -39,7 +39,7 @@ module _ (objects : List Data) (root : ℕ) (test : Test) where
         is_root = is_root;
         nothing = λ also value selected.
             false≢true (exact.1 (value, from_here selected.object value selected.is_root selected.reached, there_is test.check absent.0 value));
-        something = λ present. absurd (present absent)
+        something = λ present. absurd (present absent);
       },
       λ holds. refl,
     )

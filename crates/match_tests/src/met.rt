@@ -7,9 +7,9 @@ ghost use Rattle.pattern_types.specs.Soundness.{IsSoundTest};
 ghost use Rattle.match_paths.specs.Selection.{Reaches};
 ghost use Rattle.match_tests.specs.Tests.{TestHolds, IsAbsence, Turned, Meets, last_of};
 
+use crate::dead_ends::DeadEnds;
 use crate::last::last_name;
 use crate::search::{Search, finds};
-use crate::dead_ends::DeadEnds;
 use flow_values::NoMemory;
 use match_paths::root_of;
 use pattern_types::{Check, Step, Test};
@@ -56,7 +56,7 @@ fn is_reached(
     requires ordered { IsOrdered (data_of object.now) }
     ensures { IfOk result (λ found. IsTrue found
         ↔ ((value : Data) × Reaches (data_in bundle.now) None test.now.path.steps (data_of object.now) value
-            × Turned negated (Meets (last_of test.now.path) value test.now.check))) }
+        × Turned negated (Meets (last_of test.now.path) value test.now.check))) }
 {
     let steps = test.path.steps.as_slice();
     let search = Search {

@@ -3,8 +3,7 @@ ghost use Rattle.stix_json.specs.DataOf.{data_of};
 ghost use Rattle.stix_json.specs.Ordered.{IsOrdered};
 ghost use Rattle.stix_bundles.specs.Objects.{data_in};
 ghost use Rattle.pattern_types.specs.declared.path.Step.{Step};
-ghost use Rattle.pattern_types.specs.Soundness.{IsSoundCheck};
-ghost use Rattle.match_tests.specs.inner.Search.{name_of, Finds, SomeFinds, FindsAt, AreLast, AreDeadEnds};
+ghost use Rattle.match_tests.specs.inner.Search.{name_of, Finds, SomeFinds, FindsAt, AreDeadEnds, StandsBefore};
 
 use crate::check::meets_turned;
 use crate::dead_ends::DeadEnds;
@@ -40,15 +39,19 @@ pub(crate) fn finds(
     steps: &[Step],
     value: &Json,
 ) -> Result<bool, NoMemory>
-    requires sound { IsSoundCheck search.now.check.now }
-    requires last { AreLast search.now steps.now }
+    requires before { StandsBefore search.now steps.now ends.old }
     requires ordered { IsOrdered (data_of value.now) }
-    requires dead { AreDeadEnds search.now ends.old }
     ensures found { IfOk result (λ found. IsTrue found ↔ Finds search.now (name_of last.entry) steps.now (data_of value.now)) }
     ensures dead { OnOk result (AreDeadEnds search.now ends.new) }
 {
     let Some((step, rest)) = steps.split_first() else {
-        return meets_turned(search.alloc, search.last, value, search.check, search.negated);
+        return meets_turned(
+            search.alloc,
+            search.last,
+            value,
+            search.check,
+            search.negated,
+        );
     };
     if let Some(at) = referred(search, last, step, value) {
         return finds_at(search, ends, step, rest, at);
@@ -78,10 +81,8 @@ fn some_finds(
     steps: &[Step],
     values: &[Json],
 ) -> Result<bool, NoMemory>
-    requires sound { IsSoundCheck search.now.check.now }
-    requires last { AreLast search.now steps.now }
+    requires before { StandsBefore search.now steps.now ends.old }
     requires ordered { All IsOrdered (data_in values.now) }
-    requires dead { AreDeadEnds search.now ends.old }
     ensures found { IfOk result (λ found. IsTrue found ↔ SomeFinds search.now (name_of last.entry) steps.now (data_in values.now)) }
     ensures dead { OnOk result (AreDeadEnds search.now ends.new) }
 {
@@ -103,9 +104,7 @@ fn finds_at(
     rest: &[Step],
     at: u32,
 ) -> Result<bool, NoMemory>
-    requires sound { IsSoundCheck search.now.check.now }
-    requires last { AreLast search.now (step.now ∷ rest.now) }
-    requires dead { AreDeadEnds search.now ends.old }
+    requires { StandsBefore search.now (step.now ∷ rest.now) ends.old }
     ensures found { IfOk result (λ found. IsTrue found ↔ FindsAt search.now (step.now ∷ rest.now) at) }
     ensures dead { OnOk result (AreDeadEnds search.now ends.new) }
 {

@@ -4,6 +4,7 @@ use Rattle.std.specs.Borrow.{Bor}
 use Rattle.serde_json.specs.Data.{Data}
 use Rattle.stix_bundles.specs.Objects.{data_in}
 use Rattle.pattern_types.specs.declared.path.Step.{Step}
+use Rattle.pattern_types.specs.Soundness.{IsSoundCheck}
 use Rattle.match_paths.specs.Selection.{Reaches}
 use Rattle.match_tests.specs.Tests.{Turned, Meets}
 use Rattle.match_tests.specs.declared.search.Search.{Search}
@@ -38,3 +39,9 @@ AreLast search steps = (front : List Step) × (search.steps.now ≡ front ++ ste
 abbrev pub AreDeadEnds : Search → DeadEnds → Type 0
 AreDeadEnds search ends = (step : Step) (rest : List Step) (at : ℕ) → AreLast search (step ∷ rest)
     → Has ends (length rest) at → ¬ FindsAt search (step ∷ rest) at
+
+-- the search stands before these last steps of its path, and its dead ends are such
+pub record StandsBefore (search : Search) (steps : List Step) (ends : DeadEnds) : Type 0 where
+  pub sound : IsSoundCheck search.check.now
+  pub last : AreLast search steps
+  pub dead : AreDeadEnds search ends

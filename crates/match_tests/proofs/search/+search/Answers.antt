@@ -22,18 +22,19 @@ finds-returns-in-Some-referred-clause-found t c =
     let here = c.in-Some-referred.ensures c.in-Some.rest.now in
     ok_same c.finds_at.result
     (subst (λ (steps : List Step). FindsAt search (c.in-Some.step.now ∷ c.in-Some.rest.now) c.in-Some-referred.at ↔ Finds search last steps value)
-     (sym c.in-Some.ensures.cases.0) (here.1, here.0)) c.finds_at.ensures.found
+    (sym c.in-Some.ensures.cases.0) (here.1, here.0)) c.finds_at.ensures.found
 
 pub finds-some_finds-requires : goal.finds-some_finds-requires
 finds-some_finds-requires t c =
-    let rest = last_rest c.args.search.now c.in-Some.step.now c.in-Some.rest.now (subst (AreLast c.args.search.now) c.in-Some.ensures.cases.0 c.requires.last) in
-    (omega (arith, ap length c.in-Some.ensures.cases.0), (c.requires.sound, (rest, (c.selected-values.ensures.ordered, c.requires.dead))))
+    let before = c.requires.before in
+    let rest = last_rest c.args.search.now c.in-Some.step.now c.in-Some.rest.now (subst (AreLast c.args.search.now) c.in-Some.ensures.cases.0 before.last) in
+    (omega (arith, ap length c.in-Some.ensures.cases.0), (record { sound = before.sound; last = rest; dead = before.dead }, c.selected-values.ensures.ordered))
 
 pub finds-returns-clause-found : goal.finds-returns-clause-found
 finds-returns-clause-found t c =
     ok_same c.some_finds.result
     (finds_next c.args.search.now (name_of c.args.last) (data_of c.args.value.now) c.args.steps.now c.in-Some.step.now c.in-Some.rest.now _ (data_in c.selected-values.result.now)
-     c.in-Some.ensures.cases.0 c.name_behind.ensures c.selected-values.ensures.reached) c.some_finds.ensures.found
+    c.in-Some.ensures.cases.0 c.name_behind.ensures c.selected-values.ensures.reached) c.some_finds.ensures.found
 
 pub finds_at-returns-then-has-clause-found : goal.finds_at-returns-then-has-clause-found
 finds_at-returns-then-has-clause-found t c =
@@ -42,7 +43,7 @@ finds_at-returns-then-has-clause-found t c =
 pub finds_at-some_finds-requires : goal.finds_at-some_finds-requires
 finds_at-some_finds-requires t c =
     let rest = last_rest c.args.search.now c.args.step.now c.args.rest.now c.requires.last in
-    (omega arith, (c.requires.sound, (rest, (c.selected-values.ensures.ordered, c.requires.dead))))
+    (omega arith, (record { sound = c.requires.sound; last = rest; dead = c.requires.dead }, c.selected-values.ensures.ordered))
 
 pub finds_at-returns-in_ok-add-clause-dead : goal.finds_at-returns-in_ok-add-clause-dead
 finds_at-returns-in_ok-add-clause-dead t c =
@@ -57,7 +58,7 @@ finds_at-returns-in_ok-add-clause-dead t c =
 pub some_finds-finds-requires : goal.some_finds-finds-requires
 some_finds-finds-requires t c =
     let ordered = ordered_tree c.args.values.now c.loop-value.value-index c.value-item.result c.loop-value-test.true c.value-item.is c.requires.ordered in
-    (omega arith, (c.requires.sound, (c.requires.last, (ordered, c.loop-value.invariant.0))))
+    (omega arith, (record { sound = c.requires.before.sound; last = c.requires.before.last; dead = c.loop-value.invariant.0 }, ordered))
 
 pub some_finds-returns-then-branch-clause-found : goal.some_finds-returns-then-branch-clause-found
 some_finds-returns-then-branch-clause-found t c =
