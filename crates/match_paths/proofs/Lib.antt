@@ -8,3 +8,4 @@ pub mod FitsLemmas
 pub mod WalkLemmas
 pub mod SomeSelectionLemmas
 pub mod TakenLemmas
+pub mod SelectedLemmas

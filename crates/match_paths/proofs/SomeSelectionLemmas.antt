@@ -13,6 +13,7 @@ use Rattle.pattern_types.specs.declared.path.Path.{Path}
 use Rattle.pattern_types.specs.declared.path.Step.{Step}
 use Rattle.pattern_types.specs.declared.path.Step.TheVariants.{Name, Place, Each}
 use Rattle.match_paths.specs.Selection.{EndsIn, IsReference, RefersTo, LeadsTo, by_property, members, StepSelects, last_name, Joined, StepsSelect, IsRoot, Selects}
+use Rattle.match_paths.specs.inner.PropertyOf.{property_of}
 use Rattle.match_paths.proofs.EndsInLemmas.{ends_exactly}
 use Rattle.match_paths.proofs.ReferenceLemmas.{OneMeaning, refers_exactly, leads_exactly}
 
@@ -43,20 +44,20 @@ some_place objects all None = (None, refl)
 some_place objects all (Some text) = all text
 
 some_reference : OneMeaning → (objects : List Data) → AllMean objects → (last : Option (List ℕ)) (value : Data)
-    → (meant : Option Data) × FindsExactly (RefersTo objects last value) meant
+    → (place : Option ℕ) × FindsExactly (RefersTo objects last value) place
 some_reference one objects all last value = elim (decide_reference last) [
-  | inr none ↦ (None, λ meant is. none is.named)
+  | inr none ↦ (None, λ at is. none is.named)
   | inl named ↦
       let place = some_place objects all (as_str value) in
-      (option_and_then (λ n. slice_get objects n) place.0, refers_exactly one objects last value place.0 named place.1)
+      (place.0, refers_exactly one objects last value place.0 named place.1)
 ]
 
 some_lead : OneMeaning → (objects : List Data) → AllMean objects → (last : Option (List ℕ)) (name : List ℕ) (value : Data) (own : Option Data) → get name value ≡ own
     → (found : Option Data) × FindsExactly (LeadsTo objects last name value) found
 some_lead one objects all last name value (Some found) is = (Some found, by_property is)
 some_lead one objects all last name value None is =
-    let meant = some_reference one objects all last value in
-    (option_and_then (get name) meant.0, leads_exactly one objects last name value meant.0 is meant.1)
+    let place = some_reference one objects all last value in
+    (option_and_then (property_of objects name) place.0, leads_exactly one objects last name value place.0 is place.1)
 
 some_step : OneMeaning → (objects : List Data) → AllMean objects → (last : Option (List ℕ)) (step : Step) (value : Data)
     → (values : List Data) × StepSelects objects last step value values

@@ -1,6 +1,7 @@
--- What an object path selects (STIX 2.1, section 9.7), from one object of a bundle on. A name leads to a property, and
--- from the text of a reference, whose name ends in `_ref` or `_refs`, to a property of the object that the text means.
-use Rattle.std.specs.Prelude.{◌≡◌, ◌⊎◌, ℕ, List, [], ◌∷◌, ◌++◌, Option, Some, None, MatchOption, slice_get, option_to_list, codes}
+-- What an object path selects (STIX 2.1, section 9.7), from one object of a bundle on: as a list, in order, and as a
+-- relation, whether a value is selected. A name leads to a property, and from the text of a reference, whose name ends
+-- in `_ref` or `_refs`, to a property of the object that the text means.
+use Rattle.std.specs.Prelude.{◌≡◌, ◌⊎◌, ℕ, List, [], ◌∷◌, ◌++◌, Option, Some, None, MatchOption, Contains, slice_get, option_to_list, codes}
 use Rattle.std.specs.Option.{option_map_or}
 use Rattle.serde_json.specs.Data.{Data}
 use Rattle.serde_json.specs.Find.{get, as_str, as_array}
@@ -21,20 +22,18 @@ abbrev pub IsReference : Option (List ℕ) → Type 0
 IsReference None = ⊥
 IsReference (Some name) = EndsIn (codes "_ref") name ⊎ EndsIn (codes "_refs") name
 
--- the text of a value, behind such a name, refers to the object
-pub record RefersTo (objects : List Data) (last : Option (List ℕ)) (value object : Data) : Type 0 where
+-- the text of a value, behind such a name, refers to the object at the place
+pub record RefersTo (objects : List Data) (last : Option (List ℕ)) (value : Data) (at : ℕ) : Type 0 where
   pub named : IsReference last
   pub text : List ℕ
   pub is_text : as_str value ≡ Some text
-  pub at : ℕ
   pub means : Means objects text (Some at)
-  pub there : slice_get objects at ≡ Some object
 
 -- a name leads to the property of an object, or of the object that a text refers to
 pub data LeadsTo (objects : List Data) (last : Option (List ℕ)) (name : List ℕ) (value : Data) : Data → Type 0 where
   by_property : {found : Data} → get name value ≡ Some found → LeadsTo objects last name value found
-  by_reference : {object found : Data} → RefersTo objects last value object → get name object ≡ Some found
-      → LeadsTo objects last name value found
+  by_reference : {at : ℕ} {object found : Data} → RefersTo objects last value at → slice_get objects at ≡ Some object
+      → get name object ≡ Some found → LeadsTo objects last name value found
 
 -- the members of a list; anything else has none
 abbrev pub members : Data → List Data
@@ -46,6 +45,12 @@ StepSelects objects last (Name name) value values = (found : Option Data)
     × FindsExactly (LeadsTo objects last name value) found × (values ≡ option_to_list found)
 StepSelects objects last (Place n) value values = values ≡ option_to_list (slice_get (members value) n)
 StepSelects objects last Each value values = values ≡ members value
+
+-- what one step reaches, from a value behind that last name
+abbrev pub StepReaches : List Data → Option (List ℕ) → Step → Data → Data → Type 0
+StepReaches objects last (Name name) value next = LeadsTo objects last name value next
+StepReaches objects last (Place n) value next = slice_get (members value) n ≡ Some next
+StepReaches objects last Each value next = Contains (members value) next
 
 -- the last name behind a step
 abbrev pub last_name : Option (List ℕ) → Step → Option (List ℕ)
@@ -64,6 +69,12 @@ StepsSelect objects last [] value values = values ≡ value ∷ []
 StepsSelect objects last (step ∷ steps) value values = (next : List Data) × StepSelects objects last step value next
     × Joined (StepsSelect objects (last_name last step) steps) next values
 
+-- what the steps reach
+abbrev pub Reaches : List Data → Option (List ℕ) → List Step → Data → Data → Type 0
+Reaches objects last [] value found = found ≡ value
+Reaches objects last (step ∷ steps) value found = (next : Data) × StepReaches objects last step value next
+    × Reaches objects (last_name last step) steps next found
+
 -- the object at the position, which has the path's type
 pub record IsRoot (objects : List Data) (root : ℕ) (kind : List ℕ) (object : Data) : Type 0 where
   pub there : slice_get objects root ≡ Some object
@@ -73,3 +84,9 @@ pub record IsRoot (objects : List Data) (root : ℕ) (kind : List ℕ) (object :
 abbrev pub Selects : List Data → ℕ → Path → List Data → Type 0
 Selects objects root path values = (found : Option Data) × FindsExactly (IsRoot objects root path.kind) found
     × MatchOption found (values ≡ []) (λ object. StepsSelect objects None path.steps object values)
+
+-- a path selects the value from the object at a position
+pub record IsSelected (objects : List Data) (root : ℕ) (path : Path) (value : Data) : Type 0 where
+  pub object : Data
+  pub is_root : IsRoot objects root path.kind object
+  pub reached : Reaches objects None path.steps object value

@@ -1,5 +1,5 @@
 use arrayvec::ArrayVec;
-use pattern_types::Step;
+use pattern_types::{MAX_STEPS, Step};
 use stix_json::Json;
 
 /// Values that are yet to be visited, and the steps that lead on from each of them.
@@ -21,5 +21,8 @@ impl Default for Frame<'_> {
     }
 }
 
-/// The frames of a walk, the deepest last: one for the root, and one for each of 16 steps.
-pub(crate) type Frames<'a> = ArrayVec<Frame<'a>, 17>;
+/// How many frames a walk has at most: one for the root, and one for each step.
+const MAX_FRAMES: usize = MAX_STEPS + 1;
+
+/// The frames of a walk, the deepest last.
+pub(crate) type Frames<'a> = ArrayVec<Frame<'a>, MAX_FRAMES>;

@@ -6,8 +6,8 @@ ghost use Rattle.stix_bundles.specs.Objects.{data_in};
 use stix_bundles::Bundle;
 use stix_json::Json;
 
-/// The object at a position, which is ordered.
-pub(crate) fn object_at(bundle: &Bundle, at: u32) -> Option<&Json>
+/// The object at a position, which is ordered. Takes no memory.
+pub fn object_at(bundle: &Bundle, at: u32) -> Option<&Json>
     ensures value { option_map (λ tree. data_of tree.now) result ≡ slice_get (data_in bundle.now) at }
     ensures ordered { IfSome result (λ tree. IsOrdered (data_of tree.now)) }
 {

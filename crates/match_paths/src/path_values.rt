@@ -1,7 +1,8 @@
-ghost use Rattle.std.specs.Prelude.{◌≡◌, ◌↔◌, ◌≤◌, List, length};
+ghost use Rattle.std.specs.Prelude.{◌↔◌, List};
 ghost use Rattle.std.specs.Iterator.{at_most};
 ghost use Rattle.serde_json.specs.Data.{Data};
 ghost use Rattle.stix_bundles.specs.Objects.{data_in};
+ghost use Rattle.pattern_types.specs.Soundness.{IsShort};
 ghost use Rattle.match_paths.specs.Selection.{Selects};
 ghost use Rattle.match_paths.specs.Remaining.{Left, IsReady, Gives, most_left};
 
@@ -35,10 +36,9 @@ impl<'a> Iterator for PathValues<'a> {
     }
 }
 
-/// The values that a path of at most 16 steps selects from the object at a position on. Takes no
-/// memory.
+/// The values that a path selects from the object at a position on. Takes no memory.
 pub fn values<'a>(bundle: &'a Bundle, root: u32, path: &'a Path) -> PathValues<'a>
-    requires { length path.now.steps ≤ 16 }
+    requires { IsShort path.now }
     ensures ready { IsReady result }
     ensures all { (values : List Data) → Left result values ↔ Selects (data_in bundle.now) root path.now values }
 {

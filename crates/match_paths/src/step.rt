@@ -1,12 +1,15 @@
-ghost use Rattle.std.specs.Prelude.{◌≡◌, ◌↔◌, ◌<◌, ◌≤◌, ◌^◌, IsTrue, None, MatchOption, IfSome, All, length, option_map, option_to_list, slice_get};
+ghost use Rattle.std.specs.Prelude.{◌≡◌, ◌↔◌, ◌<◌, ◌≤◌, ◌^◌, None, MatchOption, IfSome, All, Contains, length, option_map, option_to_list, slice_get};
+ghost use Rattle.serde_json.specs.Data.{Data};
 ghost use Rattle.serde_json.specs.Find.{as_str};
 ghost use Rattle.flow_values.specs.Answers.{FindsExactly};
 ghost use Rattle.stix_json.specs.DataOf.{data_of};
 ghost use Rattle.stix_json.specs.Ordered.{IsOrdered};
 ghost use Rattle.stix_bundles.specs.Objects.{data_in};
 ghost use Rattle.stix_bundles.specs.Lookup.{Means};
-ghost use Rattle.match_paths.specs.Selection.{EndsIn, IsReference, RefersTo, LeadsTo, members, StepSelects};
+ghost use Rattle.match_paths.specs.Selection.{RefersTo, LeadsTo, members, StepSelects, StepReaches};
+ghost use Rattle.match_paths.specs.inner.PropertyOf.{property_of};
 
+use crate::name::is_reference;
 use crate::object::{object_at, value_at};
 use pattern_types::Step;
 use std::slice;
@@ -15,13 +18,26 @@ use stix_bundles::{Bundle, find};
 use stix_json::laws::ordered_parts;
 use stix_json::{Json, get_ordered, list_of};
 
-/// What one step selects from a value, behind that last name.
-pub(crate) fn selected<'a>(
+/// What one step selects from a value, behind that last name, in order. Takes no memory.
+pub fn selected<'a>(
     bundle: &'a Bundle,
     last: Option<&str>,
     step: &Step,
     value: &'a Json,
 ) -> &'a [Json]
+    requires { IsOrdered (data_of value.now) }
+    ensures all { StepSelects (data_in bundle.now) (option_map (λ name. name.now) last.entry) step.now (data_of value.now) (data_in result.now) }
+    ensures reached { (next : Data) → Contains (data_in result.now) next
+        ↔ StepReaches (data_in bundle.now) (option_map (λ name. name.now) last.entry) step.now (data_of value.now) next }
+    ensures ordered { All IsOrdered (data_in result.now) }
+    ensures counted { length result.now < 2 ^ 64 }
+{
+    one_meaning();
+    listed(bundle, last, step, value)
+}
+
+/// The same, of which no more is said than the list that it is.
+fn listed<'a>(bundle: &'a Bundle, last: Option<&str>, step: &Step, value: &'a Json) -> &'a [Json]
     requires { IsOrdered (data_of value.now) }
     ensures all { StepSelects (data_in bundle.now) (option_map (λ name. name.now) last.entry) step.now (data_of value.now) (data_in result.now) }
     ensures ordered { All IsOrdered (data_in result.now) }
@@ -85,26 +101,33 @@ fn named<'a>(
     one_meaning();
     match get_ordered(value, name) {
         Some(found) => Some(found),
-        None => match referred(bundle, last, value) {
-            Some(object) => get_ordered(object, name),
+        None => match reference(bundle, last, value) {
+            Some(at) => property_at(bundle, at, name),
             None => None,
         },
     }
 }
 
-/// The object that a value refers to, behind that last name.
-fn referred<'a>(bundle: &'a Bundle, last: Option<&str>, value: &Json) -> Option<&'a Json>
-    ensures found { FindsExactly (RefersTo (data_in bundle.now) (option_map (λ name. name.now) last.entry) (data_of value.now))
-        (option_map (λ tree. data_of tree.now) result) }
+/// The property of the object at a position.
+fn property_at<'a>(bundle: &'a Bundle, at: u32, name: &str) -> Option<&'a Json>
+    ensures found { option_map (λ tree. data_of tree.now) result ≡ property_of (data_in bundle.now) name.now at }
     ensures ordered { IfSome result (λ tree. IsOrdered (data_of tree.now)) }
 {
-    one_meaning();
-    if !is_reference(last) {
-        return None;
-    }
-    match place_of(bundle, value) {
-        Some(at) => object_at(bundle, at),
+    match object_at(bundle, at) {
+        Some(object) => get_ordered(object, name),
         None => None,
+    }
+}
+
+/// The position of the object that a value refers to, behind that last name. Takes no memory.
+pub fn reference(bundle: &Bundle, last: Option<&str>, value: &Json) -> Option<u32>
+    ensures { FindsExactly (RefersTo (data_in bundle.now) (option_map (λ name. name.now) last.entry) (data_of value.now)) result }
+{
+    one_meaning();
+    if is_reference(last) {
+        place_of(bundle, value)
+    } else {
+        None
     }
 }
 
@@ -117,21 +140,4 @@ fn place_of(bundle: &Bundle, value: &Json) -> Option<u32>
         Json::String(text) => find(bundle, text.as_str()),
         Json::Bool(_) | Json::Integer(_) | Json::Array(_) | Json::Object(_) => None,
     }
-}
-
-/// Whether a last name is that of a reference, or of a list of them.
-fn is_reference(last: Option<&str>) -> bool
-    ensures { IsTrue result ↔ IsReference (option_map (λ name. name.now) last.entry) }
-{
-    match last {
-        Some(name) => ends_in(name, "_ref") || ends_in(name, "_refs"),
-        None => false,
-    }
-}
-
-/// Whether a name ends so.
-fn ends_in(name: &str, suffix: &str) -> bool
-    ensures { IsTrue result ↔ EndsIn suffix.now name.now }
-{
-    name.as_bytes().ends_with(suffix.as_bytes())
 }

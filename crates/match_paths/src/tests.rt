@@ -1,6 +1,6 @@
 use crate::values;
 use flow_values::{Items, NoMemory, Text};
-use pattern_types::{Path, Step};
+use pattern_types::{MAX_STEPS, Path, Step};
 use std::alloc::Global;
 use std::test::Fail;
 use stix_bundles::{Bundle, read_bundle};
@@ -32,7 +32,7 @@ fn path(alloc: Global, kind: &str, words: &[&str]) -> Result<Path, NoMemory> {
 
 /// The integers that a path selects as the digits of a number, with a 9 for each other value.
 fn told(bundle: &Bundle, root: u32, path: &Path) -> i64 {
-    if path.steps.len() > 16 {
+    if path.steps.len() > MAX_STEPS {
         return -1;
     }
     let mut told = 0i64;

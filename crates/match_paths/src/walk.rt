@@ -1,14 +1,13 @@
-ghost use Rattle.std.specs.Prelude.{◌≡◌, ◌↔◌, ◌<◌, [], ◌∷◌, IfSome, IfNone, List, reverse, option_map};
+ghost use Rattle.std.specs.Prelude.{◌↔◌, ◌<◌, [], ◌∷◌, IfSome, IfNone, List, reverse};
 ghost use Rattle.serde_json.specs.Data.{Data};
 ghost use Rattle.stix_json.specs.DataOf.{data_of};
 ghost use Rattle.stix_bundles.specs.Objects.{data_in};
-ghost use Rattle.match_paths.specs.Selection.{last_name};
 ghost use Rattle.match_paths.specs.Remaining.{Follows};
 ghost use Rattle.match_paths.specs.inner.Frames.{LeftIn, Fits, weight};
 
 use crate::frame::{Frame, Frames};
+use crate::name::name_behind;
 use crate::step::selected;
-use pattern_types::Step;
 use stix_bundles::Bundle;
 use stix_bundles::laws::one_meaning;
 use stix_json::Json;
@@ -60,14 +59,4 @@ fn visit<'a>(bundle: &'a Bundle, frame: Frame<'a>, frames: &mut Frames<'a>) -> O
         values: selected(bundle, frame.last, step, value),
     });
     None
-}
-
-/// The last name behind a step.
-fn name_behind<'a>(last: Option<&'a str>, step: &'a Step) -> Option<&'a str>
-    ensures { option_map (λ name. name.now) result ≡ last_name (option_map (λ name. name.now) last.entry) step.now }
-{
-    match step {
-        Step::Name(name) => Some(name.as_str()),
-        Step::Place(_) | Step::Each => last,
-    }
 }

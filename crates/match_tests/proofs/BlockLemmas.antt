@@ -1,24 +1,34 @@
--- How the blocks of a value and of words stand, by what they are found to be.
+-- Whether the block whose text a value is stands so, by what it is found to be.
 use Rattle.std.proofs.Common.{◌≡◌, ◌↔◌, ℕ, List, Option, Some, None, Bool, false, IsTrue, sym, subst, ◌∙◌}
 use Rattle.std.proofs.lemmas.Bool.{false≢true}
 use Rattle.std.proofs.lemmas.Option.{none-some, same_Some}
 use Rattle.serde_json.specs.Data.{Data}
+use Rattle.serde_json.specs.Find.{as_str}
 use Rattle.match_cidr.specs.declared.block.Block.{Block}
-use Rattle.match_tests.specs.Tests.{AreTexts, AreBlocks}
+use Rattle.match_cidr.specs.BlockText.{IsBlockText}
+use Rattle.match_tests.specs.Tests.{IsBlockOf}
 
-module _ (Stand : Block → Block → Type 0) (value : Data) (words : List ℕ) (found : Option (Block × Block))
-    (exact : (block other : Block) → (found ≡ Some (block, other)) ↔ AreTexts value words block other) where
-  pub blocks_stand : (block other : Block) (answer : Bool) → found ≡ Some (block, other) → IsTrue answer ↔ Stand block other
-      → IsTrue answer ↔ AreBlocks Stand value words
-  blocks_stand block other answer is stand = (
-    λ yes. (block, other, (exact block other).0 is, stand.0 yes),
-    λ h.
-        let same = same_Some (h.0, h.1) (block, other) (sym ((exact h.0 h.1).1 h.2) ∙ is) in
-        stand.1 (subst (λ (pair : Block × Block). Stand pair.0 pair.1) same h.3),
+-- the value is the text of a block that stands so
+abbrev IsBlockThat : (Block → Type 0) → Data → Type 0
+IsBlockThat Stands value = (block : Block) × IsBlockOf value block × Stands block
+
+module _ (Stands : Block → Type 0) (value : Data) (found : Option Block) (exact : (block : Block) → (found ≡ Some block) ↔ IsBlockOf value block) where
+  pub block_stands : (block : Block) (answer : Bool) → found ≡ Some block → IsTrue answer ↔ Stands block → IsTrue answer ↔ IsBlockThat Stands value
+  block_stands block answer is stands = (
+    λ yes. (block, (exact block).0 is, stands.0 yes),
+    λ h. stands.1 (subst Stands (same_Some h.0 block (sym ((exact h.0).1 h.1) ∙ is)) h.2),
   )
 
-  pub no_blocks : found ≡ None → IsTrue false ↔ AreBlocks Stand value words
-  no_blocks is = (
+  pub no_block : found ≡ None → IsTrue false ↔ IsBlockThat Stands value
+  no_block is = (
     λ yes. absurd (false≢true yes),
-    λ h. absurd (none-some (h.0, h.1) (sym is ∙ (exact h.0 h.1).1 h.2)),
+    λ h. absurd (none-some h.0 (sym is ∙ (exact h.0).1 h.1)),
   )
+
+-- the block of a text
+pub block_of_text : (text : List ℕ) (value : Data) (found : Option Block) → Some text ≡ as_str value
+    → ((block : Block) → (found ≡ Some block) ↔ IsBlockText text block) → (block : Block) → (found ≡ Some block) ↔ IsBlockOf value block
+block_of_text text value found is exact block = (
+  λ e. (text, sym is, (exact block).0 e),
+  λ h. (exact block).1 (subst (λ (t : List ℕ). IsBlockText t block) (same_Some h.0 text (sym h.1 ∙ sym is)) h.2),
+)

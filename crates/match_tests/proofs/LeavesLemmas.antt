@@ -4,7 +4,8 @@ use Rattle.serde_json.specs.Data.{Data}
 use Rattle.pattern_types.specs.declared.leaf.Leaf.{Leaf, Row_of-Leaf, end_of-Leaf, more_of-Leaf, items-the_row-Leaf, the_lemmas}
 use Rattle.pattern_types.specs.declared.leaf.Leaf.TheVariants as leaf
 use Rattle.pattern_types.specs.PlainLeaf.{PlainLeaf, every, some, more, plain_leaf, plain_leaves, listed}
-use Rattle.match_tests.specs.Tests.{HoldsAt, AllHold, SomeHold, AreShortAt, AreShort}
+use Rattle.pattern_types.specs.Soundness.{IsSoundLeaf, AreSoundLeaves}
+use Rattle.match_tests.specs.Tests.{HoldsAt, AllHold, SomeHold}
 
 plain_leaves-items : {m : _} (k : Row_of-Leaf m) → plain_leaves k ≡ listed (items-the_row-Leaf _ k)
 plain_leaves-items end_of-Leaf = refl
@@ -16,12 +17,12 @@ every_of parts = search (rules, the_lemmas, plain_leaves-items)
 some_of : (parts : List Leaf) → some (listed parts) ≡ plain_leaf (leaf.Any parts)
 some_of parts = search (rules, the_lemmas, plain_leaves-items)
 
--- the parts of a short leaf are short
-pub short_all : (parts : List Leaf) → AreShortAt (plain_leaf (leaf.All parts)) → AreShort (listed parts)
-short_all parts short = subst AreShortAt (sym (every_of parts)) short
+-- the parts of a sound leaf are sound
+pub sound_all : (parts : List Leaf) → IsSoundLeaf (plain_leaf (leaf.All parts)) → AreSoundLeaves (listed parts)
+sound_all parts sound = let all = subst IsSoundLeaf (sym (every_of parts)) sound in all.1
 
-pub short_any : (parts : List Leaf) → AreShortAt (plain_leaf (leaf.Any parts)) → AreShort (listed parts)
-short_any parts short = subst AreShortAt (sym (some_of parts)) short
+pub sound_any : (parts : List Leaf) → IsSoundLeaf (plain_leaf (leaf.Any parts)) → AreSoundLeaves (listed parts)
+sound_any parts sound = subst IsSoundLeaf (sym (some_of parts)) sound
 
 -- what holds of the parts holds of their leaf
 pub ok_all : {E : Type 0} (r : Result Bool E) (objects : List Data) (root : ℕ) (parts : List Leaf)

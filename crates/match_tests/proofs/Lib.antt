@@ -3,3 +3,5 @@ pub mod FoundLemmas
 pub mod BlockLemmas
 pub mod MetLemmas
 pub mod LeavesLemmas
+pub mod SearchLemmas
+pub mod DeadEndsLemmas

@@ -1,6 +1,6 @@
 -- Whether a comparison holds for values, and what stands in a bracket for an observation (STIX 2.1, section 9.6). `last`
 -- is the last property name of a path.
-use Rattle.std.specs.Prelude.{◌≡◌, ◌⊎◌, ⊤, ℕ, ◌≤◌, ℤ, Bool, true, false, IsTrue, List, [], length, fold, Contains, Option, Some, None, Ok, codes}
+use Rattle.std.specs.Prelude.{◌≡◌, ◌⊎◌, ⊤, ℕ, ℤ, Bool, true, false, IsTrue, List, fold, Contains, Option, Some, None, Ok, codes}
 use Rattle.std.specs.Str.{chars}
 use Rattle.std.specs.Ordering.{nat_cmp, int_cmp, bool_cmp}
 use Rattle.std.specs.Cmp.Lexicographic.{slice_cmp}
@@ -23,7 +23,7 @@ use Rattle.match_like.specs.Like.{IsLike}
 use Rattle.match_cidr.specs.declared.block.Block.{Block}
 use Rattle.match_cidr.specs.Block.{IsWithin}
 use Rattle.match_cidr.specs.BlockText.{IsBlockText}
-use Rattle.match_paths.specs.Selection.{EndsIn, last_name, IsRoot, Selects}
+use Rattle.match_paths.specs.Selection.{EndsIn, last_name, IsRoot, IsSelected}
 
 -- the last property name of a path
 abbrev pub last_of : Path → Option (List ℕ)
@@ -51,13 +51,9 @@ Compares last value (Timestamp instant) order = (text : List ℕ) × (i : ℤ) �
 Compares last value (Hex bytes) order = BytesCompare last value bytes order
 Compares last value (Binary bytes) order = BytesCompare last value bytes order
 
--- the value and the words are texts of the blocks
-abbrev pub AreTexts : Data → List ℕ → Block → Block → Type 0
-AreTexts value words block other = (text : List ℕ) × (as_str value ≡ Some text) × IsBlockText text block × IsBlockText words other
-
--- the value and the words are texts of blocks that stand so to one another
-abbrev pub AreBlocks : (Block → Block → Type 0) → Data → List ℕ → Type 0
-AreBlocks Stand value words = (block other : Block) × AreTexts value words block other × Stand block other
+-- the value is the text of the block
+abbrev pub IsBlockOf : Data → Block → Type 0
+IsBlockOf value block = (text : List ℕ) × (as_str value ≡ Some text) × IsBlockText text block
 
 -- the value meets the check: one line for each operator
 abbrev pub Meets : Option (List ℕ) → Data → Check → Type 0
@@ -69,8 +65,8 @@ Meets last value (Greater constant) = Compares last value constant order.Greater
 Meets last value (GreaterEqual constant) = Compares last value constant order.Greater ⊎ Compares last value constant order.Equal
 Meets last value (Among constants) = (constant : Constant) × Contains constants constant × Compares last value constant order.Equal
 Meets last value (Like pattern) = (text : List ℕ) × (as_str value ≡ Some text) × IsLike (chars text) (chars pattern)
-Meets last value (Subset words) = AreBlocks (λ inner outer. IsWithin inner outer) value words
-Meets last value (Superset words) = AreBlocks (λ outer inner. IsWithin inner outer) value words
+Meets last value (Subset address) = (block : Block) × IsBlockOf value block × IsWithin block address.block
+Meets last value (Superset address) = (block : Block) × IsBlockOf value block × IsWithin address.block block
 Meets last value Exists = ⊤
 
 -- NOT turns a fact
@@ -86,23 +82,17 @@ MeetsTest last value test = Turned test.negated (Meets last value test.check)
 abbrev pub IsAbsence : Test → Type 0
 IsAbsence test = (test.check ≡ Exists) × IsTrue test.negated
 
--- some of the values meet the test
-abbrev pub SomeMeets : Test → List Data → Type 0
-SomeMeets test values = (value : Data) × Contains values value × MeetsTest (last_of test.path) value test
+-- the path selects some value that meets the test
+abbrev pub SomeMeets : List Data → ℕ → Test → Type 0
+SomeMeets objects root test = (value : Data) × IsSelected objects root test.path value × MeetsTest (last_of test.path) value test
 
--- NOT EXISTS asks that there are no values, and any other test that some value meets it
-abbrev pub AreMet : Test → List Data → Type 0
-AreMet test values = (IsAbsence test × (values ≡ [])) ⊎ ((¬ IsAbsence test) × SomeMeets test values)
-
--- the fact holds of what the path selects
-abbrev pub SelectsSo : (List Data → Type 0) → List Data → ℕ → Path → Type 0
-SelectsSo Fact objects root path = (values : List Data) × Selects objects root path values × Fact values
-
--- the object at the position has the path's type, and what the path selects from it meets the test
+-- the object at the position has the path's type, and for NOT EXISTS the path selects nothing, for any other test some
+-- value that meets it
 pub record TestHolds (objects : List Data) (root : ℕ) (test : Test) : Type 0 where
   pub object : Data
   pub is_root : IsRoot objects root test.path.kind object
-  pub met : SelectsSo (AreMet test) objects root test.path
+  pub nothing : IsAbsence test → (value : Data) → ¬ IsSelected objects root test.path value
+  pub something : (¬ IsAbsence test) → SomeMeets objects root test
 
 -- one root meets a whole expression: each part of AND, and some part of OR
 abbrev mutual
@@ -122,18 +112,3 @@ abbrev mutual
 -- a bracket holds for an observation where one of its roots meets the whole of it: not one root for each test
 abbrev pub LeafHolds : List Data → List ℕ → PlainLeaf → Type 0
 LeafHolds objects roots leaf = (root : ℕ) × Contains roots root × HoldsAt objects root leaf
-
--- a path of a test has at most 16 steps
-abbrev pub IsShort : Test → Type 0
-IsShort test = length test.path.steps ≤ 16
-
--- each test of a leaf is short
-abbrev mutual
-  pub AreShortAt : PlainLeaf → Type 0
-  AreShortAt (one test) = IsShort test
-  AreShortAt (every parts) = AreShort parts
-  AreShortAt (some parts) = AreShort parts
-
-  pub AreShort : PlainLeaves → Type 0
-  AreShort none = ⊤
-  AreShort (more part parts) = AreShortAt part × AreShort parts

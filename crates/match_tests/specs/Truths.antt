@@ -2,7 +2,7 @@
 use Rattle.std.specs.Prelude.{◌≡◌, ◌↔◌, ℕ, Bool, IsTrue, List, [], ◌∷◌, ◌++◌}
 use Rattle.serde_json.specs.Data.{Data}
 use Rattle.pattern_types.specs.PlainPattern.{PlainPattern, a_leaf, a_both, an_either, a_then, a_limited}
-use Rattle.match_tests.specs.Tests.{LeafHolds, AreShortAt}
+use Rattle.match_tests.specs.Tests.{LeafHolds}
 
 -- those of the left side, and then those of the right
 abbrev pub AreOfBoth : (List Bool → Type 0) → (List Bool → Type 0) → List Bool → Type 0
@@ -15,14 +15,6 @@ AreTruths objects roots (a_both left right) truths = AreOfBoth (AreTruths object
 AreTruths objects roots (an_either left right) truths = AreOfBoth (AreTruths objects roots left) (AreTruths objects roots right) truths
 AreTruths objects roots (a_then left right) truths = AreOfBoth (AreTruths objects roots left) (AreTruths objects roots right) truths
 AreTruths objects roots (a_limited part limit) truths = AreTruths objects roots part truths
-
--- each test of a pattern is short
-abbrev pub AreShortIn : PlainPattern → Type 0
-AreShortIn (a_leaf leaf) = AreShortAt leaf
-AreShortIn (a_both left right) = AreShortIn left × AreShortIn right
-AreShortIn (an_either left right) = AreShortIn left × AreShortIn right
-AreShortIn (a_then left right) = AreShortIn left × AreShortIn right
-AreShortIn (a_limited part limit) = AreShortIn part
 
 -- truths of which the fact holds are added at the end
 abbrev pub Adds : (List Bool → Type 0) → List Bool → List Bool → Type 0

@@ -2,37 +2,40 @@ ghost use Rattle.std.specs.Prelude.{◌≡◌, ◌↔◌, Some, IfSome, IsTrue};
 ghost use Rattle.match_cidr.specs.Block.{IsValid, IsWithin};
 ghost use Rattle.match_cidr.specs.declared.block.Block.{Block};
 ghost use Rattle.stix_json.specs.DataOf.{data_of};
-ghost use Rattle.match_tests.specs.Tests.{AreTexts, AreBlocks};
+ghost use Rattle.match_tests.specs.Tests.{IsBlockOf};
 
 use match_cidr::{Block, read_block, within};
 use stix_json::{Json, text_of};
 
-/// The blocks of a value and of words, where both are texts of blocks.
-fn blocks_of(value: &Json, words: &str) -> Option<(Block, Block)>
-    ensures exact { (block other : Block) → (result ≡ Some (block, other)) ↔ AreTexts (data_of value.now) words.now block other }
-    ensures valid { IfSome result (λ (block, other). IsValid block × IsValid other) }
+/// The block whose text a value is.
+fn block_of(value: &Json) -> Option<Block>
+    ensures exact { (block : Block) → (result ≡ Some block) ↔ IsBlockOf (data_of value.now) block }
+    ensures valid { IfSome result IsValid }
 {
-    let block = read_block(text_of(value)?)?;
-    let other = read_block(words)?;
-    Some((block, other))
+    match text_of(value) {
+        Some(text) => read_block(text),
+        None => None,
+    }
 }
 
-/// Whether the value is a block that lies in that of the words.
-pub(crate) fn lies_in(value: &Json, words: &str) -> bool
-    ensures { IsTrue result ↔ AreBlocks (λ inner outer. IsWithin inner outer) (data_of value.now) words.now }
+/// Whether a value is the text of a block that lies in that one.
+pub(crate) fn lies_in(value: &Json, outer: &Block) -> bool
+    requires { IsValid outer.now }
+    ensures { IsTrue result ↔ ((block : Block) × IsBlockOf (data_of value.now) block × IsWithin block outer.now) }
 {
-    let Some((block, other)) = blocks_of(value, words) else {
-        return false;
-    };
-    within(&block, &other)
+    match block_of(value) {
+        Some(block) => within(&block, outer),
+        None => false,
+    }
 }
 
-/// Whether the value is a block in which that of the words lies.
-pub(crate) fn holds_block(value: &Json, words: &str) -> bool
-    ensures { IsTrue result ↔ AreBlocks (λ outer inner. IsWithin inner outer) (data_of value.now) words.now }
+/// Whether a value is the text of a block in which that one lies.
+pub(crate) fn holds_block(value: &Json, inner: &Block) -> bool
+    requires { IsValid inner.now }
+    ensures { IsTrue result ↔ ((block : Block) × IsBlockOf (data_of value.now) block × IsWithin inner.now block) }
 {
-    let Some((block, other)) = blocks_of(value, words) else {
-        return false;
-    };
-    within(&other, &block)
+    match block_of(value) {
+        Some(block) => within(inner, &block),
+        None => false,
+    }
 }

@@ -1,14 +1,14 @@
-ghost use Rattle.std.specs.Prelude.{◌≡◌, ◌↔◌, List, ℕ, Some, Ok, IfOk, IsTrue, option_map, codes};
+ghost use Rattle.std.specs.Prelude.{◌≡◌, ◌↔◌, List, ℕ, Some, Ok, IfOk, option_map};
 ghost use Rattle.hex.specs.Hex.{decode_of};
 ghost use Rattle.base64.specs.Engines.{standard};
 ghost use Rattle.base64.specs.GeneralPurpose.{encode_of, IsBytes};
-ghost use Rattle.match_paths.specs.Selection.{EndsIn};
 ghost use Rattle.match_tests.specs.Tests.{IsBytesOf};
 
 use base64::DecodeAllocError;
 use base64::engine::general_purpose::STANDARD;
 use flow_values::{Items, NoMemory};
 use hex::FromHexError;
+use match_paths::ends_in;
 use std::alloc::Global;
 
 /// The bytes that a text stands for, by the name of its property.
@@ -51,11 +51,4 @@ fn binary_of(alloc: Global, text: &str) -> Result<Option<Items<u8>>, NoMemory>
         Err(DecodeAllocError::OutOfMemory) => Err(NoMemory),
         Err(DecodeAllocError::DecodeError(_)) => Ok(None),
     }
-}
-
-/// Whether a name ends so.
-fn ends_in(name: &str, suffix: &str) -> bool
-    ensures { IsTrue result ↔ EndsIn suffix.now name.now }
-{
-    name.as_bytes().ends_with(suffix.as_bytes())
 }

@@ -2,32 +2,36 @@ ghost use Rattle.std.specs.Prelude.{◌↔◌, ◌⊎◌, List, ℕ, Option, IfO
 ghost use Rattle.std.specs.declared.cmp.Ordering.TheVariants.{Equal};
 ghost use Rattle.stix_json.specs.DataOf.{data_of};
 ghost use Rattle.pattern_types.specs.declared.check.Check.TheVariants.{Among, Like};
-ghost use Rattle.match_tests.specs.Tests.{Compares, Meets, MeetsTest};
+ghost use Rattle.pattern_types.specs.Soundness.{IsSoundCheck};
+ghost use Rattle.match_tests.specs.Tests.{Compares, Meets, Turned};
 
 use crate::block::{holds_block, lies_in};
 use crate::compare::compared;
 use flow_values::NoMemory;
 use match_like::like;
-use pattern_types::{Check, Constant, Test};
+use pattern_types::{Check, Constant};
 use std::alloc::Global;
 use std::cmp::Ordering;
 use stix_json::{Json, text_of};
 
-/// Whether a value meets a test, behind that last name.
-pub(crate) fn meets_test(
+/// Whether a value meets a check, behind that last name; of a negated one, whether it doesn't.
+pub(crate) fn meets_turned(
     alloc: Global,
     last: Option<&str>,
     value: &Json,
-    test: &Test,
+    check: &Check,
+    negated: bool,
 ) -> Result<bool, NoMemory>
-    ensures { IfOk result (λ met. IsTrue met ↔ MeetsTest (option_map (λ name. name.now) last.entry) (data_of value.now) test.now) }
+    requires { IsSoundCheck check.now }
+    ensures { IfOk result (λ met. IsTrue met ↔ Turned negated (Meets (option_map (λ name. name.now) last.entry) (data_of value.now) check.now)) }
 {
-    let met = meets(alloc, last, value, &test.check)?;
-    if test.negated { Ok(!met) } else { Ok(met) }
+    let met = meets(alloc, last, value, check)?;
+    if negated { Ok(!met) } else { Ok(met) }
 }
 
 /// Whether a value meets a check, behind that last name.
 fn meets(alloc: Global, last: Option<&str>, value: &Json, check: &Check) -> Result<bool, NoMemory>
+    requires { IsSoundCheck check.now }
     ensures { IfOk result (λ met. IsTrue met ↔ Meets (option_map (λ name. name.now) last.entry) (data_of value.now) check.now) }
 {
     match check {
@@ -39,8 +43,8 @@ fn meets(alloc: Global, last: Option<&str>, value: &Json, check: &Check) -> Resu
         Check::GreaterEqual(constant) => reaches(alloc, last, value, constant, Ordering::Greater),
         Check::Among(constants) => equals_some(alloc, last, value, constants.as_slice()),
         Check::Like(pattern) => Ok(is_like(value, pattern.as_str())),
-        Check::Subset(words) => Ok(lies_in(value, words.as_str())),
-        Check::Superset(words) => Ok(holds_block(value, words.as_str())),
+        Check::Subset(address) => Ok(lies_in(value, &address.block)),
+        Check::Superset(address) => Ok(holds_block(value, &address.block)),
         Check::Exists => Ok(true),
     }
 }

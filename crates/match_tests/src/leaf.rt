@@ -1,7 +1,8 @@
 ghost use Rattle.std.specs.Prelude.{◌↔◌, IfOk, IsTrue};
 ghost use Rattle.stix_bundles.specs.Objects.{data_in};
 ghost use Rattle.pattern_types.specs.PlainLeaf.{plain_leaf, listed};
-ghost use Rattle.match_tests.specs.Tests.{HoldsAt, AllHold, SomeHold, LeafHolds, AreShortAt, AreShort};
+ghost use Rattle.pattern_types.specs.Soundness.{IsSoundLeaf, AreSoundLeaves};
+ghost use Rattle.match_tests.specs.Tests.{HoldsAt, AllHold, SomeHold, LeafHolds};
 
 use crate::met::holds;
 use flow_values::NoMemory;
@@ -16,7 +17,7 @@ pub fn leaf_holds(
     observation: &Observation,
     bundle: &Bundle,
 ) -> Result<bool, NoMemory>
-    requires { AreShortAt (plain_leaf leaf.now) }
+    requires { IsSoundLeaf (plain_leaf leaf.now) }
     ensures { IfOk result (λ holds. IsTrue holds ↔ LeafHolds (data_in bundle.now) observation.now.roots (plain_leaf leaf.now)) }
 {
     for root in observation.roots.as_slice() {
@@ -30,7 +31,7 @@ pub fn leaf_holds(
 /// Whether a root meets a whole expression.
 #[cycle(leaves)]
 fn holds_at(alloc: Global, leaf: &Leaf, bundle: &Bundle, root: u32) -> Result<bool, NoMemory>
-    requires { AreShortAt (plain_leaf leaf.now) }
+    requires { IsSoundLeaf (plain_leaf leaf.now) }
     ensures { IfOk result (λ holds. IsTrue holds ↔ HoldsAt (data_in bundle.now) root (plain_leaf leaf.now)) }
 {
     match leaf {
@@ -43,7 +44,7 @@ fn holds_at(alloc: Global, leaf: &Leaf, bundle: &Bundle, root: u32) -> Result<bo
 /// Whether a root meets each of the parts.
 #[cycle(leaves)]
 fn all_hold(alloc: Global, parts: &[Leaf], bundle: &Bundle, root: u32) -> Result<bool, NoMemory>
-    requires { AreShort (listed parts.now) }
+    requires { AreSoundLeaves (listed parts.now) }
     ensures { IfOk result (λ holds. IsTrue holds ↔ AllHold (data_in bundle.now) root (listed parts.now)) }
 {
     for part in parts {
@@ -57,7 +58,7 @@ fn all_hold(alloc: Global, parts: &[Leaf], bundle: &Bundle, root: u32) -> Result
 /// Whether a root meets some part.
 #[cycle(leaves)]
 fn some_hold(alloc: Global, parts: &[Leaf], bundle: &Bundle, root: u32) -> Result<bool, NoMemory>
-    requires { AreShort (listed parts.now) }
+    requires { AreSoundLeaves (listed parts.now) }
     ensures { IfOk result (λ holds. IsTrue holds ↔ SomeHold (data_in bundle.now) root (listed parts.now)) }
 {
     for part in parts {

@@ -1,37 +1,38 @@
-ghost use Rattle.std.specs.Prelude.{◌≡◌, ◌↔◌, ◌≤◌, [], IfOk, IsTrue, length};
+ghost use Rattle.std.specs.Prelude.{◌↔◌, None, IfOk, IsTrue};
+ghost use Rattle.serde_json.specs.Data.{Data};
+ghost use Rattle.stix_json.specs.DataOf.{data_of};
+ghost use Rattle.stix_json.specs.Ordered.{IsOrdered};
 ghost use Rattle.stix_bundles.specs.Objects.{data_in};
-ghost use Rattle.match_tests.specs.Tests.{TestHolds, IsAbsence, SomeMeets, AreMet, SelectsSo};
+ghost use Rattle.pattern_types.specs.Soundness.{IsSoundTest};
+ghost use Rattle.match_paths.specs.Selection.{Reaches};
+ghost use Rattle.match_tests.specs.Tests.{TestHolds, IsAbsence, Turned, Meets, last_of};
 
-use crate::check::meets_test;
+use crate::dead_ends::DeadEnds;
 use crate::last::last_name;
+use crate::search::{Search, finds};
 use flow_values::NoMemory;
-use match_paths::laws::{one_selection, taken_first};
-use match_paths::{root_of, values};
-use pattern_types::{Check, Path, Test};
+use match_paths::root_of;
+use pattern_types::{Check, Step, Test};
 use std::alloc::Global;
 use stix_bundles::Bundle;
+use stix_json::Json;
 
 /// Whether the object at a position has the type of a test's path, and what the path selects from it
-/// meets the test.
+/// meets the test. The search stops at the first value that does, and goes to no object by a reference
+/// twice for one step: so it costs at most the number of steps times the size of the bundle, however
+/// many ways there are. It takes memory where bytes are compared, and where the path has a `[*]`.
 pub fn holds(alloc: Global, test: &Test, bundle: &Bundle, root: u32) -> Result<bool, NoMemory>
-    requires { length test.now.path.steps ≤ 16 }
+    requires { IsSoundTest test.now }
     ensures { IfOk result (λ holds. IsTrue holds ↔ TestHolds (data_in bundle.now) root test.now) }
 {
-    match root_of(bundle, root, test.path.kind.as_str()) {
-        Some(_) => are_met(alloc, test, bundle, root),
-        None => Ok(false),
-    }
-}
-
-/// Whether what a test's path selects meets the test.
-fn are_met(alloc: Global, test: &Test, bundle: &Bundle, root: u32) -> Result<bool, NoMemory>
-    requires { length test.now.path.steps ≤ 16 }
-    ensures { IfOk result (λ met. IsTrue met ↔ SelectsSo (AreMet test.now) (data_in bundle.now) root test.now.path) }
-{
+    let Some(object) = root_of(bundle, root, test.path.kind.as_str()) else {
+        return Ok(false);
+    };
     if is_absence(test) {
-        Ok(selects_none(bundle, root, &test.path))
+        let found = is_reached(alloc, test, false, bundle, object)?;
+        Ok(!found)
     } else {
-        some_meets(alloc, test, bundle, root)
+        is_reached(alloc, test, test.negated, bundle, object)
     }
 }
 
@@ -42,29 +43,31 @@ fn is_absence(test: &Test) -> bool
     test.negated && matches!(&test.check, Check::Exists)
 }
 
-/// Whether a path selects nothing.
-fn selects_none(bundle: &Bundle, root: u32, path: &Path) -> bool
-    requires { length path.now.steps ≤ 16 }
-    ensures { IsTrue result ↔ SelectsSo (λ values. values ≡ []) (data_in bundle.now) root path.now }
+/// Whether the steps of a test's path reach, from an object, a value that meets its check, or where it
+/// is negated one that doesn't.
+fn is_reached(
+    alloc: Global,
+    test: &Test,
+    negated: bool,
+    bundle: &Bundle,
+    object: &Json,
+) -> Result<bool, NoMemory>
+    requires sound { IsSoundTest test.now }
+    requires ordered { IsOrdered (data_of object.now) }
+    ensures { IfOk result (λ found. IsTrue found
+        ↔ ((value : Data) × Reaches (data_in bundle.now) None test.now.path.steps (data_of object.now) value
+        × Turned negated (Meets (last_of test.now.path) value test.now.check))) }
 {
-    values(bundle, root, path).next().is_none()
-}
-
-/// Whether some value that a test's path selects meets the test. After the first one that does, the
-/// others are only walked over.
-fn some_meets(alloc: Global, test: &Test, bundle: &Bundle, root: u32) -> Result<bool, NoMemory>
-    requires { length test.now.path.steps ≤ 16 }
-    ensures { IfOk result (λ met. IsTrue met ↔ SelectsSo (SomeMeets test.now) (data_in bundle.now) root test.now.path) }
-{
-    one_selection();
-    taken_first();
-    let last = last_name(&test.path);
-    let mut met = false;
-    for value in values(bundle, root, &test.path) {
-        if met {
-            continue;
-        }
-        met = meets_test(alloc, last, value, test)?;
-    }
-    Ok(met)
+    let steps = test.path.steps.as_slice();
+    let search = Search {
+        alloc,
+        bundle,
+        steps,
+        last: last_name(&test.path),
+        check: &test.check,
+        negated,
+        branches: steps.iter().any(|step| matches!(step, Step::Each)),
+    };
+    let mut ends = DeadEnds::new(alloc);
+    finds(&search, &mut ends, None, steps, object)
 }

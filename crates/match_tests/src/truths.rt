@@ -1,7 +1,8 @@
 ghost use Rattle.std.specs.Prelude.{IfOk, OnOk};
 ghost use Rattle.stix_bundles.specs.Objects.{data_in};
 ghost use Rattle.pattern_types.specs.PlainPattern.{plain_pattern};
-ghost use Rattle.match_tests.specs.Truths.{AreTruths, AreShortIn, Adds};
+ghost use Rattle.pattern_types.specs.Soundness.{IsSoundPattern};
+ghost use Rattle.match_tests.specs.Truths.{AreTruths, Adds};
 
 use crate::leaf::leaf_holds;
 use flow_values::{Items, NoMemory};
@@ -16,7 +17,7 @@ pub fn leaf_truths(
     observation: &Observation,
     bundle: &Bundle,
 ) -> Result<Items<bool>, NoMemory>
-    requires { AreShortIn (plain_pattern pattern.now) }
+    requires { IsSoundPattern (plain_pattern pattern.now) }
     ensures { IfOk result (AreTruths (data_in bundle.now) observation.now.roots (plain_pattern pattern.now)) }
 {
     let mut truths = Items::new(alloc);
@@ -32,7 +33,7 @@ fn add_truths(
     bundle: &Bundle,
     out: &mut Items<bool>,
 ) -> Result<(), NoMemory>
-    requires { AreShortIn (plain_pattern pattern.now) }
+    requires { IsSoundPattern (plain_pattern pattern.now) }
     ensures { OnOk result (Adds (AreTruths (data_in bundle.now) observation.now.roots (plain_pattern pattern.now)) out.old out.new) }
 {
     match pattern {

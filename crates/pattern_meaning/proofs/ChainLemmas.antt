@@ -17,7 +17,7 @@ use Rattle.pattern_types.specs.PlainLeaf.{every, some, more, put, plain_leaf, pl
 use Rattle.pattern_meaning.specs.declared.judged.Judged.{Judged}
 use Rattle.pattern_meaning.specs.declared.refusal.ValueRefusal.{ValueRefusal}
 use Rattle.pattern_meaning.specs.LeafMeaning.{Means, means_group, means_all, means_any, AllParts, all_first, all_more, AnyParts, any_first, any_more, IsNoAll, IsNoAny}
-use Rattle.pattern_meaning.specs.Soundness.{IsSoundLeaf, AreSoundLeaves}
+use Rattle.pattern_types.specs.Soundness.{IsSoundLeaf, AreSoundLeaves}
 use Rattle.pattern_meaning.specs.Refusals.{RefusalOfComparison, HasRoot, IsRootless}
 use Rattle.pattern_meaning.specs.Roots.{Is}
 use Rattle.pattern_meaning.specs.inner.Judgement.{IsOutcome, IsLeafOf, IsJudged}

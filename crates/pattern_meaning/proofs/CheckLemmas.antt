@@ -15,7 +15,7 @@ use Rattle.pattern_types.specs.declared.check.Check.{Check}
 use Rattle.pattern_types.specs.declared.check.Check.TheVariants as check
 use Rattle.pattern_meaning.specs.declared.refusal.ValueRefusal.{ValueRefusal}
 use Rattle.pattern_meaning.specs.Meaning.{IsPathOf, IsTestOf}
-use Rattle.pattern_meaning.specs.Soundness.{IsSoundTest}
+use Rattle.pattern_types.specs.Soundness.{IsSoundTest}
 use Rattle.pattern_meaning.specs.Refusals.{Lacks, IsSoundCheckOf, check_refusal, RefusalOfPath, RefusalOfTest}
 use Rattle.pattern_meaning.specs.inner.Judgement.{IsOutcome}
 use Rattle.pattern_meaning.specs.inner.Outcomes.{IsJoined}

@@ -3,7 +3,7 @@ use Rattle.std.proofs.Common.{◌⊎◌, inl, inr, ℕ, List, sym, ◌∙◌}
 use Rattle.pattern_grammar.specs.Tree.{Comparison, all, any}
 use Rattle.pattern_types.specs.PlainLeaf.{PlainLeaf, PlainLeaves, none, more, put}
 use Rattle.pattern_meaning.specs.LeafMeaning.{Means, means_test, means_group, means_all, means_any, AllParts, all_first, all_more, AnyParts, any_first, any_more}
-use Rattle.pattern_meaning.specs.Soundness.{Roots, AllHave, OneHas, IsSoundLeaf, AreSoundLeaves}
+use Rattle.pattern_types.specs.Soundness.{Roots, AllHave, OneHas, IsSoundLeaf, AreSoundLeaves}
 use Rattle.pattern_meaning.specs.Refusals.{HasRoot}
 
 -- parts with one more

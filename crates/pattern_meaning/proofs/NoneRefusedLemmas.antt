@@ -13,7 +13,7 @@ use Rattle.pattern_meaning.specs.declared.refusal.ValueRefusal.{ValueRefusal}
 use Rattle.pattern_meaning.specs.Meaning.{Each, IsStepOf, IsPathOf, IsTestOf}
 use Rattle.pattern_meaning.specs.LeafMeaning.{Means, means_test, means_group, means_all, means_any, AllParts, all_first, all_more, AnyParts, any_first, any_more}
 use Rattle.pattern_meaning.specs.PatternMeaning.{MeansPattern, means_leaf, means_both, means_either, means_then, means_limited}
-use Rattle.pattern_meaning.specs.Soundness.{IsSoundTest, AllHave, IsSoundLeaf, AreSoundLeaves, IsSoundPattern}
+use Rattle.pattern_types.specs.Soundness.{IsSoundTest, AllHave, IsSoundLeaf, AreSoundLeaves, IsSoundPattern}
 use Rattle.pattern_meaning.specs.Refusals.{RefusalOfSteps, RefusalOfPath, RefusalOfTest, RefusalOfComparison, RefusalOf}
 use Rattle.pattern_meaning.proofs.EachLemmas.{each_length}
 use Rattle.pattern_meaning.proofs.LeafRootLemmas.{all_put, sound_put, both_have_root}

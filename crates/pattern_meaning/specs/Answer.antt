@@ -6,7 +6,7 @@ use Rattle.pattern_types.specs.Width.{IsTooWide}
 use Rattle.pattern_meaning.specs.declared.meaning.Meaning.{Meaning}
 use Rattle.pattern_meaning.specs.declared.meaning.Meaning.TheVariants.{Sound, TooWide, Refused}
 use Rattle.pattern_meaning.specs.PatternMeaning.{MeansPattern}
-use Rattle.pattern_meaning.specs.Soundness.{IsSoundPattern}
+use Rattle.pattern_types.specs.Soundness.{IsSoundPattern}
 use Rattle.pattern_meaning.specs.ValueRefusal.{IsEarliest}
 use Rattle.pattern_meaning.specs.Refusals.{RefusalOf}
 

@@ -1,7 +1,6 @@
 pub mod Meaning
 pub mod LeafMeaning
 pub mod PatternMeaning
-pub mod Soundness
 pub mod ValueRefusal
 pub mod Refusals
 pub mod Roots

@@ -19,7 +19,7 @@ use Rattle.pattern_meaning.specs.declared.refusal.ValueRefusal.{ValueRefusal}
 use Rattle.pattern_meaning.specs.declared.refusal.ValueRefusal.TheVariants.{BadCount, LongPath, BadAddress, EmptySpan, NoCommonRoot, NoValue}
 use Rattle.pattern_meaning.specs.Meaning.{IsStepOf, IsCheckOf}
 use Rattle.pattern_meaning.specs.PatternMeaning.{IsLimitOf}
-use Rattle.pattern_meaning.specs.Soundness.{IsSoundCheck, IsSoundLimit}
+use Rattle.pattern_types.specs.Soundness.{IsSoundCheck, IsSoundLimit}
 
 -- nothing is such, and so this is refused
 pub record Lacks {T : Type 0} (IsOne : T → Type 0) (refused refusal : ValueRefusal) : Type 0 where

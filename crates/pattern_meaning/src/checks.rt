@@ -3,7 +3,7 @@ ghost use Rattle.match_cidr.specs.declared.block.Block.{Block};
 ghost use Rattle.match_cidr.specs.BlockText.{IsBlockText};
 ghost use Rattle.flow_values.specs.Answers.{FindsExactly};
 ghost use Rattle.pattern_meaning.specs.Meaning.{IsCheckOf, IsTestOf};
-ghost use Rattle.pattern_meaning.specs.Soundness.{IsSoundTest};
+ghost use Rattle.pattern_types.specs.Soundness.{IsSoundTest};
 ghost use Rattle.pattern_meaning.specs.Refusals.{IsSoundCheckOf, check_refusal, RefusalOfTest};
 ghost use Rattle.pattern_meaning.specs.inner.Judgement.{IsOutcome};
 

@@ -5,7 +5,7 @@ ghost use Rattle.pattern_grammar.specs.Tree.{Tree};
 ghost use Rattle.pattern_types.specs.PlainPattern.{PlainPattern};
 ghost use Rattle.pattern_meaning.specs.declared.refusal.ValueRefusal.{ValueRefusal};
 ghost use Rattle.pattern_meaning.specs.PatternMeaning.{MeansPattern};
-ghost use Rattle.pattern_meaning.specs.Soundness.{IsSoundPattern};
+ghost use Rattle.pattern_types.specs.Soundness.{IsSoundPattern};
 ghost use Rattle.pattern_meaning.specs.ValueRefusal.{IsEarliest};
 ghost use Rattle.pattern_meaning.specs.Refusals.{RefusalOf};
 

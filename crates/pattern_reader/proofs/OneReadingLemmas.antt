@@ -12,7 +12,7 @@ use Rattle.pattern_types.specs.PlainPattern.{PlainPattern, plain_pattern}
 use Rattle.pattern_types.specs.Width.{IsTooWide}
 use Rattle.pattern_meaning.specs.declared.refusal.ValueRefusal.{ValueRefusal}
 use Rattle.pattern_meaning.specs.PatternMeaning.{MeansPattern}
-use Rattle.pattern_meaning.specs.Soundness.{IsSoundPattern}
+use Rattle.pattern_types.specs.Soundness.{IsSoundPattern}
 use Rattle.pattern_meaning.specs.ValueRefusal.{IsEarliest}
 use Rattle.pattern_meaning.specs.Refusals.{RefusalOf}
 use Rattle.pattern_meaning.specs.Answer.{IsMeant}

@@ -1,4 +1,5 @@
 pub mod Leaves
 pub mod PlainLeaf
 pub mod PlainPattern
+pub mod Soundness
 pub mod Width

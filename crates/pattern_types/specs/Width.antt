@@ -1,5 +1,6 @@
 -- How wide a pattern is: how many observations a held thing of it can have.
 use Rattle.std.specs.Prelude.{ℕ, ◌+◌, ◌*◌, ◌<◌, ◌⊎◌, max}
+use Rattle.pattern_types.specs.declared.limit.TheConstants.{MAX_WIDTH, MAX_BRACKETS}
 use Rattle.pattern_types.specs.declared.limit.Limit.{Limit}
 use Rattle.pattern_types.specs.declared.limit.Limit.TheVariants as limit
 use Rattle.pattern_types.specs.PlainPattern.{PlainPattern, a_leaf, a_both, an_either, a_then, a_limited}
@@ -27,6 +28,6 @@ brackets (an_either left right) = brackets left + brackets right
 brackets (a_then left right) = brackets left + brackets right
 brackets (a_limited part limit) = brackets part
 
--- TooWide: the width passes 64, or the brackets pass 1,024
+-- TooWide: it is wider, or has more brackets, than it may
 abbrev pub IsTooWide : PlainPattern → Type 0
-IsTooWide pattern = (64 < width pattern) ⊎ (1_024 < brackets pattern)
+IsTooWide pattern = (MAX_WIDTH < width pattern) ⊎ (MAX_BRACKETS < brackets pattern)

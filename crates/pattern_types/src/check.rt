@@ -1,4 +1,4 @@
-use crate::Constant;
+use crate::{AddressBlock, Constant};
 use flow_values::{Items, Text};
 
 /// What a test asks of a value: a comparison operator with its constants (STIX 2.1, section 9.6.1).
@@ -21,9 +21,9 @@ pub enum Check {
     /// `LIKE`: the value fits the text, in which `%` stands for any characters and `_` for one.
     Like(Text),
     /// `ISSUBSET`: the value is an address block that lies in this one.
-    Subset(Text),
+    Subset(AddressBlock),
     /// `ISSUPERSET`: the value is an address block in which this one lies.
-    Superset(Text),
+    Superset(AddressBlock),
     /// `EXISTS`: there is a value at the path.
     Exists,
 }

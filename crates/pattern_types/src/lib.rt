@@ -2,6 +2,7 @@
 //! observations and limited by qualifiers. `leaf_count` counts the leaves.
 #![tactic(auto)]
 
+mod address_block;
 mod check;
 mod constant;
 mod leaf;
@@ -10,10 +11,11 @@ mod limit;
 mod path;
 mod pattern;
 
+pub use address_block::AddressBlock;
 pub use check::Check;
 pub use constant::Constant;
 pub use leaf::{Leaf, Test};
 pub use leaves::leaf_count;
-pub use limit::Limit;
-pub use path::{Path, Step};
+pub use limit::{Limit, MAX_BRACKETS, MAX_WIDTH};
+pub use path::{MAX_STEPS, Path, Step};
 pub use pattern::Pattern;

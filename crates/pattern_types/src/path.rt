@@ -1,5 +1,8 @@
 use flow_values::{Items, Text};
 
+/// How many steps an object path may have.
+pub const MAX_STEPS: usize = 16;
+
 /// An object path (STIX 2.1, section 9.7): an object's type, and the steps from the object to the
 /// values.
 #[derive(Debug, Drop)]

@@ -5,6 +5,7 @@ use Rattle.serde_json.specs.Data.{Data}
 use Rattle.stix_json.specs.Ordered.{IsOrdered}
 use Rattle.stix_bundles.specs.Objects.{data_in}
 use Rattle.pattern_types.specs.declared.path.Step.{Step}
+use Rattle.pattern_types.specs.declared.path.TheConstants.{MAX_STEPS}
 use Rattle.match_paths.specs.declared.frame.Frame.{Frame}
 use Rattle.match_paths.specs.Selection.{Joined, StepsSelect}
 
@@ -25,7 +26,7 @@ LeftIn objects (frame ∷ frames) values = (own rest : List Data) × FrameSelect
 -- each frame has room above it for a frame for each of its steps, and its values are ordered
 abbrev pub Fits : List Frame → Type 0
 Fits [] = ⊤
-Fits (frame ∷ frames) = (length frame.steps.now + length frames ≤ 16) × All IsOrdered (data_in frame.values.now) × Fits frames
+Fits (frame ∷ frames) = (length frame.steps.now + length frames ≤ MAX_STEPS) × All IsOrdered (data_in frame.values.now) × Fits frames
 
 -- more than what the frames of these steps that come of one value weigh
 abbrev pub weight_of : List Step → ℕ

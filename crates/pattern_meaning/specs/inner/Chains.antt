@@ -5,7 +5,7 @@ use Rattle.pattern_types.specs.declared.leaf.Leaf.{Leaf}
 use Rattle.pattern_types.specs.PlainLeaf.{listed}
 use Rattle.pattern_meaning.specs.declared.judged.Chain.{Chain}
 use Rattle.pattern_meaning.specs.LeafMeaning.{AllParts, AnyParts}
-use Rattle.pattern_meaning.specs.Soundness.{AreSoundLeaves}
+use Rattle.pattern_types.specs.Soundness.{AreSoundLeaves}
 use Rattle.pattern_meaning.specs.Refusals.{RefusalOfComparison, HasRoot, first_of}
 use Rattle.pattern_meaning.specs.Roots.{Has}
 use Rattle.pattern_meaning.specs.inner.Judgement.{IsOutcome}

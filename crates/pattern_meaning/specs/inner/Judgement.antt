@@ -7,7 +7,7 @@ use Rattle.pattern_types.specs.PlainLeaf.{plain_leaf}
 use Rattle.pattern_meaning.specs.declared.judged.Judged.{Judged}
 use Rattle.pattern_meaning.specs.declared.refusal.ValueRefusal.{ValueRefusal}
 use Rattle.pattern_meaning.specs.LeafMeaning.{Means}
-use Rattle.pattern_meaning.specs.Soundness.{IsSoundLeaf}
+use Rattle.pattern_types.specs.Soundness.{IsSoundLeaf}
 use Rattle.pattern_meaning.specs.ValueRefusal.{IsEarliestOf}
 use Rattle.pattern_meaning.specs.Refusals.{RefusalOfComparison, HasRoot, first_of}
 use Rattle.pattern_meaning.specs.Roots.{Has}

@@ -9,15 +9,15 @@ use Rattle.match_paths.proofs.step.named.Goals as goal
 pub returns-in-Some-clause-found : goal.returns-in-Some-clause-found
 returns-in-Some-clause-found c = by_property (sym c.in-Some.ensures.value)
 
-pub returns-in-Some-referred-clause-found : goal.returns-in-Some-referred-clause-found
-returns-in-Some-referred-clause-found c =
+pub returns-in-Some-reference-clause-found : goal.returns-in-Some-reference-clause-found
+returns-in-Some-reference-clause-found c =
     let objects = data_in c.args.bundle.now in
     let last = option_map (λ (name : Bor (List ℕ)). name.now) c.args.last in
     let value = data_of c.args.value.now in
-    subst (FindsExactly (LeadsTo objects last c.args.name.now value)) (sym c.get_ordered-in-Some-referred.ensures.value)
-    (leads_exactly c.one_meaning.ensures.one objects last c.args.name.now value (Some (data_of c.in-Some-referred.object.now)) (sym c.in-None.ensures.value) c.in-Some-referred.ensures.found)
+    subst (FindsExactly (LeadsTo objects last c.args.name.now value)) (sym c.property_at.ensures.found)
+    (leads_exactly c.one_meaning.ensures.one objects last c.args.name.now value (Some c.in-Some-reference.at) (sym c.in-None.ensures.value) c.in-Some-reference.ensures)
 
-pub returns-in-None-referred-clause-found : goal.returns-in-None-referred-clause-found
-returns-in-None-referred-clause-found c =
+pub returns-in-None-reference-clause-found : goal.returns-in-None-reference-clause-found
+returns-in-None-reference-clause-found c =
     let last = option_map (λ (name : Bor (List ℕ)). name.now) c.args.last in
-    leads_exactly c.one_meaning.ensures.one (data_in c.args.bundle.now) last c.args.name.now (data_of c.args.value.now) None (sym c.in-None.ensures.value) c.in-None-referred.ensures.found
+    leads_exactly c.one_meaning.ensures.one (data_in c.args.bundle.now) last c.args.name.now (data_of c.args.value.now) None (sym c.in-None.ensures.value) c.in-None-reference.ensures

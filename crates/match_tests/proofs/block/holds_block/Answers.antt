@@ -1,12 +1,10 @@
 use Rattle.stix_json.specs.DataOf.{data_of}
 use Rattle.match_cidr.specs.Block.{IsWithin}
-use Rattle.match_tests.proofs.BlockLemmas.{blocks_stand, no_blocks}
+use Rattle.match_tests.proofs.BlockLemmas.{block_stands, no_block}
 use Rattle.match_tests.proofs.block.holds_block.Goals as goal
 
-pub returns-in_default : goal.returns-in_default
-returns-in_default c = no_blocks (λ outer inner. IsWithin inner outer) (data_of c.args.value.now) c.args.words.now c.blocks_of.result c.blocks_of.ensures.exact c.in_default.is
+pub returns-in-Some : goal.returns-in-Some
+returns-in-Some c = block_stands (λ block. IsWithin c.args.inner.now block) (data_of c.args.value.now) c.block_of.result c.block_of.ensures.exact c.in-Some.block c.within.result c.in-Some.is c.within.ensures
 
-pub returns : goal.returns
-returns c =
-    blocks_stand (λ outer inner. IsWithin inner outer) (data_of c.args.value.now) c.args.words.now c.blocks_of.result c.blocks_of.ensures.exact
-    c.in-Some.block c.in-Some.other c.within.result c.in-Some.is c.within.ensures
+pub returns-in-None : goal.returns-in-None
+returns-in-None c = no_block (λ block. IsWithin c.args.inner.now block) (data_of c.args.value.now) c.block_of.result c.block_of.ensures.exact c.in-None.is

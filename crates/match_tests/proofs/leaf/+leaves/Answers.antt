@@ -2,19 +2,19 @@ use Rattle.std.proofs.Common.{rules, List, sym, subst}
 use Rattle.stix_bundles.specs.Objects.{data_in}
 use Rattle.pattern_types.specs.declared.leaf.Leaf.{Leaf, the_lemmas}
 use Rattle.pattern_types.specs.PlainLeaf.{plain_leaf, listed}
-use Rattle.match_tests.specs.Tests.{AreShortAt, AreShort}
-use Rattle.match_tests.proofs.LeavesLemmas.{short_all, short_any, ok_all, ok_any}
+use Rattle.pattern_types.specs.Soundness.{IsSoundLeaf, AreSoundLeaves}
+use Rattle.match_tests.proofs.LeavesLemmas.{sound_all, sound_any, ok_all, ok_any}
 use Rattle.match_tests.proofs.leaf.+leaves.Goals as goal
 
 pub holds_at-all_hold-requires : goal.holds_at-all_hold-requires
 holds_at-all_hold-requires t c =
-    let short = short_all c.in-All.parts (subst (λ (l : Leaf). AreShortAt (plain_leaf l)) c.in-All.is c.requires) in
-    (search (rules, the_lemmas), subst (λ (ls : List Leaf). AreShort (listed ls)) (sym c.as_slice.ensures) short)
+    let sound = sound_all c.in-All.parts (subst (λ (l : Leaf). IsSoundLeaf (plain_leaf l)) c.in-All.is c.requires) in
+    (search (rules, the_lemmas), subst (λ (ls : List Leaf). AreSoundLeaves (listed ls)) (sym c.as_slice.ensures) sound)
 
 pub holds_at-some_hold-requires : goal.holds_at-some_hold-requires
 holds_at-some_hold-requires t c =
-    let short = short_any c.in-Any.parts (subst (λ (l : Leaf). AreShortAt (plain_leaf l)) c.in-Any.is c.requires) in
-    (search (rules, the_lemmas), subst (λ (ls : List Leaf). AreShort (listed ls)) (sym c.as_slice-in-Any.ensures) short)
+    let sound = sound_any c.in-Any.parts (subst (λ (l : Leaf). IsSoundLeaf (plain_leaf l)) c.in-Any.is c.requires) in
+    (search (rules, the_lemmas), subst (λ (ls : List Leaf). AreSoundLeaves (listed ls)) (sym c.as_slice-in-Any.ensures) sound)
 
 pub holds_at-returns-in-Test : goal.holds_at-returns-in-Test
 holds_at-returns-in-Test t c = rw c.in-Test.is c.holds.ensures

@@ -1,7 +1,10 @@
 -- What a pattern has to keep besides its grammar (STIX 2.1, section 9, and limits of ours).
 use Rattle.std.specs.Prelude.{◌≡◌, ◌≤◌, ◌⊎◌, ◌<ℤ◌, ℕ, List, length}
-use Rattle.match_cidr.specs.declared.block.Block.{Block}
+use Rattle.match_cidr.specs.Block.{IsValid}
 use Rattle.match_cidr.specs.BlockText.{IsBlockText}
+use Rattle.pattern_types.specs.declared.address_block.AddressBlock.{AddressBlock}
+use Rattle.pattern_types.specs.declared.path.Path.{Path}
+use Rattle.pattern_types.specs.declared.path.TheConstants.{MAX_STEPS}
 use Rattle.pattern_types.specs.declared.check.Check.{Check}
 use Rattle.pattern_types.specs.declared.check.Check.TheVariants.{Subset, Superset}
 use Rattle.pattern_types.specs.declared.leaf.Test.{Test}
@@ -10,15 +13,24 @@ use Rattle.pattern_types.specs.declared.limit.Limit.TheVariants.{Within, Repeats
 use Rattle.pattern_types.specs.PlainLeaf.{PlainLeaf, one, every, some, PlainLeaves, none, more}
 use Rattle.pattern_types.specs.PlainPattern.{PlainPattern, a_leaf, a_both, an_either, a_then, a_limited}
 
+-- the text of an address block names its block
+pub record IsSoundBlock (address : AddressBlock) : Type 0 where
+  pub named : IsBlockText address.text address.block
+  pub valid : IsValid address.block
+
 -- ISSUBSET and ISSUPERSET compare with an address block
 abbrev pub IsSoundCheck : Check → Type 0
-IsSoundCheck (Subset words) = (block : Block) × IsBlockText words block
-IsSoundCheck (Superset words) = (block : Block) × IsBlockText words block
+IsSoundCheck (Subset address) = IsSoundBlock address
+IsSoundCheck (Superset address) = IsSoundBlock address
 IsSoundCheck _ = Unit {0}
 
--- a path has at most 16 steps
+-- a path has no more steps than it may
+abbrev pub IsShort : Path → Type 0
+IsShort path = length path.steps ≤ MAX_STEPS
+
+-- and so in a test
 pub record IsSoundTest (test : Test) : Type 0 where
-  pub short : length test.path.steps ≤ 16
+  pub short : IsShort test.path
   pub check : IsSoundCheck test.check
 
 -- the types of the objects that can meet a comparison: of a test its path's, of parts joined by AND

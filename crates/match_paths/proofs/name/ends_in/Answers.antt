@@ -1,7 +1,7 @@
 use Rattle.std.proofs.Common.{rules, ◌≡◌, nat_eq}
 use Rattle.std.specs.List.{ends_with}
 use Rattle.match_paths.proofs.EndsInLemmas.{ends_exactly}
-use Rattle.match_paths.proofs.step.ends_in.Goals as goal
+use Rattle.match_paths.proofs.name.ends_in.Goals as goal
 
 pub returns : goal.returns
 returns c =

@@ -1,0 +1,6 @@
+use Rattle.match_tests.proofs.DeadEndsLemmas.{one_more}
+use Rattle.match_tests.proofs.dead_ends.DeadEnds.add.Goals as goal
+
+pub returns : goal.returns
+returns c =
+    one_more c.args.left c.args.at c.args.self.now (record { pairs = c.insert.new.self }) c.in_ok-insert.ensures.updates.0 c.in_ok-insert.ensures.updates.1

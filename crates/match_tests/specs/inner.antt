@@ -1,0 +1,2 @@
+pub mod DeadEnds
+pub mod Search

@@ -1,0 +1,123 @@
+ghost use Rattle.std.specs.Prelude.{◌↔◌, ◌∷◌, List, IfOk, OnOk, IfSome, IsTrue, All};
+ghost use Rattle.stix_json.specs.DataOf.{data_of};
+ghost use Rattle.stix_json.specs.Ordered.{IsOrdered};
+ghost use Rattle.stix_bundles.specs.Objects.{data_in};
+ghost use Rattle.pattern_types.specs.declared.path.Step.{Step};
+ghost use Rattle.match_tests.specs.inner.Search.{name_of, Finds, SomeFinds, FindsAt, AreDeadEnds, StandsBefore};
+
+use crate::check::meets_turned;
+use crate::dead_ends::DeadEnds;
+use flow_values::NoMemory;
+use match_paths::laws::same_lead;
+use match_paths::{name_behind, object_at, reference, selected};
+use pattern_types::{Check, Step};
+use std::alloc::Global;
+use stix_bundles::Bundle;
+use stix_json::Json;
+
+/// What is searched for, and by which steps: a value that meets a check, or where it is negated one
+/// that doesn't.
+#[derive(Clone, Copy)]
+pub(crate) struct Search<'a> {
+    pub(crate) alloc: Global,
+    pub(crate) bundle: &'a Bundle,
+    pub(crate) steps: &'a [Step],
+    /// The last name of the path.
+    pub(crate) last: Option<&'a str>,
+    pub(crate) check: &'a Check,
+    pub(crate) negated: bool,
+    /// Whether the path has a `[*]`: else there is one way at most, and dead ends are of no use.
+    pub(crate) branches: bool,
+}
+
+/// Whether the steps reach such a value from that one, behind that last name.
+#[cycle(search)]
+pub(crate) fn finds(
+    search: &Search<'_>,
+    ends: &mut DeadEnds,
+    last: Option<&str>,
+    steps: &[Step],
+    value: &Json,
+) -> Result<bool, NoMemory>
+    requires before { StandsBefore search.now steps.now ends.old }
+    requires ordered { IsOrdered (data_of value.now) }
+    ensures found { IfOk result (λ found. IsTrue found ↔ Finds search.now (name_of last.entry) steps.now (data_of value.now)) }
+    ensures dead { OnOk result (AreDeadEnds search.now ends.new) }
+{
+    let Some((step, rest)) = steps.split_first() else {
+        return meets_turned(
+            search.alloc,
+            search.last,
+            value,
+            search.check,
+            search.negated,
+        );
+    };
+    if let Some(at) = referred(search, last, step, value) {
+        return finds_at(search, ends, step, rest, at);
+    }
+    let values = selected(search.bundle, last, step, value);
+    some_finds(search, ends, name_behind(last, step), rest, values)
+}
+
+/// The position of the object from which a step goes on, where it leads through a reference.
+fn referred(search: &Search<'_>, last: Option<&str>, step: &Step, value: &Json) -> Option<u32>
+    ensures { IfSome result (λ at. (rest : List Step) → Finds search.now (name_of last.entry) (step.now ∷ rest) (data_of value.now)
+        ↔ FindsAt search.now (step.now ∷ rest) at) }
+{
+    same_lead();
+    match step {
+        Step::Name(_) => reference(search.bundle, last, value),
+        Step::Place(_) | Step::Each => None,
+    }
+}
+
+/// Whether they reach one from some of the values.
+#[cycle(search)]
+fn some_finds(
+    search: &Search<'_>,
+    ends: &mut DeadEnds,
+    last: Option<&str>,
+    steps: &[Step],
+    values: &[Json],
+) -> Result<bool, NoMemory>
+    requires before { StandsBefore search.now steps.now ends.old }
+    requires ordered { All IsOrdered (data_in values.now) }
+    ensures found { IfOk result (λ found. IsTrue found ↔ SomeFinds search.now (name_of last.entry) steps.now (data_in values.now)) }
+    ensures dead { OnOk result (AreDeadEnds search.now ends.new) }
+{
+    for value in values {
+        if finds(search, ends, last, steps, value)? {
+            return Ok(true);
+        }
+    }
+    Ok(false)
+}
+
+/// Whether they reach one from the object at a position. From a dead end it isn't searched again: so
+/// each object is searched once for each step, and not once for each way there.
+#[cycle(search)]
+fn finds_at(
+    search: &Search<'_>,
+    ends: &mut DeadEnds,
+    step: &Step,
+    rest: &[Step],
+    at: u32,
+) -> Result<bool, NoMemory>
+    requires { StandsBefore search.now (step.now ∷ rest.now) ends.old }
+    ensures found { IfOk result (λ found. IsTrue found ↔ FindsAt search.now (step.now ∷ rest.now) at) }
+    ensures dead { OnOk result (AreDeadEnds search.now ends.new) }
+{
+    if ends.has(rest.len(), at) {
+        return Ok(false);
+    }
+    let Some(object) = object_at(search.bundle, at) else {
+        return Ok(false);
+    };
+    let values = selected(search.bundle, None, step, object);
+    let found = some_finds(search, ends, name_behind(None, step), rest, values)?;
+    if search.branches && !found {
+        ends.add(rest.len(), at)?;
+    }
+    Ok(found)
+}
