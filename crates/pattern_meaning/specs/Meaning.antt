@@ -1,5 +1,6 @@
 -- What the parts of a syntax tree mean: the path, the check and the test that their tokens stand for.
 use Rattle.std.specs.Prelude.{◌≡◌, ◌≢◌, ◌⊎◌, ℕ, true, false, List, [], ◌∷◌}
+use Rattle.match_cidr.specs.BlockText.{IsBlockText}
 use Rattle.pattern_tokens.specs.declared.token.Token.{Token}
 use Rattle.pattern_tokens.specs.declared.token.TokenKind.TheVariants as kind
 use Rattle.pattern_tokens.specs.Values.{IsIntegerText, IsStringText, IsHexText, IsBinaryText, IsTimestampText}
@@ -16,6 +17,7 @@ use Rattle.pattern_types.specs.declared.constant.Constant.{Constant}
 use Rattle.pattern_types.specs.declared.constant.Constant.TheVariants as constant
 use Rattle.pattern_types.specs.declared.check.Check.{Check}
 use Rattle.pattern_types.specs.declared.check.Check.TheVariants as check
+use Rattle.pattern_types.specs.declared.address_block.AddressBlock.{AddressBlock}
 use Rattle.pattern_types.specs.declared.leaf.Test.{Test}
 use Rattle.pattern_tokens.specs.Spans.{At, IsItself}
 use Rattle.pattern_tokens.specs.Numbers.{IsPlace}
@@ -51,6 +53,11 @@ IsConstantOf text token (constant.Hex bytes) = (token.kind ≡ kind.Hex) × At I
 IsConstantOf text token (constant.Binary bytes) = (token.kind ≡ kind.Binary) × At IsBinaryText text token bytes
 IsConstantOf text token (constant.Timestamp instant) = (token.kind ≡ kind.Timestamp) × At IsTimestampText text token instant
 
+-- the token's string names the block
+pub record IsAddressOf (text : List ℕ) (token : Token) (address : AddressBlock) : Type 0 where
+  pub string : At IsStringText text token address.text
+  pub named : IsBlockText address.text address.block
+
 -- what is asked of a value
 abbrev pub IsCheckOf : List ℕ → CheckTree → Check → Type 0
 IsCheckOf text (check_tree.Compare operator token) (check.Equal value) = (operator.kind ≡ kind.Equal) × IsConstantOf text token value
@@ -61,8 +68,8 @@ IsCheckOf text (check_tree.Compare operator token) (check.Greater value) = (oper
 IsCheckOf text (check_tree.Compare operator token) (check.GreaterEqual value) = (operator.kind ≡ kind.GreaterEqual) × IsConstantOf text token value
 IsCheckOf text (check_tree.Among tokens) (check.Among values) = Each (IsConstantOf text) tokens values
 IsCheckOf text (check_tree.Textual operator token) (check.Like words) = (operator.kind ≡ kind.Like) × At IsStringText text token words
-IsCheckOf text (check_tree.Textual operator token) (check.Subset words) = (operator.kind ≡ kind.Subset) × At IsStringText text token words
-IsCheckOf text (check_tree.Textual operator token) (check.Superset words) = (operator.kind ≡ kind.Superset) × At IsStringText text token words
+IsCheckOf text (check_tree.Textual operator token) (check.Subset address) = (operator.kind ≡ kind.Subset) × IsAddressOf text token address
+IsCheckOf text (check_tree.Textual operator token) (check.Superset address) = (operator.kind ≡ kind.Superset) × IsAddressOf text token address
 IsCheckOf text check_tree.Exists check.Exists = Unit {0}
 IsCheckOf text _ _ = ⊥
 

@@ -1,6 +1,7 @@
 -- Patterns of which the canonical text reads back, but for the limits of depth and of values: those with
 -- numbers in their ranges, and with the shapes that the grammar has (STIX 2.1, section 9).
 use Rattle.std.specs.Prelude.{◌≢◌, ◌⊎◌, ◌≤◌, true, false, List, [], ◌∷◌, All, codes}
+use Rattle.match_cidr.specs.BlockText.{IsBlockText}
 use Rattle.hex.specs.Hex.{IsBytes}
 use Rattle.base64.specs.Engines.{standard}
 use Rattle.base64.specs.GeneralPurpose.{encode_of}
@@ -82,8 +83,8 @@ FitCheck (check.Greater value) = FitOrdered value
 FitCheck (check.GreaterEqual value) = FitOrdered value
 FitCheck (check.Among values) = FitList values
 FitCheck (check.Like words) = Unit {0}
-FitCheck (check.Subset words) = Unit {0}
-FitCheck (check.Superset words) = Unit {0}
+FitCheck (check.Subset address) = IsBlockText address.text address.block
+FitCheck (check.Superset address) = IsBlockText address.text address.block
 FitCheck check.Exists = Unit {0}
 
 pub record FitTest (test : Test) : Type 0 where

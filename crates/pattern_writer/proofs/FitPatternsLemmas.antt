@@ -21,17 +21,8 @@ use Rattle.pattern_writer.proofs.FitnessLemmas.{fit_path, fit_check}
 use Rattle.pattern_writer.proofs.FormulaLinesLemmas.{test_apart, cand_apart}
 
 fit_exists : (whole : List ℕ) (c : Check) → IsCheckOf whole check_tree.Exists c → FitCheck c
-fit_exists whole (check.Equal v) h = absurd h
-fit_exists whole (check.Differ v) h = absurd h
-fit_exists whole (check.Less v) h = absurd h
-fit_exists whole (check.LessEqual v) h = absurd h
-fit_exists whole (check.Greater v) h = absurd h
-fit_exists whole (check.GreaterEqual v) h = absurd h
-fit_exists whole (check.Among vs) h = absurd h
-fit_exists whole (check.Like w) h = tt
-fit_exists whole (check.Subset w) h = tt
-fit_exists whole (check.Superset w) h = tt
 fit_exists whole check.Exists h = tt
+fit_exists whole _ h = absurd h
 
 -- one part more
 put_fit : (fs : PlainLeaves) (f : PlainLeaf) → FitFormulas fs → FitFormula f → FitFormulas (put fs f)
@@ -95,14 +86,9 @@ mutual
 
 fit_limit : (whole : List ℕ) (q : Qualifier) (l : Limit) → IsLimitOf whole q l → FitLimit l
 fit_limit whole (qualifier.Within t) (Within n) h = (h.low, h.high)
-fit_limit whole (qualifier.Within t) (Repeats n) h = absurd h
-fit_limit whole (qualifier.Within t) (Between i j) h = tt
-fit_limit whole (qualifier.Repeats t) (Within n) h = absurd h
 fit_limit whole (qualifier.Repeats t) (Repeats n) h = (h.low, h.high)
-fit_limit whole (qualifier.Repeats t) (Between i j) h = tt
-fit_limit whole (qualifier.Between s t u) (Within n) h = absurd h
-fit_limit whole (qualifier.Between s t u) (Repeats n) h = absurd h
-fit_limit whole (qualifier.Between s t u) (Between i j) h = tt
+fit_limit whole q (Between i j) h = tt
+fit_limit whole q l h = absurd h
 
 mutual
   fit_start : (whole : List ℕ) (ts : List Token) (p : Tree) (m : PlainPattern) → IsStart ts p → AllLexed whole ts → MeansPattern whole p m → FitMeant m

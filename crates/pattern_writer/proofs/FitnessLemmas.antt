@@ -153,11 +153,7 @@ fit_equality whole a b (check.Less v) i x h = absurd (no_order a kind.Less i ref
 fit_equality whole a b (check.LessEqual v) i x h = absurd (no_order a kind.LessEqual i refl h.0)
 fit_equality whole a b (check.Greater v) i x h = absurd (no_order a kind.Greater i refl h.0)
 fit_equality whole a b (check.GreaterEqual v) i x h = absurd (no_order a kind.GreaterEqual i refl h.0)
-fit_equality whole a b (check.Among vs) i x h = absurd h
-fit_equality whole a b (check.Like w) i x h = tt
-fit_equality whole a b (check.Subset w) i x h = tt
-fit_equality whole a b (check.Superset w) i x h = tt
-fit_equality whole a b check.Exists i x h = tt
+fit_equality whole a b _ i x h = absurd h
 
 fit_order : (whole : List ℕ) (a b : Token) (c : Check) → IsA Ordered b → Lexed whole b → IsCheckOf whole (check_tree.Compare a b) c → FitCheck c
 fit_order whole a b (check.Equal v) i x h = fit_constant whole b v x h.1
@@ -166,37 +162,17 @@ fit_order whole a b (check.Less v) i x h = fit_ordered whole b v i x h.1
 fit_order whole a b (check.LessEqual v) i x h = fit_ordered whole b v i x h.1
 fit_order whole a b (check.Greater v) i x h = fit_ordered whole b v i x h.1
 fit_order whole a b (check.GreaterEqual v) i x h = fit_ordered whole b v i x h.1
-fit_order whole a b (check.Among vs) i x h = absurd h
-fit_order whole a b (check.Like w) i x h = tt
-fit_order whole a b (check.Subset w) i x h = tt
-fit_order whole a b (check.Superset w) i x h = tt
-fit_order whole a b check.Exists i x h = tt
+fit_order whole a b _ i x h = absurd h
 
 fit_among : (whole : List ℕ) (cs : List Token) (c : Check) → IsSome cs → AllLexed whole cs → IsCheckOf whole (check_tree.Among cs) c → FitCheck c
-fit_among whole cs (check.Equal v) s x h = absurd h
-fit_among whole cs (check.Differ v) s x h = absurd h
-fit_among whole cs (check.Less v) s x h = absurd h
-fit_among whole cs (check.LessEqual v) s x h = absurd h
-fit_among whole cs (check.Greater v) s x h = absurd h
-fit_among whole cs (check.GreaterEqual v) s x h = absurd h
 fit_among whole cs (check.Among vs) s x h = fit_list whole cs vs s x h
-fit_among whole cs (check.Like w) s x h = tt
-fit_among whole cs (check.Subset w) s x h = tt
-fit_among whole cs (check.Superset w) s x h = tt
-fit_among whole cs check.Exists s x h = tt
+fit_among whole cs _ s x h = absurd h
 
 fit_textual : (whole : List ℕ) (a b : Token) (c : Check) → IsCheckOf whole (check_tree.Textual a b) c → FitCheck c
-fit_textual whole a b (check.Equal v) h = absurd h
-fit_textual whole a b (check.Differ v) h = absurd h
-fit_textual whole a b (check.Less v) h = absurd h
-fit_textual whole a b (check.LessEqual v) h = absurd h
-fit_textual whole a b (check.Greater v) h = absurd h
-fit_textual whole a b (check.GreaterEqual v) h = absurd h
-fit_textual whole a b (check.Among vs) h = absurd h
 fit_textual whole a b (check.Like w) h = tt
-fit_textual whole a b (check.Subset w) h = tt
-fit_textual whole a b (check.Superset w) h = tt
-fit_textual whole a b check.Exists h = tt
+fit_textual whole a b (check.Subset address) h = h.1.named
+fit_textual whole a b (check.Superset address) h = h.1.named
+fit_textual whole a b _ h = absurd h
 
 pub fit_check : (whole : List ℕ) (ts : List Token) (t : CheckTree) (c : Check) → IsCheck ts t → AllLexed whole ts → IsCheckOf whole t c → FitCheck c
 fit_check whole ts t c (check_equality a b i j) x h = fit_equality whole a b c i x.1.0 h

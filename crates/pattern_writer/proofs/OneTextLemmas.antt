@@ -99,8 +99,8 @@ checked u p negated (check.Greater v) = sides (IsPathText p) (operator_text nega
 checked u p negated (check.GreaterEqual v) = sides (IsPathText p) (operator_text negated (codes ">=")) (IsConstantText v) (path p) (constant u v)
 checked u p negated (check.Among vs) = sides (IsPathText p) (operator_text negated (codes "IN")) (AreAmong vs) (path p) (between (codes "(") (codes ")") (AreJoined (codes ", ") IsConstantText vs) (joint (codes ", ") IsConstantText (constant u) vs))
 checked u p negated (check.Like w) = sides (IsPathText p) (operator_text negated (codes "LIKE")) (AreWords w) (path p) (words w)
-checked u p negated (check.Subset w) = sides (IsPathText p) (operator_text negated (codes "ISSUBSET")) (AreWords w) (path p) (words w)
-checked u p negated (check.Superset w) = sides (IsPathText p) (operator_text negated (codes "ISSUPERSET")) (AreWords w) (path p) (words w)
+checked u p negated (check.Subset w) = sides (IsPathText p) (operator_text negated (codes "ISSUBSET")) (AreWords w.text) (path p) (words w.text)
+checked u p negated (check.Superset w) = sides (IsPathText p) (operator_text negated (codes "ISSUPERSET")) (AreWords w.text) (path p) (words w.text)
 checked u p negated check.Exists = after (not_text negated ++ codes "EXISTS ") (IsPathText p) (path p)
 
 mutual

@@ -196,8 +196,8 @@ checked p negated (check.Greater v) text fit f h = as_text (sym h.4) (asked p ne
 checked p negated (check.GreaterEqual v) text fit f h = as_text (sym h.4) (asked p negated (check.GreaterEqual v) h.0 (codes ">=") h.1 (path p h.0 fit h.2) (orders (check.GreaterEqual v) kind.GreaterEqual (codes ">=") v h.1 (λ whole a b i m. (i, m)) (sign Order kind.GreaterEqual (codes ">=") refl refl tt refl (λ e. cc)) f h.3))
 checked p negated (check.Among vs) text fit f h = as_text (sym h.4) (asked p negated (check.Among vs) h.0 (codes "IN") h.1 (path p h.0 fit h.2) (is_among vs h.1 f h.3))
 checked p negated (check.Like w) text fit f h = as_text (sym h.4) (asked p negated (check.Like w) h.0 (codes "LIKE") h.1 (path p h.0 fit h.2) (fits_words (check.Like w) kind.Like (codes "LIKE") w h.1 (λ whole a b i m. (i, m)) (sign Textual kind.Like (codes "LIKE") refl refl tt refl (λ e. cc)) h.3))
-checked p negated (check.Subset w) text fit f h = as_text (sym h.4) (asked p negated (check.Subset w) h.0 (codes "ISSUBSET") h.1 (path p h.0 fit h.2) (fits_words (check.Subset w) kind.Subset (codes "ISSUBSET") w h.1 (λ whole a b i m. (i, m)) (sign Textual kind.Subset (codes "ISSUBSET") refl refl tt refl (λ e. cc)) h.3))
-checked p negated (check.Superset w) text fit f h = as_text (sym h.4) (asked p negated (check.Superset w) h.0 (codes "ISSUPERSET") h.1 (path p h.0 fit h.2) (fits_words (check.Superset w) kind.Superset (codes "ISSUPERSET") w h.1 (λ whole a b i m. (i, m)) (sign Textual kind.Superset (codes "ISSUPERSET") refl refl tt refl (λ e. cc)) h.3))
+checked p negated (check.Subset w) text fit f h = as_text (sym h.4) (asked p negated (check.Subset w) h.0 (codes "ISSUBSET") h.1 (path p h.0 fit h.2) (fits_words (check.Subset w) kind.Subset (codes "ISSUBSET") w.text h.1 (λ whole a b i m. (i, record { string = m; named = f })) (sign Textual kind.Subset (codes "ISSUBSET") refl refl tt refl (λ e. cc)) h.3))
+checked p negated (check.Superset w) text fit f h = as_text (sym h.4) (asked p negated (check.Superset w) h.0 (codes "ISSUPERSET") h.1 (path p h.0 fit h.2) (fits_words (check.Superset w) kind.Superset (codes "ISSUPERSET") w.text h.1 (λ whole a b i m. (i, record { string = m; named = f })) (sign Textual kind.Superset (codes "ISSUPERSET") refl refl tt refl (λ e. cc)) h.3))
 checked p negated check.Exists text fit f h = as_text (sym h.2) (existence p negated h.0 (path p h.0 fit h.1))
 
 pub a_test : (t : Test) (text : List ℕ) → FitTest t → IsTestText t text → Written IsTest (MeansTest t) Ends text
