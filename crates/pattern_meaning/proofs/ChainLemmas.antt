@@ -128,7 +128,7 @@ compared_out t = search (rules, comparison_lemmas)
 pub no_any : (t : Conjunction) → IsNoAny (conjunction t)
 no_any t = rw (conjunction_out t) (no_any_joined (operand t.first) (map operand t.others) (no_chain t.first).1)
 
-joined_more : {A V : Type 0} (join : V → V → V) (f : A → V) (first : V) (xs : List A) (x : A) → joined join first (map f (xs ++ x ∷ [])) ≡ join (joined join first (map f xs)) (f x)
+pub joined_more : {A V : Type 0} (join : V → V → V) (f : A → V) (first : V) (xs : List A) (x : A) → joined join first (map f (xs ++ x ∷ [])) ≡ join (joined join first (map f xs)) (f x)
 joined_more join f first [] x = refl
 joined_more join f first (y ∷ ys) x = joined_more join f (join first (f y)) ys x
 

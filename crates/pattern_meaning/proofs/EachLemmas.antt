@@ -8,9 +8,8 @@ use Rattle.pattern_meaning.specs.Meaning.{Each, IsNameOf, IsStepOf}
 
 pub each_more : {A B : Type 0} (R : A → B → Type 0) (xs : List A) (ys : List B) (x : A) (y : B) → Each R xs ys → R x y → Each R (xs ++ x ∷ []) (ys ++ y ∷ [])
 each_more R [] [] x y h r = (r, tt)
-each_more R [] (b ∷ ys) x y h r = absurd h
-each_more R (a ∷ xs) [] x y h r = absurd h
 each_more R (a ∷ xs) (b ∷ ys) x y h r = (h.0, each_more R xs ys x y h.1 r)
+each_more R _ _ x y h r = absurd h
 
 pub each_step : {A B : Type 0} (R : A → B → Type 0) (xs : List A) (ys : List B) (i : ℕ) (x : A) (y : B) → take (i + 1) xs ≡ take i xs ++ x ∷ [] → Each R (take i xs) ys → R x y → Each R (take (i + 1) xs) (ys ++ y ∷ [])
 each_step R xs ys i x y e h r = rw e (each_more R (take i xs) ys x y h r)
@@ -24,12 +23,10 @@ each_none R (x ∷ xs) (y ∷ ys) (suc i) d below none h = each_none R xs ys i d
 
 pub each_length : {A B : Type 0} (R : A → B → Type 0) (xs : List A) (ys : List B) → Each R xs ys → length xs ≡ length ys
 each_length R [] [] h = refl
-each_length R [] (y ∷ ys) h = absurd h
-each_length R (x ∷ xs) [] h = absurd h
 each_length R (x ∷ xs) (y ∷ ys) h = ap suc (each_length R xs ys h.1)
+each_length R _ _ h = absurd h
 
 -- a name that stands for nothing is no step
 pub no_step : (text : List ℕ) (token : Token) → ((name : List ℕ) → ¬ IsNameOf text token name) → (other : Step) → ¬ IsStepOf text (Name token) other
 no_step text token none (step.Name name) h = none name h
-no_step text token none (step.Place place) h = h
-no_step text token none step.Each h = h
+no_step text token none _ h = h

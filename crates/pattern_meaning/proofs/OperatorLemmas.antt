@@ -10,10 +10,7 @@ use Rattle.pattern_meaning.specs.declared.narrow_pattern.NarrowPattern.{NarrowPa
 use Rattle.pattern_meaning.specs.declared.refusal.ValueRefusal.{ValueRefusal}
 use Rattle.pattern_meaning.specs.inner.NarrowPattern.{IsPartOutcome}
 use Rattle.pattern_meaning.specs.inner.Operators.{tree_by}
-
-pub joined_more : {A V : Type 0} (join : V → V → V) (f : A → V) (first : V) (xs : List A) (x : A) → joined join first (map f (xs ++ x ∷ [])) ≡ join (joined join first (map f xs)) (f x)
-joined_more join f first [] x = refl
-joined_more join f first (y ∷ ys) x = joined_more join f (join first (f y)) ys x
+use Rattle.pattern_meaning.proofs.ChainLemmas.{joined_more}
 
 -- one part more
 pub part_more : (text : List ℕ) (o : Operator) (p : Tree) (xs : List PatternTree) (i : ℕ) (x : PatternTree) (a b w : Result (Option NarrowPattern) ValueRefusal) → take (i + 1) xs ≡ take i xs ++ x ∷ []

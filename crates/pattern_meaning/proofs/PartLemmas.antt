@@ -37,18 +37,14 @@ joined_meant text Then p q m n x y = record { means = means_then x.means y.means
 wide_left : (o : Operator) (m n : PlainPattern) → IsTooWide m → IsTooWide (meant_by o m n)
 wide_left Both m n (inl h) = inl (omega (arith, h))
 wide_left Both m n (inr h) = inr (omega (arith, h))
-wide_left Either m n (inl h) = inl (omega (arith, h))
-wide_left Either m n (inr h) = inr (omega (arith, h))
-wide_left Then m n (inl h) = inl (omega (arith, h))
-wide_left Then m n (inr h) = inr (omega (arith, h))
+wide_left _ m n (inl h) = inl (omega (arith, h))
+wide_left _ m n (inr h) = inr (omega (arith, h))
 
 wide_right : (o : Operator) (m n : PlainPattern) → IsTooWide n → IsTooWide (meant_by o m n)
 wide_right Both m n (inl h) = inl (omega (arith, h))
 wide_right Both m n (inr h) = inr (omega (arith, h))
-wide_right Either m n (inl h) = inl (omega (arith, h))
-wide_right Either m n (inr h) = inr (omega (arith, h))
-wide_right Then m n (inl h) = inl (omega (arith, h))
-wide_right Then m n (inr h) = inr (omega (arith, h))
+wide_right _ m n (inl h) = inl (omega (arith, h))
+wide_right _ m n (inr h) = inr (omega (arith, h))
 
 meant : (text : List ℕ) (p : Tree) (a : Option NarrowPattern) → IsPartOf text p a → (m : PlainPattern) × IsMeant text p m
 meant text p (Some a) h = (plain_pattern a.pattern, h.0)
@@ -77,8 +73,7 @@ limited_wide text q m l y (inr h) = inr h
 limited_wide text q m (limit.Within n) y (inl h) = inl h
 limited_wide text q m (limit.Between i j) y (inl h) = inl h
 limited_wide text (qualifier.Repeats number) m (limit.Repeats n) y (inl h) = inl (one_at_least n (width m) y.means.low h)
-limited_wide text (qualifier.Within number) m (limit.Repeats n) y (inl h) = absurd y.means
-limited_wide text (qualifier.Between start from to) m (limit.Repeats n) y (inl h) = absurd y.means
+limited_wide text _ m (limit.Repeats n) y (inl h) = absurd y.means
 
 pub wide_limited : (text : List ℕ) (p : Tree) (q : Qualifier) (l : Limit) → IsWidelyMeant text p → IsSoundLimitOf text q l → IsWidelyMeant text (qualified p q)
 wide_limited text p q l h y = record { pattern = a_limited h.pattern l; meant = limited_meant text p q h.pattern l h.meant y; wide = limited_wide text q h.pattern l y h.wide }
@@ -94,13 +89,11 @@ pair_outcome IsA IsB P Q a b c d e j x y = subst (IsOutcome (λ pair. IsA pair.0
 
 refused_by : (text : List ℕ) (o : Operator) (p q : Tree) (r : ValueRefusal) → RefusalOf text p r ⊎ RefusalOf text q r → RefusalOf text (tree_by o p q) r
 refused_by text Both p q r h = h
-refused_by text Either p q r h = h
-refused_by text Then p q r h = h
+refused_by text _ p q r h = h
 
 refused_in : (text : List ℕ) (o : Operator) (p q : Tree) (r : ValueRefusal) → RefusalOf text (tree_by o p q) r → RefusalOf text p r ⊎ RefusalOf text q r
 refused_in text Both p q r h = h
-refused_in text Either p q r h = h
-refused_in text Then p q r h = h
+refused_in text _ p q r h = h
 
 pub joined_ok : (text : List ℕ) (o : Operator) (p q : Tree) (a b : Result (Option NarrowPattern) ValueRefusal) (c : Result (Option NarrowPattern × Option NarrowPattern) ValueRefusal) (l r w : Option NarrowPattern)
     → c ≡ Ok (l, r) → IsJoined (λ x y. (x, y)) a b c → (IsPartOf text p l → IsPartOf text q r → IsPartOf text (tree_by o p q) w) → IsPartOutcome text p a → IsPartOutcome text q b → IsPartOutcome text (tree_by o p q) (Ok w)

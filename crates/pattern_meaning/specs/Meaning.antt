@@ -26,8 +26,7 @@ use Rattle.pattern_tokens.specs.Numbers.{IsPlace}
 abbrev pub Each : {A B : Type 0} → (A → B → Type 0) → List A → List B → Type 0
 Each R [] [] = Unit {0}
 Each R (x ∷ xs) (y ∷ ys) = R x y × Each R xs ys
-Each R [] (y ∷ ys) = ⊥
-Each R (x ∷ xs) [] = ⊥
+Each R _ _ = ⊥
 
 -- a name is a word, or what stands in quotes
 abbrev pub IsNameOf : List ℕ → Token → List ℕ → Type 0
@@ -35,11 +34,9 @@ IsNameOf text token name = ((token.kind ≡ kind.String) × At IsStringText text
 
 abbrev pub IsStepOf : List ℕ → StepTree → Step → Type 0
 IsStepOf text (Name token) (step.Name name) = IsNameOf text token name
-IsStepOf text (Name token) (step.Place place) = ⊥
-IsStepOf text (Name token) step.Each = ⊥
-IsStepOf text (Index token) (step.Name name) = ⊥
 IsStepOf text (Index token) (step.Place place) = (token.kind ≡ kind.Number) × IsPlace text token place
 IsStepOf text (Index token) step.Each = token.kind ≡ kind.Star
+IsStepOf text _ _ = ⊥
 
 pub record IsPathOf (text : List ℕ) (tree : PathTree) (path : Path) : Type 0 where
   pub root : At IsItself text tree.root path.kind
