@@ -48,11 +48,7 @@ constant_at whole t i w = constant_by whole t t.kind refl i w.cut w.value
 
 ordered_constant : (k : TokenKind) → is_ordered k ≡ true → is_constant k ≡ true
 ordered_constant kind.Number e = refl
-ordered_constant kind.String e = refl
-ordered_constant kind.Hex e = refl
-ordered_constant kind.Binary e = refl
-ordered_constant kind.Timestamp e = refl
-ordered_constant _ e = absurd (cc)
+ordered_constant _ e = cc
 
 string_by : (whole : List ℕ) (t : Token) (k : TokenKind) → same kind.String k ≡ true → IsCut whole t → HasValue k (text_at whole t) → (words : List ℕ) × At IsStringText whole t words
 string_by whole t kind.String i cut v = (v.0, record { cut = cut; is = v.1 })
@@ -109,7 +105,7 @@ no_textual : (whole : List ℕ) (a b : Token) (k : TokenKind) (at : ℕ) → a.k
 no_textual whole a b kind.Like at e i v h = h.none (check.Like v.0) (e, v.1)
 no_textual whole a b kind.Subset at e i v h = let f = h.here in cc
 no_textual whole a b kind.Superset at e i v h = let f = h.here in cc
-no_textual whole a b _ at e i v h = absurd (cc)
+no_textual whole a b _ at e i v h = cc
 
 each_more : (whole : List ℕ) (ts : List Token) (vs : List Constant) (t : Token) (v : Constant) → Each (IsConstantOf whole) ts vs → IsConstantOf whole t v → Each (IsConstantOf whole) (ts ++ t ∷ []) (vs ++ v ∷ [])
 each_more whole [] [] t v h k = (k, tt)
@@ -156,8 +152,7 @@ mutual
 -- patterns
 no_limit : (q : Qualifier) (at : ℕ) → NoValue at ≡ limit_refusal q → ⊥
 no_limit (qualifier.Within number) at e = cc
-no_limit (qualifier.Repeats number) at e = cc
-no_limit (qualifier.Between start from to) at e = cc
+no_limit _ at e = cc
 
 mutual
   no_start : (whole : List ℕ) (ts : List Token) (p : Tree) (at : ℕ) → IsStart ts p → AllWorth whole ts → ¬ RefusalOf whole p (NoValue at)

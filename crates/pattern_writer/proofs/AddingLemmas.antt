@@ -19,15 +19,13 @@ adds_sides IsLeft IsRight between old left mid new h e k =
 
 pub each_length : {A B : Type 0} (R : A → B → Type 0) (xs : List A) (ys : List B) → Each R xs ys → length ys ≡ length xs
 each_length R [] [] h = refl
-each_length R [] (y ∷ ys) h = absurd h
-each_length R (x ∷ xs) [] h = absurd h
 each_length R (x ∷ xs) (y ∷ ys) h = let e = each_length R xs ys h.1 in omega arith
+each_length R _ _ h = absurd h
 
 pub each_more : {A B : Type 0} (R : A → B → Type 0) (xs : List A) (ys : List B) (x : A) (y : B) → Each R xs ys → R x y → Each R (xs ++ x ∷ []) (ys ++ y ∷ [])
 each_more R [] [] x y h r = (r, tt)
-each_more R [] (b ∷ ys) x y h r = absurd h
-each_more R (a ∷ xs) [] x y h r = absurd h
 each_more R (a ∷ xs) (b ∷ ys) x y h r = (h.0, each_more R xs ys x y h.1 r)
+each_more R _ _ x y h r = absurd h
 
 joined_more : (between : List ℕ) (texts : List (List ℕ)) (text : List ℕ) → joined between (texts ++ text ∷ []) ≡ joined between texts ++ ((if length texts == 0 then [] else between) ++ text)
 joined_more between [] text = append-nil text

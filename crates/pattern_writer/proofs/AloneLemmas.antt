@@ -3,14 +3,15 @@
 use Rattle.std.proofs.Common.{◌≡◌, ◌≢◌, ◌⊎◌, inl, inr, ℕ, suc, ◌<◌, ◌≤◌, Bool, true, false, not, ◌&&◌, ◌||◌, ◌==◌, List, [], ◌∷◌, ◌++◌, length, get_or, refl, sym, ◌∙◌, subst, arith, append_assoc}
 use Rattle.std.specs.Prelude.{All, codes, nat_le, flat_map}
 use Rattle.std.specs.Str.Parse.{IsNumeral, AllDigits}
+use Rattle.std.proofs.lemmas.Bool.{and_parts}
 use Rattle.std.proofs.lemmas.Bool.Decides.{eqb_tells}
 use Rattle.std.proofs.lemmas.Str.Parse.{digit_at}
 use Rattle.pattern_tokens.specs.declared.token.TokenKind.{TokenKind}
-use Rattle.pattern_tokens.specs.declared.token.TokenKind.TheVariants.{SquareOpen, SquareClose, RoundOpen, RoundClose, Dot, Colon, Comma, Star, Equal, Differ, Less, LessEqual, Greater, GreaterEqual, And, Or, Not, FollowedBy, Within, Seconds, Repeats, Times, Start, Stop, Among, Like, Subset, Superset, Exists, TrueWord, FalseWord, Word, HyphenWord, Number, String, Hex, Binary, Timestamp}
+use Rattle.pattern_tokens.specs.declared.token.TokenKind.TheVariants.{Word, HyphenWord, Number, String, Hex, Binary, Timestamp}
 use Rattle.pattern_tokens.specs.Word.{IsWordStart, IsHyphenWordPart, HasAt}
 use Rattle.pattern_tokens.specs.Values.{IsNumberText, quoted, escaped, string_text}
 use Rattle.pattern_tokens.specs.Table.{IsToken}
-use Rattle.pattern_writer.proofs.LongestLemmas.{IsSigned, signed}
+use Rattle.pattern_writer.proofs.LongestLemmas.{IsSigned, signed, first_bytes, rests}
 
 -- the marks that any token may follow: `(`, `.`, `:` and `[`
 abbrev pub IsAlone : ℕ → Type 0
@@ -55,14 +56,6 @@ opens_test [] = true
 opens_test (b ∷ []) = not (b == 39)
 opens_test (b ∷ c ∷ r) = begins_literal b && not (c == 39)
 
-and_left : (a b : Bool) → (a && b) ≡ true → a ≡ true
-and_left true b e = refl
-and_left false b e = absurd (cc)
-
-and_right : (a b : Bool) → (a && b) ≡ true → b ≡ true
-and_right true b e = e
-and_right false b e = absurd (cc)
-
 no_quote : (c : ℕ) → not (c == 39) ≡ true → c ≢ 39
 no_quote c h e = let g : not (39 == 39) ≡ true = rw e at h in cc
 
@@ -70,8 +63,7 @@ opens_literal : (literal : List ℕ) → opens_test literal ≡ true → Opens l
 opens_literal [] h = nothing
 opens_literal (b ∷ []) h = mark b (no_quote b h)
 opens_literal (b ∷ c ∷ r) h =
-    let first = and_left (begins_literal b) (not (c == 39)) h in
-    letters b (c ∷ r) (literal_quote b first) (literal_alone b first) (no_quote c (and_right (begins_literal b) (not (c == 39)) h))
+    let parts = and_parts (begins_literal b) (not (c == 39)) h in letters b (c ∷ r) (literal_quote b parts.0) (literal_alone b parts.0) (no_quote c parts.1)
 
 opens_as : (literal text : List ℕ) → opens_test literal ≡ true → text ≡ literal → Opens text
 opens_as literal text h e = subst Opens (sym e) (opens_literal literal h)
@@ -121,37 +113,6 @@ opens_number text h = case (signed text h)
     case (inr s) = subst Opens (sym s.2) (opens_signed s.0 s.1 s.3 s.4)
 
 pub opens : (kind : TokenKind) (text : List ℕ) → IsToken kind text → Opens text
-opens SquareOpen text h = opens_as (codes "[") text refl h
-opens SquareClose text h = opens_as (codes "]") text refl h
-opens RoundOpen text h = opens_as (codes "(") text refl h
-opens RoundClose text h = opens_as (codes ")") text refl h
-opens Dot text h = opens_as (codes ".") text refl h
-opens Colon text h = opens_as (codes ":") text refl h
-opens Comma text h = opens_as (codes ",") text refl h
-opens Star text h = opens_as (codes "*") text refl h
-opens Equal text h = opens_as (codes "=") text refl h
-opens Differ text h = opens_as (codes "!=") text refl h
-opens Less text h = opens_as (codes "<") text refl h
-opens LessEqual text h = opens_as (codes "<=") text refl h
-opens Greater text h = opens_as (codes ">") text refl h
-opens GreaterEqual text h = opens_as (codes ">=") text refl h
-opens And text h = opens_as (codes "AND") text refl h
-opens Or text h = opens_as (codes "OR") text refl h
-opens Not text h = opens_as (codes "NOT") text refl h
-opens FollowedBy text h = opens_as (codes "FOLLOWEDBY") text refl h
-opens Within text h = opens_as (codes "WITHIN") text refl h
-opens Seconds text h = opens_as (codes "SECONDS") text refl h
-opens Repeats text h = opens_as (codes "REPEATS") text refl h
-opens Times text h = opens_as (codes "TIMES") text refl h
-opens Start text h = opens_as (codes "START") text refl h
-opens Stop text h = opens_as (codes "STOP") text refl h
-opens Among text h = opens_as (codes "IN") text refl h
-opens Like text h = opens_as (codes "LIKE") text refl h
-opens Subset text h = opens_as (codes "ISSUBSET") text refl h
-opens Superset text h = opens_as (codes "ISSUPERSET") text refl h
-opens Exists text h = opens_as (codes "EXISTS") text refl h
-opens TrueWord text h = opens_as (codes "true") text refl h
-opens FalseWord text h = opens_as (codes "false") text refl h
 opens Word text h = opens_word text h.starts (λ k d b. inl (h.parts k d b))
 opens HyphenWord text h = opens_word text h.starts h.parts
 opens Number text h = opens_number text h
@@ -159,6 +120,7 @@ opens String text h = subst Opens (sym h.1) (words h.0)
 opens Hex text h = subst Opens (sym h.1.spelled) (lettered 104 h.0 (inl refl) h.1.unquoted)
 opens Binary text h = subst Opens (sym h.1.spelled) (lettered 98 h.0 (inr (inl refl)) h.1.unquoted)
 opens Timestamp text h = subst Opens (sym h.1.spelled) (lettered 116 h.0 (inr (inr refl)) h.1.unquoted)
+opens _ text h = opens_as _ text refl h
 
 -- a mark ends by itself
 alone_front : (m : ℕ) (after whole more : List ℕ) → IsAlone m → m ∷ after ≡ whole ++ more → Opens whole → length whole ≤ 1
@@ -180,12 +142,6 @@ pub longest_alone : (m : ℕ) (after : List ℕ) → IsAlone m → (other : Toke
 longest_alone m after a other whole more e h = alone_front m after whole more a e (opens other whole h)
 
 -- what is written for words tells them from what follows
-first_bytes : (x y : ℕ) (xs ys : List ℕ) → x ∷ xs ≡ y ∷ ys → x ≡ y
-first_bytes x y xs ys e = cc
-
-pub rests : (x y : ℕ) (xs ys : List ℕ) → x ∷ xs ≡ y ∷ ys → xs ≡ ys
-rests x y xs ys e = cc
-
 closed : (u v a b : List ℕ) → (u ++ 39 ∷ []) ++ a ≡ (v ++ 39 ∷ []) ++ b → u ++ 39 ∷ a ≡ v ++ 39 ∷ b
 closed u v a b e = sym (append_assoc u (39 ∷ []) a) ∙ e ∙ append_assoc v (39 ∷ []) b
 

@@ -18,7 +18,7 @@ use Rattle.pattern_meaning.specs.PatternMeaning.{IsLimitOf, MeansPattern, means_
 use Rattle.pattern_writer.proofs.FitLemmas.{FitCheck, AreSome, FitFormula, FitFormulas, FitLimit, FitMeant}
 use Rattle.pattern_writer.proofs.LexedLemmas.{AllLexed, lexed_left, lexed_right}
 use Rattle.pattern_writer.proofs.FitnessLemmas.{fit_path, fit_check}
-use Rattle.pattern_writer.proofs.FormulaLinesLemmas.{test_apart, cand_apart}
+use Rattle.pattern_writer.proofs.DepthLinesLemmas.{test_apart, cand_apart}
 
 fit_exists : (whole : List ℕ) (c : Check) → IsCheckOf whole check_tree.Exists c → FitCheck c
 fit_exists whole check.Exists h = tt
@@ -66,7 +66,7 @@ mutual
 
   fit_all : (whole : List ℕ) (ts : List Token) (c : Comparison) (fs : PlainLeaves) → IsCand ts c → AllLexed whole ts → AllParts whole c fs → FitFormulas fs
   fit_all whole ts c fs (cand_one h) x (all_first {f = g} n m) = (fit_test whole ts c g h x m, tt)
-  fit_all whole ts c fs (cand_one h) x (all_more {c = d} {d = e} q m) = absurd (test_apart ts (all d e) h).0
+  fit_all whole ts c fs (cand_one h) x (all_more {c = d} {d = e} q m) = absurd (test_apart h).0
   fit_all whole ts c fs (cand_more {a = us} {b = vs} o {c = d} {d = e} h i k) x (all_first n m) = absurd n
   fit_all whole ts c fs (cand_more {a = us} {b = vs} o {c = d} {d = e} h i k) x (all_more {fs = gs} {f = g} q m) =
       put_fit gs g (fit_all whole us d gs h (lexed_left whole us (o ∷ vs) x) q) (fit_test whole vs e g k (lexed_right whole us (o ∷ vs) x).1 m)
@@ -79,7 +79,7 @@ mutual
 
   fit_any : (whole : List ℕ) (ts : List Token) (c : Comparison) (fs : PlainLeaves) → IsCor ts c → AllLexed whole ts → AnyParts whole c fs → FitFormulas fs
   fit_any whole ts c fs (cor_one h) x (any_first {f = g} n m) = (fit_cand whole ts c g h x m, tt)
-  fit_any whole ts c fs (cor_one h) x (any_more {c = d} {d = e} q m) = absurd (cand_apart ts (any d e) h)
+  fit_any whole ts c fs (cor_one h) x (any_more {c = d} {d = e} q m) = absurd (cand_apart h)
   fit_any whole ts c fs (cor_more {a = us} {b = vs} o {c = d} {d = e} h i k) x (any_first n m) = absurd n
   fit_any whole ts c fs (cor_more {a = us} {b = vs} o {c = d} {d = e} h i k) x (any_more {fs = gs} {f = g} q m) =
       put_fit gs g (fit_any whole us d gs h (lexed_left whole us (o ∷ vs) x) q) (fit_cand whole vs e g k (lexed_right whole us (o ∷ vs) x).1 m)

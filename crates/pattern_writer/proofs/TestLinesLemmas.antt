@@ -45,29 +45,17 @@ MeansCheck c whole tree = IsCheckOf whole tree c
 
 -- every constant is one of the class
 constant_in : (c : Value) → is_in Constant (kind_of c) ≡ true
-constant_in (Integer z) = refl
-constant_in (String w) = refl
 constant_in (Boolean true) = refl
 constant_in (Boolean false) = refl
-constant_in (Hex b) = refl
-constant_in (Binary b) = refl
-constant_in (Timestamp i) = refl
+constant_in _ = refl
 
 ordered_in : (c : Value) → FitOrdered c → is_in Ordered (kind_of c) ≡ true
-ordered_in (Integer z) h = refl
-ordered_in (String w) h = refl
 ordered_in (Boolean b) h = absurd h
-ordered_in (Hex b) h = refl
-ordered_in (Binary b) h = refl
-ordered_in (Timestamp i) h = refl
+ordered_in _ h = refl
 
 ordered_fit : (c : Value) → FitOrdered c → FitConstant c
-ordered_fit (Integer z) h = h
-ordered_fit (String w) h = h
 ordered_fit (Boolean b) h = absurd h
-ordered_fit (Hex b) h = h
-ordered_fit (Binary b) h = h
-ordered_fit (Timestamp i) h = h
+ordered_fit _ h = h
 
 -- an operator and what follows it
 operated : (class other : TokenClass) (k : TokenKind) (operator : List ℕ) (text : List ℕ) (IsT : List ℕ → Token → Type 0) (EndsT : List ℕ → Type 0) → Written (IsOne class) (MeansOne k operator) Stops operator → Written (IsOne other) IsT EndsT text → Written (IsPair (IsOne class) (IsOne other)) (MeanPair (MeansOne k operator) IsT) EndsT (operator ++ 32 ∷ text)
@@ -109,14 +97,13 @@ comma = literal (Only kind.Comma) kind.Comma (codes ",") refl refl tt refl (λ e
 
 all_constants : (done rest : List Value) (a : List ℕ) (texts : List (List ℕ)) → FitConstants rest → Each IsConstantText rest texts → Written AreConstants (MeanConstants done) Ends a → Written AreConstants (MeanConstants (done ++ rest)) Ends (a ++ flat_map (λ y. codes ", " ++ y) texts)
 all_constants done [] a [] fit h w = as_text (sym (append-nil a)) (subst (λ (x : List Value). Written AreConstants (MeanConstants x) Ends a) (sym (append-nil done)) w)
-all_constants done [] a (t ∷ ts) fit h w = absurd h
-all_constants done (v ∷ vs) a [] fit h w = absurd h
 all_constants done (v ∷ vs) a (t ∷ ts) fit h w =
     let next = pair (IsOne (Only kind.Comma)) (IsOne Constant) (MeansOne kind.Comma (codes ",")) (λ (whole : List ℕ) (x : Token). IsConstantOf whole x v) Stops Ends (codes ",") (32 ∷ t) (λ after e. stop_space) comma (spaced (constant Constant v t (constant_in v) fit.0 h.0)) in
     let joint = as_tree AreConstants (MeanConstants (done ++ v ∷ [])) (λ whole ts x i m. (x.0 ++ x.1.1 ∷ [], one_more ts x i, each_more (IsConstantOf whole) x.0 done x.1.1 v m.0 m.1.1))
     (pair AreConstants (IsPair (IsOne (Only kind.Comma)) (IsOne Constant)) (MeanConstants done) (MeanPair (MeansOne kind.Comma (codes ",")) (λ (whole : List ℕ) (x : Token). IsConstantOf whole x v)) Ends Ends a (codes ", " ++ t) (λ after e. (stop_comma, λ x. omega arith)) w next) in
     let all = all_constants (done ++ v ∷ []) vs (a ++ (codes ", " ++ t)) ts fit.1 h.1 joint in
     as_text (append_assoc a (codes ", " ++ t) (flat_map (λ y. codes ", " ++ y) ts)) (subst (λ (x : List Value). Written AreConstants (MeanConstants x) Ends ((a ++ (codes ", " ++ t)) ++ flat_map (λ y. codes ", " ++ y) ts)) (append_assoc done (v ∷ []) vs) all)
+all_constants done _ a _ fit h w = absurd h
 
 constants : (vs : List Value) (texts : List (List ℕ)) → FitList vs → Each IsConstantText vs texts → Written AreConstants (MeanConstants vs) Ends (joined (codes ", ") texts)
 constants [] texts fit h = absurd fit

@@ -1,6 +1,7 @@
 -- The tokens of a canonical text, each with the end that it has there.
 use Rattle.std.proofs.Common.{◌≡◌, ◌≢◌, ◌⊎◌, inl, inr, ℕ, ◌<◌, Bool, true, false, not, ◌&&◌, ◌==◌, List, [], ◌∷◌, length, get_or, refl, sym, ap, arith, Some, ℤ}
 use Rattle.std.specs.Prelude.{All, codes, slice_get, nat_lt}
+use Rattle.std.proofs.lemmas.Bool.{and_parts}
 use Rattle.std.proofs.lemmas.Bool.Decides.{nat_tests}
 use Rattle.std.proofs.lemmas.List.Elements.{All-cons}
 use Rattle.pattern_tokens.specs.declared.token.Token.{Token}
@@ -92,14 +93,6 @@ abbrev pub plain_test : List ℕ → Bool
 plain_test [] = false
 plain_test (b ∷ bs) = (nat_lt b 128 && not (b == 77)) && no_quotes (b ∷ bs)
 
-and_left : (a b : Bool) → (a && b) ≡ true → a ≡ true
-and_left true b e = refl
-and_left false b e = absurd (cc)
-
-and_right : (a b : Bool) → (a && b) ≡ true → b ≡ true
-and_right true b e = e
-and_right false b e = absurd (cc)
-
 differ : (b c : ℕ) → not (b == c) ≡ true → b ≢ c
 differ b c h e = let g : not (c == c) ≡ true = rw e at h in grind (arith, nat_tests)
 
@@ -108,18 +101,18 @@ below b c h = grind (arith, nat_tests)
 
 pub all_plain : (text : List ℕ) → no_quotes text ≡ true → All (λ b. b ≢ 39) text
 all_plain [] e = λ k d b. absurd (omega arith)
-all_plain (c ∷ text) e = All-cons (λ b. b ≢ 39) c text (differ c 39 (and_left (not (c == 39)) (no_quotes text) e)) (all_plain text (and_right (not (c == 39)) (no_quotes text) e))
+all_plain (c ∷ text) e = All-cons (λ b. b ≢ 39) c text (differ c 39 (and_parts (not (c == 39)) (no_quotes text) e).0) (all_plain text (and_parts (not (c == 39)) (no_quotes text) e).1)
 
 pub plain_literal : (text : List ℕ) → plain_test text ≡ true → IsPlainText text
 plain_literal [] e = absurd (cc)
 plain_literal (b ∷ bs) e =
-    let f = and_left (nat_lt b 128 && not (b == 77)) (no_quotes (b ∷ bs)) e in
-    let g = and_right (nat_lt b 128 && not (b == 77)) (no_quotes (b ∷ bs)) e in
+    let f = and_parts (nat_lt b 128 && not (b == 77)) (no_quotes (b ∷ bs)) e in
+    let g = and_parts (nat_lt b 128) (not (b == 77)) f.0 in
     record {
       some = omega arith;
-      plain = all_plain (b ∷ bs) g;
-      ascii = below b 128 (and_left (nat_lt b 128) (not (b == 77)) f);
-      free = not_matches (b ∷ bs) (differ b 77 (and_right (nat_lt b 128) (not (b == 77)) f));
+      plain = all_plain (b ∷ bs) f.1;
+      ascii = below b 128 g.0;
+      free = not_matches (b ∷ bs) (differ b 77 g.1);
     }
 
 -- marks and keywords before a stop
