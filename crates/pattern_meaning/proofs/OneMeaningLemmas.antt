@@ -26,7 +26,8 @@ use Rattle.pattern_types.specs.declared.check.Check.TheVariants as check
 use Rattle.pattern_types.specs.declared.leaf.Test.{Test}
 use Rattle.pattern_types.specs.declared.limit.Limit.{Limit}
 use Rattle.pattern_types.specs.declared.limit.Limit.TheVariants as limit
-use Rattle.pattern_meaning.specs.Meaning.{Each, IsNameOf, IsStepOf, IsPathOf, IsConstantOf, IsAddressOf, IsCheckOf, IsTestOf}
+use Rattle.pattern_meaning.specs.Meaning.{IsNameOf, IsStepOf, IsPathOf, IsConstantOf, IsAddressOf, IsCheckOf, IsTestOf}
+use Rattle.std.specs.List.{AllZip}
 use Rattle.pattern_types.specs.PlainLeaf.{PlainLeaf, PlainLeaves, one, every, some, none, more}
 use Rattle.pattern_meaning.specs.LeafMeaning.{Means, means_test, means_group, means_all, means_any, AllParts, all_first, all_more, AnyParts, any_first, any_more}
 use Rattle.pattern_types.specs.PlainPattern.{PlainPattern, a_leaf}
@@ -40,7 +41,7 @@ at_one : {V : Type 0} (IsTextOf : List ℕ → V → Type 0) → IsOne IsTextOf 
 at_one T h text token a b x y = h (text_at text token) a b x.is y.is
 
 -- lists whose elements are related place by place, to one each
-each_one : {A B : Type 0} (R : A → B → Type 0) → ((x : A) (a b : B) → R x a → R x b → a ≡ b) → (xs : List A) (ys zs : List B) → Each R xs ys → Each R xs zs → ys ≡ zs
+each_one : {A B : Type 0} (R : A → B → Type 0) → ((x : A) (a b : B) → R x a → R x b → a ≡ b) → (xs : List A) (ys zs : List B) → AllZip R xs ys → AllZip R xs zs → ys ≡ zs
 each_one R h [] [] [] x y = refl
 each_one R h (t ∷ xs) (a ∷ ys) (b ∷ zs) x y =
     let e = h t a b x.0 y.0 in
@@ -130,7 +131,7 @@ module _ (one_whole : IsOne IsIntegerText) (one_words : IsOne IsStringText) (one
   one_textual text operator token (check.Superset a) b x y = absurd y
   one_textual text operator token a b x y = absurd x
 
-  among_is : (text : List ℕ) (tokens : List Token) (c : Check) → IsCheckOf text (check_tree.Among tokens) c → (vs : List Constant) × Each (IsConstantOf text) tokens vs × (c ≡ check.Among vs)
+  among_is : (text : List ℕ) (tokens : List Token) (c : Check) → IsCheckOf text (check_tree.Among tokens) c → (vs : List Constant) × AllZip (IsConstantOf text) tokens vs × (c ≡ check.Among vs)
   among_is text tokens (check.Among vs) x = (vs, x, refl)
   among_is text tokens _ x = absurd x
 

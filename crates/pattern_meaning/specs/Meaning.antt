@@ -1,5 +1,6 @@
 -- What the parts of a syntax tree mean: the path, the check and the test that their tokens stand for.
-use Rattle.std.specs.Prelude.{◌≡◌, ◌≢◌, ◌⊎◌, ℕ, true, false, List, [], ◌∷◌}
+use Rattle.std.specs.Prelude.{◌≡◌, ◌≢◌, ◌⊎◌, ℕ, true, false, List}
+use Rattle.std.specs.List.{AllZip}
 use Rattle.match_cidr.specs.BlockText.{IsBlockText}
 use Rattle.pattern_tokens.specs.declared.token.Token.{Token}
 use Rattle.pattern_tokens.specs.declared.token.TokenKind.TheVariants as kind
@@ -22,12 +23,6 @@ use Rattle.pattern_types.specs.declared.leaf.Test.{Test}
 use Rattle.pattern_tokens.specs.Spans.{At, IsItself}
 use Rattle.pattern_tokens.specs.Numbers.{IsPlace}
 
--- each of these is related to the one at its place
-abbrev pub Each : {A B : Type 0} → (A → B → Type 0) → List A → List B → Type 0
-Each R [] [] = Unit {0}
-Each R (x ∷ xs) (y ∷ ys) = R x y × Each R xs ys
-Each R _ _ = ⊥
-
 -- a name is a word, or what stands in quotes
 abbrev pub IsNameOf : List ℕ → Token → List ℕ → Type 0
 IsNameOf text token name = ((token.kind ≡ kind.String) × At IsStringText text token name) ⊎ ((token.kind ≢ kind.String) × At IsItself text token name)
@@ -40,7 +35,7 @@ IsStepOf text _ _ = ⊥
 
 pub record IsPathOf (text : List ℕ) (tree : PathTree) (path : Path) : Type 0 where
   pub root : At IsItself text tree.root path.kind
-  pub steps : Each (IsStepOf text) tree.steps path.steps
+  pub steps : AllZip (IsStepOf text) tree.steps path.steps
 
 abbrev pub IsConstantOf : List ℕ → Token → Constant → Type 0
 IsConstantOf text token (constant.Integer whole) = (token.kind ≡ kind.Number) × At IsIntegerText text token whole
@@ -63,7 +58,7 @@ IsCheckOf text (check_tree.Compare operator token) (check.Less value) = (operato
 IsCheckOf text (check_tree.Compare operator token) (check.LessEqual value) = (operator.kind ≡ kind.LessEqual) × IsConstantOf text token value
 IsCheckOf text (check_tree.Compare operator token) (check.Greater value) = (operator.kind ≡ kind.Greater) × IsConstantOf text token value
 IsCheckOf text (check_tree.Compare operator token) (check.GreaterEqual value) = (operator.kind ≡ kind.GreaterEqual) × IsConstantOf text token value
-IsCheckOf text (check_tree.Among tokens) (check.Among values) = Each (IsConstantOf text) tokens values
+IsCheckOf text (check_tree.Among tokens) (check.Among values) = AllZip (IsConstantOf text) tokens values
 IsCheckOf text (check_tree.Textual operator token) (check.Like words) = (operator.kind ≡ kind.Like) × At IsStringText text token words
 IsCheckOf text (check_tree.Textual operator token) (check.Subset address) = (operator.kind ≡ kind.Subset) × IsAddressOf text token address
 IsCheckOf text (check_tree.Textual operator token) (check.Superset address) = (operator.kind ≡ kind.Superset) × IsAddressOf text token address

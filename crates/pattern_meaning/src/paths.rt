@@ -3,7 +3,8 @@ ghost use Rattle.flow_values.specs.Answers.{FindsExactly};
 ghost use Rattle.pattern_tokens.specs.Spans.{At, IsItself};
 ghost use Rattle.pattern_types.specs.declared.path.TheConstants.{MAX_STEPS};
 ghost use Rattle.pattern_meaning.specs.declared.refusal.ValueRefusal.TheVariants.{NoValue};
-ghost use Rattle.pattern_meaning.specs.Meaning.{IsNameOf, IsStepOf, Each, IsPathOf};
+ghost use Rattle.pattern_meaning.specs.Meaning.{IsNameOf, IsStepOf, IsPathOf};
+ghost use Rattle.std.specs.List.{AllZip};
 ghost use Rattle.pattern_meaning.specs.Refusals.{Lacks, IsLongPath, step_refusal, RefusalOfSteps, RefusalOfPath};
 ghost use Rattle.pattern_meaning.specs.inner.Judgement.{IsOutcome};
 
@@ -84,7 +85,7 @@ fn steps_of(
     text: &str,
     path: &PathTree,
 ) -> Result<Result<Items<Step>, ValueRefusal>, NoMemory>
-    ensures { IfOk result (IsOutcome (λ steps. Each (IsStepOf text.now) path.now.steps steps × (length path.now.steps ≤ MAX_STEPS))
+    ensures { IfOk result (IsOutcome (λ steps. AllZip (IsStepOf text.now) path.now.steps steps × (length path.now.steps ≤ MAX_STEPS))
         (λ refusal. IsLongPath path.now refusal ⊎ RefusalOfSteps text.now path.now.steps refusal)) }
 {
     let mut found = no_steps(alloc, path);

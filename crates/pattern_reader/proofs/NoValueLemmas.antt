@@ -22,7 +22,9 @@ use Rattle.pattern_types.specs.declared.constant.Constant.TheVariants.{Integer, 
 use Rattle.pattern_types.specs.declared.check.Check.{Check}
 use Rattle.pattern_types.specs.declared.check.Check.TheVariants as check
 use Rattle.pattern_meaning.specs.declared.refusal.ValueRefusal.TheVariants.{NoValue}
-use Rattle.pattern_meaning.specs.Meaning.{Each, IsNameOf, IsConstantOf, IsCheckOf}
+use Rattle.pattern_meaning.specs.Meaning.{IsNameOf, IsConstantOf, IsCheckOf}
+use Rattle.std.specs.List.{AllZip}
+use Rattle.std.proofs.lemmas.Slice.Zip.{all_zipped_more}
 use Rattle.pattern_meaning.specs.Refusals.{Lacks, RefusalOfSteps, RefusalOfPath, textual_refusal, check_refusal, RefusalOfComparison, limit_refusal, RefusalOf}
 use Rattle.pattern_reader.specs.Read.{IsFaulty}
 use Rattle.pattern_reader.proofs.TokenValueLemmas.{HasWorth, AllWorth, worth_left, worth_right, tokens_worth}
@@ -107,17 +109,12 @@ no_textual whole a b kind.Subset at e i v h = let f = h.here in cc
 no_textual whole a b kind.Superset at e i v h = let f = h.here in cc
 no_textual whole a b _ at e i v h = cc
 
-each_more : (whole : List ℕ) (ts : List Token) (vs : List Constant) (t : Token) (v : Constant) → Each (IsConstantOf whole) ts vs → IsConstantOf whole t v → Each (IsConstantOf whole) (ts ++ t ∷ []) (vs ++ v ∷ [])
-each_more whole [] [] t v h k = (k, tt)
-each_more whole (x ∷ ts) (y ∷ vs) t v h k = (h.0, each_more whole ts vs t v h.1 k)
-each_more whole ts vs t v h k = absurd h
-
-constants_at : (whole : List ℕ) (ts cs : List Token) → AreConstants ts cs → AllWorth whole ts → (vs : List Constant) × Each (IsConstantOf whole) cs vs
+constants_at : (whole : List ℕ) (ts cs : List Token) → AreConstants ts cs → AllWorth whole ts → (vs : List Constant) × AllZip (IsConstantOf whole) cs vs
 constants_at whole ts cs (constants_one a i) w = let v = constant_at whole a i w.0 in (v.0 ∷ [], (v.1, tt))
 constants_at whole ts cs (constants_more {ts = us} {cs = ds} a b i j k) w =
     let vs = constants_at whole us ds i (worth_left whole us (a ∷ b ∷ []) w) in
     let v = constant_at whole b k (worth_right whole us (a ∷ b ∷ []) w).1.0 in
-    (vs.0 ++ v.0 ∷ [], each_more whole ds vs.0 b v.0 vs.1 v.1)
+    (vs.0 ++ v.0 ∷ [], all_zipped_more (IsConstantOf whole) ds vs.0 b v.0 vs.1 v.1)
 
 no_check : (whole : List ℕ) (ts : List Token) (c : CheckTree) (at : ℕ) → IsCheck ts c → AllWorth whole ts → ¬ Lacks (IsCheckOf whole c) (check_refusal c) (NoValue at)
 no_check whole ts c at (check_equality a b i j) w h = no_compared whole a b at (inl i) j w.1.0 h

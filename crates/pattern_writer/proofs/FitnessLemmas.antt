@@ -26,7 +26,8 @@ use Rattle.pattern_types.specs.declared.constant.Constant.{Constant}
 use Rattle.pattern_types.specs.declared.constant.Constant.TheVariants.{Integer, String, Boolean, Hex, Binary, Timestamp}
 use Rattle.pattern_types.specs.declared.check.Check.{Check}
 use Rattle.pattern_types.specs.declared.check.Check.TheVariants as check
-use Rattle.pattern_meaning.specs.Meaning.{Each, IsStepOf, IsPathOf, IsConstantOf, IsCheckOf}
+use Rattle.pattern_meaning.specs.Meaning.{IsStepOf, IsPathOf, IsConstantOf, IsCheckOf}
+use Rattle.std.specs.List.{AllZip}
 use Rattle.pattern_writer.proofs.FitLemmas.{FitStep, FitFurther, FitSteps, FitPath, FitConstant, FitOrdered, FitConstants, FitList, FitCheck}
 use Rattle.pattern_tokens.specs.Word.{IsWord, IsHyphenWord}
 use Rattle.pattern_writer.proofs.LongestLemmas.{rests}
@@ -53,12 +54,12 @@ fit_step whole (step_tree.Name t) (step.Place p) h = absurd h
 fit_step whole (step_tree.Index t) (step.Place p) h = h.1.high
 fit_step whole t _ h = tt
 
-fit_further : (whole : List ℕ) (ts : List StepTree) (ss : List Step) → Each (IsStepOf whole) ts ss → FitFurther ss
+fit_further : (whole : List ℕ) (ts : List StepTree) (ss : List Step) → AllZip (IsStepOf whole) ts ss → FitFurther ss
 fit_further whole (t ∷ ts) (s ∷ ss) h = (fit_step whole t s h.0, fit_further whole ts ss h.1)
 fit_further whole [] (s ∷ ss) h = absurd h
 fit_further whole ts [] h = tt
 
-fit_steps : (whole : List ℕ) (ts : List StepTree) (ss : List Step) → NameFirst ts → Each (IsStepOf whole) ts ss → FitSteps ss
+fit_steps : (whole : List ℕ) (ts : List StepTree) (ss : List Step) → NameFirst ts → AllZip (IsStepOf whole) ts ss → FitSteps ss
 fit_steps whole [] ss n h = absurd n
 fit_steps whole (step_tree.Index t ∷ ts) ss n h = absurd n
 fit_steps whole (step_tree.Name t ∷ ts) [] n h = absurd h
@@ -114,12 +115,12 @@ some_constants : (ts cs : List Token) → AreConstants ts cs → IsSome cs
 some_constants ts cs (constants_one a h) = tt
 some_constants ts cs (constants_more {ts = us} {cs = ds} a b h i j) = some_more ds b
 
-fit_constants : (whole : List ℕ) (cs : List Token) (vs : List Constant) → AllLexed whole cs → Each (IsConstantOf whole) cs vs → FitConstants vs
+fit_constants : (whole : List ℕ) (cs : List Token) (vs : List Constant) → AllLexed whole cs → AllZip (IsConstantOf whole) cs vs → FitConstants vs
 fit_constants whole (c ∷ cs) (v ∷ vs) x h = (fit_constant whole c v x.0 h.0, fit_constants whole cs vs x.1 h.1)
 fit_constants whole [] (v ∷ vs) x h = absurd h
 fit_constants whole cs [] x h = tt
 
-fit_list : (whole : List ℕ) (cs : List Token) (vs : List Constant) → IsSome cs → AllLexed whole cs → Each (IsConstantOf whole) cs vs → FitList vs
+fit_list : (whole : List ℕ) (cs : List Token) (vs : List Constant) → IsSome cs → AllLexed whole cs → AllZip (IsConstantOf whole) cs vs → FitList vs
 fit_list whole [] vs s x h = absurd s
 fit_list whole (c ∷ cs) [] s x h = absurd h
 fit_list whole (c ∷ cs) (v ∷ vs) s x h = (fit_constant whole c v x.0 h.0, fit_constants whole cs vs x.1 h.1)

@@ -10,7 +10,7 @@ use Rattle.pattern_types.specs.declared.constant.Constant.{Constant}
 use Rattle.pattern_types.specs.declared.constant.Constant.TheVariants.{Integer, String, Boolean, Hex, Binary, Timestamp}
 use Rattle.pattern_types.specs.declared.check.Check.{Check}
 use Rattle.pattern_types.specs.declared.check.Check.TheVariants as check
-use Rattle.pattern_meaning.specs.Meaning.{Each}
+use Rattle.std.specs.List.{AllZip}
 use Rattle.pattern_types.specs.PlainLeaf.{PlainLeaf, one, every, some, PlainLeaves, none, more}
 use Rattle.pattern_types.specs.PlainPattern.{PlainPattern, a_leaf, a_both, an_either, a_then, a_limited}
 use Rattle.pattern_types.specs.declared.limit.Limit.{Limit}
@@ -42,7 +42,7 @@ sides IsLeft mid IsRight u v a b h k = h.4 ∙ ap (λ (x : List ℕ). x ++ mid +
 within : (least b : ℕ) (IsText : List ℕ → Type 0) → One IsText → One (IsWithin least b IsText)
 within least b IsText u x y h k = h.2 ∙ ap (enclosed least b) (u h.0 k.0 h.1 k.1) ∙ sym k.2
 
-each : {A : Type 0} (R : A → List ℕ → Type 0) → ((x : A) → One (R x)) → (xs : List A) (ts us : List (List ℕ)) → Each R xs ts → Each R xs us → ts ≡ us
+each : {A : Type 0} (R : A → List ℕ → Type 0) → ((x : A) → One (R x)) → (xs : List A) (ts us : List (List ℕ)) → AllZip R xs ts → AllZip R xs us → ts ≡ us
 each R u [] [] [] h k = refl
 each R u [] [] (y ∷ ys) h k = absurd k
 each R u [] (x ∷ xs) us h k = absurd h

@@ -21,7 +21,8 @@ use Rattle.pattern_types.specs.declared.constant.Constant.TheVariants.{Integer, 
 use Rattle.pattern_types.specs.declared.check.Check.{Check}
 use Rattle.pattern_types.specs.declared.check.Check.TheVariants as check
 use Rattle.pattern_types.specs.declared.leaf.Test.{Test}
-use Rattle.pattern_meaning.specs.Meaning.{Each, IsConstantOf, IsCheckOf}
+use Rattle.pattern_meaning.specs.Meaning.{IsConstantOf, IsCheckOf}
+use Rattle.std.specs.List.{AllZip}
 use Rattle.pattern_types.specs.PlainLeaf.{one}
 use Rattle.pattern_meaning.specs.LeafMeaning.{Means, means_test}
 use Rattle.pattern_writer.specs.Parts.{joined}
@@ -29,7 +30,7 @@ use Rattle.pattern_writer.specs.Constant.{IsConstantText}
 use Rattle.pattern_writer.proofs.DepthLinesLemmas.{IsPlain}
 use Rattle.pattern_writer.specs.Check.{AreWords, AreAmong, not_text, operator_text, IsCheckedText, IsTestText}
 use Rattle.pattern_writer.proofs.LongestLemmas.{Stops, Ends, ends_stops}
-use Rattle.pattern_writer.proofs.AddingLemmas.{each_more}
+use Rattle.std.proofs.lemmas.Slice.Zip.{all_zipped_more}
 use Rattle.pattern_writer.proofs.PiecesLemmas.{Stands}
 use Rattle.pattern_writer.proofs.WrittenLemmas.{Written, IsOne, is_one, IsPair, is_pair, MeanPair, pair, spaced, as_tree, as_text, before}
 use Rattle.pattern_writer.proofs.TokensLemmas.{Anything, plain_test, literal, mark, words}
@@ -84,7 +85,7 @@ fits_words c k operator v text f w h = as_tree IsCheck (MeansCheck c) (λ whole 
 
 -- lists of constants
 abbrev MeanConstants : List Value → List ℕ → List Token → Type 0
-MeanConstants vs whole cs = Each (IsConstantOf whole) cs vs
+MeanConstants vs whole cs = AllZip (IsConstantOf whole) cs vs
 
 single : (ts : List Token) (t : Token) → IsOne Constant ts t → AreConstants ts (t ∷ [])
 single ts t (is_one a h) = constants_one a h
@@ -95,17 +96,17 @@ one_more ts x (is_pair h (is_pair (is_one a i) (is_one b j))) = constants_more a
 comma : Written (IsOne (Only kind.Comma)) (MeansOne kind.Comma (codes ",")) Stops (codes ",")
 comma = literal (Only kind.Comma) kind.Comma (codes ",") refl refl tt refl (λ e. cc)
 
-all_constants : (done rest : List Value) (a : List ℕ) (texts : List (List ℕ)) → FitConstants rest → Each IsConstantText rest texts → Written AreConstants (MeanConstants done) Ends a → Written AreConstants (MeanConstants (done ++ rest)) Ends (a ++ flat_map (λ y. codes ", " ++ y) texts)
+all_constants : (done rest : List Value) (a : List ℕ) (texts : List (List ℕ)) → FitConstants rest → AllZip IsConstantText rest texts → Written AreConstants (MeanConstants done) Ends a → Written AreConstants (MeanConstants (done ++ rest)) Ends (a ++ flat_map (λ y. codes ", " ++ y) texts)
 all_constants done [] a [] fit h w = as_text (sym (append-nil a)) (subst (λ (x : List Value). Written AreConstants (MeanConstants x) Ends a) (sym (append-nil done)) w)
 all_constants done (v ∷ vs) a (t ∷ ts) fit h w =
     let next = pair (IsOne (Only kind.Comma)) (IsOne Constant) (MeansOne kind.Comma (codes ",")) (λ (whole : List ℕ) (x : Token). IsConstantOf whole x v) Stops Ends (codes ",") (32 ∷ t) (λ after e. stop_space) comma (spaced (constant Constant v t (constant_in v) fit.0 h.0)) in
-    let joint = as_tree AreConstants (MeanConstants (done ++ v ∷ [])) (λ whole ts x i m. (x.0 ++ x.1.1 ∷ [], one_more ts x i, each_more (IsConstantOf whole) x.0 done x.1.1 v m.0 m.1.1))
+    let joint = as_tree AreConstants (MeanConstants (done ++ v ∷ [])) (λ whole ts x i m. (x.0 ++ x.1.1 ∷ [], one_more ts x i, all_zipped_more (IsConstantOf whole) x.0 done x.1.1 v m.0 m.1.1))
     (pair AreConstants (IsPair (IsOne (Only kind.Comma)) (IsOne Constant)) (MeanConstants done) (MeanPair (MeansOne kind.Comma (codes ",")) (λ (whole : List ℕ) (x : Token). IsConstantOf whole x v)) Ends Ends a (codes ", " ++ t) (λ after e. (stop_comma, λ x. omega arith)) w next) in
     let all = all_constants (done ++ v ∷ []) vs (a ++ (codes ", " ++ t)) ts fit.1 h.1 joint in
     as_text (append_assoc a (codes ", " ++ t) (flat_map (λ y. codes ", " ++ y) ts)) (subst (λ (x : List Value). Written AreConstants (MeanConstants x) Ends ((a ++ (codes ", " ++ t)) ++ flat_map (λ y. codes ", " ++ y) ts)) (append_assoc done (v ∷ []) vs) all)
 all_constants done _ a _ fit h w = absurd h
 
-constants : (vs : List Value) (texts : List (List ℕ)) → FitList vs → Each IsConstantText vs texts → Written AreConstants (MeanConstants vs) Ends (joined (codes ", ") texts)
+constants : (vs : List Value) (texts : List (List ℕ)) → FitList vs → AllZip IsConstantText vs texts → Written AreConstants (MeanConstants vs) Ends (joined (codes ", ") texts)
 constants [] texts fit h = absurd fit
 constants (v ∷ vs) [] fit h = absurd h
 constants (v ∷ vs) (t ∷ ts) fit h =
