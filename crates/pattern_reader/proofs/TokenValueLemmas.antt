@@ -40,9 +40,7 @@ BeginsAscii (c ∷ text) = c < 128
 
 ascii_word : (text : List ℕ) → HasAt 0 IsWordStart text → BeginsAscii text
 ascii_word [] h = absurd h
-ascii_word (c ∷ text) (inl (inl h)) = omega (arith, h.1)
-ascii_word (c ∷ text) (inl (inr h)) = omega (arith, h.1)
-ascii_word (c ∷ text) (inr h) = omega arith
+ascii_word (c ∷ text) h = grind arith
 
 ascii_sign : (c : ℕ) (digits : List ℕ) (minus plus : Bool) → (minus ≡ true → c < 128) → (plus ≡ true → c < 128) → IsNumeral 10 (cond minus digits (drop (cond plus 1 0) (c ∷ digits))) → c < 128
 ascii_sign c digits true plus f g h = f refl
@@ -71,10 +69,7 @@ low_text [] rest h = absurd h
 low_text (c ∷ text) rest h = h
 
 blank_below : (c : ℕ) → IsBlank c → c < 128
-blank_below c (inl e) = omega arith
-blank_below c (inr (inl e)) = omega arith
-blank_below c (inr (inr (inl e))) = omega arith
-blank_below c (inr (inr (inr e))) = omega arith
+blank_below c h = grind arith
 
 low_blanks : (blanks rest : List ℕ) → All IsBlank blanks → get_or rest 0 0 < 128 → get_or (blanks ++ rest) 0 0 < 128
 low_blanks [] rest all h = h

@@ -27,16 +27,10 @@ pub data Opens : List ℕ → Type 0 where
   lettered : (l : ℕ) (inside : List ℕ) → (l ≡ 104) ⊎ ((l ≡ 98) ⊎ (l ≡ 116)) → All (λ c. c ≢ 39) inside → Opens (quoted (l ∷ []) inside)
 
 letter_alone : (b : ℕ) → 58 < b → b ≢ 91 → ¬ IsAlone b
-letter_alone b h k (inl e) = omega arith
-letter_alone b h k (inr (inl e)) = omega arith
-letter_alone b h k (inr (inr (inl e))) = omega arith
-letter_alone b h k (inr (inr (inr e))) = k e
+letter_alone b h k x = grind arith
 
 low_alone : (b : ℕ) → b < 58 → b ≢ 40 → b ≢ 46 → ¬ IsAlone b
-low_alone b h k l (inl e) = k e
-low_alone b h k l (inr (inl e)) = l e
-low_alone b h k l (inr (inr (inl e))) = omega arith
-low_alone b h k l (inr (inr (inr e))) = omega arith
+low_alone b h k l x = grind arith
 
 -- letters, `!`, `<` and `>`
 abbrev begins_literal : ℕ → Bool
@@ -69,19 +63,13 @@ opens_as : (literal text : List ℕ) → opens_test literal ≡ true → text �
 opens_as literal text h e = subst Opens (sym e) (opens_literal literal h)
 
 start_quote : (c : ℕ) → IsWordStart c → c ≢ 39
-start_quote c (inl (inl h)) e = omega (arith, h.0)
-start_quote c (inl (inr h)) e = omega (arith, h.0)
-start_quote c (inr h) e = omega arith
+start_quote c h e = grind arith
 
 start_alone : (c : ℕ) → IsWordStart c → ¬ IsAlone c
-start_alone c (inl (inl h)) = letter_alone c (omega (arith, h.0)) (λ e. omega (arith, h.1))
-start_alone c (inl (inr h)) = letter_alone c (omega (arith, h.0)) (λ e. omega (arith, h.0))
-start_alone c (inr h) = letter_alone c (omega arith) (λ e. omega arith)
+start_alone c h x = grind arith
 
 part_quote : (c : ℕ) → IsHyphenWordPart c → c ≢ 39
-part_quote c (inl (inl h)) = start_quote c h
-part_quote c (inl (inr h)) = λ e. omega (arith, h.0)
-part_quote c (inr h) = λ e. omega arith
+part_quote c h e = grind arith
 
 second_quote : (text : List ℕ) → All IsHyphenWordPart text → get_or text 0 0 ≢ 39
 second_quote [] h e = omega arith

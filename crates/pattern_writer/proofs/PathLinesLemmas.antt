@@ -28,26 +28,7 @@ use Rattle.pattern_writer.proofs.NumeralsLemmas.{count_text, count_shape}
 use Rattle.pattern_writer.proofs.FitLemmas.{FitStep, FitFurther, FitSteps, FitPath}
 
 no_part : (c : ℕ) → (c < 45) ⊎ ((45 < c × (c < 48)) ⊎ ((57 < c × (c < 65)) ⊎ (90 < c × (c < 95)))) → ¬ IsHyphenWordPart c
-no_part c (inl h) (inl (inl (inl (inl x)))) = omega (arith, x.0)
-no_part c (inl h) (inl (inl (inl (inr x)))) = omega (arith, x.0)
-no_part c (inl h) (inl (inl (inr x))) = omega arith
-no_part c (inl h) (inl (inr x)) = omega (arith, x.0)
-no_part c (inl h) (inr x) = omega arith
-no_part c (inr (inl h)) (inl (inl (inl (inl x)))) = omega (arith, x.0, h.1)
-no_part c (inr (inl h)) (inl (inl (inl (inr x)))) = omega (arith, x.0, h.1)
-no_part c (inr (inl h)) (inl (inl (inr x))) = omega (arith, h.1)
-no_part c (inr (inl h)) (inl (inr x)) = omega (arith, x.0, h.1)
-no_part c (inr (inl h)) (inr x) = omega (arith, h.0)
-no_part c (inr (inr (inl h))) (inl (inl (inl (inl x)))) = omega (arith, x.0, h.1)
-no_part c (inr (inr (inl h))) (inl (inl (inl (inr x)))) = omega (arith, x.0, h.1)
-no_part c (inr (inr (inl h))) (inl (inl (inr x))) = omega (arith, h.1)
-no_part c (inr (inr (inl h))) (inl (inr x)) = omega (arith, x.1, h.0)
-no_part c (inr (inr (inl h))) (inr x) = omega (arith, h.0)
-no_part c (inr (inr (inr h))) (inl (inl (inl (inl x)))) = omega (arith, x.1, h.0)
-no_part c (inr (inr (inr h))) (inl (inl (inl (inr x)))) = omega (arith, x.0, h.1)
-no_part c (inr (inr (inr h))) (inl (inl (inr x))) = omega (arith, h.1)
-no_part c (inr (inr (inr h))) (inl (inr x)) = omega (arith, x.1, h.0)
-no_part c (inr (inr (inr h))) (inr x) = omega (arith, h.0)
+no_part c h x = grind arith
 
 -- a space, `)`, `,`, `.`, `:`, `[` and `]`
 pub stop_space : IsStop 32

@@ -142,16 +142,10 @@ mark class k m among is value alone free low = token class k Anything (m ∷ [])
     small (inr h) = h.1
 
 part_quote : (c : ℕ) → IsHyphenWordPart c → c ≢ 39
-part_quote c (inl (inl (inl (inl h)))) e = omega (arith, h.0)
-part_quote c (inl (inl (inl (inr h)))) e = omega (arith, h.0)
-part_quote c (inl (inl (inr h))) e = omega arith
-part_quote c (inl (inr h)) e = omega (arith, h.0)
-part_quote c (inr h) e = omega arith
+part_quote c h e = grind arith
 
 start_ascii : (c : ℕ) → IsWordStart c → c < 128
-start_ascii c (inl (inl h)) = omega (arith, h.1)
-start_ascii c (inl (inr h)) = omega (arith, h.1)
-start_ascii c (inr h) = omega arith
+start_ascii c h = grind arith
 
 pub plain_name : (text : List ℕ) → HasAt 0 IsWordStart text → All IsHyphenWordPart text → text ≢ codes "MATCHES" → IsPlainText text
 plain_name [] h all free = absurd h
