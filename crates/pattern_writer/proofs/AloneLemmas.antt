@@ -4,7 +4,7 @@ use Rattle.std.proofs.Common.{◌≡◌, ◌≢◌, ◌⊎◌, inl, inr, ℕ, su
 use Rattle.std.specs.Prelude.{All, codes, nat_le, flat_map}
 use Rattle.std.specs.Str.Parse.{IsNumeral, AllDigits}
 use Rattle.std.proofs.lemmas.Bool.{and_parts}
-use Rattle.std.proofs.lemmas.Bool.Decides.{eqb_tells}
+use Rattle.std.proofs.lemmas.Bool.Decides.{eqb_tells, nat_tests}
 use Rattle.std.proofs.lemmas.Str.Parse.{digit_at}
 use Rattle.pattern_tokens.specs.declared.token.TokenKind.{TokenKind}
 use Rattle.pattern_tokens.specs.declared.token.TokenKind.TheVariants.{Word, HyphenWord, Number, String, Hex, Binary, Timestamp}
@@ -37,13 +37,10 @@ abbrev begins_literal : ℕ → Bool
 begins_literal b = (nat_le 60 b && nat_le b 90) || ((nat_le 97 b && nat_le b 122) || (b == 33))
 
 literal_quote : (b : ℕ) → begins_literal b ≡ true → b ≢ 39
-literal_quote b h e = let g : begins_literal 39 ≡ true = rw e at h in cc
+literal_quote b h e = grind (arith, nat_tests)
 
 literal_alone : (b : ℕ) → begins_literal b ≡ true → ¬ IsAlone b
-literal_alone b h (inl e) = let g : begins_literal 40 ≡ true = rw e at h in cc
-literal_alone b h (inr (inl e)) = let g : begins_literal 46 ≡ true = rw e at h in cc
-literal_alone b h (inr (inr (inl e))) = let g : begins_literal 58 ≡ true = rw e at h in cc
-literal_alone b h (inr (inr (inr e))) = let g : begins_literal 91 ≡ true = rw e at h in cc
+literal_alone b h x = grind (arith, nat_tests)
 
 abbrev opens_test : List ℕ → Bool
 opens_test [] = true
@@ -68,7 +65,7 @@ start_quote c h e = grind arith
 start_alone : (c : ℕ) → IsWordStart c → ¬ IsAlone c
 start_alone c h x = grind arith
 
-part_quote : (c : ℕ) → IsHyphenWordPart c → c ≢ 39
+pub part_quote : (c : ℕ) → IsHyphenWordPart c → c ≢ 39
 part_quote c h e = grind arith
 
 second_quote : (text : List ℕ) → All IsHyphenWordPart text → get_or text 0 0 ≢ 39
@@ -85,13 +82,10 @@ digits_quote (c ∷ digits) h e = let d = digit_at (c ∷ digits) 0 h (omega ari
 
 opens_digits : (digits : List ℕ) → IsNumeral 10 digits → Opens digits
 opens_digits [] h = nothing
-opens_digits (c ∷ digits) h =
-    let d = digit_at (c ∷ digits) 0 h.1 (omega arith) in
-    letters c digits (λ e. omega (arith, d.0)) (low_alone c (omega (arith, d.1)) (λ e. omega (arith, d.0)) (λ e. omega (arith, d.0))) (digits_quote digits h.1.1)
+opens_digits (c ∷ digits) h = let d = digit_at (c ∷ digits) 0 h.1 (omega arith) in letters c digits (λ e. omega (arith, d.0)) (λ a. grind (arith, d.0, d.1)) (digits_quote digits h.1.1)
 
 opens_signed : (c : ℕ) (digits : List ℕ) → (c ≡ 43) ⊎ (c ≡ 45) → IsNumeral 10 digits → Opens (c ∷ digits)
-opens_signed c digits (inl e) h = letters c digits (λ f. omega arith) (low_alone c (omega arith) (λ f. omega arith) (λ f. omega arith)) (digits_quote digits h.1)
-opens_signed c digits (inr e) h = letters c digits (λ f. omega arith) (low_alone c (omega arith) (λ f. omega arith) (λ f. omega arith)) (digits_quote digits h.1)
+opens_signed c digits s h = letters c digits (λ f. grind arith) (λ a. grind arith) (digits_quote digits h.1)
 
 opens_number : (text : List ℕ) → IsNumberText text → Opens text
 opens_number text h = case (signed text h)
@@ -115,16 +109,8 @@ alone_front : (m : ℕ) (after whole more : List ℕ) → IsAlone m → m ∷ af
 alone_front m after whole more a e nothing = omega arith
 alone_front m after whole more a e (mark b q) = omega arith
 alone_front m after whole more a e (letters b r q n s) = let f : m ≡ b = cc in absurd (n (subst IsAlone f a))
-alone_front m after whole more a e (words w) = let f : m ≡ 39 = cc in absurd (quote_alone (subst IsAlone f a))
-  where
-    quote_alone : ¬ IsAlone 39
-    quote_alone = low_alone 39 (omega arith) (λ g. omega arith) (λ g. omega arith)
-alone_front m after whole more a e (lettered l inside h u) = let f : m ≡ l = cc in absurd (letter h (subst IsAlone f a))
-  where
-    letter : (l ≡ 104) ⊎ ((l ≡ 98) ⊎ (l ≡ 116)) → ¬ IsAlone l
-    letter (inl g) = letter_alone l (omega arith) (λ x. omega arith)
-    letter (inr (inl g)) = letter_alone l (omega arith) (λ x. omega arith)
-    letter (inr (inr g)) = letter_alone l (omega arith) (λ x. omega arith)
+alone_front m after whole more a e (words w) = let f : m ≡ 39 = cc in absurd (grind arith)
+alone_front m after whole more a e (lettered l inside h u) = let f : m ≡ l = cc in absurd (grind arith)
 
 pub longest_alone : (m : ℕ) (after : List ℕ) → IsAlone m → (other : TokenKind) (whole more : List ℕ) → (m ∷ []) ++ after ≡ whole ++ more → IsToken other whole → length whole ≤ length (m ∷ [])
 longest_alone m after a other whole more e h = alone_front m after whole more a e (opens other whole h)
@@ -196,15 +182,7 @@ words_front w after whole more e (words v) =
     let f = closed (flat_map escaped w) (flat_map escaped v) after more (rests 39 39 _ _ e) in
     let g : w ≡ v = same_words w v after more f in
     subst (λ (x : List ℕ). length (string_text x) ≤ length (string_text w)) g (omega arith)
-words_front w after whole more e (lettered l inside h u) = absurd (letter h)
-  where
-    first : l ≡ 39
-    first = cc
-
-    letter : (l ≡ 104) ⊎ ((l ≡ 98) ⊎ (l ≡ 116)) → ⊥
-    letter (inl g) = omega (arith, first)
-    letter (inr (inl g)) = omega (arith, first)
-    letter (inr (inr g)) = omega (arith, first)
+words_front w after whole more e (lettered l inside h u) = let f : l ≡ 39 = cc in absurd (grind arith)
 
 pub longest_words : (w after : List ℕ) (other : TokenKind) (whole more : List ℕ) → string_text w ++ after ≡ whole ++ more → IsToken other whole → length whole ≤ length (string_text w)
 longest_words w after other whole more e h = words_front w after whole more e (opens other whole h)

@@ -36,27 +36,11 @@ ends_stops (c ∷ after) h = h.0
 abbrev goes_on : ℕ → Bool
 goes_on b = (nat_le 65 b && nat_le b 90) || ((nat_le 97 b && nat_le b 122) || (b == 61))
 
-or_cases : (a b : Bool) → (a || b) ≡ true → (a ≡ true) ⊎ (b ≡ true)
-or_cases true b e = inl refl
-or_cases false b e = inr e
-
-between : (low high b : ℕ) → (nat_le low b && nat_le b high) ≡ true → (low ≤ b) × (b ≤ high)
-between low high b e =
-    let f = and_parts (nat_le low b) (nat_le b high) e in let g = f.0 in let h = f.1 in (grind (arith, nat_tests), grind (arith, nat_tests))
-
 same : (b c : ℕ) → (b == c) ≡ true → b ≡ c
 same b c e = grind (arith, nat_tests)
 
 goes_on_is : (b : ℕ) → goes_on b ≡ true → IsHyphenWordPart b ⊎ (b ≡ 61)
-goes_on_is b h = case (or_cases (nat_le 65 b && nat_le b 90) _ h)
-  where
-    low : ((nat_le 97 b && nat_le b 122) ≡ true) ⊎ ((b == 61) ≡ true) → IsHyphenWordPart b ⊎ (b ≡ 61)
-    low (inl e) = inl (inl (inl (inl (inr (between 97 122 b e)))))
-    low (inr e) = inr (same b 61 e)
-
-    case : ((nat_le 65 b && nat_le b 90) ≡ true) ⊎ (((nat_le 97 b && nat_le b 122) || (b == 61)) ≡ true) → IsHyphenWordPart b ⊎ (b ≡ 61)
-    case (inl e) = inl (inl (inl (inl (inl (between 65 90 b e)))))
-    case (inr e) = low (or_cases (nat_le 97 b && nat_le b 122) (b == 61) e)
+goes_on_is b h = grind (arith, nat_tests)
 
 abbrev all_go_on : List ℕ → Bool
 all_go_on [] = true
@@ -156,11 +140,7 @@ no_longer : (kind : TokenKind) (text after whole : List ℕ) → 0 < length text
 no_longer kind text after whole some plain stops h (longer c r more e) = no_token kind text c r some plain (subst Stops e stops) h
 
 at_most : (a b : ℕ) → (b < a → ⊥) → a ≤ b
-at_most a b h = case (leb_tells a b)
-  where
-    case : ((nat_le a b ≡ true) × (a ≤ b)) ⊎ ((nat_le a b ≡ false) × (b < a)) → a ≤ b
-    case (inl x) = x.1
-    case (inr x) = absurd (h x.1)
+at_most a b h = grind arith
 
 -- a text without quotes ends before a stop
 pub longest_plain : (text after : List ℕ) → 0 < length text → All (λ b. b ≢ 39) text → Stops after → (other : TokenKind) (whole more : List ℕ) → text ++ after ≡ whole ++ more → IsToken other whole → length whole ≤ length text

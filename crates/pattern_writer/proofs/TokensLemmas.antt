@@ -19,7 +19,7 @@ use Rattle.pattern_grammar.specs.TokenClass.{is_in}
 use Rattle.pattern_tokens.specs.Spans.{At, IsItself}
 use Rattle.pattern_writer.proofs.NumeralsLemmas.{IsNumeralShape}
 use Rattle.pattern_writer.proofs.LongestLemmas.{Stops, Ends, ends_stops, longest_plain}
-use Rattle.pattern_writer.proofs.AloneLemmas.{IsAlone, longest_alone, longest_words, longest_lettered}
+use Rattle.pattern_writer.proofs.AloneLemmas.{IsAlone, part_quote, longest_alone, longest_words, longest_lettered}
 use Rattle.pattern_writer.proofs.PiecesLemmas.{Stands}
 use Rattle.pattern_writer.proofs.WrittenLemmas.{Fits, Written, IsOne, token, as_tree}
 
@@ -127,22 +127,11 @@ Anything after = Unit {0}
 pub mark : (class : TokenClass) (k : TokenKind) (m : ℕ) → is_in class k ≡ true → IsToken k (m ∷ []) → HasValue k (m ∷ []) → IsAlone m → IsFree k → m < 77 ⊎ (77 < m × (m < 128)) → Written (IsOne class) (λ (whole : List ℕ) (t : Token). Stands whole t k (m ∷ [])) Anything (m ∷ [])
 mark class k m among is value alone free low = token class k Anything (m ∷ []) among (λ after h. record {
   first = record { spelled = refl; token = is; longest = longest_alone m after alone };
-  usable = usable_free k (m ∷ []) after free (not_matches (m ∷ []) (other low));
+  usable = usable_free k (m ∷ []) after free (not_matches (m ∷ []) (λ e. grind arith));
   value = value;
   some = omega arith;
-  ascii = small low;
+  ascii = grind arith;
 })
-  where
-    other : m < 77 ⊎ (77 < m × (m < 128)) → m ≢ 77
-    other (inl h) e = omega arith
-    other (inr h) e = omega (arith, h.0)
-
-    small : m < 77 ⊎ (77 < m × (m < 128)) → m < 128
-    small (inl h) = omega arith
-    small (inr h) = h.1
-
-part_quote : (c : ℕ) → IsHyphenWordPart c → c ≢ 39
-part_quote c h e = grind arith
 
 start_ascii : (c : ℕ) → IsWordStart c → c < 128
 start_ascii c h = grind arith
