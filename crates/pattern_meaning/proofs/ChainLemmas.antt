@@ -1,6 +1,6 @@
 -- Chains in brackets, part by part.
 use Rattle.std.proofs.Common.{◌≡◌, ◌↔◌, ◌⊎◌, inl, inr, ℕ, ◌+◌, ◌≤◌, List, [], ◌∷◌, ◌++◌, map, length, take, Option, Some, None, IfSome, IfNone, Result, Ok, Err, Bool, false, IsTrue, Bor, Box, Global, refl, sym, ap, ◌∙◌, subst, rules}
-use Rattle.std.specs.Prelude.{MatchResult}
+use Rattle.std.specs.Prelude.{MatchResult, IsSomeAnd}
 use Rattle.std.proofs.lemmas.List.{take_all}
 use Rattle.pattern_tokens.specs.declared.token.Token.{Token}
 use Rattle.pattern_tokens.specs.Spans.{IsCut, At, IsItself}
@@ -19,7 +19,6 @@ use Rattle.pattern_meaning.specs.declared.refusal.ValueRefusal.{ValueRefusal}
 use Rattle.pattern_meaning.specs.LeafMeaning.{Means, means_group, means_all, means_any, AllParts, all_first, all_more, AnyParts, any_first, any_more, IsNoAll, IsNoAny}
 use Rattle.pattern_types.specs.Soundness.{IsSoundLeaf, AreSoundLeaves}
 use Rattle.pattern_meaning.specs.Refusals.{RefusalOfComparison, HasRoot, IsRootless}
-use Rattle.pattern_meaning.specs.Roots.{Is}
 use Rattle.pattern_meaning.specs.inner.Judgement.{IsOutcome, IsLeafOf, IsJudgement}
 use Rattle.pattern_meaning.specs.inner.Outcomes.{IsJoined}
 use Rattle.pattern_meaning.specs.inner.Chains.{AreAll, AreAny}
@@ -45,7 +44,7 @@ sound_push : (ls : List Leaf) (l : Leaf) → AreSoundLeaves (listed ls) → IsSo
 sound_push ls l h k = rw listed-push (put_sound (listed ls) (plain_leaf l) h k)
 
 -- the root kinds of a test
-pub named_root : (text : List ℕ) (token : Token) (name : Option (Bor (List ℕ))) → IfSome name (λ part. At IsItself text token part.now) → IfNone name (¬ IsCut text token) → (root : List ℕ) → Is name root ↔ At IsItself text token root
+pub named_root : (text : List ℕ) (token : Token) (name : Option (Bor (List ℕ))) → IfSome name (λ part. At IsItself text token part.now) → IfNone name (¬ IsCut text token) → (root : List ℕ) → IsSomeAnd name (λ one. root ≡ one.now) ↔ At IsItself text token root
 named_root text token (Some part) h g root = (λ e. record { cut = h.cut; is = e ∙ h.is }, λ a. a.is ∙ sym h.is)
 named_root text token None h g root = (λ x. absurd x, λ a. absurd (g a.cut))
 

@@ -54,9 +54,8 @@ textual_refusal _ at = NoValue at
 abbrev pub check_refusal : CheckTree → ValueRefusal
 check_refusal (check_tree.Compare operator constant) = NoValue constant.from
 check_refusal (check_tree.Textual operator words) = textual_refusal operator.kind words.from
-check_refusal (check_tree.Among []) = NoValue 0
 check_refusal (check_tree.Among (constant ∷ constants)) = NoValue constant.from
-check_refusal check_tree.Exists = NoValue 0
+check_refusal _ = NoValue 0
 
 abbrev pub RefusalOfTest : List ℕ → TestTree → ValueRefusal → Type 0
 RefusalOfTest text one refusal = RefusalOfPath text one.path refusal ⊎ Lacks (IsCheckOf text one.check) (check_refusal one.check) refusal
