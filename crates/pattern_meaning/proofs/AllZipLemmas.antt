@@ -1,5 +1,5 @@
 -- Lists whose elements are related place by place.
-use Rattle.std.proofs.Common.{◌≡◌, ℕ, zero, suc, ◌+◌, ◌<◌, List, [], ◌∷◌, ◌++◌, length, get_or, take, refl, ap, arith}
+use Rattle.std.proofs.Common.{◌≡◌, ℕ, zero, suc, ◌+◌, ◌<◌, List, [], ◌∷◌, ◌++◌, length, get_or, take, arith}
 use Rattle.pattern_tokens.specs.declared.token.Token.{Token}
 use Rattle.pattern_grammar.specs.declared.path.StepTree.TheVariants.{Name}
 use Rattle.pattern_types.specs.declared.path.Step.{Step}

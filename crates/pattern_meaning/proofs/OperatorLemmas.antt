@@ -1,5 +1,5 @@
 -- Chains of an operator on observations.
-use Rattle.std.proofs.Common.{◌≡◌, ℕ, ◌+◌, List, [], ◌∷◌, ◌++◌, map, take, refl, rules, Result, Ok, Err, IfOk, Option, Box, Global}
+use Rattle.std.proofs.Common.{◌≡◌, ℕ, ◌+◌, List, [], ◌∷◌, ◌++◌, map, take, rules, Result, Ok, Err, IfOk, Option, Box, Global}
 use Rattle.pattern_grammar.specs.declared.comparison.ComparisonTree.{ComparisonTree}
 use Rattle.pattern_grammar.specs.declared.qualifier.Qualifier.{Qualifier}
 use Rattle.pattern_grammar.specs.declared.pattern.PatternTree.{PatternTree, the_lemmas}

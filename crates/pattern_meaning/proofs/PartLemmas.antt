@@ -1,5 +1,5 @@
 -- What parts of a pattern mean, joined and limited.
-use Rattle.std.proofs.Common.{◌≡◌, ◌⊎◌, inl, inr, ℕ, ◌<◌, ◌≤◌, ◌*◌, List, Option, Some, None, Result, Ok, Err, IfOk, refl, sym, subst, arith}
+use Rattle.std.proofs.Common.{◌≡◌, ◌⊎◌, inl, inr, ℕ, ◌<◌, ◌≤◌, ◌*◌, List, Option, Some, None, Result, Ok, Err, IfOk, sym, subst, arith}
 use Rattle.pattern_grammar.specs.declared.qualifier.Qualifier.{Qualifier}
 use Rattle.pattern_grammar.specs.declared.qualifier.Qualifier.TheVariants as qualifier
 use Rattle.pattern_grammar.specs.Tree.{Comparison, Tree, leaf, qualified}

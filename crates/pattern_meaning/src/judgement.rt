@@ -125,7 +125,11 @@ fn any_of<'a>(chain: Chain<'a>) -> Judgement<'a>
 
 /// Judges an operand.
 #[cycle(judge)]
-fn judge_operand<'a>(alloc: Global, text: &'a str, tree: &Operand) -> Result<Judgement<'a>, NoMemory>
+fn judge_operand<'a>(
+    alloc: Global,
+    text: &'a str,
+    tree: &Operand,
+) -> Result<Judgement<'a>, NoMemory>
     ensures { IfOk result (IsJudgement text.now (operand tree.now)) }
 {
     match tree {

@@ -77,7 +77,11 @@ fn join_parts(
 }
 
 /// What a part of a pattern means, limited: it is too wide where it was.
-fn limit(alloc: Global, part: Option<NarrowPattern>, limit: Limit) -> Result<Option<NarrowPattern>, NoMemory>
+fn limit(
+    alloc: Global,
+    part: Option<NarrowPattern>,
+    limit: Limit,
+) -> Result<Option<NarrowPattern>, NoMemory>
     requires { IfSome part IsNarrow }
     ensures narrow { IfOk result (λ whole. IfSome whole IsNarrow) }
     ensures part { IfOk result (λ whole. (text : List ℕ) (p : Tree) (q : Qualifier) → IsPartOf text p part → IsSoundLimitOf text q limit

@@ -5,8 +5,7 @@ use Rattle.pattern_tokens.specs.declared.token.TokenKind.{TokenKind}
 use Rattle.pattern_tokens.specs.declared.token.TokenKind.TheVariants as kind
 use Rattle.pattern_tokens.specs.Values.{IsStringText, HasValue}
 use Rattle.pattern_tokens.specs.Spans.{IsCut, text_at, At}
-use Rattle.pattern_grammar.specs.declared.class.TokenClass.TheVariants.{Constant as ConstantClass}
-use Rattle.pattern_grammar.specs.TokenClass.{IsA, same, is_name, is_equality, is_order, is_textual, is_ordered, is_constant}
+use Rattle.pattern_grammar.specs.TokenClass.{same, is_name, is_equality, is_order, is_textual, is_ordered, is_constant}
 use Rattle.pattern_grammar.specs.declared.path.StepTree.{StepTree}
 use Rattle.pattern_grammar.specs.declared.path.StepTree.TheVariants as step_tree
 use Rattle.pattern_grammar.specs.declared.path.PathTree.{PathTree}

@@ -1,5 +1,5 @@
 -- A text is read as one pattern, or has one refusal.
-use Rattle.std.proofs.Common.{◌≡◌, ℕ, ◌<◌, ◌≤◌, List, length, Result, Ok, Err, refl, sym, ap, subst, ◌∙◌, arith}
+use Rattle.std.proofs.Common.{◌≡◌, ℕ, ◌<◌, ◌≤◌, List, length, Result, Ok, Err, refl, sym, ap, subst, arith}
 use Rattle.pattern_tokens.specs.declared.token.Token.{Token}
 use Rattle.pattern_tokens.specs.declared.refusal.TokenRefusal.{TokenRefusal}
 use Rattle.pattern_lexer.specs.Reading.{TokensOf, HasRefusal, Reads}

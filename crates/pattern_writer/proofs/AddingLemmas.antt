@@ -4,7 +4,6 @@ use Rattle.std.proofs.lemmas.Grind.{flat_map-append, common_steps}
 use Rattle.std.proofs.lemmas.List.{take_more}
 use Rattle.std.proofs.lemmas.List.{length-take}
 use Rattle.std.proofs.lemmas.Bool.Decides.{nat_tests}
-use Rattle.std.specs.List.{AllZip}
 use Rattle.std.proofs.lemmas.Slice.Zip.{all_zipped_more, AllZip-long}
 use Rattle.pattern_writer.specs.Parts.{IsAfter, AreSides, joined, AreJoined, Adds}
 

@@ -1,7 +1,7 @@
 -- Tokens that end by themselves: brackets, dots and colons, words in quotes, and what stands in quotes
 -- behind a letter.
 use Rattle.std.proofs.Common.{◌≡◌, ◌≢◌, ◌⊎◌, inl, inr, ℕ, suc, ◌<◌, ◌≤◌, Bool, true, false, not, ◌&&◌, ◌||◌, ◌==◌, List, [], ◌∷◌, ◌++◌, length, get_or, refl, sym, ◌∙◌, subst, arith, append_assoc}
-use Rattle.std.specs.Prelude.{All, codes, nat_le, flat_map}
+use Rattle.std.specs.Prelude.{All, nat_le, flat_map}
 use Rattle.std.specs.Str.Parse.{IsNumeral, AllDigits}
 use Rattle.std.proofs.lemmas.Bool.{and_parts}
 use Rattle.std.proofs.lemmas.Bool.Decides.{eqb_tells, nat_tests}

@@ -4,7 +4,7 @@ use Rattle.pattern_tokens.specs.declared.token.Token.{Token}
 use Rattle.pattern_grammar.specs.declared.comparison.CheckTree.TheVariants as check_tree
 use Rattle.pattern_grammar.specs.declared.qualifier.Qualifier.{Qualifier}
 use Rattle.pattern_grammar.specs.declared.qualifier.Qualifier.TheVariants as qualifier
-use Rattle.pattern_grammar.specs.Tree.{Comparison, all, any, Tree}
+use Rattle.pattern_grammar.specs.Tree.{Comparison, Tree}
 use Rattle.pattern_grammar.specs.Grammar.{IsTest, test_group, test_exists, test_not_exists, test_compare, test_not_compare, IsCand, cand_one, cand_more, IsCor, cor_one, cor_more, IsStart, start_leaf, start_group, IsUnit, unit_one, unit_more, IsAnds, ands_one, ands_more, IsOrs, ors_one, ors_more, IsPattern, pattern_one, pattern_more}
 use Rattle.pattern_types.specs.declared.check.Check.{Check}
 use Rattle.pattern_types.specs.declared.check.Check.TheVariants as check

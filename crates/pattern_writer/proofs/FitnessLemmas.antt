@@ -23,7 +23,7 @@ use Rattle.pattern_types.specs.declared.path.Step.{Step}
 use Rattle.pattern_types.specs.declared.path.Step.TheVariants as step
 use Rattle.pattern_types.specs.declared.path.Path.{Path}
 use Rattle.pattern_types.specs.declared.constant.Constant.{Constant}
-use Rattle.pattern_types.specs.declared.constant.Constant.TheVariants.{Integer, String, Boolean, Hex, Binary, Timestamp}
+use Rattle.pattern_types.specs.declared.constant.Constant.TheVariants.{Integer, Boolean, Hex, Binary}
 use Rattle.pattern_types.specs.declared.check.Check.{Check}
 use Rattle.pattern_types.specs.declared.check.Check.TheVariants as check
 use Rattle.pattern_meaning.specs.Meaning.{IsStepOf, IsPathOf, IsConstantOf, IsCheckOf}

@@ -7,14 +7,14 @@ use Rattle.pattern_types.specs.declared.path.Step.{Step}
 use Rattle.pattern_types.specs.declared.path.Step.TheVariants as step
 use Rattle.pattern_types.specs.declared.path.Path.{Path}
 use Rattle.pattern_types.specs.declared.constant.Constant.{Constant}
-use Rattle.pattern_types.specs.declared.constant.Constant.TheVariants.{Integer, String, Boolean, Hex, Binary, Timestamp}
+use Rattle.pattern_types.specs.declared.constant.Constant.TheVariants.{Timestamp}
 use Rattle.pattern_types.specs.declared.check.Check.{Check}
 use Rattle.pattern_types.specs.declared.check.Check.TheVariants as check
 use Rattle.std.specs.List.{AllZip}
 use Rattle.pattern_types.specs.PlainLeaf.{PlainLeaf, one, every, some, PlainLeaves, none, more}
 use Rattle.pattern_types.specs.PlainPattern.{PlainPattern, a_leaf, a_both, an_either, a_then, a_limited}
 use Rattle.pattern_types.specs.declared.limit.Limit.{Limit}
-use Rattle.pattern_types.specs.declared.limit.Limit.TheVariants.{Within, Repeats, Between}
+use Rattle.pattern_types.specs.declared.limit.Limit.TheVariants.{Between}
 use Rattle.pattern_writer.specs.Parts.{IsAfter, IsBetween, AreSides, joined, AreJoined, enclosed, IsWithin}
 use Rattle.pattern_writer.specs.Path.{IsNameText, IsStepText, IsFirstText, AreStepsText, IsPathText}
 use Rattle.pattern_writer.specs.Constant.{IsTimeText, IsConstantText}

@@ -17,7 +17,7 @@ use Rattle.pattern_grammar.specs.Tree.{Comparison, test}
 use Rattle.pattern_grammar.specs.Grammar.{IsPath, AreConstants, constants_one, constants_more, IsCheck, check_equality, check_order, check_among, check_textual, IsTest, test_exists, test_not_exists, test_compare, test_not_compare}
 use Rattle.pattern_types.specs.declared.path.Path.{Path}
 use Rattle.pattern_types.specs.declared.constant.Constant.{Constant as Value}
-use Rattle.pattern_types.specs.declared.constant.Constant.TheVariants.{Integer, String, Boolean, Hex, Binary, Timestamp}
+use Rattle.pattern_types.specs.declared.constant.Constant.TheVariants.{Boolean}
 use Rattle.pattern_types.specs.declared.check.Check.{Check}
 use Rattle.pattern_types.specs.declared.check.Check.TheVariants as check
 use Rattle.pattern_types.specs.declared.leaf.Test.{Test}

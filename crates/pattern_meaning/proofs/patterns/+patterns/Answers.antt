@@ -3,7 +3,7 @@ use Rattle.std.proofs.lemmas.List.{take_more, take_all}
 use Rattle.pattern_grammar.specs.Tree.{shape}
 use Rattle.pattern_meaning.specs.declared.narrow_pattern.Operator.TheVariants.{Both, Either, Then}
 use Rattle.pattern_meaning.proofs.PartLemmas.{if_ok}
-use Rattle.pattern_meaning.proofs.OperatorLemmas.{part_more, applied, shape_leaf, shape_both, shape_either, shape_then, shape_qualified}
+use Rattle.pattern_meaning.proofs.OperatorLemmas.{part_more, applied, shape_both, shape_either, shape_then, shape_qualified}
 use Rattle.pattern_meaning.proofs.patterns.+patterns.Goals as goal
 
 pub chain_of-loop-other-preserved : goal.chain_of-loop-other-preserved
