@@ -1,7 +1,8 @@
 -- A text that was cut at its slash spells a block exactly where its address spells an address in std's
 -- words, and its length a length: which block, and no other.
-use Rattle.std.proofs.Common.{◌≡◌, ℕ, ◌≤◌, inl, inr, List, [], ◌∷◌, ◌++◌, decimal, ◌↔◌, Option, Some, None, Result, Ok, Err, refl, sym, ap, ◌∙◌, subst}
+use Rattle.std.proofs.Common.{◌≡◌, ℕ, ◌<◌, ◌≤◌, inl, inr, List, [], ◌∷◌, ◌++◌, decimal, ◌↔◌, Option, Some, None, Result, Ok, Err, refl, sym, ap, ◌∙◌, subst, arith}
 use Rattle.std.proofs.lemmas.List.{append-nil}
+use Rattle.std.proofs.lemmas.Fmt.{decimal_injective}
 use Rattle.std.specs.Borrow.{Bor}
 use Rattle.std.specs.declared.net.ipv4_addr.Ipv4Addr.{Ipv4Addr}
 use Rattle.std.specs.declared.net.ipv6_addr.Ipv6Addr.{Ipv6Addr}
@@ -157,3 +158,45 @@ parsed_none text (Err e) parses given = parses
 pub block_of-valid : (ip : IpAddr) (bits : ℕ) → bits ≤ width_of ip → IsValid (block_of ip bits)
 block_of-valid (Ip.V4 a) bits within = within
 block_of-valid (Ip.V6 a) bits within = within
+
+-- a text is cut in one way, so it names one block
+record Cut (text : List ℕ) : Type 0 where
+  address : List ℕ
+  length : Option (Bor (List ℕ))
+  cut : CutsAtSlash text address length
+
+cut_of : (text address tail : List ℕ) (width bits : ℕ) → HasNoSlash address → text ≡ address ++ tail → IsLengthText width tail bits → Cut text
+cut_of text address tail width bits clear spelled (inl none) =
+    record { address = address; length = None; cut = (spelled ∙ ap (λ rest. address ++ rest) none.0 ∙ append-nil address, clear) }
+cut_of text address tail width bits clear spelled (inr some) =
+    record { address = address; length = Some (record { ref_ptr = (0, 0); now = decimal bits }); cut = (spelled ∙ ap (λ rest. address ++ rest) some.0, clear) }
+
+block_cut : (text : List ℕ) (block : Block) → IsBlockText text block → Cut text
+block_cut text (V4 net bits) x = cut_of text x.address x.length 32 bits (no_slash_ipv4 x.address x.number x.address_text) x.spelled x.length_text
+block_cut text (V6 net bits) x = cut_of text x.address x.length 128 bits (no_slash_ipv6 x.address x.number x.address_text) x.spelled x.length_text
+
+same_length : (width : ℕ) (length : Option (Bor (List ℕ))) (m n : ℕ) → width < 256 → IsPrefixLength width length m → IsPrefixLength width length n → m ≡ n
+same_length width None m n small x y = x ∙ sym y
+same_length width (Some digits) m n small x y =
+    let below = x.1 in
+    let under = y.1 in
+    decimal_injective m n (omega (arith, below, small)) (omega (arith, under, small)) (sym x.0 ∙ y.0)
+
+small_width : (ip : IpAddr) → width_of ip < 256
+small_width (Ip.V4 a) = omega arith
+small_width (Ip.V6 a) = omega arith
+
+pub one_named : (text : List ℕ) (a b : Block) → IsBlockText text a → IsBlockText text b → a ≡ b
+one_named text a b x y =
+    let c = block_cut text a x in
+    let p = comes text c.address c.length c.cut a x in
+    let q = spells_only text c.address c.length c.cut p.ip b p.is_ip y in
+    p.value ∙ ap (block_of p.ip) (same_length (width_of p.ip) c.length p.bits q.0 (small_width p.ip) p.is_length q.1) ∙ sym q.2
+
+length_within : (width : ℕ) (tail : List ℕ) (bits : ℕ) → IsLengthText width tail bits → bits ≤ width
+length_within width tail bits (inl none) = let e = none.1 in omega (arith, e)
+length_within width tail bits (inr some) = some.1
+
+pub named_valid : (text : List ℕ) (block : Block) → IsBlockText text block → IsValid block
+named_valid text (V4 net bits) x = length_within 32 x.length bits x.length_text
+named_valid text (V6 net bits) x = length_within 128 x.length bits x.length_text

@@ -5,6 +5,7 @@
 
 mod block;
 mod inclusion;
+pub mod laws;
 mod leading_bits;
 mod prefix;
 mod prefix_length;

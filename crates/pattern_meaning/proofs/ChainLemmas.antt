@@ -1,6 +1,6 @@
 -- Chains in brackets, part by part.
 use Rattle.std.proofs.Common.{◌≡◌, ◌↔◌, ◌⊎◌, inl, inr, ℕ, ◌+◌, ◌≤◌, List, [], ◌∷◌, ◌++◌, map, length, take, Option, Some, None, IfSome, IfNone, Result, Ok, Err, Bool, false, IsTrue, Bor, Box, Global, refl, sym, ap, ◌∙◌, subst, rules}
-use Rattle.std.specs.Prelude.{MatchResult}
+use Rattle.std.specs.Prelude.{MatchResult, IsSomeAnd}
 use Rattle.std.proofs.lemmas.List.{take_all}
 use Rattle.pattern_tokens.specs.declared.token.Token.{Token}
 use Rattle.pattern_tokens.specs.Spans.{IsCut, At, IsItself}
@@ -14,13 +14,12 @@ use Rattle.pattern_grammar.specs.Tree.{Comparison, test, group, all, any, joined
 use Rattle.pattern_types.specs.declared.leaf.Leaf.{Leaf, Row_of-Leaf, end_of-Leaf, more_of-Leaf, items-the_row-Leaf, the_lemmas}
 use Rattle.pattern_types.specs.declared.leaf.Leaf.TheVariants as leaf
 use Rattle.pattern_types.specs.PlainLeaf.{every, some, more, put, plain_leaf, plain_leaves, listed}
-use Rattle.pattern_meaning.specs.declared.judged.Judged.{Judged}
+use Rattle.pattern_meaning.specs.declared.judgement.Judgement.{Judgement}
 use Rattle.pattern_meaning.specs.declared.refusal.ValueRefusal.{ValueRefusal}
 use Rattle.pattern_meaning.specs.LeafMeaning.{Means, means_group, means_all, means_any, AllParts, all_first, all_more, AnyParts, any_first, any_more, IsNoAll, IsNoAny}
 use Rattle.pattern_types.specs.Soundness.{IsSoundLeaf, AreSoundLeaves}
 use Rattle.pattern_meaning.specs.Refusals.{RefusalOfComparison, HasRoot, IsRootless}
-use Rattle.pattern_meaning.specs.Roots.{Is}
-use Rattle.pattern_meaning.specs.inner.Judgement.{IsOutcome, IsLeafOf, IsJudged}
+use Rattle.pattern_meaning.specs.inner.Judgement.{IsOutcome, IsLeafOf, IsJudgement}
 use Rattle.pattern_meaning.specs.inner.Outcomes.{IsJoined}
 use Rattle.pattern_meaning.specs.inner.Chains.{AreAll, AreAny}
 use Rattle.pattern_meaning.proofs.LeafRootLemmas.{put_sound, root_of_all, rooted}
@@ -45,7 +44,7 @@ sound_push : (ls : List Leaf) (l : Leaf) → AreSoundLeaves (listed ls) → IsSo
 sound_push ls l h k = rw listed-push (put_sound (listed ls) (plain_leaf l) h k)
 
 -- the root kinds of a test
-pub named_root : (text : List ℕ) (token : Token) (name : Option (Bor (List ℕ))) → IfSome name (λ part. At IsItself text token part.now) → IfNone name (¬ IsCut text token) → (root : List ℕ) → Is name root ↔ At IsItself text token root
+pub named_root : (text : List ℕ) (token : Token) (name : Option (Bor (List ℕ))) → IfSome name (λ part. At IsItself text token part.now) → IfNone name (¬ IsCut text token) → (root : List ℕ) → IsSomeAnd name (λ one. root ≡ one.now) ↔ At IsItself text token root
 named_root text token (Some part) h g root = (λ e. record { cut = h.cut; is = e ∙ h.is }, λ a. a.is ∙ sym h.is)
 named_root text token None h g root = (λ x. absurd x, λ a. absurd (g a.cut))
 
@@ -96,7 +95,7 @@ test_operand t = search (rules, operand_lemmas)
 pub group_operand : (a : Token) (b : Box ComparisonTree Global) → operand (operand_tree.Group a b) ≡ group a (compared b.value)
 group_operand a b = search (rules, operand_lemmas)
 
-pub grouped : (text : List ℕ) (a : Token) (c : Comparison) (j : Judged) → IsJudged text c j → IsJudged text (group a c) (record j { at = a.from })
+pub grouped : (text : List ℕ) (a : Token) (c : Comparison) (j : Judgement) → IsJudgement text c j → IsJudgement text (group a c) (record j { at = a.from })
 grouped text a c j h = record {
   at = refl;
   roots = h.roots;
@@ -128,7 +127,7 @@ compared_out t = search (rules, comparison_lemmas)
 pub no_any : (t : Conjunction) → IsNoAny (conjunction t)
 no_any t = rw (conjunction_out t) (no_any_joined (operand t.first) (map operand t.others) (no_chain t.first).1)
 
-joined_more : {A V : Type 0} (join : V → V → V) (f : A → V) (first : V) (xs : List A) (x : A) → joined join first (map f (xs ++ x ∷ [])) ≡ join (joined join first (map f xs)) (f x)
+pub joined_more : {A V : Type 0} (join : V → V → V) (f : A → V) (first : V) (xs : List A) (x : A) → joined join first (map f (xs ++ x ∷ [])) ≡ join (joined join first (map f xs)) (f x)
 joined_more join f first [] x = refl
 joined_more join f first (y ∷ ys) x = joined_more join f (join first (f y)) ys x
 
@@ -147,10 +146,10 @@ conjunction_whole P Q t i f n e h = let a = take_all i t.others e in rw (conjunc
 pub comparison_whole : (P Q : Comparison → Type 0) (t : ComparisonTree) (i : ℕ) → ((c d : Comparison) → P (any c d) → Q (any c d)) → ((out-ComparisonTree t).others ≡ [] → ⊥) → length (out-ComparisonTree t).others ≤ i → P (joined any (conjunction (out-ComparisonTree t).first) (map conjunction (take i (out-ComparisonTree t).others))) → Q (compared t)
 comparison_whole P Q t i f n e h = let a = take_all i (out-ComparisonTree t).others e in rw (compared_out t) (of_two any conjunction P Q f (conjunction (out-ComparisonTree t).first) (out-ComparisonTree t).others n (rw a at h))
 
-pub conjunction_alone : (text : List ℕ) (t : Conjunction) (j : Judged) → t.others ≡ [] → IsJudged text (operand t.first) j → IsJudged text (conjunction t) j
+pub conjunction_alone : (text : List ℕ) (t : Conjunction) (j : Judgement) → t.others ≡ [] → IsJudgement text (operand t.first) j → IsJudgement text (conjunction t) j
 conjunction_alone text t j e h = rw (conjunction_out t, e) h
 
-pub comparison_alone : (text : List ℕ) (t : ComparisonTree) (j : Judged) → (out-ComparisonTree t).others ≡ [] → IsJudged text (conjunction (out-ComparisonTree t).first) j → IsJudged text (compared t) j
+pub comparison_alone : (text : List ℕ) (t : ComparisonTree) (j : Judgement) → (out-ComparisonTree t).others ≡ [] → IsJudgement text (conjunction (out-ComparisonTree t).first) j → IsJudgement text (compared t) j
 comparison_alone text t j e h = rw (compared_out t, e) h
 
 pub not_so : {A : Type 0} (r : Bool) → IsTrue r ↔ A → r ≡ false → A → ⊥

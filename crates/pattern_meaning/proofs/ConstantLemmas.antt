@@ -9,19 +9,13 @@ use Rattle.pattern_tokens.specs.Spans.{At}
 use Rattle.pattern_meaning.specs.Meaning.{IsConstantOf}
 
 pub no_hex : (text : List ℕ) (token : Token) → token.kind ≡ kind.Hex → ((bytes : List ℕ) → ¬ At IsHexText text token bytes) → (other : Constant) → ¬ IsConstantOf text token other
-no_hex text token e none (constant.Integer whole) h = let g = sym e ∙ h.0 in absurd (cc)
-no_hex text token e none (constant.String words) h = let g = sym e ∙ h.0 in absurd (cc)
 no_hex text token e none (constant.Boolean truth) (inl h) = let g = sym e ∙ h.0 in absurd (cc)
 no_hex text token e none (constant.Boolean truth) (inr h) = let g = sym e ∙ h.0 in absurd (cc)
 no_hex text token e none (constant.Hex bytes) h = none bytes h.1
-no_hex text token e none (constant.Binary bytes) h = let g = sym e ∙ h.0 in absurd (cc)
-no_hex text token e none (constant.Timestamp instant) h = let g = sym e ∙ h.0 in absurd (cc)
+no_hex text token e none _ h = let g = sym e ∙ h.0 in absurd (cc)
 
 pub no_time : (text : List ℕ) (token : Token) → token.kind ≡ kind.Timestamp → ((instant : ℤ) → ¬ At IsTimestampText text token instant) → (other : Constant) → ¬ IsConstantOf text token other
-no_time text token e none (constant.Integer whole) h = let g = sym e ∙ h.0 in absurd (cc)
-no_time text token e none (constant.String words) h = let g = sym e ∙ h.0 in absurd (cc)
 no_time text token e none (constant.Boolean truth) (inl h) = let g = sym e ∙ h.0 in absurd (cc)
 no_time text token e none (constant.Boolean truth) (inr h) = let g = sym e ∙ h.0 in absurd (cc)
-no_time text token e none (constant.Hex bytes) h = let g = sym e ∙ h.0 in absurd (cc)
-no_time text token e none (constant.Binary bytes) h = let g = sym e ∙ h.0 in absurd (cc)
 no_time text token e none (constant.Timestamp instant) h = none instant h.1
+no_time text token e none _ h = let g = sym e ∙ h.0 in absurd (cc)

@@ -31,11 +31,7 @@ of_rank (suc (suc (suc (suc (suc rank))))) at = NoValue at
 
 of_own_rank : (a : ValueRefusal) → of_rank (rank_of a) (place_of a) ≡ a
 of_own_rank (BadCount at) = refl
-of_own_rank (LongPath at) = refl
-of_own_rank (BadAddress at) = refl
-of_own_rank (EmptySpan at) = refl
-of_own_rank (NoCommonRoot at) = refl
-of_own_rank (NoValue at) = refl
+of_own_rank _ = refl
 
 same_both : (a b : ValueRefusal) → rank_of a ≡ rank_of b → place_of a ≡ place_of b → a ≡ b
 same_both a b r p = sym (of_own_rank a) ∙ ap (λ k. of_rank k (place_of a)) r ∙ ap (of_rank (rank_of b)) p ∙ of_own_rank b

@@ -1,4 +1,4 @@
-mod EachLemmas
+mod AllZipLemmas
 mod ConstantLemmas
 mod EarliestLemmas
 mod OutcomeLemmas

@@ -5,33 +5,35 @@ use Rattle.pattern_grammar.specs.declared.path.PathTree.{PathTree}
 use Rattle.pattern_grammar.specs.declared.comparison.TestTree.{TestTree}
 use Rattle.pattern_grammar.specs.Tree.{Comparison, all, any, Tree}
 use Rattle.pattern_types.specs.declared.path.Step.{Step}
+use Rattle.pattern_types.specs.declared.path.TheConstants.{MAX_STEPS}
 use Rattle.pattern_types.specs.declared.path.Path.{Path}
 use Rattle.pattern_types.specs.declared.leaf.Test.{Test}
 use Rattle.pattern_types.specs.PlainLeaf.{PlainLeaf, PlainLeaves}
 use Rattle.pattern_types.specs.PlainPattern.{PlainPattern}
 use Rattle.pattern_meaning.specs.declared.refusal.ValueRefusal.{ValueRefusal}
-use Rattle.pattern_meaning.specs.Meaning.{Each, IsStepOf, IsPathOf, IsTestOf}
+use Rattle.pattern_meaning.specs.Meaning.{IsStepOf, IsPathOf, IsTestOf}
+use Rattle.std.specs.List.{AllZip}
 use Rattle.pattern_meaning.specs.LeafMeaning.{Means, means_test, means_group, means_all, means_any, AllParts, all_first, all_more, AnyParts, any_first, any_more}
 use Rattle.pattern_meaning.specs.PatternMeaning.{MeansPattern, means_leaf, means_both, means_either, means_then, means_limited}
 use Rattle.pattern_types.specs.Soundness.{IsSoundTest, AllHave, IsSoundLeaf, AreSoundLeaves, IsSoundPattern}
 use Rattle.pattern_meaning.specs.Refusals.{RefusalOfSteps, RefusalOfPath, RefusalOfTest, RefusalOfComparison, RefusalOf}
-use Rattle.pattern_meaning.proofs.EachLemmas.{each_length}
+use Rattle.std.proofs.lemmas.Slice.Zip.{AllZip-long}
 use Rattle.pattern_meaning.proofs.LeafRootLemmas.{all_put, sound_put, both_have_root}
 
-no_step_refused : (text : List ℕ) (ts : List StepTree) (ss : List Step) (r : ValueRefusal) → Each (IsStepOf text) ts ss → ¬ RefusalOfSteps text ts r
+no_step_refused : (text : List ℕ) (ts : List StepTree) (ss : List Step) (r : ValueRefusal) → AllZip (IsStepOf text) ts ss → ¬ RefusalOfSteps text ts r
 no_step_refused text [] ss r h x = x
 no_step_refused text (t ∷ ts) [] r h x = h
 no_step_refused text (t ∷ ts) (s ∷ ss) r h (inl x) = x.none s h.0
 no_step_refused text (t ∷ ts) (s ∷ ss) r h (inr x) = no_step_refused text ts ss r h.1 x
 
-no_path_refused : (text : List ℕ) (t : PathTree) (p : Path) (r : ValueRefusal) → IsPathOf text t p → length p.steps ≤ 16 → ¬ RefusalOfPath text t r
-no_path_refused text t p r h short (inl x) = let e = each_length (IsStepOf text) t.steps p.steps h.steps in let long = x.long in omega (arith, e)
+no_path_refused : (text : List ℕ) (t : PathTree) (p : Path) (r : ValueRefusal) → IsPathOf text t p → length p.steps ≤ MAX_STEPS → ¬ RefusalOfPath text t r
+no_path_refused text t p r h short (inl x) = let e = AllZip-long (IsStepOf text) t.steps p.steps h.steps in let long = x.long in omega (arith, e)
 no_path_refused text t p r h short (inr (inl x)) = x.none p.kind h.root
 no_path_refused text t p r h short (inr (inr x)) = no_step_refused text t.steps p.steps r h.steps x
 
 no_test_refused : (text : List ℕ) (t : TestTree) (u : Test) (r : ValueRefusal) → IsTestOf text t u → IsSoundTest u → ¬ RefusalOfTest text t r
 no_test_refused text t u r h s (inl x) = no_path_refused text t.path u.path r h.path s.short x
-no_test_refused text t u r h s (inr x) = x.none u.check (record { means = h.asks; sound = s.check })
+no_test_refused text t u r h s (inr x) = x.none u.check h.asks
 
 mutual
   no_leaf_refused : (text : List ℕ) (c : Comparison) (f : PlainLeaf) (r : ValueRefusal) → Means text c f → IsSoundLeaf f → ¬ RefusalOfComparison text c r

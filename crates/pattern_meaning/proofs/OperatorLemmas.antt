@@ -1,28 +1,25 @@
 -- Chains of an operator on observations.
-use Rattle.std.proofs.Common.{◌≡◌, ℕ, ◌+◌, List, [], ◌∷◌, ◌++◌, map, take, refl, rules, Result, Ok, Err, IfOk, Option, Box, Global}
+use Rattle.std.proofs.Common.{◌≡◌, ℕ, ◌+◌, List, [], ◌∷◌, ◌++◌, map, take, rules, Result, Ok, Err, IfOk, Option, Box, Global}
 use Rattle.pattern_grammar.specs.declared.comparison.ComparisonTree.{ComparisonTree}
 use Rattle.pattern_grammar.specs.declared.qualifier.Qualifier.{Qualifier}
 use Rattle.pattern_grammar.specs.declared.pattern.PatternTree.{PatternTree, the_lemmas}
 use Rattle.pattern_grammar.specs.declared.pattern.PatternTree.TheVariants as tree
 use Rattle.pattern_grammar.specs.Tree.{Tree, joined, shape, compared, leaf, both, either, followed, qualified}
-use Rattle.pattern_meaning.specs.declared.measured.Operator.{Operator}
-use Rattle.pattern_meaning.specs.declared.measured.Measured.{Measured}
+use Rattle.pattern_meaning.specs.declared.narrow_pattern.Operator.{Operator}
+use Rattle.pattern_meaning.specs.declared.narrow_pattern.NarrowPattern.{NarrowPattern}
 use Rattle.pattern_meaning.specs.declared.refusal.ValueRefusal.{ValueRefusal}
-use Rattle.pattern_meaning.specs.inner.Measure.{IsPartOutcome}
+use Rattle.pattern_meaning.specs.inner.NarrowPattern.{IsPartOutcome}
 use Rattle.pattern_meaning.specs.inner.Operators.{tree_by}
-
-pub joined_more : {A V : Type 0} (join : V → V → V) (f : A → V) (first : V) (xs : List A) (x : A) → joined join first (map f (xs ++ x ∷ [])) ≡ join (joined join first (map f xs)) (f x)
-joined_more join f first [] x = refl
-joined_more join f first (y ∷ ys) x = joined_more join f (join first (f y)) ys x
+use Rattle.pattern_meaning.proofs.ChainLemmas.{joined_more}
 
 -- one part more
-pub part_more : (text : List ℕ) (o : Operator) (p : Tree) (xs : List PatternTree) (i : ℕ) (x : PatternTree) (a b w : Result (Option Measured) ValueRefusal) → take (i + 1) xs ≡ take i xs ++ x ∷ []
+pub part_more : (text : List ℕ) (o : Operator) (p : Tree) (xs : List PatternTree) (i : ℕ) (x : PatternTree) (a b w : Result (Option NarrowPattern) ValueRefusal) → take (i + 1) xs ≡ take i xs ++ x ∷ []
     → ((s t : Tree) → IsPartOutcome text s a → IsPartOutcome text t b → IsPartOutcome text (tree_by o s t) w)
     → IsPartOutcome text (joined (tree_by o) p (map shape (take i xs))) a → IsPartOutcome text (shape x) b → IsPartOutcome text (joined (tree_by o) p (map shape (take (i + 1) xs))) w
 part_more text o p xs i x a b w e f h g = rw (e, joined_more) (f _ _ h g)
 
 -- what the chain means, from what its first part means
-pub applied : {E : Type 0} (o : Operator) (text : List ℕ) (p t : Tree) (xs : List PatternTree) (a : Result (Option Measured) ValueRefusal) (r : Result (Result (Option Measured) ValueRefusal) E) → t ≡ joined (tree_by o) p (map shape xs) → IsPartOutcome text p a
+pub applied : {E : Type 0} (o : Operator) (text : List ℕ) (p t : Tree) (xs : List PatternTree) (a : Result (Option NarrowPattern) ValueRefusal) (r : Result (Result (Option NarrowPattern) ValueRefusal) E) → t ≡ joined (tree_by o) p (map shape xs) → IsPartOutcome text p a
     → IfOk r (λ whole. (s : Tree) → IsPartOutcome text s a → IsPartOutcome text (joined (tree_by o) s (map shape xs)) whole)
     → IfOk r (IsPartOutcome text t)
 applied o text p t xs a (Ok found) e x h = rw e (h p x)

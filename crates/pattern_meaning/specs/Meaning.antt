@@ -1,5 +1,7 @@
 -- What the parts of a syntax tree mean: the path, the check and the test that their tokens stand for.
-use Rattle.std.specs.Prelude.{◌≡◌, ◌≢◌, ◌⊎◌, ℕ, true, false, List, [], ◌∷◌}
+use Rattle.std.specs.Prelude.{◌≡◌, ◌≢◌, ◌⊎◌, ℕ, true, false, List}
+use Rattle.std.specs.List.{AllZip}
+use Rattle.match_cidr.specs.BlockText.{IsBlockText}
 use Rattle.pattern_tokens.specs.declared.token.Token.{Token}
 use Rattle.pattern_tokens.specs.declared.token.TokenKind.TheVariants as kind
 use Rattle.pattern_tokens.specs.Values.{IsIntegerText, IsStringText, IsHexText, IsBinaryText, IsTimestampText}
@@ -16,16 +18,10 @@ use Rattle.pattern_types.specs.declared.constant.Constant.{Constant}
 use Rattle.pattern_types.specs.declared.constant.Constant.TheVariants as constant
 use Rattle.pattern_types.specs.declared.check.Check.{Check}
 use Rattle.pattern_types.specs.declared.check.Check.TheVariants as check
+use Rattle.pattern_types.specs.declared.address_block.AddressBlock.{AddressBlock}
 use Rattle.pattern_types.specs.declared.leaf.Test.{Test}
 use Rattle.pattern_tokens.specs.Spans.{At, IsItself}
 use Rattle.pattern_tokens.specs.Numbers.{IsPlace}
-
--- each of these is related to the one at its place
-abbrev pub Each : {A B : Type 0} → (A → B → Type 0) → List A → List B → Type 0
-Each R [] [] = Unit {0}
-Each R (x ∷ xs) (y ∷ ys) = R x y × Each R xs ys
-Each R [] (y ∷ ys) = ⊥
-Each R (x ∷ xs) [] = ⊥
 
 -- a name is a word, or what stands in quotes
 abbrev pub IsNameOf : List ℕ → Token → List ℕ → Type 0
@@ -33,15 +29,13 @@ IsNameOf text token name = ((token.kind ≡ kind.String) × At IsStringText text
 
 abbrev pub IsStepOf : List ℕ → StepTree → Step → Type 0
 IsStepOf text (Name token) (step.Name name) = IsNameOf text token name
-IsStepOf text (Name token) (step.Place place) = ⊥
-IsStepOf text (Name token) step.Each = ⊥
-IsStepOf text (Index token) (step.Name name) = ⊥
 IsStepOf text (Index token) (step.Place place) = (token.kind ≡ kind.Number) × IsPlace text token place
 IsStepOf text (Index token) step.Each = token.kind ≡ kind.Star
+IsStepOf text _ _ = ⊥
 
 pub record IsPathOf (text : List ℕ) (tree : PathTree) (path : Path) : Type 0 where
   pub root : At IsItself text tree.root path.kind
-  pub steps : Each (IsStepOf text) tree.steps path.steps
+  pub steps : AllZip (IsStepOf text) tree.steps path.steps
 
 abbrev pub IsConstantOf : List ℕ → Token → Constant → Type 0
 IsConstantOf text token (constant.Integer whole) = (token.kind ≡ kind.Number) × At IsIntegerText text token whole
@@ -51,6 +45,11 @@ IsConstantOf text token (constant.Hex bytes) = (token.kind ≡ kind.Hex) × At I
 IsConstantOf text token (constant.Binary bytes) = (token.kind ≡ kind.Binary) × At IsBinaryText text token bytes
 IsConstantOf text token (constant.Timestamp instant) = (token.kind ≡ kind.Timestamp) × At IsTimestampText text token instant
 
+-- the token's string names the block
+pub record IsAddressOf (text : List ℕ) (token : Token) (address : AddressBlock) : Type 0 where
+  pub string : At IsStringText text token address.text
+  pub named : IsBlockText address.text address.block
+
 -- what is asked of a value
 abbrev pub IsCheckOf : List ℕ → CheckTree → Check → Type 0
 IsCheckOf text (check_tree.Compare operator token) (check.Equal value) = (operator.kind ≡ kind.Equal) × IsConstantOf text token value
@@ -59,10 +58,10 @@ IsCheckOf text (check_tree.Compare operator token) (check.Less value) = (operato
 IsCheckOf text (check_tree.Compare operator token) (check.LessEqual value) = (operator.kind ≡ kind.LessEqual) × IsConstantOf text token value
 IsCheckOf text (check_tree.Compare operator token) (check.Greater value) = (operator.kind ≡ kind.Greater) × IsConstantOf text token value
 IsCheckOf text (check_tree.Compare operator token) (check.GreaterEqual value) = (operator.kind ≡ kind.GreaterEqual) × IsConstantOf text token value
-IsCheckOf text (check_tree.Among tokens) (check.Among values) = Each (IsConstantOf text) tokens values
+IsCheckOf text (check_tree.Among tokens) (check.Among values) = AllZip (IsConstantOf text) tokens values
 IsCheckOf text (check_tree.Textual operator token) (check.Like words) = (operator.kind ≡ kind.Like) × At IsStringText text token words
-IsCheckOf text (check_tree.Textual operator token) (check.Subset words) = (operator.kind ≡ kind.Subset) × At IsStringText text token words
-IsCheckOf text (check_tree.Textual operator token) (check.Superset words) = (operator.kind ≡ kind.Superset) × At IsStringText text token words
+IsCheckOf text (check_tree.Textual operator token) (check.Subset address) = (operator.kind ≡ kind.Subset) × IsAddressOf text token address
+IsCheckOf text (check_tree.Textual operator token) (check.Superset address) = (operator.kind ≡ kind.Superset) × IsAddressOf text token address
 IsCheckOf text check_tree.Exists check.Exists = Unit {0}
 IsCheckOf text _ _ = ⊥
 

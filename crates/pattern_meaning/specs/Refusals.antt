@@ -13,13 +13,13 @@ use Rattle.pattern_grammar.specs.declared.comparison.TestTree.{TestTree}
 use Rattle.pattern_grammar.specs.declared.qualifier.Qualifier.{Qualifier}
 use Rattle.pattern_grammar.specs.declared.qualifier.Qualifier.TheVariants.{Within, Repeats, Between}
 use Rattle.pattern_grammar.specs.Tree.{Comparison, test, group, all, any, Tree, leaf, both, either, followed, qualified}
-use Rattle.pattern_types.specs.declared.check.Check.{Check}
 use Rattle.pattern_types.specs.declared.limit.Limit.{Limit}
+use Rattle.pattern_types.specs.declared.path.TheConstants.{MAX_STEPS}
 use Rattle.pattern_meaning.specs.declared.refusal.ValueRefusal.{ValueRefusal}
 use Rattle.pattern_meaning.specs.declared.refusal.ValueRefusal.TheVariants.{BadCount, LongPath, BadAddress, EmptySpan, NoCommonRoot, NoValue}
 use Rattle.pattern_meaning.specs.Meaning.{IsStepOf, IsCheckOf}
 use Rattle.pattern_meaning.specs.PatternMeaning.{IsLimitOf}
-use Rattle.pattern_types.specs.Soundness.{IsSoundCheck, IsSoundLimit}
+use Rattle.pattern_types.specs.Soundness.{IsSoundLimit}
 
 -- nothing is such, and so this is refused
 pub record Lacks {T : Type 0} (IsOne : T → Type 0) (refused refusal : ValueRefusal) : Type 0 where
@@ -36,9 +36,9 @@ abbrev pub RefusalOfSteps : List ℕ → List StepTree → ValueRefusal → Type
 RefusalOfSteps text [] refusal = ⊥
 RefusalOfSteps text (step ∷ steps) refusal = Lacks (IsStepOf text step) (step_refusal step) refusal ⊎ RefusalOfSteps text steps refusal
 
--- LongPath: more than 16 steps, at the path's first token
+-- LongPath: more steps than a path may have, at its first token
 pub record IsLongPath (path : PathTree) (refusal : ValueRefusal) : Type 0 where
-  pub long : 16 < length path.steps
+  pub long : MAX_STEPS < length path.steps
   pub here : refusal ≡ LongPath path.root.from
 
 abbrev pub RefusalOfPath : List ℕ → PathTree → ValueRefusal → Type 0
@@ -54,17 +54,11 @@ textual_refusal _ at = NoValue at
 abbrev pub check_refusal : CheckTree → ValueRefusal
 check_refusal (check_tree.Compare operator constant) = NoValue constant.from
 check_refusal (check_tree.Textual operator words) = textual_refusal operator.kind words.from
-check_refusal (check_tree.Among []) = NoValue 0
 check_refusal (check_tree.Among (constant ∷ constants)) = NoValue constant.from
-check_refusal check_tree.Exists = NoValue 0
-
--- what is asked means this, and may be asked
-pub record IsSoundCheckOf (text : List ℕ) (tree : CheckTree) (check : Check) : Type 0 where
-  pub means : IsCheckOf text tree check
-  pub sound : IsSoundCheck check
+check_refusal _ = NoValue 0
 
 abbrev pub RefusalOfTest : List ℕ → TestTree → ValueRefusal → Type 0
-RefusalOfTest text one refusal = RefusalOfPath text one.path refusal ⊎ Lacks (IsSoundCheckOf text one.check) (check_refusal one.check) refusal
+RefusalOfTest text one refusal = RefusalOfPath text one.path refusal ⊎ Lacks (IsCheckOf text one.check) (check_refusal one.check) refusal
 
 -- the root kinds: of a test its path's, of both parts those common to them, of one of two those of either
 abbrev pub HasRoot : List ℕ → Comparison → List ℕ → Type 0

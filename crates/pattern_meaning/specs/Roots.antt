@@ -1,5 +1,5 @@
 -- Sets of names.
-use Rattle.std.specs.Prelude.{◌≡◌, ℕ, true, List, Option, Some, None}
+use Rattle.std.specs.Prelude.{◌≡◌, ℕ, true, List}
 use Rattle.std.specs.BTreeSet.{BTreeSet, contains}
 use Rattle.std.specs.Ordering.{nat_cmp}
 use Rattle.std.specs.Cmp.Lexicographic.{slice_cmp}
@@ -8,8 +8,3 @@ use denote.Ref.{Bor}
 -- the set has the name
 abbrev pub Has : BTreeSet (Bor (List ℕ)) → List ℕ → Type 0
 Has names name = contains (λ x y. slice_cmp nat_cmp x.now y.now) names (record { ref_ptr = (0, 0); now = name }) ≡ true
-
--- there is a name, and it is this one
-abbrev pub Is : Option (Bor (List ℕ)) → List ℕ → Type 0
-Is None other = ⊥
-Is (Some name) other = other ≡ name.now

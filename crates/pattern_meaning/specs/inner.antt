@@ -2,4 +2,4 @@ pub mod Judgement
 pub mod Outcomes
 pub mod Chains
 pub mod Operators
-pub mod Measure
+pub mod NarrowPattern

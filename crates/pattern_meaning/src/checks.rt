@@ -1,10 +1,9 @@
 ghost use Rattle.std.specs.Prelude.{◌≡◌, IfOk};
-ghost use Rattle.match_cidr.specs.declared.block.Block.{Block};
 ghost use Rattle.match_cidr.specs.BlockText.{IsBlockText};
 ghost use Rattle.flow_values.specs.Answers.{FindsExactly};
 ghost use Rattle.pattern_meaning.specs.Meaning.{IsCheckOf, IsTestOf};
 ghost use Rattle.pattern_types.specs.Soundness.{IsSoundTest};
-ghost use Rattle.pattern_meaning.specs.Refusals.{IsSoundCheckOf, check_refusal, RefusalOfTest};
+ghost use Rattle.pattern_meaning.specs.Refusals.{check_refusal, RefusalOfTest};
 ghost use Rattle.pattern_meaning.specs.inner.Judgement.{IsOutcome};
 
 use crate::ValueRefusal;
@@ -12,10 +11,11 @@ use crate::constants::{constant_of, constants_of};
 use crate::outcomes::both;
 use crate::paths::path_of;
 use flow_values::{NoMemory, Text};
+use match_cidr::laws::valid_block;
 use match_cidr::read_block;
 use pattern_grammar::{CheckTree, TestTree};
 use pattern_tokens::{Token, TokenKind, one_meaning, string_at};
-use pattern_types::{Check, Test};
+use pattern_types::{AddressBlock, Check, Test};
 use std::alloc::Global;
 
 /// A comparison with a constant.
@@ -41,24 +41,24 @@ fn comparison_of(
     }
 }
 
-/// The words, where they are an address block.
-fn block_words(words: Text) -> Option<Text>
-    ensures { FindsExactly (λ range. (range ≡ words) × ((block : Block) × IsBlockText range block)) result }
+/// The address block that the text names.
+fn address_of(text: Text) -> Option<AddressBlock>
+    ensures { FindsExactly (λ address. (address.text ≡ text) × IsBlockText address.text address.block) result }
 {
-    if read_block(words.as_str()).is_some() {
-        return Some(words);
-    }
-    None
+    let Some(block) = read_block(text.as_str()) else {
+        return None;
+    };
+    Some(AddressBlock { text, block })
 }
 
-/// A comparison with words, which for a range are an address block.
+/// A comparison with words, or with the address block that they name.
 fn textual_of(
     alloc: Global,
     text: &str,
     operator: Token,
     token: Token,
 ) -> Result<Option<Check>, NoMemory>
-    ensures { IfOk result (FindsExactly (IsSoundCheckOf text.now (CheckTree.Textual operator token))) }
+    ensures { IfOk result (FindsExactly (IsCheckOf text.now (CheckTree.Textual operator token))) }
 {
     one_meaning();
     let Some(words) = string_at(alloc, text, token)? else {
@@ -66,12 +66,12 @@ fn textual_of(
     };
     match operator.kind {
         TokenKind::Like => Ok(Some(Check::Like(words))),
-        TokenKind::Subset => match block_words(words) {
-            Some(range) => Ok(Some(Check::Subset(range))),
+        TokenKind::Subset => match address_of(words) {
+            Some(address) => Ok(Some(Check::Subset(address))),
             None => Ok(None),
         },
-        TokenKind::Superset => match block_words(words) {
-            Some(range) => Ok(Some(Check::Superset(range))),
+        TokenKind::Superset => match address_of(words) {
+            Some(address) => Ok(Some(Check::Superset(address))),
             None => Ok(None),
         },
         _ => Ok(None),
@@ -80,7 +80,7 @@ fn textual_of(
 
 /// What a check asks of a value.
 fn check_of(alloc: Global, text: &str, check: &CheckTree) -> Result<Option<Check>, NoMemory>
-    ensures { IfOk result (FindsExactly (IsSoundCheckOf text.now check.now)) }
+    ensures { IfOk result (FindsExactly (IsCheckOf text.now check.now)) }
 {
     match check {
         CheckTree::Compare { operator, constant } => {
@@ -95,7 +95,7 @@ fn check_of(alloc: Global, text: &str, check: &CheckTree) -> Result<Option<Check
     }
 }
 
-/// Why a check that may not be asked is refused.
+/// Why a check that means nothing is refused.
 fn refusal_of(check: &CheckTree) -> ValueRefusal
     ensures { result ≡ check_refusal check.now }
 {
@@ -113,7 +113,7 @@ fn refusal_of(check: &CheckTree) -> ValueRefusal
     }
 }
 
-/// What a test means: a path of at most 16 steps, and a check that may be asked.
+/// What a test means: a path that isn't too long, and what is asked of the values there.
 pub(crate) fn test_of(
     alloc: Global,
     text: &str,
@@ -121,6 +121,7 @@ pub(crate) fn test_of(
 ) -> Result<Result<Test, ValueRefusal>, NoMemory>
     ensures { IfOk result (IsOutcome (λ test. IsTestOf text.now tree.now test × IsSoundTest test) (RefusalOfTest text.now tree.now)) }
 {
+    valid_block();
     let path = path_of(alloc, text, &tree.path)?;
     let check = check_of(alloc, text, &tree.check)?.ok_or(refusal_of(&tree.check));
     match both(path, check) {

@@ -1,6 +1,7 @@
 ghost use Rattle.std.specs.Prelude.{List, IfOk};
 ghost use Rattle.flow_values.specs.Answers.{FindsExactly};
-ghost use Rattle.pattern_meaning.specs.Meaning.{IsConstantOf, Each};
+ghost use Rattle.pattern_meaning.specs.Meaning.{IsConstantOf};
+ghost use Rattle.std.specs.List.{AllZip};
 ghost use Rattle.pattern_types.specs.declared.constant.Constant.{Constant};
 
 use flow_values::{Items, NoMemory};
@@ -46,7 +47,7 @@ pub(crate) fn constants_of(
     text: &str,
     tokens: &[Token],
 ) -> Result<Option<Items<Constant>>, NoMemory>
-    ensures { IfOk result (λ found. FindsExactly (Each (IsConstantOf text.now) tokens.now) found) }
+    ensures { IfOk result (λ found. FindsExactly (AllZip (IsConstantOf text.now) tokens.now) found) }
 {
     let mut found = Items::new(alloc);
     for token in tokens {

@@ -4,19 +4,17 @@
 
 mod checks;
 mod constants;
-mod judged;
+mod judgement;
 pub mod laws;
 mod limits;
 mod meaning;
-mod measured;
+mod narrow_pattern;
 mod order;
 mod outcomes;
 mod paths;
 mod patterns;
 mod refusal;
 mod roots;
-#[cfg(test)]
-mod tests;
 
 pub use meaning::Meaning;
 pub use patterns::meaning_of;

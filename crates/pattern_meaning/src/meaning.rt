@@ -4,8 +4,7 @@ use pattern_types::Pattern;
 /// What a syntax tree means.
 #[derive(Debug, Drop)]
 pub enum Meaning {
-    /// This pattern: no value is refused, and it is at most 64 wide and has at most 1,024 pairs of
-    /// brackets.
+    /// This pattern: no value is refused, and it isn't too wide.
     Sound(Pattern),
     /// A pattern in which no value is refused, and that is too wide.
     TooWide,

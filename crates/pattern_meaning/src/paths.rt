@@ -1,8 +1,10 @@
 ghost use Rattle.std.specs.Prelude.{◌≡◌, ◌≤◌, ◌⊎◌, [], length, IfOk};
 ghost use Rattle.flow_values.specs.Answers.{FindsExactly};
 ghost use Rattle.pattern_tokens.specs.Spans.{At, IsItself};
+ghost use Rattle.pattern_types.specs.declared.path.TheConstants.{MAX_STEPS};
 ghost use Rattle.pattern_meaning.specs.declared.refusal.ValueRefusal.TheVariants.{NoValue};
-ghost use Rattle.pattern_meaning.specs.Meaning.{IsNameOf, IsStepOf, Each, IsPathOf};
+ghost use Rattle.pattern_meaning.specs.Meaning.{IsNameOf, IsStepOf, IsPathOf};
+ghost use Rattle.std.specs.List.{AllZip};
 ghost use Rattle.pattern_meaning.specs.Refusals.{Lacks, IsLongPath, step_refusal, RefusalOfSteps, RefusalOfPath};
 ghost use Rattle.pattern_meaning.specs.inner.Judgement.{IsOutcome};
 
@@ -11,11 +13,8 @@ use crate::outcomes::{both, with_next};
 use flow_values::{Items, NoMemory, Text};
 use pattern_grammar::{PathTree, StepTree};
 use pattern_tokens::{Token, TokenKind, place_at, string_at, text_of};
-use pattern_types::{Path, Step};
+use pattern_types::{MAX_STEPS, Path, Step};
 use std::alloc::Global;
-
-/// The most steps that a path may have.
-const MOST_STEPS: usize = 16;
 
 /// The name that the token stands for.
 fn name_of(alloc: Global, text: &str, token: Token) -> Result<Option<Text>, NoMemory>
@@ -72,21 +71,21 @@ fn refusal_of(step: StepTree) -> ValueRefusal
 
 /// No steps yet, of a path that isn't too long.
 fn no_steps(alloc: Global, path: &PathTree) -> Result<Items<Step>, ValueRefusal>
-    ensures { IsOutcome (λ steps. (steps ≡ []) × (length path.now.steps ≤ 16)) (IsLongPath path.now) result }
+    ensures { IsOutcome (λ steps. (steps ≡ []) × (length path.now.steps ≤ MAX_STEPS)) (IsLongPath path.now) result }
 {
-    if path.steps.len() > MOST_STEPS {
+    if path.steps.len() > MAX_STEPS {
         return Err(ValueRefusal::LongPath { at: path.root.from });
     }
     Ok(Items::new(alloc))
 }
 
-/// What the steps of a path mean: at most 16 of them.
+/// What the steps of a path mean, where they aren't too many.
 fn steps_of(
     alloc: Global,
     text: &str,
     path: &PathTree,
 ) -> Result<Result<Items<Step>, ValueRefusal>, NoMemory>
-    ensures { IfOk result (IsOutcome (λ steps. Each (IsStepOf text.now) path.now.steps steps × (length path.now.steps ≤ 16))
+    ensures { IfOk result (IsOutcome (λ steps. AllZip (IsStepOf text.now) path.now.steps steps × (length path.now.steps ≤ MAX_STEPS))
         (λ refusal. IsLongPath path.now refusal ⊎ RefusalOfSteps text.now path.now.steps refusal)) }
 {
     let mut found = no_steps(alloc, path);
@@ -116,7 +115,7 @@ pub(crate) fn path_of(
     text: &str,
     path: &PathTree,
 ) -> Result<Result<Path, ValueRefusal>, NoMemory>
-    ensures { IfOk result (IsOutcome (λ found. IsPathOf text.now path.now found × (length found.steps ≤ 16)) (RefusalOfPath text.now path.now)) }
+    ensures { IfOk result (IsOutcome (λ found. IsPathOf text.now path.now found × (length found.steps ≤ MAX_STEPS)) (RefusalOfPath text.now path.now)) }
 {
     let kind = kind_of(alloc, text, path.root)?;
     let steps = steps_of(alloc, text, path)?;

@@ -4,11 +4,11 @@ ghost use Rattle.pattern_meaning.specs.Answer.{Answers};
 ghost use Rattle.pattern_meaning.specs.inner.Operators.{tree_by};
 ghost use Rattle.pattern_meaning.specs.Refusals.{IsSoundLimitOf};
 ghost use Rattle.pattern_grammar.specs.declared.qualifier.Qualifier.{Qualifier};
-ghost use Rattle.pattern_meaning.specs.inner.Measure.{IsMeasured, IsMeasuredPart, IsPartOf, IsPartOutcome};
+ghost use Rattle.pattern_meaning.specs.inner.NarrowPattern.{IsNarrow, IsNarrowPart, IsPartOf, IsPartOutcome};
 
-use crate::judged::{Judged, judge};
+use crate::judgement::{Judgement, judge};
 use crate::limits::{limit_of, limit_refusal};
-use crate::measured::{Measured, Operator};
+use crate::narrow_pattern::{NarrowPattern, Operator};
 use crate::outcomes::both;
 use crate::{Meaning, ValueRefusal};
 use flow_values::NoMemory;
@@ -20,17 +20,17 @@ use std::alloc::Global;
 fn join_narrow(
     alloc: Global,
     operator: Operator,
-    left: Measured,
-    right: Option<Measured>,
-) -> Result<Option<Measured>, NoMemory>
-    requires left { IsMeasured left }
-    requires right { IfSome right IsMeasured }
-    ensures measured { IfOk result (λ whole. IfSome whole IsMeasured) }
+    left: NarrowPattern,
+    right: Option<NarrowPattern>,
+) -> Result<Option<NarrowPattern>, NoMemory>
+    requires left { IsNarrow left }
+    requires right { IfSome right IsNarrow }
+    ensures narrow { IfOk result (λ whole. IfSome whole IsNarrow) }
     ensures part { IfOk result (λ whole. (text : List ℕ) (p q : Tree) → IsPartOf text p (Some left) → IsPartOf text q right
         → IsPartOf text (tree_by operator p q) whole) }
 {
     match right {
-        Some(right) => Measured::joined(alloc, operator, left, right),
+        Some(right) => NarrowPattern::joined(alloc, operator, left, right),
         None => Ok(None),
     }
 }
@@ -39,12 +39,12 @@ fn join_narrow(
 fn join(
     alloc: Global,
     operator: Operator,
-    left: Option<Measured>,
-    right: Option<Measured>,
-) -> Result<Option<Measured>, NoMemory>
-    requires left { IfSome left IsMeasured }
-    requires right { IfSome right IsMeasured }
-    ensures measured { IfOk result (λ whole. IfSome whole IsMeasured) }
+    left: Option<NarrowPattern>,
+    right: Option<NarrowPattern>,
+) -> Result<Option<NarrowPattern>, NoMemory>
+    requires left { IfSome left IsNarrow }
+    requires right { IfSome right IsNarrow }
+    ensures narrow { IfOk result (λ whole. IfSome whole IsNarrow) }
     ensures part { IfOk result (λ whole. (text : List ℕ) (p q : Tree) → IsPartOf text p left → IsPartOf text q right
         → IsPartOf text (tree_by operator p q) whole) }
 {
@@ -58,12 +58,12 @@ fn join(
 fn join_parts(
     alloc: Global,
     operator: Operator,
-    left: Result<Option<Measured>, ValueRefusal>,
-    right: Result<Option<Measured>, ValueRefusal>,
-) -> Result<Result<Option<Measured>, ValueRefusal>, NoMemory>
-    requires left { IsMeasuredPart left }
-    requires right { IsMeasuredPart right }
-    ensures measured { IfOk result IsMeasuredPart }
+    left: Result<Option<NarrowPattern>, ValueRefusal>,
+    right: Result<Option<NarrowPattern>, ValueRefusal>,
+) -> Result<Result<Option<NarrowPattern>, ValueRefusal>, NoMemory>
+    requires left { IsNarrowPart left }
+    requires right { IsNarrowPart right }
+    ensures narrow { IfOk result IsNarrowPart }
     ensures part { IfOk result (λ whole. (text : List ℕ) (p q : Tree) → IsPartOutcome text p left → IsPartOutcome text q right
         → IsPartOutcome text (tree_by operator p q) whole) }
 {
@@ -77,14 +77,18 @@ fn join_parts(
 }
 
 /// What a part of a pattern means, limited: it is too wide where it was.
-fn limit(alloc: Global, part: Option<Measured>, limit: Limit) -> Result<Option<Measured>, NoMemory>
-    requires { IfSome part IsMeasured }
-    ensures measured { IfOk result (λ whole. IfSome whole IsMeasured) }
+fn limit(
+    alloc: Global,
+    part: Option<NarrowPattern>,
+    limit: Limit,
+) -> Result<Option<NarrowPattern>, NoMemory>
+    requires { IfSome part IsNarrow }
+    ensures narrow { IfOk result (λ whole. IfSome whole IsNarrow) }
     ensures part { IfOk result (λ whole. (text : List ℕ) (p : Tree) (q : Qualifier) → IsPartOf text p part → IsSoundLimitOf text q limit
         → IsPartOf text (qualified p q) whole) }
 {
     match part {
-        Some(part) => Measured::limited(alloc, part, limit),
+        Some(part) => NarrowPattern::limited(alloc, part, limit),
         None => Ok(None),
     }
 }
@@ -93,11 +97,11 @@ fn limit(alloc: Global, part: Option<Measured>, limit: Limit) -> Result<Option<M
 fn limit_part(
     alloc: Global,
     text: &str,
-    part: Result<Option<Measured>, ValueRefusal>,
+    part: Result<Option<NarrowPattern>, ValueRefusal>,
     qualifier: Qualifier,
-) -> Result<Result<Option<Measured>, ValueRefusal>, NoMemory>
-    requires { IsMeasuredPart part }
-    ensures measured { IfOk result IsMeasuredPart }
+) -> Result<Result<Option<NarrowPattern>, ValueRefusal>, NoMemory>
+    requires { IsNarrowPart part }
+    ensures narrow { IfOk result IsNarrowPart }
     ensures part { IfOk result (λ whole. (p : Tree) → IsPartOutcome text.now p part → IsPartOutcome text.now (qualified p qualifier) whole) }
 {
     let found = limit_of(text, qualifier).ok_or(limit_refusal(qualifier));
@@ -115,13 +119,13 @@ fn leaf_part(
     alloc: Global,
     text: &str,
     tree: &ComparisonTree,
-) -> Result<Result<Option<Measured>, ValueRefusal>, NoMemory>
-    ensures measured { IfOk result IsMeasuredPart }
+) -> Result<Result<Option<NarrowPattern>, ValueRefusal>, NoMemory>
+    ensures narrow { IfOk result IsNarrowPart }
     ensures part { IfOk result (IsPartOutcome text.now (leaf (compared tree.now))) }
 {
-    let Judged { leaf, .. } = judge(alloc, text, tree)?;
+    let Judgement { leaf, .. } = judge(alloc, text, tree)?;
     match leaf {
-        Ok(leaf) => Ok(Ok(Some(Measured::leaf(leaf)))),
+        Ok(leaf) => Ok(Ok(Some(NarrowPattern::leaf(leaf)))),
         Err(refusal) => Ok(Err(refusal)),
     }
 }
@@ -132,11 +136,11 @@ fn chain_of(
     alloc: Global,
     text: &str,
     operator: Operator,
-    first: Result<Option<Measured>, ValueRefusal>,
+    first: Result<Option<NarrowPattern>, ValueRefusal>,
     others: &[PatternTree],
-) -> Result<Result<Option<Measured>, ValueRefusal>, NoMemory>
-    requires { IsMeasuredPart first }
-    ensures measured { IfOk result IsMeasuredPart }
+) -> Result<Result<Option<NarrowPattern>, ValueRefusal>, NoMemory>
+    requires { IsNarrowPart first }
+    ensures narrow { IfOk result IsNarrowPart }
     ensures part { IfOk result (λ part. (p : Tree) → IsPartOutcome text.now p first
         → IsPartOutcome text.now (joined (tree_by operator) p (map shape others.now)) part) }
 {
@@ -154,8 +158,8 @@ fn part_of(
     alloc: Global,
     text: &str,
     tree: &PatternTree,
-) -> Result<Result<Option<Measured>, ValueRefusal>, NoMemory>
-    ensures measured { IfOk result IsMeasuredPart }
+) -> Result<Result<Option<NarrowPattern>, ValueRefusal>, NoMemory>
+    ensures narrow { IfOk result IsNarrowPart }
     ensures part { IfOk result (IsPartOutcome text.now (shape tree.now)) }
 {
     match tree {
@@ -185,7 +189,7 @@ pub fn meaning_of(alloc: Global, text: &str, tree: &PatternTree) -> Result<Meani
     ensures { IfOk result (Answers text.now (shape tree.now)) }
 {
     match part_of(alloc, text, tree)? {
-        Ok(Some(measured)) => Ok(Meaning::Sound(measured.pattern)),
+        Ok(Some(narrow)) => Ok(Meaning::Sound(narrow.pattern)),
         Ok(None) => Ok(Meaning::TooWide),
         Err(refusal) => Ok(Meaning::Refused(refusal)),
     }

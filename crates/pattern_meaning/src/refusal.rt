@@ -7,7 +7,7 @@ ghost use Rattle.pattern_meaning.specs.ValueRefusal.{name_of, place_of};
 pub enum ValueRefusal {
     /// The number after `WITHIN` or `REPEATS`, or in a path, is out of its range.
     BadCount { at: usize },
-    /// The path has more than 16 steps.
+    /// The path has more steps than it may.
     LongPath { at: usize },
     /// What follows `ISSUBSET` or `ISSUPERSET` is no address block.
     BadAddress { at: usize },

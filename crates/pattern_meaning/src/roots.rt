@@ -1,5 +1,5 @@
-ghost use Rattle.std.specs.Prelude.{◌≡◌, ◌↔◌, ◌⊎◌, ℕ, List, IfOk, IsTrue, IsFalse};
-ghost use Rattle.pattern_meaning.specs.Roots.{Has, Is};
+ghost use Rattle.std.specs.Prelude.{◌≡◌, ◌↔◌, ◌⊎◌, ℕ, List, IfOk, IsSomeAnd, IsTrue, IsFalse};
+ghost use Rattle.pattern_meaning.specs.Roots.{Has};
 
 use flow_values::NoMemory;
 use std::alloc::Global;
@@ -10,7 +10,7 @@ pub(crate) fn of_name<'a>(
     alloc: Global,
     name: Option<&'a str>,
 ) -> Result<BTreeSet<&'a str>, NoMemory>
-    ensures { IfOk result (λ names. (other : List ℕ) → Has names other ↔ Is name.entry other) }
+    ensures { IfOk result (λ names. (other : List ℕ) → Has names other ↔ IsSomeAnd name.entry (λ one. other ≡ one.now)) }
 {
     match name {
         Some(name) => alone(alloc, name),

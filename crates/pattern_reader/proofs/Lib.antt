@@ -1,1 +1,3 @@
 mod OneReadingLemmas
+mod TokenValueLemmas
+mod NoValueLemmas

@@ -15,12 +15,10 @@ name_of TooWide = codes "TooWide"
 name_of NoMemory = codes "out of memory"
 
 abbrev pub place_of : PatternRefusal → Option ℕ
-place_of TooLong = None
 place_of (Token refusal) = Some (token.place_of refusal)
 place_of (Syntax refusal) = Some (syntax.place_of refusal)
 place_of (Value refusal) = Some (value.place_of refusal)
-place_of TooWide = None
-place_of NoMemory = None
+place_of _ = None
 
 -- a name, and a place where there is one
 abbrev pub placed_text : List ℕ → Option ℕ → List ℕ

@@ -4,6 +4,8 @@ ghost use Rattle.std.specs.Prelude.{◌≡◌, ℕ, List};
 ghost use Rattle.pattern_types.specs.declared.pattern.Pattern.{Pattern};
 ghost use Rattle.pattern_types.specs.PlainPattern.{plain_pattern};
 ghost use Rattle.pattern_reader.specs.declared.refusal.PatternRefusal.{PatternRefusal};
+ghost use Rattle.pattern_reader.specs.declared.refusal.PatternRefusal.TheVariants as PatternRefusal;
+ghost use Rattle.pattern_meaning.specs.declared.refusal.ValueRefusal.TheVariants.{NoValue};
 ghost use Rattle.pattern_reader.specs.Read.{IsReadAs, IsRefusedAs};
 
 /// A text is read as one pattern at most.
@@ -37,3 +39,8 @@ pub fn one_refusal()
     pattern_meaning::laws::none_refused();
     pattern_meaning::laws::one_refusal();
 }
+
+/// No text is refused as `NoValue`: each token of a text stands for something.
+pub fn no_value()
+    ensures { (text : List ℕ) (at : ℕ) → ¬ IsRefusedAs text (PatternRefusal.Value (NoValue at)) }
+{}

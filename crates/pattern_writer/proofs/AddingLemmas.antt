@@ -4,7 +4,7 @@ use Rattle.std.proofs.lemmas.Grind.{flat_map-append, common_steps}
 use Rattle.std.proofs.lemmas.List.{take_more}
 use Rattle.std.proofs.lemmas.List.{length-take}
 use Rattle.std.proofs.lemmas.Bool.Decides.{nat_tests}
-use Rattle.pattern_meaning.specs.Meaning.{Each}
+use Rattle.std.proofs.lemmas.Slice.Zip.{all_zipped_more, AllZip-long}
 use Rattle.pattern_writer.specs.Parts.{IsAfter, AreSides, joined, AreJoined, Adds}
 
 pub two_added : (old mid new a b : List ℕ) → mid ≡ old ++ a → new ≡ mid ++ b → new ≡ old ++ (a ++ b)
@@ -17,18 +17,6 @@ pub adds_sides : (IsLeft IsRight : List ℕ → Type 0) (between old left mid ne
 adds_sides IsLeft IsRight between old left mid new h e k =
     (h.0 ++ between ++ k.0, (h.0, k.0, h.1, k.1, refl), two_added old mid new (h.0 ++ between) k.0 (two_added old left mid h.0 between h.2 e) k.2)
 
-pub each_length : {A B : Type 0} (R : A → B → Type 0) (xs : List A) (ys : List B) → Each R xs ys → length ys ≡ length xs
-each_length R [] [] h = refl
-each_length R [] (y ∷ ys) h = absurd h
-each_length R (x ∷ xs) [] h = absurd h
-each_length R (x ∷ xs) (y ∷ ys) h = let e = each_length R xs ys h.1 in omega arith
-
-pub each_more : {A B : Type 0} (R : A → B → Type 0) (xs : List A) (ys : List B) (x : A) (y : B) → Each R xs ys → R x y → Each R (xs ++ x ∷ []) (ys ++ y ∷ [])
-each_more R [] [] x y h r = (r, tt)
-each_more R [] (b ∷ ys) x y h r = absurd h
-each_more R (a ∷ xs) [] x y h r = absurd h
-each_more R (a ∷ xs) (b ∷ ys) x y h r = (h.0, each_more R xs ys x y h.1 r)
-
 joined_more : (between : List ℕ) (texts : List (List ℕ)) (text : List ℕ) → joined between (texts ++ text ∷ []) ≡ joined between texts ++ ((if length texts == 0 then [] else between) ++ text)
 joined_more between [] text = append-nil text
 joined_more between (x ∷ texts) text = grind (arith, nat_tests, common_steps, flat_map-append (λ (y : List ℕ). between ++ y) texts (text ∷ []))
@@ -40,11 +28,11 @@ no_lead i mid = grind (arith, nat_tests, common_steps)
 pub adds_more : {A : Type 0} (R : A → List ℕ → Type 0) (between : List ℕ) (xs : List A) (x : A) (i : ℕ) (old mid lead new : List ℕ) → length xs ≡ i → Adds (AreJoined between R xs) old mid → lead ≡ mid ++ (if i == 0 then [] else between) → Adds (R x) lead new → Adds (AreJoined between R (xs ++ x ∷ [])) old new
 adds_more R between xs x i old mid lead new n h e k =
     let texts = h.1.0 in
-    let count : length texts ≡ i = each_length R xs texts h.1.1 ∙ n in
+    let count : length texts ≡ i = AllZip-long R xs texts h.1.1 ∙ n in
     let more : joined between (texts ++ k.0 ∷ []) ≡ joined between texts ++ ((if i == 0 then [] else between) ++ k.0) = rw (← count) (joined_more between texts k.0) in
     let f : new ≡ mid ++ ((if i == 0 then [] else between) ++ k.0) = two_added mid lead new (if i == 0 then [] else between) k.0 e k.2 in
     let g : mid ≡ old ++ joined between texts = h.2 ∙ ap (λ (y : List ℕ). old ++ y) h.1.2 in
-    (joined between (texts ++ k.0 ∷ []), (texts ++ k.0 ∷ [], each_more R xs texts x k.0 h.1.1 k.1, refl), two_added old mid new (joined between texts) ((if i == 0 then [] else between) ++ k.0) g f ∙ ap (λ (y : List ℕ). old ++ y) (sym more))
+    (joined between (texts ++ k.0 ∷ []), (texts ++ k.0 ∷ [], all_zipped_more R xs texts x k.0 h.1.1 k.1, refl), two_added old mid new (joined between texts) ((if i == 0 then [] else between) ++ k.0) g f ∙ ap (λ (y : List ℕ). old ++ y) (sym more))
 
 front_length : {A : Type 0} (xs : List A) (i : ℕ) → i < length xs → length (take i xs) ≡ i
 front_length xs i b = omega (arith, length-take i xs)

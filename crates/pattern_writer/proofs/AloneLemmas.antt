@@ -1,16 +1,17 @@
 -- Tokens that end by themselves: brackets, dots and colons, words in quotes, and what stands in quotes
 -- behind a letter.
 use Rattle.std.proofs.Common.{◌≡◌, ◌≢◌, ◌⊎◌, inl, inr, ℕ, suc, ◌<◌, ◌≤◌, Bool, true, false, not, ◌&&◌, ◌||◌, ◌==◌, List, [], ◌∷◌, ◌++◌, length, get_or, refl, sym, ◌∙◌, subst, arith, append_assoc}
-use Rattle.std.specs.Prelude.{All, codes, nat_le, flat_map}
+use Rattle.std.specs.Prelude.{All, nat_le, flat_map}
 use Rattle.std.specs.Str.Parse.{IsNumeral, AllDigits}
-use Rattle.std.proofs.lemmas.Bool.Decides.{eqb_tells}
+use Rattle.std.proofs.lemmas.Bool.{and_parts}
+use Rattle.std.proofs.lemmas.Bool.Decides.{eqb_tells, nat_tests}
 use Rattle.std.proofs.lemmas.Str.Parse.{digit_at}
 use Rattle.pattern_tokens.specs.declared.token.TokenKind.{TokenKind}
-use Rattle.pattern_tokens.specs.declared.token.TokenKind.TheVariants.{SquareOpen, SquareClose, RoundOpen, RoundClose, Dot, Colon, Comma, Star, Equal, Differ, Less, LessEqual, Greater, GreaterEqual, And, Or, Not, FollowedBy, Within, Seconds, Repeats, Times, Start, Stop, Among, Like, Subset, Superset, Exists, TrueWord, FalseWord, Word, HyphenWord, Number, String, Hex, Binary, Timestamp}
+use Rattle.pattern_tokens.specs.declared.token.TokenKind.TheVariants.{Word, HyphenWord, Number, String, Hex, Binary, Timestamp}
 use Rattle.pattern_tokens.specs.Word.{IsWordStart, IsHyphenWordPart, HasAt}
 use Rattle.pattern_tokens.specs.Values.{IsNumberText, quoted, escaped, string_text}
 use Rattle.pattern_tokens.specs.Table.{IsToken}
-use Rattle.pattern_writer.proofs.LongestLemmas.{IsSigned, signed}
+use Rattle.pattern_writer.proofs.LongestLemmas.{IsSigned, signed, first_bytes, rests}
 
 -- the marks that any token may follow: `(`, `.`, `:` and `[`
 abbrev pub IsAlone : ℕ → Type 0
@@ -26,42 +27,25 @@ pub data Opens : List ℕ → Type 0 where
   lettered : (l : ℕ) (inside : List ℕ) → (l ≡ 104) ⊎ ((l ≡ 98) ⊎ (l ≡ 116)) → All (λ c. c ≢ 39) inside → Opens (quoted (l ∷ []) inside)
 
 letter_alone : (b : ℕ) → 58 < b → b ≢ 91 → ¬ IsAlone b
-letter_alone b h k (inl e) = omega arith
-letter_alone b h k (inr (inl e)) = omega arith
-letter_alone b h k (inr (inr (inl e))) = omega arith
-letter_alone b h k (inr (inr (inr e))) = k e
+letter_alone b h k x = grind arith
 
 low_alone : (b : ℕ) → b < 58 → b ≢ 40 → b ≢ 46 → ¬ IsAlone b
-low_alone b h k l (inl e) = k e
-low_alone b h k l (inr (inl e)) = l e
-low_alone b h k l (inr (inr (inl e))) = omega arith
-low_alone b h k l (inr (inr (inr e))) = omega arith
+low_alone b h k l x = grind arith
 
 -- letters, `!`, `<` and `>`
 abbrev begins_literal : ℕ → Bool
 begins_literal b = (nat_le 60 b && nat_le b 90) || ((nat_le 97 b && nat_le b 122) || (b == 33))
 
 literal_quote : (b : ℕ) → begins_literal b ≡ true → b ≢ 39
-literal_quote b h e = let g : begins_literal 39 ≡ true = rw e at h in cc
+literal_quote b h e = grind (arith, nat_tests)
 
 literal_alone : (b : ℕ) → begins_literal b ≡ true → ¬ IsAlone b
-literal_alone b h (inl e) = let g : begins_literal 40 ≡ true = rw e at h in cc
-literal_alone b h (inr (inl e)) = let g : begins_literal 46 ≡ true = rw e at h in cc
-literal_alone b h (inr (inr (inl e))) = let g : begins_literal 58 ≡ true = rw e at h in cc
-literal_alone b h (inr (inr (inr e))) = let g : begins_literal 91 ≡ true = rw e at h in cc
+literal_alone b h x = grind (arith, nat_tests)
 
 abbrev opens_test : List ℕ → Bool
 opens_test [] = true
 opens_test (b ∷ []) = not (b == 39)
 opens_test (b ∷ c ∷ r) = begins_literal b && not (c == 39)
-
-and_left : (a b : Bool) → (a && b) ≡ true → a ≡ true
-and_left true b e = refl
-and_left false b e = absurd (cc)
-
-and_right : (a b : Bool) → (a && b) ≡ true → b ≡ true
-and_right true b e = e
-and_right false b e = absurd (cc)
 
 no_quote : (c : ℕ) → not (c == 39) ≡ true → c ≢ 39
 no_quote c h e = let g : not (39 == 39) ≡ true = rw e at h in cc
@@ -70,26 +54,19 @@ opens_literal : (literal : List ℕ) → opens_test literal ≡ true → Opens l
 opens_literal [] h = nothing
 opens_literal (b ∷ []) h = mark b (no_quote b h)
 opens_literal (b ∷ c ∷ r) h =
-    let first = and_left (begins_literal b) (not (c == 39)) h in
-    letters b (c ∷ r) (literal_quote b first) (literal_alone b first) (no_quote c (and_right (begins_literal b) (not (c == 39)) h))
+    let parts = and_parts (begins_literal b) (not (c == 39)) h in letters b (c ∷ r) (literal_quote b parts.0) (literal_alone b parts.0) (no_quote c parts.1)
 
 opens_as : (literal text : List ℕ) → opens_test literal ≡ true → text ≡ literal → Opens text
 opens_as literal text h e = subst Opens (sym e) (opens_literal literal h)
 
 start_quote : (c : ℕ) → IsWordStart c → c ≢ 39
-start_quote c (inl (inl h)) e = omega (arith, h.0)
-start_quote c (inl (inr h)) e = omega (arith, h.0)
-start_quote c (inr h) e = omega arith
+start_quote c h e = grind arith
 
 start_alone : (c : ℕ) → IsWordStart c → ¬ IsAlone c
-start_alone c (inl (inl h)) = letter_alone c (omega (arith, h.0)) (λ e. omega (arith, h.1))
-start_alone c (inl (inr h)) = letter_alone c (omega (arith, h.0)) (λ e. omega (arith, h.0))
-start_alone c (inr h) = letter_alone c (omega arith) (λ e. omega arith)
+start_alone c h x = grind arith
 
-part_quote : (c : ℕ) → IsHyphenWordPart c → c ≢ 39
-part_quote c (inl (inl h)) = start_quote c h
-part_quote c (inl (inr h)) = λ e. omega (arith, h.0)
-part_quote c (inr h) = λ e. omega arith
+pub part_quote : (c : ℕ) → IsHyphenWordPart c → c ≢ 39
+part_quote c h e = grind arith
 
 second_quote : (text : List ℕ) → All IsHyphenWordPart text → get_or text 0 0 ≢ 39
 second_quote [] h e = omega arith
@@ -105,13 +82,10 @@ digits_quote (c ∷ digits) h e = let d = digit_at (c ∷ digits) 0 h (omega ari
 
 opens_digits : (digits : List ℕ) → IsNumeral 10 digits → Opens digits
 opens_digits [] h = nothing
-opens_digits (c ∷ digits) h =
-    let d = digit_at (c ∷ digits) 0 h.1 (omega arith) in
-    letters c digits (λ e. omega (arith, d.0)) (low_alone c (omega (arith, d.1)) (λ e. omega (arith, d.0)) (λ e. omega (arith, d.0))) (digits_quote digits h.1.1)
+opens_digits (c ∷ digits) h = let d = digit_at (c ∷ digits) 0 h.1 (omega arith) in letters c digits (λ e. omega (arith, d.0)) (λ a. grind (arith, d.0, d.1)) (digits_quote digits h.1.1)
 
 opens_signed : (c : ℕ) (digits : List ℕ) → (c ≡ 43) ⊎ (c ≡ 45) → IsNumeral 10 digits → Opens (c ∷ digits)
-opens_signed c digits (inl e) h = letters c digits (λ f. omega arith) (low_alone c (omega arith) (λ f. omega arith) (λ f. omega arith)) (digits_quote digits h.1)
-opens_signed c digits (inr e) h = letters c digits (λ f. omega arith) (low_alone c (omega arith) (λ f. omega arith) (λ f. omega arith)) (digits_quote digits h.1)
+opens_signed c digits s h = letters c digits (λ f. grind arith) (λ a. grind arith) (digits_quote digits h.1)
 
 opens_number : (text : List ℕ) → IsNumberText text → Opens text
 opens_number text h = case (signed text h)
@@ -121,37 +95,6 @@ opens_number text h = case (signed text h)
     case (inr s) = subst Opens (sym s.2) (opens_signed s.0 s.1 s.3 s.4)
 
 pub opens : (kind : TokenKind) (text : List ℕ) → IsToken kind text → Opens text
-opens SquareOpen text h = opens_as (codes "[") text refl h
-opens SquareClose text h = opens_as (codes "]") text refl h
-opens RoundOpen text h = opens_as (codes "(") text refl h
-opens RoundClose text h = opens_as (codes ")") text refl h
-opens Dot text h = opens_as (codes ".") text refl h
-opens Colon text h = opens_as (codes ":") text refl h
-opens Comma text h = opens_as (codes ",") text refl h
-opens Star text h = opens_as (codes "*") text refl h
-opens Equal text h = opens_as (codes "=") text refl h
-opens Differ text h = opens_as (codes "!=") text refl h
-opens Less text h = opens_as (codes "<") text refl h
-opens LessEqual text h = opens_as (codes "<=") text refl h
-opens Greater text h = opens_as (codes ">") text refl h
-opens GreaterEqual text h = opens_as (codes ">=") text refl h
-opens And text h = opens_as (codes "AND") text refl h
-opens Or text h = opens_as (codes "OR") text refl h
-opens Not text h = opens_as (codes "NOT") text refl h
-opens FollowedBy text h = opens_as (codes "FOLLOWEDBY") text refl h
-opens Within text h = opens_as (codes "WITHIN") text refl h
-opens Seconds text h = opens_as (codes "SECONDS") text refl h
-opens Repeats text h = opens_as (codes "REPEATS") text refl h
-opens Times text h = opens_as (codes "TIMES") text refl h
-opens Start text h = opens_as (codes "START") text refl h
-opens Stop text h = opens_as (codes "STOP") text refl h
-opens Among text h = opens_as (codes "IN") text refl h
-opens Like text h = opens_as (codes "LIKE") text refl h
-opens Subset text h = opens_as (codes "ISSUBSET") text refl h
-opens Superset text h = opens_as (codes "ISSUPERSET") text refl h
-opens Exists text h = opens_as (codes "EXISTS") text refl h
-opens TrueWord text h = opens_as (codes "true") text refl h
-opens FalseWord text h = opens_as (codes "false") text refl h
 opens Word text h = opens_word text h.starts (λ k d b. inl (h.parts k d b))
 opens HyphenWord text h = opens_word text h.starts h.parts
 opens Number text h = opens_number text h
@@ -159,33 +102,20 @@ opens String text h = subst Opens (sym h.1) (words h.0)
 opens Hex text h = subst Opens (sym h.1.spelled) (lettered 104 h.0 (inl refl) h.1.unquoted)
 opens Binary text h = subst Opens (sym h.1.spelled) (lettered 98 h.0 (inr (inl refl)) h.1.unquoted)
 opens Timestamp text h = subst Opens (sym h.1.spelled) (lettered 116 h.0 (inr (inr refl)) h.1.unquoted)
+opens _ text h = opens_as _ text refl h
 
 -- a mark ends by itself
 alone_front : (m : ℕ) (after whole more : List ℕ) → IsAlone m → m ∷ after ≡ whole ++ more → Opens whole → length whole ≤ 1
 alone_front m after whole more a e nothing = omega arith
 alone_front m after whole more a e (mark b q) = omega arith
 alone_front m after whole more a e (letters b r q n s) = let f : m ≡ b = cc in absurd (n (subst IsAlone f a))
-alone_front m after whole more a e (words w) = let f : m ≡ 39 = cc in absurd (quote_alone (subst IsAlone f a))
-  where
-    quote_alone : ¬ IsAlone 39
-    quote_alone = low_alone 39 (omega arith) (λ g. omega arith) (λ g. omega arith)
-alone_front m after whole more a e (lettered l inside h u) = let f : m ≡ l = cc in absurd (letter h (subst IsAlone f a))
-  where
-    letter : (l ≡ 104) ⊎ ((l ≡ 98) ⊎ (l ≡ 116)) → ¬ IsAlone l
-    letter (inl g) = letter_alone l (omega arith) (λ x. omega arith)
-    letter (inr (inl g)) = letter_alone l (omega arith) (λ x. omega arith)
-    letter (inr (inr g)) = letter_alone l (omega arith) (λ x. omega arith)
+alone_front m after whole more a e (words w) = let f : m ≡ 39 = cc in absurd (grind arith)
+alone_front m after whole more a e (lettered l inside h u) = let f : m ≡ l = cc in absurd (grind arith)
 
 pub longest_alone : (m : ℕ) (after : List ℕ) → IsAlone m → (other : TokenKind) (whole more : List ℕ) → (m ∷ []) ++ after ≡ whole ++ more → IsToken other whole → length whole ≤ length (m ∷ [])
 longest_alone m after a other whole more e h = alone_front m after whole more a e (opens other whole h)
 
 -- what is written for words tells them from what follows
-first_bytes : (x y : ℕ) (xs ys : List ℕ) → x ∷ xs ≡ y ∷ ys → x ≡ y
-first_bytes x y xs ys e = cc
-
-pub rests : (x y : ℕ) (xs ys : List ℕ) → x ∷ xs ≡ y ∷ ys → xs ≡ ys
-rests x y xs ys e = cc
-
 closed : (u v a b : List ℕ) → (u ++ 39 ∷ []) ++ a ≡ (v ++ 39 ∷ []) ++ b → u ++ 39 ∷ a ≡ v ++ 39 ∷ b
 closed u v a b e = sym (append_assoc u (39 ∷ []) a) ∙ e ∙ append_assoc v (39 ∷ []) b
 
@@ -252,15 +182,7 @@ words_front w after whole more e (words v) =
     let f = closed (flat_map escaped w) (flat_map escaped v) after more (rests 39 39 _ _ e) in
     let g : w ≡ v = same_words w v after more f in
     subst (λ (x : List ℕ). length (string_text x) ≤ length (string_text w)) g (omega arith)
-words_front w after whole more e (lettered l inside h u) = absurd (letter h)
-  where
-    first : l ≡ 39
-    first = cc
-
-    letter : (l ≡ 104) ⊎ ((l ≡ 98) ⊎ (l ≡ 116)) → ⊥
-    letter (inl g) = omega (arith, first)
-    letter (inr (inl g)) = omega (arith, first)
-    letter (inr (inr g)) = omega (arith, first)
+words_front w after whole more e (lettered l inside h u) = let f : l ≡ 39 = cc in absurd (grind arith)
 
 pub longest_words : (w after : List ℕ) (other : TokenKind) (whole more : List ℕ) → string_text w ++ after ≡ whole ++ more → IsToken other whole → length whole ≤ length (string_text w)
 longest_words w after other whole more e h = words_front w after whole more e (opens other whole h)

@@ -1,15 +1,16 @@
 -- How deep what spells a pattern nests: at least as deep as its canonical text.
-use Rattle.std.proofs.Common.{◌≡◌, ℕ, ◌+◌, ◌≤◌, true, List, [], ◌∷◌, ◌++◌, refl, arith, nat_le, max, if◌then◌else◌}
+use Rattle.std.proofs.Common.{◌≡◌, ℕ, ◌+◌, ◌≤◌, Bool, true, false, List, [], ◌∷◌, ◌++◌, refl, arith, nat_le, max, if◌then◌else◌}
 use Rattle.std.proofs.lemmas.Bool.Decides.{nat_tests}
 use Rattle.pattern_tokens.specs.declared.token.Token.{Token}
 use Rattle.pattern_tokens.specs.declared.token.TokenKind.{TokenKind}
 use Rattle.pattern_tokens.specs.declared.token.TokenKind.TheVariants as kind
-use Rattle.pattern_grammar.specs.declared.class.TokenClass.TheVariants.{Only}
+use Rattle.pattern_grammar.specs.declared.class.TokenClass.{TokenClass}
+use Rattle.pattern_grammar.specs.declared.class.TokenClass.TheVariants.{Only, Root, Name, Index, Equality, Order, Textual, Ordered, Constant, Qualifying}
 use Rattle.pattern_grammar.specs.declared.path.StepTree.{StepTree}
 use Rattle.pattern_grammar.specs.declared.path.PathTree.{PathTree}
 use Rattle.pattern_grammar.specs.declared.comparison.CheckTree.{CheckTree}
 use Rattle.pattern_grammar.specs.declared.qualifier.Qualifier.{Qualifier}
-use Rattle.pattern_grammar.specs.TokenClass.{IsA, is_root, is_name, is_index, is_equality, is_order, is_textual, is_ordered, is_constant}
+use Rattle.pattern_grammar.specs.TokenClass.{IsA, is_in}
 use Rattle.pattern_grammar.specs.Tree.{Comparison, Tree, test}
 use Rattle.pattern_grammar.specs.Grammar.{IsStep, step_name, step_index, IsPath, path_first, path_further, AreConstants, constants_one, constants_more, IsCheck, check_equality, check_order, check_among, check_textual, IsTest, test_group, test_exists, test_not_exists, test_compare, test_not_compare, IsCand, cand_one, cand_more, IsCor, cor_one, cor_more, IsQualifier, qualifier_within, qualifier_repeats, qualifier_between, IsStart, start_leaf, start_group, IsUnit, unit_one, unit_more, IsAnds, ands_one, ands_more, IsOrs, ors_one, ors_more, IsPattern, pattern_one, pattern_more}
 use Rattle.pattern_types.specs.PlainLeaf.{PlainLeaf, one, every, some, PlainLeaves, none, more, put}
@@ -21,75 +22,35 @@ use Rattle.pattern_writer.specs.Canonical.{level}
 use Rattle.pattern_writer.proofs.DepthsLemmas.{Measured, measured_is, is_flat, only_flat, Flat, flats, flat_join, first_flat, last_flat, mid_flat, joined, round, among, qualifying}
 
 -- classes of flat kinds
-root_flat : (k : TokenKind) → is_root k ≡ true → is_flat k ≡ true
-root_flat kind.Word e = refl
-root_flat kind.HyphenWord e = refl
-root_flat _ e = absurd (cc)
+abbrev is_flat_class : TokenClass → Bool
+is_flat_class (Only wanted) = false
+is_flat_class Qualifying = false
+is_flat_class _ = true
 
-name_flat : (k : TokenKind) → is_name k ≡ true → is_flat k ≡ true
-name_flat kind.Word e = refl
-name_flat kind.String e = refl
-name_flat _ e = absurd (cc)
-
-index_flat : (k : TokenKind) → is_index k ≡ true → is_flat k ≡ true
-index_flat kind.Number e = refl
-index_flat kind.Star e = refl
-index_flat _ e = absurd (cc)
-
-equality_flat : (k : TokenKind) → is_equality k ≡ true → is_flat k ≡ true
-equality_flat kind.Equal e = refl
-equality_flat kind.Differ e = refl
-equality_flat _ e = absurd (cc)
-
-order_flat : (k : TokenKind) → is_order k ≡ true → is_flat k ≡ true
-order_flat kind.Less e = refl
-order_flat kind.LessEqual e = refl
-order_flat kind.Greater e = refl
-order_flat kind.GreaterEqual e = refl
-order_flat _ e = absurd (cc)
-
-textual_flat : (k : TokenKind) → is_textual k ≡ true → is_flat k ≡ true
-textual_flat kind.Like e = refl
-textual_flat kind.Subset e = refl
-textual_flat kind.Superset e = refl
-textual_flat _ e = absurd (cc)
-
-ordered_flat : (k : TokenKind) → is_ordered k ≡ true → is_flat k ≡ true
-ordered_flat kind.Number e = refl
-ordered_flat kind.String e = refl
-ordered_flat kind.Hex e = refl
-ordered_flat kind.Binary e = refl
-ordered_flat kind.Timestamp e = refl
-ordered_flat _ e = absurd (cc)
-
-constant_flat : (k : TokenKind) → is_constant k ≡ true → is_flat k ≡ true
-constant_flat kind.Number e = refl
-constant_flat kind.String e = refl
-constant_flat kind.Hex e = refl
-constant_flat kind.Binary e = refl
-constant_flat kind.Timestamp e = refl
-constant_flat kind.TrueWord e = refl
-constant_flat kind.FalseWord e = refl
-constant_flat _ e = absurd (cc)
+class_flat : (class : TokenClass) (k : TokenKind) → is_flat_class class ≡ true → is_in class k ≡ true → is_flat k ≡ true
+class_flat (Only wanted) k f e = absurd (cc)
+class_flat Qualifying k f e = absurd (cc)
+class_flat _ kind.RoundOpen f e = cc
+class_flat _ _ f e = cc
 
 -- paths and constants
 step_flat : {ts : List Token} {s : StepTree} → IsStep ts s → Flat ts
-step_flat (step_name a b h k) = (only_flat kind.Dot a.kind h refl, (name_flat b.kind k, tt))
-step_flat (step_index a b c h k l) = (only_flat kind.SquareOpen a.kind h refl, (index_flat b.kind k, (only_flat kind.SquareClose c.kind l refl, tt)))
+step_flat (step_name a b h k) = (only_flat kind.Dot a.kind h refl, (class_flat Name b.kind refl k, tt))
+step_flat (step_index a b c h k l) = (only_flat kind.SquareOpen a.kind h refl, (class_flat Index b.kind refl k, (only_flat kind.SquareClose c.kind l refl, tt)))
 
 pub path_flat : {ts : List Token} {p : PathTree} → IsPath ts p → Flat ts
-path_flat (path_first a b c h k l) = (root_flat a.kind h, (only_flat kind.Colon b.kind k refl, (name_flat c.kind l, tt)))
+path_flat (path_first a b c h k l) = (class_flat Root a.kind refl h, (only_flat kind.Colon b.kind k refl, (class_flat Name c.kind refl l, tt)))
 path_flat (path_further {a = a} {b = b} x y) = flat_join a b (path_flat x) (step_flat y)
 
 constants_flat : {ts cs : List Token} → AreConstants ts cs → Flat ts
-constants_flat (constants_one a h) = (constant_flat a.kind h, tt)
-constants_flat (constants_more {ts = ts} a b x h k) = flat_join ts (a ∷ b ∷ []) (constants_flat x) (only_flat kind.Comma a.kind h refl, (constant_flat b.kind k, tt))
+constants_flat (constants_one a h) = (class_flat Constant a.kind refl h, tt)
+constants_flat (constants_more {ts = ts} a b x h k) = flat_join ts (a ∷ b ∷ []) (constants_flat x) (only_flat kind.Comma a.kind h refl, (class_flat Constant b.kind refl k, tt))
 
 pub check_measured : {ts : List Token} {c : CheckTree} → IsCheck ts c → Measured ts 0 0
-check_measured (check_equality a b h k) = flats (a ∷ b ∷ []) (equality_flat a.kind h, (constant_flat b.kind k, tt))
-check_measured (check_order a b h k) = flats (a ∷ b ∷ []) (order_flat a.kind h, (ordered_flat b.kind k, tt))
+check_measured (check_equality a b h k) = flats (a ∷ b ∷ []) (class_flat Equality a.kind refl h, (class_flat Constant b.kind refl k, tt))
+check_measured (check_order a b h k) = flats (a ∷ b ∷ []) (class_flat Order a.kind refl h, (class_flat Ordered b.kind refl k, tt))
 check_measured (check_among a b c {ts = ts} h k x l) = among a b c ts h k l (constants_flat x)
-check_measured (check_textual a b h k) = flats (a ∷ b ∷ []) (textual_flat a.kind h, (only_flat kind.String b.kind k refl, tt))
+check_measured (check_textual a b h k) = flats (a ∷ b ∷ []) (class_flat Textual a.kind refl h, (only_flat kind.String b.kind k refl, tt))
 
 pub qualifier_measured : {ts : List Token} {q : Qualifier} → IsQualifier ts q → Measured ts 0 1
 qualifier_measured (qualifier_within a b c h k l) = qualifying kind.Within a (b ∷ c ∷ []) h refl refl (only_flat kind.Number b.kind k refl, (only_flat kind.Seconds c.kind l refl, tt))
@@ -158,14 +119,12 @@ deep_round a b ts q l h k d = let g = d.at_least in record { n = d.n + 1; measur
 deep_square : (a b : Token) (ts : List Token) (q l : ℕ) → is_flat a.kind ≡ true → is_flat b.kind ≡ true → Deep ts q l → Deep (a ∷ ts ++ b ∷ []) q l
 deep_square a b ts q l h k d = record { n = d.n; measured = first_flat a (ts ++ b ∷ []) d.n q h (last_flat b ts d.n q k d.measured); at_least = d.at_least }
 
-test_apart : {ts : List Token} {c : Comparison} → IsTest ts c → IsNoAll c × IsNoAny c
+-- tests and chains of AND are no chains of what binds less
+pub test_apart : {ts : List Token} {c : Comparison} → IsTest ts c → IsNoAll c × IsNoAny c
 test_apart (test_group a b h k l) = (tt, tt)
-test_apart (test_exists a h k) = (tt, tt)
-test_apart (test_not_exists a b h k l) = (tt, tt)
-test_apart (test_compare h k) = (tt, tt)
-test_apart (test_not_compare o h k l) = (tt, tt)
+test_apart _ = (tt, tt)
 
-cand_apart : {ts : List Token} {c : Comparison} → IsCand ts c → IsNoAny c
+pub cand_apart : {ts : List Token} {c : Comparison} → IsCand ts c → IsNoAny c
 cand_apart (cand_one h) = (test_apart h).1
 cand_apart (cand_more o h k l) = tt
 

@@ -1,6 +1,7 @@
 -- Patterns of which the canonical text reads back, but for the limits of depth and of values: those with
 -- numbers in their ranges, and with the shapes that the grammar has (STIX 2.1, section 9).
 use Rattle.std.specs.Prelude.{◌≢◌, ◌⊎◌, ◌≤◌, true, false, List, [], ◌∷◌, All, codes}
+use Rattle.match_cidr.specs.BlockText.{IsBlockText}
 use Rattle.hex.specs.Hex.{IsBytes}
 use Rattle.base64.specs.Engines.{standard}
 use Rattle.base64.specs.GeneralPurpose.{encode_of}
@@ -22,9 +23,8 @@ use Rattle.pattern_types.specs.declared.limit.Limit.{Limit}
 use Rattle.pattern_types.specs.declared.limit.Limit.TheVariants.{Within, Repeats, Between}
 
 abbrev pub FitStep : Step → Type 0
-FitStep (step.Name name) = Unit {0}
 FitStep (step.Place place) = place ≤ 4_294_967_295
-FitStep step.Each = Unit {0}
+FitStep _ = Unit {0}
 
 abbrev pub FitFurther : List Step → Type 0
 FitFurther [] = Unit {0}
@@ -32,10 +32,8 @@ FitFurther (s ∷ ss) = FitStep s × FitFurther ss
 
 -- the first step is a name
 abbrev pub FitSteps : List Step → Type 0
-FitSteps [] = ⊥
 FitSteps (step.Name name ∷ ss) = FitFurther ss
-FitSteps (step.Place place ∷ ss) = ⊥
-FitSteps (step.Each ∷ ss) = ⊥
+FitSteps _ = ⊥
 
 pub record FitPath (path : Path) : Type 0 where
   pub root : IsWord path.kind ⊎ IsHyphenWord path.kind
@@ -44,11 +42,9 @@ pub record FitPath (path : Path) : Type 0 where
 
 abbrev pub FitConstant : Constant → Type 0
 FitConstant (Integer whole) = FitsIn64Bits whole
-FitConstant (String words) = Unit {0}
-FitConstant (Boolean truth) = Unit {0}
 FitConstant (Hex bytes) = IsBytes bytes
 FitConstant (Binary bytes) = IsBytes bytes × All (λ c. c ≢ 39) (encode_of standard bytes)
-FitConstant (Timestamp instant) = Unit {0}
+FitConstant _ = Unit {0}
 
 -- the kind of a constant's token
 abbrev pub kind_of : Constant → TokenKind
@@ -81,10 +77,9 @@ FitCheck (check.LessEqual value) = FitOrdered value
 FitCheck (check.Greater value) = FitOrdered value
 FitCheck (check.GreaterEqual value) = FitOrdered value
 FitCheck (check.Among values) = FitList values
-FitCheck (check.Like words) = Unit {0}
-FitCheck (check.Subset words) = Unit {0}
-FitCheck (check.Superset words) = Unit {0}
-FitCheck check.Exists = Unit {0}
+FitCheck (check.Subset address) = IsBlockText address.text address.block
+FitCheck (check.Superset address) = IsBlockText address.text address.block
+FitCheck _ = Unit {0}
 
 pub record FitTest (test : Test) : Type 0 where
   pub path : FitPath test.path

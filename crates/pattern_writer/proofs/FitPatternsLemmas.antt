@@ -4,7 +4,7 @@ use Rattle.pattern_tokens.specs.declared.token.Token.{Token}
 use Rattle.pattern_grammar.specs.declared.comparison.CheckTree.TheVariants as check_tree
 use Rattle.pattern_grammar.specs.declared.qualifier.Qualifier.{Qualifier}
 use Rattle.pattern_grammar.specs.declared.qualifier.Qualifier.TheVariants as qualifier
-use Rattle.pattern_grammar.specs.Tree.{Comparison, all, any, Tree}
+use Rattle.pattern_grammar.specs.Tree.{Comparison, Tree}
 use Rattle.pattern_grammar.specs.Grammar.{IsTest, test_group, test_exists, test_not_exists, test_compare, test_not_compare, IsCand, cand_one, cand_more, IsCor, cor_one, cor_more, IsStart, start_leaf, start_group, IsUnit, unit_one, unit_more, IsAnds, ands_one, ands_more, IsOrs, ors_one, ors_more, IsPattern, pattern_one, pattern_more}
 use Rattle.pattern_types.specs.declared.check.Check.{Check}
 use Rattle.pattern_types.specs.declared.check.Check.TheVariants as check
@@ -18,20 +18,11 @@ use Rattle.pattern_meaning.specs.PatternMeaning.{IsLimitOf, MeansPattern, means_
 use Rattle.pattern_writer.proofs.FitLemmas.{FitCheck, AreSome, FitFormula, FitFormulas, FitLimit, FitMeant}
 use Rattle.pattern_writer.proofs.LexedLemmas.{AllLexed, lexed_left, lexed_right}
 use Rattle.pattern_writer.proofs.FitnessLemmas.{fit_path, fit_check}
-use Rattle.pattern_writer.proofs.FormulaLinesLemmas.{test_apart, cand_apart}
+use Rattle.pattern_writer.proofs.DepthLinesLemmas.{test_apart, cand_apart}
 
 fit_exists : (whole : List ℕ) (c : Check) → IsCheckOf whole check_tree.Exists c → FitCheck c
-fit_exists whole (check.Equal v) h = absurd h
-fit_exists whole (check.Differ v) h = absurd h
-fit_exists whole (check.Less v) h = absurd h
-fit_exists whole (check.LessEqual v) h = absurd h
-fit_exists whole (check.Greater v) h = absurd h
-fit_exists whole (check.GreaterEqual v) h = absurd h
-fit_exists whole (check.Among vs) h = absurd h
-fit_exists whole (check.Like w) h = tt
-fit_exists whole (check.Subset w) h = tt
-fit_exists whole (check.Superset w) h = tt
 fit_exists whole check.Exists h = tt
+fit_exists whole _ h = absurd h
 
 -- one part more
 put_fit : (fs : PlainLeaves) (f : PlainLeaf) → FitFormulas fs → FitFormula f → FitFormulas (put fs f)
@@ -75,7 +66,7 @@ mutual
 
   fit_all : (whole : List ℕ) (ts : List Token) (c : Comparison) (fs : PlainLeaves) → IsCand ts c → AllLexed whole ts → AllParts whole c fs → FitFormulas fs
   fit_all whole ts c fs (cand_one h) x (all_first {f = g} n m) = (fit_test whole ts c g h x m, tt)
-  fit_all whole ts c fs (cand_one h) x (all_more {c = d} {d = e} q m) = absurd (test_apart ts (all d e) h).0
+  fit_all whole ts c fs (cand_one h) x (all_more {c = d} {d = e} q m) = absurd (test_apart h).0
   fit_all whole ts c fs (cand_more {a = us} {b = vs} o {c = d} {d = e} h i k) x (all_first n m) = absurd n
   fit_all whole ts c fs (cand_more {a = us} {b = vs} o {c = d} {d = e} h i k) x (all_more {fs = gs} {f = g} q m) =
       put_fit gs g (fit_all whole us d gs h (lexed_left whole us (o ∷ vs) x) q) (fit_test whole vs e g k (lexed_right whole us (o ∷ vs) x).1 m)
@@ -88,21 +79,16 @@ mutual
 
   fit_any : (whole : List ℕ) (ts : List Token) (c : Comparison) (fs : PlainLeaves) → IsCor ts c → AllLexed whole ts → AnyParts whole c fs → FitFormulas fs
   fit_any whole ts c fs (cor_one h) x (any_first {f = g} n m) = (fit_cand whole ts c g h x m, tt)
-  fit_any whole ts c fs (cor_one h) x (any_more {c = d} {d = e} q m) = absurd (cand_apart ts (any d e) h)
+  fit_any whole ts c fs (cor_one h) x (any_more {c = d} {d = e} q m) = absurd (cand_apart h)
   fit_any whole ts c fs (cor_more {a = us} {b = vs} o {c = d} {d = e} h i k) x (any_first n m) = absurd n
   fit_any whole ts c fs (cor_more {a = us} {b = vs} o {c = d} {d = e} h i k) x (any_more {fs = gs} {f = g} q m) =
       put_fit gs g (fit_any whole us d gs h (lexed_left whole us (o ∷ vs) x) q) (fit_cand whole vs e g k (lexed_right whole us (o ∷ vs) x).1 m)
 
 fit_limit : (whole : List ℕ) (q : Qualifier) (l : Limit) → IsLimitOf whole q l → FitLimit l
 fit_limit whole (qualifier.Within t) (Within n) h = (h.low, h.high)
-fit_limit whole (qualifier.Within t) (Repeats n) h = absurd h
-fit_limit whole (qualifier.Within t) (Between i j) h = tt
-fit_limit whole (qualifier.Repeats t) (Within n) h = absurd h
 fit_limit whole (qualifier.Repeats t) (Repeats n) h = (h.low, h.high)
-fit_limit whole (qualifier.Repeats t) (Between i j) h = tt
-fit_limit whole (qualifier.Between s t u) (Within n) h = absurd h
-fit_limit whole (qualifier.Between s t u) (Repeats n) h = absurd h
-fit_limit whole (qualifier.Between s t u) (Between i j) h = tt
+fit_limit whole q (Between i j) h = tt
+fit_limit whole q l h = absurd h
 
 mutual
   fit_start : (whole : List ℕ) (ts : List Token) (p : Tree) (m : PlainPattern) → IsStart ts p → AllLexed whole ts → MeansPattern whole p m → FitMeant m

@@ -23,13 +23,14 @@ use Rattle.pattern_types.specs.declared.path.Step.{Step}
 use Rattle.pattern_types.specs.declared.path.Step.TheVariants as step
 use Rattle.pattern_types.specs.declared.path.Path.{Path}
 use Rattle.pattern_types.specs.declared.constant.Constant.{Constant}
-use Rattle.pattern_types.specs.declared.constant.Constant.TheVariants.{Integer, String, Boolean, Hex, Binary, Timestamp}
+use Rattle.pattern_types.specs.declared.constant.Constant.TheVariants.{Integer, Boolean, Hex, Binary}
 use Rattle.pattern_types.specs.declared.check.Check.{Check}
 use Rattle.pattern_types.specs.declared.check.Check.TheVariants as check
-use Rattle.pattern_meaning.specs.Meaning.{Each, IsStepOf, IsPathOf, IsConstantOf, IsCheckOf}
+use Rattle.pattern_meaning.specs.Meaning.{IsStepOf, IsPathOf, IsConstantOf, IsCheckOf}
+use Rattle.std.specs.List.{AllZip}
 use Rattle.pattern_writer.proofs.FitLemmas.{FitStep, FitFurther, FitSteps, FitPath, FitConstant, FitOrdered, FitConstants, FitList, FitCheck}
 use Rattle.pattern_tokens.specs.Word.{IsWord, IsHyphenWord}
-use Rattle.pattern_writer.proofs.AloneLemmas.{rests}
+use Rattle.pattern_writer.proofs.LongestLemmas.{rests}
 use Rattle.pattern_writer.proofs.LexedLemmas.{Lexed, AllLexed, lexed_left, lexed_right, root_word}
 
 -- paths
@@ -49,18 +50,16 @@ path_shape whole ts p (path_further {a} {b} {path} {next} h k) x =
     let s = path_shape whole a path h (lexed_left whole a b x) in (s.0, s.1, name_first path.steps (next ∷ []) s.2)
 
 fit_step : (whole : List ℕ) (t : StepTree) (s : Step) → IsStepOf whole t s → FitStep s
-fit_step whole t (step.Name n) h = tt
 fit_step whole (step_tree.Name t) (step.Place p) h = absurd h
 fit_step whole (step_tree.Index t) (step.Place p) h = h.1.high
-fit_step whole t step.Each h = tt
+fit_step whole t _ h = tt
 
-fit_further : (whole : List ℕ) (ts : List StepTree) (ss : List Step) → Each (IsStepOf whole) ts ss → FitFurther ss
-fit_further whole [] [] h = tt
-fit_further whole [] (s ∷ ss) h = absurd h
-fit_further whole (t ∷ ts) [] h = tt
+fit_further : (whole : List ℕ) (ts : List StepTree) (ss : List Step) → AllZip (IsStepOf whole) ts ss → FitFurther ss
 fit_further whole (t ∷ ts) (s ∷ ss) h = (fit_step whole t s h.0, fit_further whole ts ss h.1)
+fit_further whole [] (s ∷ ss) h = absurd h
+fit_further whole ts [] h = tt
 
-fit_steps : (whole : List ℕ) (ts : List StepTree) (ss : List Step) → NameFirst ts → Each (IsStepOf whole) ts ss → FitSteps ss
+fit_steps : (whole : List ℕ) (ts : List StepTree) (ss : List Step) → NameFirst ts → AllZip (IsStepOf whole) ts ss → FitSteps ss
 fit_steps whole [] ss n h = absurd n
 fit_steps whole (step_tree.Index t ∷ ts) ss n h = absurd n
 fit_steps whole (step_tree.Name t ∷ ts) [] n h = absurd h
@@ -89,11 +88,9 @@ same_symbols _ text symbols e h f = absurd (cc)
 
 pub fit_constant : (whole : List ℕ) (t : Token) (c : Constant) → Lexed whole t → IsConstantOf whole t c → FitConstant c
 fit_constant whole t (Integer z) x h = h.1.is.fits
-fit_constant whole t (String w) x h = tt
-fit_constant whole t (Boolean b) x h = tt
 fit_constant whole t (Hex bytes) x h = (decode_of-ok h.1.is.0 bytes h.1.is.2).3
 fit_constant whole t (Binary bytes) x h = (h.1.is.0, same_symbols t.kind (text_at whole t) (encode_of standard bytes) h.0 x.is h.1.is.1)
-fit_constant whole t (Timestamp i) x h = tt
+fit_constant whole t _ x h = tt
 
 lexed_more : (whole : List ℕ) (ts : List Token) (t : Token) → AllLexed whole ts → Lexed whole t → AllLexed whole (ts ++ t ∷ [])
 lexed_more whole [] t x h = (h, tt)
@@ -118,13 +115,12 @@ some_constants : (ts cs : List Token) → AreConstants ts cs → IsSome cs
 some_constants ts cs (constants_one a h) = tt
 some_constants ts cs (constants_more {ts = us} {cs = ds} a b h i j) = some_more ds b
 
-fit_constants : (whole : List ℕ) (cs : List Token) (vs : List Constant) → AllLexed whole cs → Each (IsConstantOf whole) cs vs → FitConstants vs
-fit_constants whole [] [] x h = tt
-fit_constants whole [] (v ∷ vs) x h = absurd h
-fit_constants whole (c ∷ cs) [] x h = tt
+fit_constants : (whole : List ℕ) (cs : List Token) (vs : List Constant) → AllLexed whole cs → AllZip (IsConstantOf whole) cs vs → FitConstants vs
 fit_constants whole (c ∷ cs) (v ∷ vs) x h = (fit_constant whole c v x.0 h.0, fit_constants whole cs vs x.1 h.1)
+fit_constants whole [] (v ∷ vs) x h = absurd h
+fit_constants whole cs [] x h = tt
 
-fit_list : (whole : List ℕ) (cs : List Token) (vs : List Constant) → IsSome cs → AllLexed whole cs → Each (IsConstantOf whole) cs vs → FitList vs
+fit_list : (whole : List ℕ) (cs : List Token) (vs : List Constant) → IsSome cs → AllLexed whole cs → AllZip (IsConstantOf whole) cs vs → FitList vs
 fit_list whole [] vs s x h = absurd s
 fit_list whole (c ∷ cs) [] s x h = absurd h
 fit_list whole (c ∷ cs) (v ∷ vs) s x h = (fit_constant whole c v x.0 h.0, fit_constants whole cs vs x.1 h.1)
@@ -134,13 +130,9 @@ no_truth : (t : Token) (k : TokenKind) → IsA Ordered t → is_in Ordered k ≡
 no_truth t k h e f = let g : is_in Ordered k ≡ true = ap (is_in Ordered) (sym f) ∙ h in let d = sym e ∙ g in cc
 
 fit_ordered : (whole : List ℕ) (t : Token) (c : Constant) → IsA Ordered t → Lexed whole t → IsConstantOf whole t c → FitOrdered c
-fit_ordered whole t (Integer z) o x h = fit_constant whole t (Integer z) x h
-fit_ordered whole t (String w) o x h = tt
 fit_ordered whole t (Boolean b) o x (inl h) = no_truth t kind.TrueWord o refl h.0
 fit_ordered whole t (Boolean b) o x (inr h) = no_truth t kind.FalseWord o refl h.0
-fit_ordered whole t (Hex bytes) o x h = fit_constant whole t (Hex bytes) x h
-fit_ordered whole t (Binary bytes) o x h = fit_constant whole t (Binary bytes) x h
-fit_ordered whole t (Timestamp i) o x h = tt
+fit_ordered whole t c o x h = fit_constant whole t c x h
 
 -- an operator of the one class is none of the other
 no_order : (t : Token) (k : TokenKind) → IsA Equality t → is_in Equality k ≡ false → t.kind ≡ k → ⊥
@@ -153,11 +145,7 @@ fit_equality whole a b (check.Less v) i x h = absurd (no_order a kind.Less i ref
 fit_equality whole a b (check.LessEqual v) i x h = absurd (no_order a kind.LessEqual i refl h.0)
 fit_equality whole a b (check.Greater v) i x h = absurd (no_order a kind.Greater i refl h.0)
 fit_equality whole a b (check.GreaterEqual v) i x h = absurd (no_order a kind.GreaterEqual i refl h.0)
-fit_equality whole a b (check.Among vs) i x h = absurd h
-fit_equality whole a b (check.Like w) i x h = tt
-fit_equality whole a b (check.Subset w) i x h = tt
-fit_equality whole a b (check.Superset w) i x h = tt
-fit_equality whole a b check.Exists i x h = tt
+fit_equality whole a b _ i x h = absurd h
 
 fit_order : (whole : List ℕ) (a b : Token) (c : Check) → IsA Ordered b → Lexed whole b → IsCheckOf whole (check_tree.Compare a b) c → FitCheck c
 fit_order whole a b (check.Equal v) i x h = fit_constant whole b v x h.1
@@ -166,37 +154,17 @@ fit_order whole a b (check.Less v) i x h = fit_ordered whole b v i x h.1
 fit_order whole a b (check.LessEqual v) i x h = fit_ordered whole b v i x h.1
 fit_order whole a b (check.Greater v) i x h = fit_ordered whole b v i x h.1
 fit_order whole a b (check.GreaterEqual v) i x h = fit_ordered whole b v i x h.1
-fit_order whole a b (check.Among vs) i x h = absurd h
-fit_order whole a b (check.Like w) i x h = tt
-fit_order whole a b (check.Subset w) i x h = tt
-fit_order whole a b (check.Superset w) i x h = tt
-fit_order whole a b check.Exists i x h = tt
+fit_order whole a b _ i x h = absurd h
 
 fit_among : (whole : List ℕ) (cs : List Token) (c : Check) → IsSome cs → AllLexed whole cs → IsCheckOf whole (check_tree.Among cs) c → FitCheck c
-fit_among whole cs (check.Equal v) s x h = absurd h
-fit_among whole cs (check.Differ v) s x h = absurd h
-fit_among whole cs (check.Less v) s x h = absurd h
-fit_among whole cs (check.LessEqual v) s x h = absurd h
-fit_among whole cs (check.Greater v) s x h = absurd h
-fit_among whole cs (check.GreaterEqual v) s x h = absurd h
 fit_among whole cs (check.Among vs) s x h = fit_list whole cs vs s x h
-fit_among whole cs (check.Like w) s x h = tt
-fit_among whole cs (check.Subset w) s x h = tt
-fit_among whole cs (check.Superset w) s x h = tt
-fit_among whole cs check.Exists s x h = tt
+fit_among whole cs _ s x h = absurd h
 
 fit_textual : (whole : List ℕ) (a b : Token) (c : Check) → IsCheckOf whole (check_tree.Textual a b) c → FitCheck c
-fit_textual whole a b (check.Equal v) h = absurd h
-fit_textual whole a b (check.Differ v) h = absurd h
-fit_textual whole a b (check.Less v) h = absurd h
-fit_textual whole a b (check.LessEqual v) h = absurd h
-fit_textual whole a b (check.Greater v) h = absurd h
-fit_textual whole a b (check.GreaterEqual v) h = absurd h
-fit_textual whole a b (check.Among vs) h = absurd h
 fit_textual whole a b (check.Like w) h = tt
-fit_textual whole a b (check.Subset w) h = tt
-fit_textual whole a b (check.Superset w) h = tt
-fit_textual whole a b check.Exists h = tt
+fit_textual whole a b (check.Subset address) h = h.1.named
+fit_textual whole a b (check.Superset address) h = h.1.named
+fit_textual whole a b _ h = absurd h
 
 pub fit_check : (whole : List ℕ) (ts : List Token) (t : CheckTree) (c : Check) → IsCheck ts t → AllLexed whole ts → IsCheckOf whole t c → FitCheck c
 fit_check whole ts t c (check_equality a b i j) x h = fit_equality whole a b c i x.1.0 h

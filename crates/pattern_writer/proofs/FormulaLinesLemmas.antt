@@ -6,9 +6,9 @@ use Rattle.pattern_tokens.specs.declared.token.Token.{Token}
 use Rattle.pattern_tokens.specs.declared.token.TokenKind.TheVariants as kind
 use Rattle.pattern_grammar.specs.declared.class.TokenClass.TheVariants.{Only}
 use Rattle.pattern_grammar.specs.Tree.{Comparison, group, all, any}
-use Rattle.pattern_grammar.specs.Grammar.{IsTest, test_group, test_exists, test_not_exists, test_compare, test_not_compare, IsCand, cand_one, cand_more, IsCor, cor_one, cor_more}
+use Rattle.pattern_grammar.specs.Grammar.{IsTest, test_group, IsCand, cand_one, cand_more, IsCor, cor_one, cor_more}
 use Rattle.pattern_types.specs.PlainLeaf.{PlainLeaf, one, every, some, PlainLeaves, none, more, put}
-use Rattle.pattern_meaning.specs.LeafMeaning.{IsNoAll, IsNoAny, Means, means_group, means_all, means_any, AllParts, all_first, all_more, AnyParts, any_first, any_more}
+use Rattle.pattern_meaning.specs.LeafMeaning.{Means, means_group, means_all, means_any, AllParts, all_first, all_more, AnyParts, any_first, any_more}
 use Rattle.pattern_writer.specs.Parts.{joined, IsWithin}
 use Rattle.pattern_writer.specs.Leaf.{binds, IsFormulaText, AreTextsOf}
 use Rattle.pattern_writer.proofs.LongestLemmas.{Stops, Ends, ends_stops}
@@ -18,7 +18,7 @@ use Rattle.pattern_writer.proofs.PathLinesLemmas.{stop_space, stop_close}
 use Rattle.pattern_writer.proofs.TestLinesLemmas.{MeansOne, round, close_round, a_test}
 use Rattle.pattern_writer.proofs.DepthsLemmas.{Measured, measured_is, only_flat, max_last, mid_flat}
 use Rattle.pattern_writer.proofs.DepthsLemmas as depth
-use Rattle.pattern_writer.proofs.DepthLinesLemmas.{plain_measured, wrapped, formula_need, parts_need, put_need}
+use Rattle.pattern_writer.proofs.DepthLinesLemmas.{test_apart, cand_apart, plain_measured, wrapped, formula_need, parts_need, put_need}
 use Rattle.pattern_writer.proofs.FitLemmas.{AreSome, FitFormula, FitFormulas}
 
 -- the line of the grammar for what binds so
@@ -38,12 +38,10 @@ lower : (a b : ℕ) → a ≤ b → b ≤ 2 → (ts : List Token) (c : Compariso
 lower zero zero h k ts c w = w
 lower zero (suc zero) h k ts c w = cor_one w
 lower zero (suc (suc b)) h k ts c w = cor_one (cand_one w)
-lower (suc zero) zero h k ts c w = absurd (omega arith)
 lower (suc zero) (suc zero) h k ts c w = w
 lower (suc zero) (suc (suc b)) h k ts c w = cand_one w
-lower (suc (suc a)) zero h k ts c w = absurd (omega arith)
-lower (suc (suc a)) (suc zero) h k ts c w = absurd (omega arith)
 lower (suc (suc a)) (suc (suc b)) h k ts c w = w
+lower _ _ h k ts c w = absurd (omega arith)
 
 -- a group is a test
 grouped : (n : ℕ) (ts : List Token) (x : (Token × Comparison) × Token) → IsPair (IsPair (IsOne (Only kind.RoundOpen)) (IsDeep IsCor n)) (IsOne (Only kind.RoundClose)) ts x → IsDeep IsTest (n + 1) ts (group x.0.0 x.0.1)
@@ -67,8 +65,7 @@ le_from a b e = grind (arith, nat_tests)
 
 pub binds_low : (f : PlainLeaf) → binds f ≤ 2
 binds_low (one t) = omega arith
-binds_low (every fs) = omega arith
-binds_low (some fs) = omega arith
+binds_low _ = omega arith
 
 within : (least : ℕ) (f : PlainLeaf) (text : List ℕ) → least ≤ 2 → ((inner : List ℕ) → IsFormulaText f inner → Written (IsDeep (IsBound (binds f)) (formula_need f)) (MeansFormula f) Ends inner) → IsWithin least (binds f) (IsFormulaText f) text → Written (IsDeep (IsBound least) (wrapped least (binds f) (formula_need f))) (MeansFormula f) Ends text
 within least f text k w h = as_text (sym h.2) (within_by (nat_le least (binds f)) least (binds f) (formula_need f) f h.0 (le_from least (binds f)) k (binds_low f) (w h.0 h.1))
@@ -85,18 +82,6 @@ append-put (more g fs) f gs = ap (more g) (append-put fs f gs)
 append-none : (fs : PlainLeaves) → append fs none ≡ fs
 append-none none = refl
 append-none (more f fs) = ap (more f) (append-none fs)
-
--- tests and chains of AND are no chains of what binds less
-pub test_apart : (ts : List Token) (c : Comparison) → IsTest ts c → IsNoAll c × IsNoAny c
-test_apart ts c (test_group a b h k l) = (tt, tt)
-test_apart ts c (test_exists a h k) = (tt, tt)
-test_apart ts c (test_not_exists a b h k l) = (tt, tt)
-test_apart ts c (test_compare h k) = (tt, tt)
-test_apart ts c (test_not_compare o h k l) = (tt, tt)
-
-pub cand_apart : (ts : List Token) (c : Comparison) → IsCand ts c → IsNoAny c
-cand_apart ts c (cand_one h) = (test_apart ts c h).1
-cand_apart ts c (cand_more o h k l) = tt
 
 many_all : (whole : List ℕ) (c : Comparison) (fs : PlainLeaves) → AreSome fs → AllParts whole c fs → Means whole c (every fs)
 many_all whole c fs s (all_first n m) = absurd s
@@ -142,10 +127,10 @@ one_measured : (n : ℕ) (ts : List Token) → Measured ts n 0 → Measured ts (
 one_measured n ts m = measured_is ts n 0 (max n 0) 0 (sym (max_last n)) refl m
 
 first_all : (f : PlainLeaf) (t : List ℕ) → Written (IsDeep IsTest (wrapped 2 (binds f) (formula_need f))) (MeansFormula f) Ends t → Written (IsDeep IsCand (parts_need 2 (more f none))) (MeanAll (more f none)) Ends t
-first_all f t w = as_tree (IsDeep IsCand (parts_need 2 (more f none))) (MeanAll (more f none)) (λ whole ts c i m. (c, (cand_one i.0, one_measured (wrapped 2 (binds f) (formula_need f)) ts i.1), all_first (test_apart ts c i.0).0 m)) w
+first_all f t w = as_tree (IsDeep IsCand (parts_need 2 (more f none))) (MeanAll (more f none)) (λ whole ts c i m. (c, (cand_one i.0, one_measured (wrapped 2 (binds f) (formula_need f)) ts i.1), all_first (test_apart i.0).0 m)) w
 
 first_any : (f : PlainLeaf) (t : List ℕ) → Written (IsDeep IsCand (wrapped 1 (binds f) (formula_need f))) (MeansFormula f) Ends t → Written (IsDeep IsCor (parts_need 1 (more f none))) (MeanAny (more f none)) Ends t
-first_any f t w = as_tree (IsDeep IsCor (parts_need 1 (more f none))) (MeanAny (more f none)) (λ whole ts c i m. (c, (cor_one i.0, one_measured (wrapped 1 (binds f) (formula_need f)) ts i.1), any_first (cand_apart ts c i.0) m)) w
+first_any f t w = as_tree (IsDeep IsCor (parts_need 1 (more f none))) (MeanAny (more f none)) (λ whole ts c i m. (c, (cor_one i.0, one_measured (wrapped 1 (binds f) (formula_need f)) ts i.1), any_first (cand_apart i.0) m)) w
 
 mutual
   pub plain_leaf : (f : PlainLeaf) (text : List ℕ) → FitFormula f → IsFormulaText f text → Written (IsDeep (IsBound (binds f)) (formula_need f)) (MeansFormula f) Ends text

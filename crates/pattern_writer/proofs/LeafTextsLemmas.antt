@@ -3,7 +3,7 @@ use Rattle.std.proofs.Common.{◌≡◌, ℕ, List, [], ◌∷◌, refl, ap, sub
 use Rattle.std.specs.Prelude.{codes}
 use Rattle.pattern_types.specs.declared.leaf.Leaf.{Leaf, Row_of-Leaf, end_of-Leaf, more_of-Leaf, items-the_row-Leaf, the_lemmas}
 use Rattle.pattern_types.specs.declared.leaf.Leaf.TheVariants as leaf
-use Rattle.pattern_meaning.specs.Meaning.{Each}
+use Rattle.std.specs.List.{AllZip}
 use Rattle.pattern_types.specs.PlainLeaf.{PlainLeaf, every, some, more, plain_leaf, plain_leaves, listed}
 use Rattle.pattern_writer.specs.Parts.{IsWithin, AreJoined, Adds}
 use Rattle.pattern_writer.specs.Leaf.{binds, IsFormulaText, AreTextsOf, AreParts}
@@ -12,7 +12,7 @@ use Rattle.pattern_writer.specs.Leaf.{binds, IsFormulaText, AreTextsOf, AreParts
 abbrev pub IsPart : ℕ → Leaf → List ℕ → Type 0
 IsPart least l = IsWithin least (binds (plain_leaf l)) (IsFormulaText (plain_leaf l))
 
-texts_of : (least : ℕ) (ls : List Leaf) (texts : List (List ℕ)) → Each (IsPart least) ls texts → AreTextsOf (listed ls) least texts
+texts_of : (least : ℕ) (ls : List Leaf) (texts : List (List ℕ)) → AllZip (IsPart least) ls texts → AreTextsOf (listed ls) least texts
 texts_of least [] [] h = tt
 texts_of least [] (t ∷ ts) h = h
 texts_of least (l ∷ ls) [] h = h

@@ -1,11 +1,12 @@
 -- No longer token begins a canonical text: what is written ends where the table's longest token ends.
 use Rattle.std.proofs.Common.{◌≡◌, ◌≢◌, ◌⊎◌, inl, inr, ℕ, ◌<◌, ◌≤◌, Bool, true, false, cond, ◌&&◌, ◌||◌, ◌==◌, List, [], ◌∷◌, ◌++◌, length, get_or, drop, refl, sym, ap, ◌∙◌, subst, arith, length-append}
-use Rattle.std.specs.Prelude.{All, codes, nat_le}
+use Rattle.std.specs.Prelude.{All, nat_le}
 use Rattle.std.specs.Str.Parse.{IsNumeral, AllDigits}
-use Rattle.std.proofs.lemmas.Bool.Decides.{nat_tests, leb_tells}
+use Rattle.std.proofs.lemmas.Bool.{and_parts}
+use Rattle.std.proofs.lemmas.Bool.Decides.{nat_tests}
 use Rattle.std.proofs.lemmas.Str.Parse.{digit_at}
 use Rattle.pattern_tokens.specs.declared.token.TokenKind.{TokenKind}
-use Rattle.pattern_tokens.specs.declared.token.TokenKind.TheVariants.{SquareOpen, SquareClose, RoundOpen, RoundClose, Dot, Colon, Comma, Star, Equal, Differ, Less, LessEqual, Greater, GreaterEqual, And, Or, Not, FollowedBy, Within, Seconds, Repeats, Times, Start, Stop, Among, Like, Subset, Superset, Exists, TrueWord, FalseWord, Word, HyphenWord, Number, String, Hex, Binary, Timestamp}
+use Rattle.pattern_tokens.specs.declared.token.TokenKind.TheVariants.{Word, HyphenWord, Number, String, Hex, Binary, Timestamp}
 use Rattle.pattern_tokens.specs.Word.{IsWordPart, IsHyphenWordPart}
 use Rattle.pattern_tokens.specs.Values.{IsNumberText, IsLetteredText, string_text}
 use Rattle.pattern_tokens.specs.Table.{IsToken}
@@ -35,37 +36,11 @@ ends_stops (c ∷ after) h = h.0
 abbrev goes_on : ℕ → Bool
 goes_on b = (nat_le 65 b && nat_le b 90) || ((nat_le 97 b && nat_le b 122) || (b == 61))
 
-or_cases : (a b : Bool) → (a || b) ≡ true → (a ≡ true) ⊎ (b ≡ true)
-or_cases true b e = inl refl
-or_cases false b e = inr e
-
-and_left : (a b : Bool) → (a && b) ≡ true → a ≡ true
-and_left true b e = refl
-and_left false b e = absurd (cc)
-
-and_right : (a b : Bool) → (a && b) ≡ true → b ≡ true
-and_right true b e = e
-and_right false b e = absurd (cc)
-
-between : (low high b : ℕ) → (nat_le low b && nat_le b high) ≡ true → (low ≤ b) × (b ≤ high)
-between low high b e =
-    let f = and_left (nat_le low b) (nat_le b high) e in
-    let g = and_right (nat_le low b) (nat_le b high) e in
-    (grind (arith, nat_tests), grind (arith, nat_tests))
-
 same : (b c : ℕ) → (b == c) ≡ true → b ≡ c
 same b c e = grind (arith, nat_tests)
 
 goes_on_is : (b : ℕ) → goes_on b ≡ true → IsHyphenWordPart b ⊎ (b ≡ 61)
-goes_on_is b h = case (or_cases (nat_le 65 b && nat_le b 90) _ h)
-  where
-    low : ((nat_le 97 b && nat_le b 122) ≡ true) ⊎ ((b == 61) ≡ true) → IsHyphenWordPart b ⊎ (b ≡ 61)
-    low (inl e) = inl (inl (inl (inl (inr (between 97 122 b e)))))
-    low (inr e) = inr (same b 61 e)
-
-    case : ((nat_le 65 b && nat_le b 90) ≡ true) ⊎ (((nat_le 97 b && nat_le b 122) || (b == 61)) ≡ true) → IsHyphenWordPart b ⊎ (b ≡ 61)
-    case (inl e) = inl (inl (inl (inl (inl (between 65 90 b e)))))
-    case (inr e) = low (or_cases (nat_le 97 b && nat_le b 122) (b == 61) e)
+goes_on_is b h = grind (arith, nat_tests)
 
 abbrev all_go_on : List ℕ → Bool
 all_go_on [] = true
@@ -76,8 +51,8 @@ behind [] = []
 behind (b ∷ bs) = bs
 
 goes_on_at : (xs : List ℕ) (c : ℕ) (r : List ℕ) → all_go_on (xs ++ c ∷ r) ≡ true → goes_on c ≡ true
-goes_on_at [] c r e = and_left (goes_on c) (all_go_on r) e
-goes_on_at (x ∷ xs) c r e = goes_on_at xs c r (and_right (goes_on x) (all_go_on (xs ++ c ∷ r)) e)
+goes_on_at [] c r e = (and_parts (goes_on c) (all_go_on r) e).0
+goes_on_at (x ∷ xs) c r e = goes_on_at xs c r (and_parts (goes_on x) (all_go_on (xs ++ c ∷ r)) e).1
 
 -- no text of the table's marks and keywords has a stop behind its first byte
 not_literal : (literal : List ℕ) → all_go_on (behind literal) ≡ true → (text : List ℕ) (c : ℕ) (r : List ℕ) → 0 < length text → IsStop c → text ++ c ∷ r ≡ literal → ⊥
@@ -101,10 +76,10 @@ not_digits text c r stop h =
     let e = at_length text c 0 r in
     stop.part (inl (inr (subst (λ (x : ℕ). (48 ≤ x) × (x ≤ 57)) e d)))
 
-first_bytes : (x y : ℕ) (xs ys : List ℕ) → x ∷ xs ≡ y ∷ ys → x ≡ y
+pub first_bytes : (x y : ℕ) (xs ys : List ℕ) → x ∷ xs ≡ y ∷ ys → x ≡ y
 first_bytes x y xs ys e = cc
 
-rests : (x y : ℕ) (xs ys : List ℕ) → x ∷ xs ≡ y ∷ ys → xs ≡ ys
+pub rests : (x y : ℕ) (xs ys : List ℕ) → x ∷ xs ≡ y ∷ ys → xs ≡ ys
 rests x y xs ys e = cc
 
 -- a sign and digits, or digits
@@ -139,37 +114,6 @@ not_words (x ∷ text) c r words some plain h = plain 0 0 (omega arith) (cc)
 
 -- no token has a stop behind a text without quotes
 no_token : (kind : TokenKind) (text : List ℕ) (c : ℕ) (r : List ℕ) → 0 < length text → All (λ b. b ≢ 39) text → IsStop c → ¬ IsToken kind (text ++ c ∷ r)
-no_token SquareOpen text c r some plain stop h = not_literal (codes "[") refl text c r some stop h
-no_token SquareClose text c r some plain stop h = not_literal (codes "]") refl text c r some stop h
-no_token RoundOpen text c r some plain stop h = not_literal (codes "(") refl text c r some stop h
-no_token RoundClose text c r some plain stop h = not_literal (codes ")") refl text c r some stop h
-no_token Dot text c r some plain stop h = not_literal (codes ".") refl text c r some stop h
-no_token Colon text c r some plain stop h = not_literal (codes ":") refl text c r some stop h
-no_token Comma text c r some plain stop h = not_literal (codes ",") refl text c r some stop h
-no_token Star text c r some plain stop h = not_literal (codes "*") refl text c r some stop h
-no_token Equal text c r some plain stop h = not_literal (codes "=") refl text c r some stop h
-no_token Differ text c r some plain stop h = not_literal (codes "!=") refl text c r some stop h
-no_token Less text c r some plain stop h = not_literal (codes "<") refl text c r some stop h
-no_token LessEqual text c r some plain stop h = not_literal (codes "<=") refl text c r some stop h
-no_token Greater text c r some plain stop h = not_literal (codes ">") refl text c r some stop h
-no_token GreaterEqual text c r some plain stop h = not_literal (codes ">=") refl text c r some stop h
-no_token And text c r some plain stop h = not_literal (codes "AND") refl text c r some stop h
-no_token Or text c r some plain stop h = not_literal (codes "OR") refl text c r some stop h
-no_token Not text c r some plain stop h = not_literal (codes "NOT") refl text c r some stop h
-no_token FollowedBy text c r some plain stop h = not_literal (codes "FOLLOWEDBY") refl text c r some stop h
-no_token Within text c r some plain stop h = not_literal (codes "WITHIN") refl text c r some stop h
-no_token Seconds text c r some plain stop h = not_literal (codes "SECONDS") refl text c r some stop h
-no_token Repeats text c r some plain stop h = not_literal (codes "REPEATS") refl text c r some stop h
-no_token Times text c r some plain stop h = not_literal (codes "TIMES") refl text c r some stop h
-no_token Start text c r some plain stop h = not_literal (codes "START") refl text c r some stop h
-no_token Stop text c r some plain stop h = not_literal (codes "STOP") refl text c r some stop h
-no_token Among text c r some plain stop h = not_literal (codes "IN") refl text c r some stop h
-no_token Like text c r some plain stop h = not_literal (codes "LIKE") refl text c r some stop h
-no_token Subset text c r some plain stop h = not_literal (codes "ISSUBSET") refl text c r some stop h
-no_token Superset text c r some plain stop h = not_literal (codes "ISSUPERSET") refl text c r some stop h
-no_token Exists text c r some plain stop h = not_literal (codes "EXISTS") refl text c r some stop h
-no_token TrueWord text c r some plain stop h = not_literal (codes "true") refl text c r some stop h
-no_token FalseWord text c r some plain stop h = not_literal (codes "false") refl text c r some stop h
 no_token Word text c r some plain stop h = stop.part (inl (subst IsWordPart (at_length text c 0 r) (h.parts (length text) 0 (longer_by_one text c r))))
 no_token HyphenWord text c r some plain stop h = stop.part (subst IsHyphenWordPart (at_length text c 0 r) (h.parts (length text) 0 (longer_by_one text c r)))
 no_token Number text c r some plain stop h = not_number text c r some stop h
@@ -177,6 +121,7 @@ no_token String text c r some plain stop h = not_words text c r h.0 some plain h
 no_token Hex text c r some plain stop h = not_lettered 104 text c r h.0 some plain stop h.1
 no_token Binary text c r some plain stop h = not_lettered 98 text c r h.0 some plain stop h.1
 no_token Timestamp text c r some plain stop h = not_lettered 116 text c r h.0 some plain stop h.1
+no_token _ text c r some plain stop h = not_literal _ refl text c r some stop h
 
 -- a longer front of one list goes on with what follows the shorter
 pub data Longer (text after : List ℕ) : List ℕ → Type 0 where
@@ -195,11 +140,7 @@ no_longer : (kind : TokenKind) (text after whole : List ℕ) → 0 < length text
 no_longer kind text after whole some plain stops h (longer c r more e) = no_token kind text c r some plain (subst Stops e stops) h
 
 at_most : (a b : ℕ) → (b < a → ⊥) → a ≤ b
-at_most a b h = case (leb_tells a b)
-  where
-    case : ((nat_le a b ≡ true) × (a ≤ b)) ⊎ ((nat_le a b ≡ false) × (b < a)) → a ≤ b
-    case (inl x) = x.1
-    case (inr x) = absurd (h x.1)
+at_most a b h = grind arith
 
 -- a text without quotes ends before a stop
 pub longest_plain : (text after : List ℕ) → 0 < length text → All (λ b. b ≢ 39) text → Stops after → (other : TokenKind) (whole more : List ℕ) → text ++ after ≡ whole ++ more → IsToken other whole → length whole ≤ length text

@@ -7,14 +7,14 @@ use Rattle.pattern_types.specs.declared.path.Step.{Step}
 use Rattle.pattern_types.specs.declared.path.Step.TheVariants as step
 use Rattle.pattern_types.specs.declared.path.Path.{Path}
 use Rattle.pattern_types.specs.declared.constant.Constant.{Constant}
-use Rattle.pattern_types.specs.declared.constant.Constant.TheVariants.{Integer, String, Boolean, Hex, Binary, Timestamp}
+use Rattle.pattern_types.specs.declared.constant.Constant.TheVariants.{Timestamp}
 use Rattle.pattern_types.specs.declared.check.Check.{Check}
 use Rattle.pattern_types.specs.declared.check.Check.TheVariants as check
-use Rattle.pattern_meaning.specs.Meaning.{Each}
+use Rattle.std.specs.List.{AllZip}
 use Rattle.pattern_types.specs.PlainLeaf.{PlainLeaf, one, every, some, PlainLeaves, none, more}
 use Rattle.pattern_types.specs.PlainPattern.{PlainPattern, a_leaf, a_both, an_either, a_then, a_limited}
 use Rattle.pattern_types.specs.declared.limit.Limit.{Limit}
-use Rattle.pattern_types.specs.declared.limit.Limit.TheVariants.{Within, Repeats, Between}
+use Rattle.pattern_types.specs.declared.limit.Limit.TheVariants.{Between}
 use Rattle.pattern_writer.specs.Parts.{IsAfter, IsBetween, AreSides, joined, AreJoined, enclosed, IsWithin}
 use Rattle.pattern_writer.specs.Path.{IsNameText, IsStepText, IsFirstText, AreStepsText, IsPathText}
 use Rattle.pattern_writer.specs.Constant.{IsTimeText, IsConstantText}
@@ -42,7 +42,7 @@ sides IsLeft mid IsRight u v a b h k = h.4 ∙ ap (λ (x : List ℕ). x ++ mid +
 within : (least b : ℕ) (IsText : List ℕ → Type 0) → One IsText → One (IsWithin least b IsText)
 within least b IsText u x y h k = h.2 ∙ ap (enclosed least b) (u h.0 k.0 h.1 k.1) ∙ sym k.2
 
-each : {A : Type 0} (R : A → List ℕ → Type 0) → ((x : A) → One (R x)) → (xs : List A) (ts us : List (List ℕ)) → Each R xs ts → Each R xs us → ts ≡ us
+each : {A : Type 0} (R : A → List ℕ → Type 0) → ((x : A) → One (R x)) → (xs : List A) (ts us : List (List ℕ)) → AllZip R xs ts → AllZip R xs us → ts ≡ us
 each R u [] [] [] h k = refl
 each R u [] [] (y ∷ ys) h k = absurd k
 each R u [] (x ∷ xs) us h k = absurd h
@@ -61,13 +61,11 @@ name n a b (inr h) (inr k) = h.1 ∙ sym k.1
 
 a_step : (s : Step) → One (IsStepText s)
 a_step (step.Name n) = after (codes ".") (IsNameText n) (name n)
-a_step (step.Place p) = λ a b h k. h ∙ sym k
-a_step step.Each = λ a b h k. h ∙ sym k
+a_step _ = λ a b h k. h ∙ sym k
 
 first : (s : Step) → One (IsFirstText s)
 first (step.Name n) = name n
-first (step.Place p) = a_step (step.Place p)
-first step.Each = a_step step.Each
+first s = a_step s
 
 steps : (ss : List Step) → One (AreStepsText ss)
 steps [] = λ a b h k. h ∙ sym k
@@ -80,12 +78,8 @@ time : OneTimestamp → (i : ℤ) → One (IsTimeText i)
 time u i a b h k = h.2 ∙ ap (quoted (codes "t")) (u h.0 k.0 i h.1 k.1) ∙ sym k.2
 
 constant : OneTimestamp → (c : Constant) → One (IsConstantText c)
-constant u (Integer z) = λ a b h k. h ∙ sym k
-constant u (String w) = λ a b h k. h ∙ sym k
-constant u (Boolean t) = λ a b h k. h ∙ sym k
-constant u (Hex bytes) = λ a b h k. h ∙ sym k
-constant u (Binary bytes) = λ a b h k. h ∙ sym k
 constant u (Timestamp i) = time u i
+constant u _ = λ a b h k. h ∙ sym k
 
 words : (w : List ℕ) → One (AreWords w)
 words w a b h k = h ∙ sym k
@@ -99,8 +93,8 @@ checked u p negated (check.Greater v) = sides (IsPathText p) (operator_text nega
 checked u p negated (check.GreaterEqual v) = sides (IsPathText p) (operator_text negated (codes ">=")) (IsConstantText v) (path p) (constant u v)
 checked u p negated (check.Among vs) = sides (IsPathText p) (operator_text negated (codes "IN")) (AreAmong vs) (path p) (between (codes "(") (codes ")") (AreJoined (codes ", ") IsConstantText vs) (joint (codes ", ") IsConstantText (constant u) vs))
 checked u p negated (check.Like w) = sides (IsPathText p) (operator_text negated (codes "LIKE")) (AreWords w) (path p) (words w)
-checked u p negated (check.Subset w) = sides (IsPathText p) (operator_text negated (codes "ISSUBSET")) (AreWords w) (path p) (words w)
-checked u p negated (check.Superset w) = sides (IsPathText p) (operator_text negated (codes "ISSUPERSET")) (AreWords w) (path p) (words w)
+checked u p negated (check.Subset w) = sides (IsPathText p) (operator_text negated (codes "ISSUBSET")) (AreWords w.text) (path p) (words w.text)
+checked u p negated (check.Superset w) = sides (IsPathText p) (operator_text negated (codes "ISSUPERSET")) (AreWords w.text) (path p) (words w.text)
 checked u p negated check.Exists = after (not_text negated ++ codes "EXISTS ") (IsPathText p) (path p)
 
 mutual
@@ -111,19 +105,17 @@ mutual
 
   parts : OneTimestamp → (fs : PlainLeaves) (least : ℕ) (ts us : List (List ℕ)) → AreTextsOf fs least ts → AreTextsOf fs least us → ts ≡ us
   parts u none least [] [] h k = refl
-  parts u none least [] (y ∷ ys) h k = absurd k
-  parts u none least (x ∷ xs) us h k = absurd h
-  parts u (more f fs) least [] us h k = absurd h
-  parts u (more f fs) least (x ∷ xs) [] h k = absurd k
   parts u (more f fs) least (x ∷ xs) (y ∷ ys) h k =
       let e = within least (binds f) (IsFormulaText f) (plain_leaf u f) x y h.0 k.0 in
       let g = parts u fs least xs ys h.1 k.1 in
       ap (λ (z : List ℕ). z ∷ xs) e ∙ ap (λ (zs : List (List ℕ)). y ∷ zs) g
+  parts u none least (x ∷ xs) us h k = absurd h
+  parts u (more f fs) least [] us h k = absurd h
+  parts u fs least ts us h k = absurd k
 
 limit : OneTimestamp → (l : Limit) → One (IsLimitText l)
-limit u (Within n) = λ a b h k. h ∙ sym k
-limit u (Repeats n) = λ a b h k. h ∙ sym k
 limit u (Between i j) = sides (IsAfter (codes "START ") (IsTimeText i)) (codes " STOP ") (IsTimeText j) (after (codes "START ") (IsTimeText i) (time u i)) (time u j)
+limit u _ = λ a b h k. h ∙ sym k
 
 pub canonical_once : OneTimestamp → (m : PlainPattern) → One (IsCanonical m)
 canonical_once u (a_leaf f) = between (codes "[") (codes "]") (IsFormulaText f) (plain_leaf u f)

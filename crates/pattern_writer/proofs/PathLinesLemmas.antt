@@ -14,11 +14,12 @@ use Rattle.pattern_grammar.specs.Grammar.{IsStep, step_name, step_index, IsPath,
 use Rattle.pattern_types.specs.declared.path.Step.{Step}
 use Rattle.pattern_types.specs.declared.path.Step.TheVariants as step
 use Rattle.pattern_types.specs.declared.path.Path.{Path}
-use Rattle.pattern_meaning.specs.Meaning.{Each, IsNameOf, IsStepOf, IsPathOf}
+use Rattle.pattern_meaning.specs.Meaning.{IsNameOf, IsStepOf, IsPathOf}
+use Rattle.std.specs.List.{AllZip}
 use Rattle.pattern_writer.specs.Parts.{joined}
 use Rattle.pattern_writer.specs.Path.{IsNameText, IsStepText, AreStepsText, IsPathText}
 use Rattle.pattern_writer.proofs.LongestLemmas.{IsStop, Stops, Ends, ends_stops}
-use Rattle.pattern_writer.proofs.AddingLemmas.{each_more}
+use Rattle.std.proofs.lemmas.Slice.Zip.{all_zipped_more}
 use Rattle.pattern_writer.proofs.PiecesLemmas.{Stands}
 use Rattle.pattern_writer.proofs.WrittenLemmas.{Written, IsOne, is_one, IsPair, is_pair, MeanPair, pair, as_tree, as_text, before}
 use Rattle.pattern_writer.proofs.TokensLemmas.{Anything, literal, mark, number, root}
@@ -27,26 +28,7 @@ use Rattle.pattern_writer.proofs.NumeralsLemmas.{count_text, count_shape}
 use Rattle.pattern_writer.proofs.FitLemmas.{FitStep, FitFurther, FitSteps, FitPath}
 
 no_part : (c : ℕ) → (c < 45) ⊎ ((45 < c × (c < 48)) ⊎ ((57 < c × (c < 65)) ⊎ (90 < c × (c < 95)))) → ¬ IsHyphenWordPart c
-no_part c (inl h) (inl (inl (inl (inl x)))) = omega (arith, x.0)
-no_part c (inl h) (inl (inl (inl (inr x)))) = omega (arith, x.0)
-no_part c (inl h) (inl (inl (inr x))) = omega arith
-no_part c (inl h) (inl (inr x)) = omega (arith, x.0)
-no_part c (inl h) (inr x) = omega arith
-no_part c (inr (inl h)) (inl (inl (inl (inl x)))) = omega (arith, x.0, h.1)
-no_part c (inr (inl h)) (inl (inl (inl (inr x)))) = omega (arith, x.0, h.1)
-no_part c (inr (inl h)) (inl (inl (inr x))) = omega (arith, h.1)
-no_part c (inr (inl h)) (inl (inr x)) = omega (arith, x.0, h.1)
-no_part c (inr (inl h)) (inr x) = omega (arith, h.0)
-no_part c (inr (inr (inl h))) (inl (inl (inl (inl x)))) = omega (arith, x.0, h.1)
-no_part c (inr (inr (inl h))) (inl (inl (inl (inr x)))) = omega (arith, x.0, h.1)
-no_part c (inr (inr (inl h))) (inl (inl (inr x))) = omega (arith, h.1)
-no_part c (inr (inr (inl h))) (inl (inr x)) = omega (arith, x.1, h.0)
-no_part c (inr (inr (inl h))) (inr x) = omega (arith, h.0)
-no_part c (inr (inr (inr h))) (inl (inl (inl (inl x)))) = omega (arith, x.1, h.0)
-no_part c (inr (inr (inr h))) (inl (inl (inl (inr x)))) = omega (arith, x.0, h.1)
-no_part c (inr (inr (inr h))) (inl (inl (inr x))) = omega (arith, h.1)
-no_part c (inr (inr (inr h))) (inl (inr x)) = omega (arith, x.1, h.0)
-no_part c (inr (inr (inr h))) (inr x) = omega (arith, h.0)
+no_part c h x = grind arith
 
 -- a space, `)`, `,`, `.`, `:`, `[` and `]`
 pub stop_space : IsStop 32
@@ -129,10 +111,10 @@ further_path ts x (is_pair h k) = path_further h k
 
 one_further : (k : List ℕ) (done : List Step) (s : Step) (a b : List ℕ) → FitStep s → IsStepText s b → Written IsPath (MeansPath (path_of k done)) Stops a → Written IsPath (MeansPath (path_of k (done ++ s ∷ []))) Stops (a ++ b)
 one_further k done s a b fit h w =
-    as_tree IsPath (MeansPath (path_of k (done ++ s ∷ []))) (λ whole ts x i m. (further x.0 x.1, further_path ts x i, record { root = m.0.root; steps = each_more (IsStepOf whole) x.0.steps done x.1 s m.0.steps m.1 }))
+    as_tree IsPath (MeansPath (path_of k (done ++ s ∷ []))) (λ whole ts x i m. (further x.0 x.1, further_path ts x i, record { root = m.0.root; steps = all_zipped_more (IsStepOf whole) x.0.steps done x.1 s m.0.steps m.1 }))
     (pair IsPath IsStep (MeansPath (path_of k done)) (MeansStep s) Stops Stops a b (λ after e. step_begins s b after h) w (further_step s b fit h))
 
-all_further : (k : List ℕ) (done rest : List Step) (a : List ℕ) (texts : List (List ℕ)) → FitFurther rest → Each IsStepText rest texts → Written IsPath (MeansPath (path_of k done)) Stops a → Written IsPath (MeansPath (path_of k (done ++ rest))) Stops (a ++ flat_map (λ y. [] ++ y) texts)
+all_further : (k : List ℕ) (done rest : List Step) (a : List ℕ) (texts : List (List ℕ)) → FitFurther rest → AllZip IsStepText rest texts → Written IsPath (MeansPath (path_of k done)) Stops a → Written IsPath (MeansPath (path_of k (done ++ rest))) Stops (a ++ flat_map (λ y. [] ++ y) texts)
 all_further k done [] a [] fit h w = as_text (sym (append-nil a)) (subst (λ (x : List Step). Written IsPath (MeansPath (path_of k x)) Stops a) (sym (append-nil done)) w)
 all_further k done [] a (t ∷ ts) fit h w = absurd h
 all_further k done (s ∷ ss) a [] fit h w = absurd h
@@ -153,7 +135,7 @@ first_steps p n b fit h =
     (pair (IsPair (IsOne Root) (IsOne (Only kind.Colon))) (IsOne Name) (MeanPair (λ (whole : List ℕ) (t : Token). At IsItself whole t p.kind) (λ (whole : List ℕ) (t : Token). Stands whole t kind.Colon (codes ":"))) (λ (whole : List ℕ) (t : Token). IsNameOf whole t n) Anything Stops (p.kind ++ codes ":") b (λ after e. tt)
     (pair (IsOne Root) (IsOne (Only kind.Colon)) (λ (whole : List ℕ) (t : Token). At IsItself whole t p.kind) (λ (whole : List ℕ) (t : Token). Stands whole t kind.Colon (codes ":")) Stops Anything p.kind (codes ":") (λ after e. stop_colon) (root p.kind fit.root fit.free) colon) (name n b h))
 
-whole_path : (p : Path) (rest : List Step) (n a texts : _) → FitPath p → FitFurther rest → IsNameText n a → Each IsStepText rest texts → Written IsPath (MeansPath (path_of p.kind (step.Name n ∷ rest))) Stops ((p.kind ++ codes ":") ++ (a ++ [] ++ joined [] texts))
+whole_path : (p : Path) (rest : List Step) (n a texts : _) → FitPath p → FitFurther rest → IsNameText n a → AllZip IsStepText rest texts → Written IsPath (MeansPath (path_of p.kind (step.Name n ∷ rest))) Stops ((p.kind ++ codes ":") ++ (a ++ [] ++ joined [] texts))
 whole_path p rest n a texts fit further h k =
     let w = all_further p.kind (step.Name n ∷ []) rest ((p.kind ++ codes ":") ++ a) texts further k (first_steps p n a fit h) in
     as_text (append_assoc (p.kind ++ codes ":") a (flat_map (λ y. [] ++ y) texts) ∙ ap (λ (x : List ℕ). (p.kind ++ codes ":") ++ x) (ap (λ (x : List ℕ). x ++ flat_map (λ y. [] ++ y) texts) (sym (append-nil a)) ∙ ap (λ (x : List ℕ). (a ++ []) ++ x) (sym (joined_plain texts)))) w

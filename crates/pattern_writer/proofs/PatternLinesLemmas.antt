@@ -54,18 +54,13 @@ down zero zero h k ts p w = w
 down zero (suc zero) h k ts p w = pattern_one w
 down zero (suc (suc zero)) h k ts p w = pattern_one (ors_one w)
 down zero (suc (suc (suc b))) h k ts p w = pattern_one (ors_one (ands_one w))
-down (suc zero) zero h k ts p w = absurd (omega arith)
 down (suc zero) (suc zero) h k ts p w = w
 down (suc zero) (suc (suc zero)) h k ts p w = ors_one w
 down (suc zero) (suc (suc (suc b))) h k ts p w = ors_one (ands_one w)
-down (suc (suc zero)) zero h k ts p w = absurd (omega arith)
-down (suc (suc zero)) (suc zero) h k ts p w = absurd (omega arith)
 down (suc (suc zero)) (suc (suc zero)) h k ts p w = w
 down (suc (suc zero)) (suc (suc (suc b))) h k ts p w = ands_one w
-down (suc (suc (suc a))) zero h k ts p w = absurd (omega arith)
-down (suc (suc (suc a))) (suc zero) h k ts p w = absurd (omega arith)
-down (suc (suc (suc a))) (suc (suc zero)) h k ts p w = absurd (omega arith)
 down (suc (suc (suc a))) (suc (suc (suc b))) h k ts p w = w
+down _ _ h k ts p w = absurd (omega arith)
 
 downed : (a b n q : ℕ) (m : PlainPattern) (text : List ℕ) → a ≤ b → b ≤ 3 → Written (IsDeepLine (IsLevel b) n q) (MeansTree m) Ends text → Written (IsDeepLine (IsLevel a) n q) (MeansTree m) Ends text
 downed a b n q m text h k w = as_tree (IsDeepLine (IsLevel a) n q) (MeansTree m) (λ whole ts p i x. (p, (down a b h k ts p i.0, i.1), x)) w
@@ -85,10 +80,7 @@ within_by false least b n q m inner h k l w = downed least 3 (n + 1) q m (codes 
 
 level_low : (m : PlainPattern) → level m ≤ 3
 level_low (a_leaf f) = omega arith
-level_low (a_both m n) = omega arith
-level_low (an_either m n) = omega arith
-level_low (a_then m n) = omega arith
-level_low (a_limited m l) = omega arith
+level_low _ = omega arith
 
 abbrev IsNeeded : ℕ → PlainPattern → List Token → Tree → Type 0
 IsNeeded least m = IsDeepLine (IsLevel least) (wrapped least (level m) (need m)) (qualifiers_in m)

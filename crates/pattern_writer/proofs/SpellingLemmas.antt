@@ -74,8 +74,5 @@ too_long text h k = omega (arith, h, k)
 
 pub only_too_long : (text : List ℕ) (r : PatternRefusal) → MAX_TEXT < length text → IsRefusedAs text r → r ≡ refused.TooLong
 only_too_long text refused.TooLong h x = refl
-only_too_long text (refused.Token r) h x = absurd (too_long text h x.0)
-only_too_long text (refused.Syntax r) h x = absurd (too_long text h x.0)
-only_too_long text (refused.Value r) h x = absurd (too_long text h x.0)
-only_too_long text refused.TooWide h x = absurd (too_long text h x.0)
 only_too_long text refused.NoMemory h x = absurd x
+only_too_long text _ h x = absurd (too_long text h x.0)

@@ -17,11 +17,12 @@ use Rattle.pattern_grammar.specs.Tree.{Comparison, test}
 use Rattle.pattern_grammar.specs.Grammar.{IsPath, AreConstants, constants_one, constants_more, IsCheck, check_equality, check_order, check_among, check_textual, IsTest, test_exists, test_not_exists, test_compare, test_not_compare}
 use Rattle.pattern_types.specs.declared.path.Path.{Path}
 use Rattle.pattern_types.specs.declared.constant.Constant.{Constant as Value}
-use Rattle.pattern_types.specs.declared.constant.Constant.TheVariants.{Integer, String, Boolean, Hex, Binary, Timestamp}
+use Rattle.pattern_types.specs.declared.constant.Constant.TheVariants.{Boolean}
 use Rattle.pattern_types.specs.declared.check.Check.{Check}
 use Rattle.pattern_types.specs.declared.check.Check.TheVariants as check
 use Rattle.pattern_types.specs.declared.leaf.Test.{Test}
-use Rattle.pattern_meaning.specs.Meaning.{Each, IsConstantOf, IsCheckOf}
+use Rattle.pattern_meaning.specs.Meaning.{IsConstantOf, IsCheckOf}
+use Rattle.std.specs.List.{AllZip}
 use Rattle.pattern_types.specs.PlainLeaf.{one}
 use Rattle.pattern_meaning.specs.LeafMeaning.{Means, means_test}
 use Rattle.pattern_writer.specs.Parts.{joined}
@@ -29,7 +30,7 @@ use Rattle.pattern_writer.specs.Constant.{IsConstantText}
 use Rattle.pattern_writer.proofs.DepthLinesLemmas.{IsPlain}
 use Rattle.pattern_writer.specs.Check.{AreWords, AreAmong, not_text, operator_text, IsCheckedText, IsTestText}
 use Rattle.pattern_writer.proofs.LongestLemmas.{Stops, Ends, ends_stops}
-use Rattle.pattern_writer.proofs.AddingLemmas.{each_more}
+use Rattle.std.proofs.lemmas.Slice.Zip.{all_zipped_more}
 use Rattle.pattern_writer.proofs.PiecesLemmas.{Stands}
 use Rattle.pattern_writer.proofs.WrittenLemmas.{Written, IsOne, is_one, IsPair, is_pair, MeanPair, pair, spaced, as_tree, as_text, before}
 use Rattle.pattern_writer.proofs.TokensLemmas.{Anything, plain_test, literal, mark, words}
@@ -45,29 +46,17 @@ MeansCheck c whole tree = IsCheckOf whole tree c
 
 -- every constant is one of the class
 constant_in : (c : Value) → is_in Constant (kind_of c) ≡ true
-constant_in (Integer z) = refl
-constant_in (String w) = refl
 constant_in (Boolean true) = refl
 constant_in (Boolean false) = refl
-constant_in (Hex b) = refl
-constant_in (Binary b) = refl
-constant_in (Timestamp i) = refl
+constant_in _ = refl
 
 ordered_in : (c : Value) → FitOrdered c → is_in Ordered (kind_of c) ≡ true
-ordered_in (Integer z) h = refl
-ordered_in (String w) h = refl
 ordered_in (Boolean b) h = absurd h
-ordered_in (Hex b) h = refl
-ordered_in (Binary b) h = refl
-ordered_in (Timestamp i) h = refl
+ordered_in _ h = refl
 
 ordered_fit : (c : Value) → FitOrdered c → FitConstant c
-ordered_fit (Integer z) h = h
-ordered_fit (String w) h = h
 ordered_fit (Boolean b) h = absurd h
-ordered_fit (Hex b) h = h
-ordered_fit (Binary b) h = h
-ordered_fit (Timestamp i) h = h
+ordered_fit _ h = h
 
 -- an operator and what follows it
 operated : (class other : TokenClass) (k : TokenKind) (operator : List ℕ) (text : List ℕ) (IsT : List ℕ → Token → Type 0) (EndsT : List ℕ → Type 0) → Written (IsOne class) (MeansOne k operator) Stops operator → Written (IsOne other) IsT EndsT text → Written (IsPair (IsOne class) (IsOne other)) (MeanPair (MeansOne k operator) IsT) EndsT (operator ++ 32 ∷ text)
@@ -96,7 +85,7 @@ fits_words c k operator v text f w h = as_tree IsCheck (MeansCheck c) (λ whole 
 
 -- lists of constants
 abbrev MeanConstants : List Value → List ℕ → List Token → Type 0
-MeanConstants vs whole cs = Each (IsConstantOf whole) cs vs
+MeanConstants vs whole cs = AllZip (IsConstantOf whole) cs vs
 
 single : (ts : List Token) (t : Token) → IsOne Constant ts t → AreConstants ts (t ∷ [])
 single ts t (is_one a h) = constants_one a h
@@ -107,18 +96,17 @@ one_more ts x (is_pair h (is_pair (is_one a i) (is_one b j))) = constants_more a
 comma : Written (IsOne (Only kind.Comma)) (MeansOne kind.Comma (codes ",")) Stops (codes ",")
 comma = literal (Only kind.Comma) kind.Comma (codes ",") refl refl tt refl (λ e. cc)
 
-all_constants : (done rest : List Value) (a : List ℕ) (texts : List (List ℕ)) → FitConstants rest → Each IsConstantText rest texts → Written AreConstants (MeanConstants done) Ends a → Written AreConstants (MeanConstants (done ++ rest)) Ends (a ++ flat_map (λ y. codes ", " ++ y) texts)
+all_constants : (done rest : List Value) (a : List ℕ) (texts : List (List ℕ)) → FitConstants rest → AllZip IsConstantText rest texts → Written AreConstants (MeanConstants done) Ends a → Written AreConstants (MeanConstants (done ++ rest)) Ends (a ++ flat_map (λ y. codes ", " ++ y) texts)
 all_constants done [] a [] fit h w = as_text (sym (append-nil a)) (subst (λ (x : List Value). Written AreConstants (MeanConstants x) Ends a) (sym (append-nil done)) w)
-all_constants done [] a (t ∷ ts) fit h w = absurd h
-all_constants done (v ∷ vs) a [] fit h w = absurd h
 all_constants done (v ∷ vs) a (t ∷ ts) fit h w =
     let next = pair (IsOne (Only kind.Comma)) (IsOne Constant) (MeansOne kind.Comma (codes ",")) (λ (whole : List ℕ) (x : Token). IsConstantOf whole x v) Stops Ends (codes ",") (32 ∷ t) (λ after e. stop_space) comma (spaced (constant Constant v t (constant_in v) fit.0 h.0)) in
-    let joint = as_tree AreConstants (MeanConstants (done ++ v ∷ [])) (λ whole ts x i m. (x.0 ++ x.1.1 ∷ [], one_more ts x i, each_more (IsConstantOf whole) x.0 done x.1.1 v m.0 m.1.1))
+    let joint = as_tree AreConstants (MeanConstants (done ++ v ∷ [])) (λ whole ts x i m. (x.0 ++ x.1.1 ∷ [], one_more ts x i, all_zipped_more (IsConstantOf whole) x.0 done x.1.1 v m.0 m.1.1))
     (pair AreConstants (IsPair (IsOne (Only kind.Comma)) (IsOne Constant)) (MeanConstants done) (MeanPair (MeansOne kind.Comma (codes ",")) (λ (whole : List ℕ) (x : Token). IsConstantOf whole x v)) Ends Ends a (codes ", " ++ t) (λ after e. (stop_comma, λ x. omega arith)) w next) in
     let all = all_constants (done ++ v ∷ []) vs (a ++ (codes ", " ++ t)) ts fit.1 h.1 joint in
     as_text (append_assoc a (codes ", " ++ t) (flat_map (λ y. codes ", " ++ y) ts)) (subst (λ (x : List Value). Written AreConstants (MeanConstants x) Ends ((a ++ (codes ", " ++ t)) ++ flat_map (λ y. codes ", " ++ y) ts)) (append_assoc done (v ∷ []) vs) all)
+all_constants done _ a _ fit h w = absurd h
 
-constants : (vs : List Value) (texts : List (List ℕ)) → FitList vs → Each IsConstantText vs texts → Written AreConstants (MeanConstants vs) Ends (joined (codes ", ") texts)
+constants : (vs : List Value) (texts : List (List ℕ)) → FitList vs → AllZip IsConstantText vs texts → Written AreConstants (MeanConstants vs) Ends (joined (codes ", ") texts)
 constants [] texts fit h = absurd fit
 constants (v ∷ vs) [] fit h = absurd h
 constants (v ∷ vs) (t ∷ ts) fit h =
@@ -196,8 +184,8 @@ checked p negated (check.Greater v) text fit f h = as_text (sym h.4) (asked p ne
 checked p negated (check.GreaterEqual v) text fit f h = as_text (sym h.4) (asked p negated (check.GreaterEqual v) h.0 (codes ">=") h.1 (path p h.0 fit h.2) (orders (check.GreaterEqual v) kind.GreaterEqual (codes ">=") v h.1 (λ whole a b i m. (i, m)) (sign Order kind.GreaterEqual (codes ">=") refl refl tt refl (λ e. cc)) f h.3))
 checked p negated (check.Among vs) text fit f h = as_text (sym h.4) (asked p negated (check.Among vs) h.0 (codes "IN") h.1 (path p h.0 fit h.2) (is_among vs h.1 f h.3))
 checked p negated (check.Like w) text fit f h = as_text (sym h.4) (asked p negated (check.Like w) h.0 (codes "LIKE") h.1 (path p h.0 fit h.2) (fits_words (check.Like w) kind.Like (codes "LIKE") w h.1 (λ whole a b i m. (i, m)) (sign Textual kind.Like (codes "LIKE") refl refl tt refl (λ e. cc)) h.3))
-checked p negated (check.Subset w) text fit f h = as_text (sym h.4) (asked p negated (check.Subset w) h.0 (codes "ISSUBSET") h.1 (path p h.0 fit h.2) (fits_words (check.Subset w) kind.Subset (codes "ISSUBSET") w h.1 (λ whole a b i m. (i, m)) (sign Textual kind.Subset (codes "ISSUBSET") refl refl tt refl (λ e. cc)) h.3))
-checked p negated (check.Superset w) text fit f h = as_text (sym h.4) (asked p negated (check.Superset w) h.0 (codes "ISSUPERSET") h.1 (path p h.0 fit h.2) (fits_words (check.Superset w) kind.Superset (codes "ISSUPERSET") w h.1 (λ whole a b i m. (i, m)) (sign Textual kind.Superset (codes "ISSUPERSET") refl refl tt refl (λ e. cc)) h.3))
+checked p negated (check.Subset w) text fit f h = as_text (sym h.4) (asked p negated (check.Subset w) h.0 (codes "ISSUBSET") h.1 (path p h.0 fit h.2) (fits_words (check.Subset w) kind.Subset (codes "ISSUBSET") w.text h.1 (λ whole a b i m. (i, record { string = m; named = f })) (sign Textual kind.Subset (codes "ISSUBSET") refl refl tt refl (λ e. cc)) h.3))
+checked p negated (check.Superset w) text fit f h = as_text (sym h.4) (asked p negated (check.Superset w) h.0 (codes "ISSUPERSET") h.1 (path p h.0 fit h.2) (fits_words (check.Superset w) kind.Superset (codes "ISSUPERSET") w.text h.1 (λ whole a b i m. (i, record { string = m; named = f })) (sign Textual kind.Superset (codes "ISSUPERSET") refl refl tt refl (λ e. cc)) h.3))
 checked p negated check.Exists text fit f h = as_text (sym h.2) (existence p negated h.0 (path p h.0 fit h.1))
 
 pub a_test : (t : Test) (text : List ℕ) → FitTest t → IsTestText t text → Written IsTest (MeansTest t) Ends text

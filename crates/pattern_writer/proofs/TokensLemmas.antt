@@ -1,6 +1,7 @@
 -- The tokens of a canonical text, each with the end that it has there.
 use Rattle.std.proofs.Common.{◌≡◌, ◌≢◌, ◌⊎◌, inl, inr, ℕ, ◌<◌, Bool, true, false, not, ◌&&◌, ◌==◌, List, [], ◌∷◌, length, get_or, refl, sym, ap, arith, Some, ℤ}
 use Rattle.std.specs.Prelude.{All, codes, slice_get, nat_lt}
+use Rattle.std.proofs.lemmas.Bool.{and_parts}
 use Rattle.std.proofs.lemmas.Bool.Decides.{nat_tests}
 use Rattle.std.proofs.lemmas.List.Elements.{All-cons}
 use Rattle.pattern_tokens.specs.declared.token.Token.{Token}
@@ -18,7 +19,7 @@ use Rattle.pattern_grammar.specs.TokenClass.{is_in}
 use Rattle.pattern_tokens.specs.Spans.{At, IsItself}
 use Rattle.pattern_writer.proofs.NumeralsLemmas.{IsNumeralShape}
 use Rattle.pattern_writer.proofs.LongestLemmas.{Stops, Ends, ends_stops, longest_plain}
-use Rattle.pattern_writer.proofs.AloneLemmas.{IsAlone, longest_alone, longest_words, longest_lettered}
+use Rattle.pattern_writer.proofs.AloneLemmas.{IsAlone, part_quote, longest_alone, longest_words, longest_lettered}
 use Rattle.pattern_writer.proofs.PiecesLemmas.{Stands}
 use Rattle.pattern_writer.proofs.WrittenLemmas.{Fits, Written, IsOne, token, as_tree}
 
@@ -92,14 +93,6 @@ abbrev pub plain_test : List ℕ → Bool
 plain_test [] = false
 plain_test (b ∷ bs) = (nat_lt b 128 && not (b == 77)) && no_quotes (b ∷ bs)
 
-and_left : (a b : Bool) → (a && b) ≡ true → a ≡ true
-and_left true b e = refl
-and_left false b e = absurd (cc)
-
-and_right : (a b : Bool) → (a && b) ≡ true → b ≡ true
-and_right true b e = e
-and_right false b e = absurd (cc)
-
 differ : (b c : ℕ) → not (b == c) ≡ true → b ≢ c
 differ b c h e = let g : not (c == c) ≡ true = rw e at h in grind (arith, nat_tests)
 
@@ -108,18 +101,18 @@ below b c h = grind (arith, nat_tests)
 
 pub all_plain : (text : List ℕ) → no_quotes text ≡ true → All (λ b. b ≢ 39) text
 all_plain [] e = λ k d b. absurd (omega arith)
-all_plain (c ∷ text) e = All-cons (λ b. b ≢ 39) c text (differ c 39 (and_left (not (c == 39)) (no_quotes text) e)) (all_plain text (and_right (not (c == 39)) (no_quotes text) e))
+all_plain (c ∷ text) e = All-cons (λ b. b ≢ 39) c text (differ c 39 (and_parts (not (c == 39)) (no_quotes text) e).0) (all_plain text (and_parts (not (c == 39)) (no_quotes text) e).1)
 
 pub plain_literal : (text : List ℕ) → plain_test text ≡ true → IsPlainText text
 plain_literal [] e = absurd (cc)
 plain_literal (b ∷ bs) e =
-    let f = and_left (nat_lt b 128 && not (b == 77)) (no_quotes (b ∷ bs)) e in
-    let g = and_right (nat_lt b 128 && not (b == 77)) (no_quotes (b ∷ bs)) e in
+    let f = and_parts (nat_lt b 128 && not (b == 77)) (no_quotes (b ∷ bs)) e in
+    let g = and_parts (nat_lt b 128) (not (b == 77)) f.0 in
     record {
       some = omega arith;
-      plain = all_plain (b ∷ bs) g;
-      ascii = below b 128 (and_left (nat_lt b 128) (not (b == 77)) f);
-      free = not_matches (b ∷ bs) (differ b 77 (and_right (nat_lt b 128) (not (b == 77)) f));
+      plain = all_plain (b ∷ bs) f.1;
+      ascii = below b 128 g.0;
+      free = not_matches (b ∷ bs) (differ b 77 g.1);
     }
 
 -- marks and keywords before a stop
@@ -134,31 +127,14 @@ Anything after = Unit {0}
 pub mark : (class : TokenClass) (k : TokenKind) (m : ℕ) → is_in class k ≡ true → IsToken k (m ∷ []) → HasValue k (m ∷ []) → IsAlone m → IsFree k → m < 77 ⊎ (77 < m × (m < 128)) → Written (IsOne class) (λ (whole : List ℕ) (t : Token). Stands whole t k (m ∷ [])) Anything (m ∷ [])
 mark class k m among is value alone free low = token class k Anything (m ∷ []) among (λ after h. record {
   first = record { spelled = refl; token = is; longest = longest_alone m after alone };
-  usable = usable_free k (m ∷ []) after free (not_matches (m ∷ []) (other low));
+  usable = usable_free k (m ∷ []) after free (not_matches (m ∷ []) (λ e. grind arith));
   value = value;
   some = omega arith;
-  ascii = small low;
+  ascii = grind arith;
 })
-  where
-    other : m < 77 ⊎ (77 < m × (m < 128)) → m ≢ 77
-    other (inl h) e = omega arith
-    other (inr h) e = omega (arith, h.0)
-
-    small : m < 77 ⊎ (77 < m × (m < 128)) → m < 128
-    small (inl h) = omega arith
-    small (inr h) = h.1
-
-part_quote : (c : ℕ) → IsHyphenWordPart c → c ≢ 39
-part_quote c (inl (inl (inl (inl h)))) e = omega (arith, h.0)
-part_quote c (inl (inl (inl (inr h)))) e = omega (arith, h.0)
-part_quote c (inl (inl (inr h))) e = omega arith
-part_quote c (inl (inr h)) e = omega (arith, h.0)
-part_quote c (inr h) e = omega arith
 
 start_ascii : (c : ℕ) → IsWordStart c → c < 128
-start_ascii c (inl (inl h)) = omega (arith, h.1)
-start_ascii c (inl (inr h)) = omega (arith, h.1)
-start_ascii c (inr h) = omega arith
+start_ascii c h = grind arith
 
 pub plain_name : (text : List ℕ) → HasAt 0 IsWordStart text → All IsHyphenWordPart text → text ≢ codes "MATCHES" → IsPlainText text
 plain_name [] h all free = absurd h

@@ -8,11 +8,10 @@ use Rattle.pattern_writer.specs.Limit.{IsLimitText}
 
 -- how tightly it binds: a leaf or a qualified pattern, AND, OR, FOLLOWEDBY
 abbrev pub level : PlainPattern → ℕ
-level (a_leaf plain_leaf) = 3
 level (a_both left right) = 2
 level (an_either left right) = 1
 level (a_then left right) = 0
-level (a_limited part limit) = 3
+level _ = 3
 
 -- operators go from the left: the left side may bind as they do, the right side binds more tightly; a
 -- qualifier follows what binds most

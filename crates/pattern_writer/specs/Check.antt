@@ -40,8 +40,8 @@ IsCheckedText path negated (Greater value) = IsAsked path negated (codes ">") (I
 IsCheckedText path negated (GreaterEqual value) = IsAsked path negated (codes ">=") (IsConstantText value)
 IsCheckedText path negated (Among values) = IsAsked path negated (codes "IN") (AreAmong values)
 IsCheckedText path negated (Like words) = IsAsked path negated (codes "LIKE") (AreWords words)
-IsCheckedText path negated (Subset words) = IsAsked path negated (codes "ISSUBSET") (AreWords words)
-IsCheckedText path negated (Superset words) = IsAsked path negated (codes "ISSUPERSET") (AreWords words)
+IsCheckedText path negated (Subset address) = IsAsked path negated (codes "ISSUBSET") (AreWords address.text)
+IsCheckedText path negated (Superset address) = IsAsked path negated (codes "ISSUPERSET") (AreWords address.text)
 IsCheckedText path negated Exists = IsAfter (not_text negated ++ codes "EXISTS ") (IsPathText path)
 
 abbrev pub IsTestText : Test → List ℕ → Type 0

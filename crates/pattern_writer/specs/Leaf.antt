@@ -20,9 +20,8 @@ abbrev mutual
   -- a text of each part, that binds no less than this
   pub AreTextsOf : PlainLeaves → ℕ → List (List ℕ) → Type 0
   AreTextsOf none least [] = Unit {0}
-  AreTextsOf none least (text ∷ texts) = ⊥
-  AreTextsOf (more part parts) least [] = ⊥
   AreTextsOf (more part parts) least (text ∷ texts) = IsWithin least (binds part) (IsFormulaText part) text × AreTextsOf parts least texts
+  AreTextsOf _ least _ = ⊥
 
 -- the parts, with this between each two
 abbrev pub AreParts : ℕ → List ℕ → PlainLeaves → List ℕ → Type 0

@@ -1,7 +1,7 @@
 -- Texts that are put together of others.
 use Rattle.std.specs.Prelude.{◌≡◌, ℕ, nat_le, if◌then◌else◌, List, ◌++◌, codes}
 use Rattle.std.specs.List.{join_by}
-use Rattle.pattern_meaning.specs.Meaning.{Each}
+use Rattle.std.specs.List.{AllZip}
 
 -- this, and then such a text
 abbrev pub IsAfter : List ℕ → (List ℕ → Type 0) → List ℕ → Type 0
@@ -21,7 +21,7 @@ joined = join_by (λ text. text)
 
 -- such a text of each, with this between each two
 abbrev pub AreJoined : {A : Type 0} → List ℕ → (A → List ℕ → Type 0) → List A → List ℕ → Type 0
-AreJoined between IsTextOf xs text = (texts : List (List ℕ)) × Each IsTextOf xs texts × (text ≡ joined between texts)
+AreJoined between IsTextOf xs text = (texts : List (List ℕ)) × AllZip IsTextOf xs texts × (text ≡ joined between texts)
 
 -- parentheses stand where the text binds less tightly than is asked
 abbrev pub enclosed : (least binds : ℕ) → List ℕ → List ℕ

@@ -88,8 +88,8 @@ pub(crate) fn write_test(alloc: Global, test: &Test, out: &mut Text) -> Result<(
         Check::GreaterEqual(value) => write_comparison(alloc, test, ">=", value, out),
         Check::Among(values) => write_among(alloc, test, values.as_slice(), out),
         Check::Like(words) => write_textual(test, "LIKE", words.as_str(), out),
-        Check::Subset(words) => write_textual(test, "ISSUBSET", words.as_str(), out),
-        Check::Superset(words) => write_textual(test, "ISSUPERSET", words.as_str(), out),
+        Check::Subset(address) => write_textual(test, "ISSUBSET", address.text.as_str(), out),
+        Check::Superset(address) => write_textual(test, "ISSUPERSET", address.text.as_str(), out),
         Check::Exists => write_existence(test, out),
     }
 }

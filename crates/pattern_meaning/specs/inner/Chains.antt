@@ -3,7 +3,7 @@ use Rattle.std.specs.Prelude.{◌≡◌, ◌↔◌, ℕ, List}
 use Rattle.pattern_grammar.specs.Tree.{Comparison}
 use Rattle.pattern_types.specs.declared.leaf.Leaf.{Leaf}
 use Rattle.pattern_types.specs.PlainLeaf.{listed}
-use Rattle.pattern_meaning.specs.declared.judged.Chain.{Chain}
+use Rattle.pattern_meaning.specs.declared.judgement.Chain.{Chain}
 use Rattle.pattern_meaning.specs.LeafMeaning.{AllParts, AnyParts}
 use Rattle.pattern_types.specs.Soundness.{AreSoundLeaves}
 use Rattle.pattern_meaning.specs.Refusals.{RefusalOfComparison, HasRoot, first_of}

@@ -4,7 +4,7 @@ use Rattle.std.specs.Result.{result_err}
 use Rattle.pattern_grammar.specs.Tree.{Comparison}
 use Rattle.pattern_types.specs.declared.leaf.Leaf.{Leaf}
 use Rattle.pattern_types.specs.PlainLeaf.{plain_leaf}
-use Rattle.pattern_meaning.specs.declared.judged.Judged.{Judged}
+use Rattle.pattern_meaning.specs.declared.judgement.Judgement.{Judgement}
 use Rattle.pattern_meaning.specs.declared.refusal.ValueRefusal.{ValueRefusal}
 use Rattle.pattern_meaning.specs.LeafMeaning.{Means}
 use Rattle.pattern_types.specs.Soundness.{IsSoundLeaf}
@@ -23,7 +23,7 @@ pub record IsLeafOf (text : List ℕ) (c : Comparison) (leaf : Leaf) : Type 0 wh
   pub sound : IsSoundLeaf (plain_leaf leaf)
 
 -- what a comparison is judged by
-pub record IsJudged (text : List ℕ) (c : Comparison) (judged : Judged) : Type 0 where
-  pub at : judged.at ≡ (first_of c).from
-  pub roots : (root : List ℕ) → Has judged.roots root ↔ HasRoot text c root
-  pub leaf : IsOutcome (IsLeafOf text c) (RefusalOfComparison text c) judged.leaf
+pub record IsJudgement (text : List ℕ) (c : Comparison) (judgement : Judgement) : Type 0 where
+  pub at : judgement.at ≡ (first_of c).from
+  pub roots : (root : List ℕ) → Has judgement.roots root ↔ HasRoot text c root
+  pub leaf : IsOutcome (IsLeafOf text c) (RefusalOfComparison text c) judgement.leaf

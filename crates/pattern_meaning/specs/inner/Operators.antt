@@ -1,8 +1,8 @@
 -- The operators on observations: they serve private functions alone.
 use Rattle.pattern_grammar.specs.Tree.{Tree, both, either, followed}
 use Rattle.pattern_types.specs.PlainPattern.{PlainPattern, a_both, an_either, a_then}
-use Rattle.pattern_meaning.specs.declared.measured.Operator.{Operator}
-use Rattle.pattern_meaning.specs.declared.measured.Operator.TheVariants.{Both, Either, Then}
+use Rattle.pattern_meaning.specs.declared.narrow_pattern.Operator.{Operator}
+use Rattle.pattern_meaning.specs.declared.narrow_pattern.Operator.TheVariants.{Both, Either, Then}
 
 -- what an operator joins trees to
 abbrev pub tree_by : Operator → Tree → Tree → Tree

@@ -1,6 +1,6 @@
 use Rattle.std.proofs.lemmas.List.{take_more}
 use Rattle.pattern_meaning.specs.Meaning.{IsConstantOf}
-use Rattle.pattern_meaning.proofs.EachLemmas.{each_none, each_step}
+use Rattle.pattern_meaning.proofs.AllZipLemmas.{each_none, each_step}
 use Rattle.pattern_meaning.proofs.constants.constants_of.Goals as goal
 
 pub returns-in_default : goal.returns-in_default

@@ -1,6 +1,7 @@
 use Rattle.std.proofs.Common.{take}
-use Rattle.pattern_meaning.specs.Meaning.{Each, IsConstantOf}
+use Rattle.pattern_meaning.specs.Meaning.{IsConstantOf}
+use Rattle.std.specs.List.{AllZip}
 use Rattle.pattern_meaning.proofs.constants.constants_of.Given as goal
 
 abbrev pub invariant-loop-token : goal.invariant-loop-token
-invariant-loop-token l = Each (IsConstantOf l.text) (take l.token-index l.tokens) l.found
+invariant-loop-token l = AllZip (IsConstantOf l.text) (take l.token-index l.tokens) l.found

@@ -1,4 +1,4 @@
-use Rattle.pattern_meaning.proofs.EachLemmas.{no_step}
+use Rattle.pattern_meaning.proofs.AllZipLemmas.{no_step}
 use Rattle.pattern_meaning.proofs.paths.step_of.Goals as goal
 
 pub returns-in-None : goal.returns-in-None

@@ -1,14 +1,14 @@
 use Rattle.std.proofs.Common.{ap, ◌∙◌}
 use Rattle.std.proofs.lemmas.List.{take_more, take_all}
 use Rattle.pattern_grammar.specs.Tree.{shape}
-use Rattle.pattern_meaning.specs.declared.measured.Operator.TheVariants.{Both, Either, Then}
+use Rattle.pattern_meaning.specs.declared.narrow_pattern.Operator.TheVariants.{Both, Either, Then}
 use Rattle.pattern_meaning.proofs.PartLemmas.{if_ok}
-use Rattle.pattern_meaning.proofs.OperatorLemmas.{part_more, applied, shape_leaf, shape_both, shape_either, shape_then, shape_qualified}
+use Rattle.pattern_meaning.proofs.OperatorLemmas.{part_more, applied, shape_both, shape_either, shape_then, shape_qualified}
 use Rattle.pattern_meaning.proofs.patterns.+patterns.Goals as goal
 
 pub chain_of-loop-other-preserved : goal.chain_of-loop-other-preserved
 chain_of-loop-other-preserved t c = record {
-  measured = c.in_ok-whole.ensures.measured;
+  narrow = c.in_ok-whole.ensures.narrow;
   part = λ p x. part_more c.args.text.now c.args.operator p c.args.others.now c.loop-other.other-index _ _ _ _ (take_more c.args.others.now c.loop-other.other-index c.other-item.result c.loop-other-test.true) (c.in_ok-whole.ensures.part c.args.text.now) (c.loop-other.invariant.part p x) (rw c.other-item.is at c.in_ok-next.ensures.part);
 }
 

@@ -2,7 +2,7 @@ use Rattle.std.proofs.Common.{◌≡◌, Ok, Err, List, ℕ, rules}
 use Rattle.std.specs.Prelude.{MatchResult}
 use Rattle.pattern_meaning.proofs.ChainLemmas.{all_more_outcome}
 use Rattle.pattern_meaning.proofs.RootSetLemmas.{same_both}
-use Rattle.pattern_meaning.proofs.judged.with_all.Goals as goal
+use Rattle.pattern_meaning.proofs.judgement.with_all.Goals as goal
 
 pub returns : goal.returns
 returns c = λ text p q x y.

@@ -3,7 +3,7 @@ use Rattle.std.specs.Prelude.{MatchResult}
 use Rattle.pattern_types.specs.declared.leaf.Leaf.TheVariants as leaf
 use Rattle.pattern_meaning.proofs.ChainLemmas.{any_leaf}
 use Rattle.pattern_meaning.proofs.OutcomeLemmas.{mapped_outcome}
-use Rattle.pattern_meaning.proofs.judged.any_of.Goals as goal
+use Rattle.pattern_meaning.proofs.judgement.any_of.Goals as goal
 
 pub returns : goal.returns
 returns c = λ text p q h.

@@ -3,17 +3,11 @@ ghost use Rattle.pattern_types.specs.PlainLeaf.{plain_leaf};
 ghost use Rattle.pattern_types.specs.PlainPattern.{plain_pattern, a_leaf, a_limited};
 ghost use Rattle.pattern_types.specs.Width.{width as width_of, brackets as brackets_of};
 ghost use Rattle.pattern_meaning.specs.inner.Operators.{meant_by};
-ghost use Rattle.pattern_meaning.specs.inner.Measure.{IsMeasured, Measures};
+ghost use Rattle.pattern_meaning.specs.inner.NarrowPattern.{IsNarrow, UnlessTooWide};
 
 use flow_values::NoMemory;
-use pattern_types::{Leaf, Limit, Pattern};
+use pattern_types::{Leaf, Limit, MAX_BRACKETS, MAX_WIDTH, Pattern};
 use std::alloc::Global;
-
-/// The greatest width of a pattern.
-const MOST_WIDE: u64 = 64;
-
-/// The most pairs of brackets that a pattern may have.
-const MOST_BRACKETS: u64 = 1_024;
 
 /// An operator on observations.
 #[derive(Clone, Copy)]
@@ -25,23 +19,23 @@ pub(crate) enum Operator {
 
 /// A pattern that isn't too wide, with its width and how many pairs of brackets it has.
 #[derive(Drop)]
-pub(crate) struct Measured {
+pub(crate) struct NarrowPattern {
     pub(crate) pattern: Pattern,
     pub(crate) width: u64,
     pub(crate) brackets: u64,
 }
 
-impl Measured {
+impl NarrowPattern {
     /// The pattern, which has this measure, unless it is too wide.
-    fn within(pattern: Pattern, width: u64, brackets: u64) -> Option<Measured>
+    fn within(pattern: Pattern, width: u64, brackets: u64) -> Option<NarrowPattern>
         requires width { width ≡ width_of (plain_pattern pattern) }
         requires brackets { brackets ≡ brackets_of (plain_pattern pattern) }
-        ensures { Measures (plain_pattern pattern) result }
+        ensures { UnlessTooWide (plain_pattern pattern) result }
     {
-        if width > MOST_WIDE || brackets > MOST_BRACKETS {
+        if width > u64::from(MAX_WIDTH) || brackets > u64::from(MAX_BRACKETS) {
             return None;
         }
-        Some(Measured {
+        Some(NarrowPattern {
             pattern,
             width,
             brackets,
@@ -49,11 +43,11 @@ impl Measured {
     }
 
     /// A pattern of one leaf.
-    pub(crate) fn leaf(leaf: Leaf) -> Measured
+    pub(crate) fn leaf(leaf: Leaf) -> NarrowPattern
         ensures pattern { plain_pattern result.pattern ≡ a_leaf (plain_leaf leaf) }
-        ensures measured { IsMeasured result }
+        ensures narrow { IsNarrow result }
     {
-        Measured {
+        NarrowPattern {
             pattern: Pattern::Leaf(leaf),
             width: 1,
             brackets: 1,
@@ -64,12 +58,12 @@ impl Measured {
     pub(crate) fn joined(
         alloc: Global,
         operator: Operator,
-        left: Measured,
-        right: Measured,
-    ) -> Result<Option<Measured>, NoMemory>
-        requires left { IsMeasured left }
-        requires right { IsMeasured right }
-        ensures { IfOk result (Measures (meant_by operator (plain_pattern left.pattern) (plain_pattern right.pattern))) }
+        left: NarrowPattern,
+        right: NarrowPattern,
+    ) -> Result<Option<NarrowPattern>, NoMemory>
+        requires left { IsNarrow left }
+        requires right { IsNarrow right }
+        ensures { IfOk result (UnlessTooWide (meant_by operator (plain_pattern left.pattern) (plain_pattern right.pattern))) }
     {
         let width = match operator {
             Operator::Both | Operator::Then => left.width + right.width,
@@ -77,24 +71,24 @@ impl Measured {
         };
         let brackets = left.brackets + right.brackets;
         let pattern = join(alloc, operator, left.pattern, right.pattern)?;
-        Ok(Measured::within(pattern, width, brackets))
+        Ok(NarrowPattern::within(pattern, width, brackets))
     }
 
     /// A pattern that is limited, unless that is too wide.
     pub(crate) fn limited(
         alloc: Global,
-        part: Measured,
+        part: NarrowPattern,
         limit: Limit,
-    ) -> Result<Option<Measured>, NoMemory>
-        requires { IsMeasured part }
-        ensures { IfOk result (Measures (a_limited (plain_pattern part.pattern) limit)) }
+    ) -> Result<Option<NarrowPattern>, NoMemory>
+        requires { IsNarrow part }
+        ensures { IfOk result (UnlessTooWide (a_limited (plain_pattern part.pattern) limit)) }
     {
         let width = match limit {
             Limit::Repeats(count) => u64::from(count) * part.width,
             Limit::Within(_) | Limit::Between(_, _) => part.width,
         };
         let pattern = limit_to(alloc, part.pattern, limit)?;
-        Ok(Measured::within(pattern, width, part.brackets))
+        Ok(NarrowPattern::within(pattern, width, part.brackets))
     }
 }
 

@@ -5,7 +5,7 @@ use Rattle.pattern_meaning.specs.LeafMeaning.{means_test}
 use Rattle.pattern_meaning.proofs.ChainLemmas.{named_root}
 use Rattle.pattern_meaning.proofs.OutcomeLemmas.{mapped_outcome}
 use Rattle.pattern_meaning.proofs.RootSetLemmas.{same_as}
-use Rattle.pattern_meaning.proofs.judged.judge_test.Goals as goal
+use Rattle.pattern_meaning.proofs.judgement.judge_test.Goals as goal
 
 pub returns : goal.returns
 returns c =

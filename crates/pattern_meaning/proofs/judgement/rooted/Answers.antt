@@ -2,7 +2,7 @@ use Rattle.std.proofs.Common.{sym, ap, ◌∙◌}
 use Rattle.pattern_meaning.specs.declared.refusal.ValueRefusal.TheVariants.{NoCommonRoot}
 use Rattle.pattern_meaning.specs.Refusals.{IsRootless}
 use Rattle.pattern_meaning.proofs.OutcomeLemmas.{only_refusal}
-use Rattle.pattern_meaning.proofs.judged.rooted.Goals as goal
+use Rattle.pattern_meaning.proofs.judgement.rooted.Goals as goal
 
 pub returns-then-is_none : goal.returns-then-is_none
 returns-then-is_none c = λ text p q e h. record {

@@ -1,6 +1,6 @@
 use Rattle.pattern_meaning.proofs.ChainLemmas.{any_more_outcome}
 use Rattle.pattern_meaning.proofs.RootSetLemmas.{same_either}
-use Rattle.pattern_meaning.proofs.judged.with_any.Goals as goal
+use Rattle.pattern_meaning.proofs.judgement.with_any.Goals as goal
 
 pub returns : goal.returns
 returns c = λ text p q x y. record {

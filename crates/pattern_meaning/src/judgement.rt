@@ -3,7 +3,7 @@ ghost use Rattle.pattern_grammar.specs.Tree.{Comparison, test, all, any, compare
 ghost use Rattle.pattern_meaning.specs.LeafMeaning.{IsNoAll, IsNoAny};
 ghost use Rattle.pattern_meaning.specs.Refusals.{HasRoot, first_of, IsRootless};
 ghost use Rattle.pattern_meaning.specs.Roots.{Has};
-ghost use Rattle.pattern_meaning.specs.inner.Judgement.{IsOutcome, IsJudged};
+ghost use Rattle.pattern_meaning.specs.inner.Judgement.{IsOutcome, IsJudgement};
 ghost use Rattle.pattern_meaning.specs.inner.Chains.{IsChain, AreAll, AreAny};
 
 use crate::ValueRefusal;
@@ -19,7 +19,7 @@ use std::collections::BTreeSet;
 
 /// What a comparison is judged by, worked out once for each of its parts.
 #[derive(Drop)]
-pub(crate) struct Judged<'a> {
+pub(crate) struct Judgement<'a> {
     /// The place of its first token.
     pub(crate) at: usize,
     /// Its root kinds.
@@ -40,12 +40,12 @@ struct Chain<'a> {
 }
 
 /// Judges a test.
-fn judge_test<'a>(alloc: Global, text: &'a str, tree: &TestTree) -> Result<Judged<'a>, NoMemory>
-    ensures { IfOk result (IsJudged text.now (test tree.now)) }
+fn judge_test<'a>(alloc: Global, text: &'a str, tree: &TestTree) -> Result<Judgement<'a>, NoMemory>
+    ensures { IfOk result (IsJudgement text.now (test tree.now)) }
 {
     let leaf = test_of(alloc, text, tree)?.map(|test| Leaf::Test(test));
     let roots = of_name(alloc, text_of(text, tree.path.root))?;
-    Ok(Judged {
+    Ok(Judgement {
         at: tree.first.from,
         roots,
         leaf,
@@ -53,9 +53,9 @@ fn judge_test<'a>(alloc: Global, text: &'a str, tree: &TestTree) -> Result<Judge
 }
 
 /// A chain of one part.
-fn chain_of<'a>(alloc: Global, first: Judged<'a>) -> Result<Chain<'a>, NoMemory>
-    ensures all { IfOk result (λ chain. (text : List ℕ) (c : Comparison) → IsNoAll c → IsJudged text c first.entry → IsChain AreAll text c chain) }
-    ensures any { IfOk result (λ chain. (text : List ℕ) (c : Comparison) → IsNoAny c → IsJudged text c first.entry → IsChain AreAny text c chain) }
+fn chain_of<'a>(alloc: Global, first: Judgement<'a>) -> Result<Chain<'a>, NoMemory>
+    ensures all { IfOk result (λ chain. (text : List ℕ) (c : Comparison) → IsNoAll c → IsJudgement text c first.entry → IsChain AreAll text c chain) }
+    ensures any { IfOk result (λ chain. (text : List ℕ) (c : Comparison) → IsNoAny c → IsJudgement text c first.entry → IsChain AreAny text c chain) }
 {
     let none = Ok(Items::new(alloc));
     let parts = with_next(none, first.leaf)?;
@@ -79,9 +79,9 @@ fn rooted(at: usize, roots: &BTreeSet<&str>) -> Result<(), ValueRefusal>
 }
 
 /// The chain and one part more, joined by `AND`: they are to have a root kind in common.
-fn with_all<'a>(alloc: Global, chain: Chain<'a>, next: Judged<'a>) -> Result<Chain<'a>, NoMemory>
+fn with_all<'a>(alloc: Global, chain: Chain<'a>, next: Judgement<'a>) -> Result<Chain<'a>, NoMemory>
     ensures { IfOk result (λ more. (text : List ℕ) (c d : Comparison) → IsChain AreAll text c chain.entry
-        → IsJudged text d next.entry → IsChain AreAll text (all c d) more) }
+        → IsJudgement text d next.entry → IsChain AreAll text (all c d) more) }
 {
     let at = chain.at;
     let roots = common(alloc, &chain.roots, &next.roots)?;
@@ -91,9 +91,9 @@ fn with_all<'a>(alloc: Global, chain: Chain<'a>, next: Judged<'a>) -> Result<Cha
 }
 
 /// The chain and one part more, joined by `OR`.
-fn with_any<'a>(chain: Chain<'a>, next: Judged<'a>) -> Result<Chain<'a>, NoMemory>
+fn with_any<'a>(chain: Chain<'a>, next: Judgement<'a>) -> Result<Chain<'a>, NoMemory>
     ensures { IfOk result (λ more. (text : List ℕ) (c d : Comparison) → IsChain AreAny text c chain.entry
-        → IsJudged text d next.entry → IsChain AreAny text (any c d) more) }
+        → IsJudgement text d next.entry → IsChain AreAny text (any c d) more) }
 {
     let at = chain.at;
     let roots = either(chain.roots, next.roots)?;
@@ -102,10 +102,10 @@ fn with_any<'a>(chain: Chain<'a>, next: Judged<'a>) -> Result<Chain<'a>, NoMemor
 }
 
 /// All of a chain of two parts or more.
-fn all_of<'a>(chain: Chain<'a>) -> Judged<'a>
-    ensures { (text : List ℕ) (c d : Comparison) → IsChain AreAll text (all c d) chain.entry → IsJudged text (all c d) result }
+fn all_of<'a>(chain: Chain<'a>) -> Judgement<'a>
+    ensures { (text : List ℕ) (c d : Comparison) → IsChain AreAll text (all c d) chain.entry → IsJudgement text (all c d) result }
 {
-    Judged {
+    Judgement {
         at: chain.at,
         roots: chain.roots,
         leaf: chain.parts.map(|parts| Leaf::All(parts)),
@@ -113,10 +113,10 @@ fn all_of<'a>(chain: Chain<'a>) -> Judged<'a>
 }
 
 /// Any of a chain of two parts or more.
-fn any_of<'a>(chain: Chain<'a>) -> Judged<'a>
-    ensures { (text : List ℕ) (c d : Comparison) → IsChain AreAny text (any c d) chain.entry → IsJudged text (any c d) result }
+fn any_of<'a>(chain: Chain<'a>) -> Judgement<'a>
+    ensures { (text : List ℕ) (c d : Comparison) → IsChain AreAny text (any c d) chain.entry → IsJudgement text (any c d) result }
 {
-    Judged {
+    Judgement {
         at: chain.at,
         roots: chain.roots,
         leaf: chain.parts.map(|parts| Leaf::Any(parts)),
@@ -125,16 +125,20 @@ fn any_of<'a>(chain: Chain<'a>) -> Judged<'a>
 
 /// Judges an operand.
 #[cycle(judge)]
-fn judge_operand<'a>(alloc: Global, text: &'a str, tree: &Operand) -> Result<Judged<'a>, NoMemory>
-    ensures { IfOk result (IsJudged text.now (operand tree.now)) }
+fn judge_operand<'a>(
+    alloc: Global,
+    text: &'a str,
+    tree: &Operand,
+) -> Result<Judgement<'a>, NoMemory>
+    ensures { IfOk result (IsJudgement text.now (operand tree.now)) }
 {
     match tree {
         Operand::Test(test) => judge_test(alloc, text, test),
         Operand::Group(round, inside) => {
-            let judged = judge(alloc, text, inside)?;
-            Ok(Judged {
+            let judgement = judge(alloc, text, inside)?;
+            Ok(Judgement {
                 at: round.from,
-                ..judged
+                ..judgement
             })
         }
     }
@@ -146,8 +150,8 @@ fn judge_conjunction<'a>(
     alloc: Global,
     text: &'a str,
     tree: &Conjunction,
-) -> Result<Judged<'a>, NoMemory>
-    ensures { IfOk result (IsJudged text.now (conjunction tree.now)) }
+) -> Result<Judgement<'a>, NoMemory>
+    ensures { IfOk result (IsJudgement text.now (conjunction tree.now)) }
 {
     let first = judge_operand(alloc, text, &tree.first)?;
     if tree.others.is_empty() {
@@ -167,8 +171,8 @@ pub(crate) fn judge<'a>(
     alloc: Global,
     text: &'a str,
     tree: &ComparisonTree,
-) -> Result<Judged<'a>, NoMemory>
-    ensures { IfOk result (IsJudged text.now (compared tree.now)) }
+) -> Result<Judgement<'a>, NoMemory>
+    ensures { IfOk result (IsJudgement text.now (compared tree.now)) }
 {
     let first = judge_conjunction(alloc, text, &tree.first)?;
     if tree.others.is_empty() {
