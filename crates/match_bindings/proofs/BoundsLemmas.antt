@@ -7,7 +7,8 @@ use Rattle.std.proofs.lemmas.Int.{ints, clamps}
 use Rattle.match_bindings.specs.declared.span.Span.{Span}
 use Rattle.match_bindings.specs.declared.bounds.Bounds.{Bounds}
 use Rattle.match_bindings.specs.Span.{later_by}
-use Rattle.match_bindings.specs.inner.Candidates.{joined_span, lies_within, lies_between, in_seconds, from_start, before_stop, fits, least_seconds, latest_start, earliest_stop, within, between}
+use Rattle.match_bindings.specs.inner.Candidates.{joined_span, lies_within, lies_between, in_seconds, from_start, before_stop, fits}
+use Rattle.match_bindings.specs.Bounds.{least_seconds, latest_start, earliest_stop, within, between}
 use Rattle.match_bindings.proofs.IsBindingLemmas.{lt_true, true_lt, le_true, true_le}
 
 both_ways : (p q : Bool) → (p ≡ true → q ≡ true) → (q ≡ true → p ≡ true) → p ≡ q

@@ -11,7 +11,8 @@ use Rattle.match_bindings.specs.Log.{Observed}
 use Rattle.match_bindings.specs.Test.{is_binding, are_repeats}
 use Rattle.match_bindings.specs.Once.{bit, same, count, Exactly}
 use Rattle.match_bindings.proofs.PairsLemmas.{pairs}
-use Rattle.match_bindings.specs.inner.Candidates.{span_of, joined_span, fits, within, between, lies_within, lies_between, SpannedTree, hold, spanned_with, joined_tree, admits, may_join, joined_spanned, join_row, joins, one_if, ones, repeats_of, candidates}
+use Rattle.match_bindings.specs.Bounds.{within, between}
+use Rattle.match_bindings.specs.inner.Candidates.{span_of, joined_span, fits, lies_within, lies_between, SpannedTree, hold, spanned_with, joined_tree, admits, may_join, joined_spanned, join_row, joins, one_if, ones, repeats_of, candidates}
 use Rattle.match_bindings.proofs.ListLemmas.{map_append, map_map, map_agree, filter_map}
 use Rattle.match_bindings.proofs.OnceLemmas.{Joins, count_append, count_pairs, count_others, count_under, count_not_under}
 use Rattle.match_bindings.proofs.BoundsLemmas.{fits_parts, fits_within, fits_between}

@@ -6,10 +6,10 @@ ghost use Rattle.match_bindings.specs.Log.{observed_in};
 ghost use Rattle.match_bindings.specs.Listing.{IsListing};
 ghost use Rattle.match_bindings.specs.inner.Candidates.{spanned_trees, trees_of};
 
+use crate::bounds::Bounds;
 use crate::candidates::candidates;
 use crate::order::in_order;
 use crate::spanned_bind::SpannedBind;
-use crate::bounds::Bounds;
 use crate::{Bind, Log};
 use flow_values::{Items, NoMemory};
 use pattern_types::Pattern;

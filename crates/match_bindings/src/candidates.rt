@@ -5,10 +5,10 @@ ghost use Rattle.match_bindings.specs.BindTree.{First, Second, Single};
 ghost use Rattle.match_bindings.specs.Log.{observed_in};
 ghost use Rattle.match_bindings.specs.inner.Candidates.{spanned_trees, spanned_with, ones, repeats_of, candidates};
 
+use crate::bounds::Bounds;
 use crate::copy::copy_bind;
 use crate::join::Join;
 use crate::spanned_bind::SpannedBind;
-use crate::bounds::Bounds;
 use crate::{Bind, Log};
 use flow_values::{Items, NoMemory};
 use pattern_types::{Pattern, leaf_count};

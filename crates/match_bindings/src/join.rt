@@ -4,11 +4,11 @@ ghost use Rattle.match_bindings.specs.inner.Candidates.{spanned_tree, spanned_tr
 ghost use Rattle.match_bindings.specs.inner.Kinds.{chain_of};
 
 use crate::Bind;
+use crate::bounds::Bounds;
 use crate::copy::{copy_bind, copy_binds};
 use crate::numbers::are_disjoint;
 use crate::span::Span;
 use crate::spanned_bind::SpannedBind;
-use crate::bounds::Bounds;
 use flow_values::{Items, NoMemory};
 use std::alloc::Global;
 

@@ -8,6 +8,7 @@ use Rattle.match_bindings.specs.declared.bounds.Bounds.{Bounds}
 use Rattle.match_bindings.specs.NumberedPattern.{NumberedPattern, numbered_pattern}
 use Rattle.match_bindings.specs.BindTree.{BindTree, tree_of}
 use Rattle.match_bindings.specs.Log.{Observed, observed_in}
+use Rattle.match_bindings.specs.Bounds.{no_bounds}
 use Rattle.match_bindings.specs.Test.{is_binding}
 use Rattle.match_bindings.specs.Once.{count, Exactly}
 use Rattle.match_bindings.specs.Flat.{comes_before}
@@ -26,19 +27,16 @@ and_yes : (b : Bool) → (b && true) ≡ b
 and_yes true = refl
 and_yes false = refl
 
-abbrev open_window : Bounds
-open_window = record { seconds = None; start = None; stop = None }
-
 -- the trees of what is candidates without qualifiers are the bindings, each once
-all_bindings : (log : List LogEntry) (p : NumberedPattern) → Exactly (is_binding (observed_in log) p) (trees_of (candidates (observed_in log) (length log) open_window p))
+all_bindings : (log : List LogEntry) (p : NumberedPattern) → Exactly (is_binding (observed_in log) p) (trees_of (candidates (observed_in log) (length log) no_bounds p))
 all_bindings log p =
     let o = observed_in log in
-    let all = all_found o (length log) (rows_of log) open_window p in
+    let all = all_found o (length log) (rows_of log) no_bounds p in
     subst (λ (xs : List BindTree). Exactly (is_binding o p) xs) (sym (ap trees_of all.1 ∙ trees_held o all.0))
-    (exactly_same (λ x. is_binding o p x && fits open_window (span_of o x)) (is_binding o p) all.0 (λ x. and_yes (is_binding o p x)) all.2)
+    (exactly_same (λ x. is_binding o p x && fits no_bounds (span_of o x)) (is_binding o p) all.0 (λ x. and_yes (is_binding o p x)) all.2)
 
 sorted_bindings : (log : List LogEntry) (p : NumberedPattern) (held : List SpannedTree) (binds sorted : List BindTree) →
-    held ≡ candidates (observed_in log) (length log) open_window p → binds ≡ trees_of held → ((x : BindTree) → count x sorted ≡ count x binds) →
+    held ≡ candidates (observed_in log) (length log) no_bounds p → binds ≡ trees_of held → ((x : BindTree) → count x sorted ≡ count x binds) →
     IsSortedBy comes_before sorted → IsListing (observed_in log) p sorted
 sorted_bindings log p held binds sorted e f counts up =
     listing_from (observed_in log) p sorted (λ x. counts x ∙ ap (count x) (f ∙ ap trees_of e) ∙ all_bindings log p x) up

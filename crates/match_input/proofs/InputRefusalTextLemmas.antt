@@ -1,0 +1,26 @@
+-- The line of a refusal, as its pieces tell it.
+use Rattle.std.proofs.Common.{◌≡◌, ℕ, List, [], ◌∷◌, ◌++◌, codes, append_assoc, refl, sym, ap, ◌∙◌}
+use Rattle.match_log.specs.Texts.{at_path, line_of_text}
+use Rattle.match_log.specs.inner.Reason.{broken_words, path_lead}
+
+told : (name object rule tail : List ℕ) → name ++ (codes " object " ++ (object ++ (codes ": " ++ (rule ++ tail)))) ≡ (name ++ broken_words object rule) ++ tail
+told name object rule tail =
+    ap (λ (xs : List ℕ). name ++ (codes " object " ++ (object ++ xs))) (sym (append_assoc (codes ": ") rule tail))
+    ∙ ap (λ (xs : List ℕ). name ++ (codes " object " ++ xs)) (sym (append_assoc object (codes ": " ++ rule) tail))
+    ∙ ap (λ (xs : List ℕ). name ++ xs) (sym (append_assoc (codes " object ") (object ++ (codes ": " ++ rule)) tail))
+    ∙ sym (append_assoc name (broken_words object rule) tail)
+
+led : (name path : List ℕ) → name ++ (path_lead path ++ (path ++ codes "\n")) ≡ at_path name path ++ codes "\n"
+led name [] = refl
+led name (c ∷ path) =
+    let lead : path_lead (c ∷ path) ≡ codes " at " = refl in
+    ap (λ (l : List ℕ). name ++ (l ++ ((c ∷ path) ++ codes "\n"))) lead
+    ∙ ap (λ (xs : List ℕ). name ++ xs) (sym (append_assoc (codes " at ") (c ∷ path) (codes "\n")))
+    ∙ sym (append_assoc name (codes " at " ++ c ∷ path) (codes "\n"))
+
+pub broken_line : (line name object rule path : List ℕ)
+    → codes "line " ++ (line ++ (codes " refused: " ++ (name ++ (codes " object " ++ (object ++ (codes ": " ++ (rule ++ (path_lead path ++ (path ++ codes "\n")))))))))
+    ≡ line_of_text line (at_path (name ++ broken_words object rule) path)
+broken_line line name object rule path =
+    ap (λ (xs : List ℕ). codes "line " ++ (line ++ (codes " refused: " ++ xs)))
+    (told name object rule (path_lead path ++ (path ++ codes "\n")) ∙ led (name ++ broken_words object rule) path)

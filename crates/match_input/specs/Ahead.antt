@@ -1,0 +1,111 @@
+-- Where a reader of bundles stands, and what its answers say of the lines that come yet.
+use Rattle.std.specs.Prelude.{◌≡◌, ⊤, ℕ, ◌+◌, ◌*◌, ◌<◌, ◌≤◌, ℤ, List, length, Result, Ok, Err, Option, Some, None, option_map, IfSome}
+use Rattle.flow_edges.specs.declared.source.TheConstants.{MAX_READ}
+use Rattle.flow_edges.specs.Flow.{IsAtEnd, TakesAtMost}
+use Rattle.flow_lines.specs.Lines.{Lined, ended, refused, line_then, LinesState, lines_start, lines_ahead, GoesOnAccounting, KeepsLines, HoldsLine}
+use Rattle.flow_lines.specs.declared.line.Line.{Line}
+use Rattle.flow_lines.specs.declared.refusal.TheConstants.{MAX_LINE, MAX_INPUT}
+use Rattle.flow_lines.specs.declared.refusal.LineRefusal.{LineRefusal}
+use Rattle.flow_lines.specs.declared.whole_input.TheConstants.{MAX_WHOLE_INPUT}
+use Rattle.stix_bundles.specs.Objects.{data_in}
+use Rattle.match_input.specs.declared.mode.Mode.{Mode}
+use Rattle.match_input.specs.declared.mode.Mode.TheVariants as mode
+use Rattle.match_input.specs.declared.rule.InputRule.{InputRule}
+use Rattle.match_input.specs.declared.batch.Batch.{Batch}
+use Rattle.match_input.specs.declared.read_end.ReadEnd.{ReadEnd}
+use Rattle.match_input.specs.declared.read_end.ReadEnd.TheVariants.{Input, ReadFault, Ended as HasEnded, NoMemory}
+use Rattle.match_input.specs.declared.stage.Stage.{Stage}
+use Rattle.match_input.specs.declared.stage.Stage.TheVariants.{Lines, Whole, AtEnd, Ended}
+use Rattle.match_input.specs.Line.{IsBundleLine, last_after}
+use Rattle.match_input.specs.Reading.{one_line, IsTooLong, IsRefusedAt}
+
+-- how far the input is read, how many observations were given, and when the last of them was last observed
+pub record ReaderState : Type 0 where
+  pub stage : Stage
+  pub observations : ℕ
+  pub last : Option ℤ
+
+-- at the start of an input
+abbrev pub first_stage : Mode → Stage
+first_stage mode.Lines = Lines lines_start
+first_stage mode.Whole = Whole
+
+abbrev pub reader_start : Mode → ReaderState
+reader_start cut = record { stage = first_stage cut; observations = 0; last = None }
+
+-- the number of the next observation
+abbrev pub next_number : ReaderState → ℕ
+next_number state = state.observations + 1
+
+-- the lines that come yet, where the source tells its bytes
+abbrev pub ahead : Stage → Option (List ℕ) → Option Lined
+ahead (Lines lines) left = lines_ahead lines left
+ahead Whole left = option_map one_line left
+ahead AtEnd left = option_map (λ bytes. ended) left
+ahead Ended left = option_map (λ bytes. ended) left
+
+-- whole lines stand among the bytes taken
+abbrev pub HoldsLines : Stage → Type 0
+HoldsLines (Lines lines) = HoldsLine lines.held
+HoldsLines _ = ⊥
+
+-- a line went by: no byte is lost, and few bytes are taken and not yet given; an input that is read whole is then at its end
+abbrev pub Moves : Stage → Stage → Option (List ℕ) → Option (List ℕ) → Type 0
+Moves (Lines before) (Lines after) left left_after = (before.given < after.given) × (after.given ≤ MAX_INPUT)
+    × (length after.held ≤ MAX_READ) × GoesOnAccounting before after left left_after
+Moves Whole AtEnd left left_after = TakesAtMost (MAX_WHOLE_INPUT + MAX_READ) left left_after
+Moves _ _ left left_after = ⊥
+
+-- no more lines went by than up to that one, and little more is taken: of what follows no more bytes than a line may have
+-- and one read gives
+pub record StopsAt (before : LinesState) (line : ℕ) (left left_after : Option (List ℕ)) : Type 0 where
+  pub at : LinesState
+  pub lines : at.count ≤ line
+  pub few : length at.held ≤ MAX_LINE + MAX_READ
+  pub accounts : GoesOnAccounting before at left left_after
+
+-- what was taken where a line is refused
+abbrev pub TakesLittle : Stage → ℕ → Option (List ℕ) → Option (List ℕ) → Type 0
+TakesLittle (Lines before) line left left_after = StopsAt before line left left_after
+TakesLittle Whole line left left_after = TakesAtMost (MAX_WHOLE_INPUT + MAX_READ) left left_after
+TakesLittle _ line left left_after = ⊥
+
+-- a read failed: the lines that come yet are the same, no byte is lost, and the bytes taken and not yet given hold no whole line
+pub record KeepsBytes (before : LinesState) (left left_after : Option (List ℕ)) : Type 0 where
+  pub at : LinesState
+  pub keeps : KeepsLines before at left left_after
+  pub accounts : GoesOnAccounting before at left left_after
+
+abbrev pub BreaksOff : Stage → Option (List ℕ) → Option (List ℕ) → Type 0
+BreaksOff (Lines before) left left_after = KeepsBytes before left left_after
+BreaksOff Whole left left_after = TakesAtMost (MAX_WHOLE_INPUT + MAX_READ) left left_after
+BreaksOff _ left left_after = ⊥
+
+-- no line came yet, and nothing is left
+pub record ComesToEnd (before after : Stage) (left left_after : Option (List ℕ)) : Type 0 where
+  pub none : IfSome (ahead before left) (λ lines. lines ≡ ended)
+  pub drained : IsAtEnd left_after
+  pub is_at_end : after ≡ AtEnd
+
+-- the first of the lines that came yet is a bundle, which is given with its observations, and the others come yet
+pub record GivesBatch (before after : ReaderState) (left left_after : Option (List ℕ)) (batch : Batch) : Type 0 where
+  pub bytes : List ℕ
+  pub line : ahead before.stage left ≡ option_map (λ later. line_then batch.line bytes later) (ahead after.stage left_after)
+  pub is : IsBundleLine before.last (next_number before) bytes (data_in batch.bundle) batch.observations
+  pub observations : after.observations ≡ before.observations + length batch.observations
+  pub last : after.last ≡ last_after before.last batch.observations
+  pub moves : Moves before.stage after.stage left left_after
+
+-- the first of the lines that came yet is refused
+pub record RefusesLine (before : ReaderState) (left left_after : Option (List ℕ)) (line : ℕ) (why : InputRule) : Type 0 where
+  pub refused : IfSome (ahead before.stage left) (λ lines. IsRefusedAt before.last (next_number before) lines line why)
+  pub little : TakesLittle before.stage line left left_after
+
+-- what an answer says of the lines that came yet
+abbrev pub AnswersNext : ReaderState → ReaderState → Option (List ℕ) → Option (List ℕ) → Result (Option Batch) ReadEnd → Type 0
+AnswersNext before after left left_after (Ok (Some batch)) = GivesBatch before after left left_after batch
+AnswersNext before after left left_after (Ok None) = ComesToEnd before.stage after.stage left left_after
+AnswersNext before after left left_after (Err (Input line why)) = RefusesLine before left left_after line why
+AnswersNext before after left left_after (Err ReadFault) = BreaksOff before.stage left left_after
+AnswersNext before after left left_after (Err HasEnded) = ⊥
+AnswersNext before after left left_after (Err NoMemory) = ⊤

@@ -1,0 +1,63 @@
+-- What an input is read as, whole: its bundles with their observations up to the first line that is refused, and why that is.
+use Rattle.std.specs.Prelude.{◌≡◌, ⊤, ℕ, ◌+◌, ℤ, List, [], ◌∷◌, length, nat_lt, if◌then◌else◌, Option, None, IfSome}
+use Rattle.serde_json.specs.Data.{Data}
+use Rattle.flow_lines.specs.Lines.{Lined, ended, refused, line_then, lines_of}
+use Rattle.flow_lines.specs.declared.refusal.LineRefusal.{LineRefusal}
+use Rattle.flow_lines.specs.declared.refusal.LineRefusal.TheVariants.{Fault, LineTooLong, InputTooLong, NoMemory}
+use Rattle.flow_lines.specs.declared.whole_input.TheConstants.{MAX_WHOLE_INPUT}
+use Rattle.stix_bundles.specs.declared.observation.Observation.{Observation}
+use Rattle.match_input.specs.declared.mode.Mode.{Mode}
+use Rattle.match_input.specs.declared.mode.Mode.TheVariants.{Lines, Whole as WholeInput}
+use Rattle.match_input.specs.declared.rule.InputRule.{InputRule}
+use Rattle.match_input.specs.declared.rule.InputRule.TheVariants as rule
+use Rattle.match_input.specs.Line.{IsBundleLine, IsRefusedFor, last_after}
+
+-- a bundle of an input: its line, its objects, and its observations
+pub record BundleOf : Type 0 where
+  pub line : ℕ
+  pub objects : List Data
+  pub observations : List Observation
+
+-- how an input ends: whole, or at the first line that is refused
+pub data InputEnd : Type 0 where
+  Whole : InputEnd
+  Refused : (line : ℕ) → InputRule → InputEnd
+
+-- why a line is refused that is too long, or with which the input is
+abbrev pub IsTooLong : LineRefusal → ℕ → InputRule → Type 0
+IsTooLong Fault line why = ⊥
+IsTooLong (LineTooLong number) line why = (line ≡ number) × (why ≡ rule.LineTooLong)
+IsTooLong (InputTooLong number) line why = (line ≡ number) × (why ≡ rule.InputTooLong)
+IsTooLong NoMemory line why = ⊥
+
+-- the first of these lines is refused
+abbrev pub IsRefusedAt : Option ℤ → ℕ → Lined → ℕ → InputRule → Type 0
+IsRefusedAt last next ended line why = ⊥
+IsRefusedAt last next (refused refusal) line why = IsTooLong refusal line why
+IsRefusedAt last next (line_then number bytes later) line why = (line ≡ number) × IsRefusedFor last next bytes why
+
+-- The lines that come are read as these bundles, and end so.
+pub data Reads : Option ℤ → ℕ → Lined → List BundleOf → InputEnd → Type 0 where
+  -- the input ends
+  at_end : {last : Option ℤ} {next : ℕ} → Reads last next ended [] Whole
+  -- the first line is refused
+  at_refusal : {last : Option ℤ} {next : ℕ} {lines : Lined} {line : ℕ} {why : InputRule}
+      → IsRefusedAt last next lines line why → Reads last next lines [] (Refused line why)
+  -- the first line is a bundle, whose observations are numbered from `next` on
+  one_bundle : {last : Option ℤ} {next number : ℕ} {bytes : List ℕ} {later : Lined} {objects : List Data} {observations : List Observation}
+      {bundles : List BundleOf} {end : InputEnd} → IsBundleLine last next bytes objects observations
+      → Reads (last_after last observations) (next + length observations) later bundles end
+      → Reads last next (line_then number bytes later) (record { line = number; objects = objects; observations = observations } ∷ bundles) end
+
+-- an input that is read whole, as one line
+abbrev pub one_line : List ℕ → Lined
+one_line bytes = if nat_lt MAX_WHOLE_INPUT (length bytes) then refused (InputTooLong 1) else line_then 1 bytes ended
+
+-- the lines of an input, as it is cut
+abbrev pub lines_in : Mode → List ℕ → Lined
+lines_in Lines bytes = lines_of bytes
+lines_in WholeInput bytes = one_line bytes
+
+-- the bytes of an input are read so: observations are numbered from 1
+abbrev pub Reading : Mode → List ℕ → List BundleOf → InputEnd → Type 0
+Reading mode bytes bundles end = Reads None 1 (lines_in mode bytes) bundles end

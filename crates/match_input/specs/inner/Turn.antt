@@ -1,0 +1,56 @@
+-- For private clauses: what taking the next line says of the lines that come yet, before the line is judged.
+use Rattle.std.specs.Prelude.{◌≡◌, ⊤, ℕ, ◌*◌, ◌≤◌, List, Result, Ok, Err, Option, Some, None, option_map, IfSome}
+use Rattle.flow_lines.specs.Lines.{Lined, refused, line_then}
+use Rattle.flow_lines.specs.declared.line.Line.{Line}
+use Rattle.flow_lines.specs.declared.refusal.LineRefusal.{LineRefusal}
+use Rattle.flow_lines.specs.declared.refusal.LineRefusal.TheVariants as refusal
+use Rattle.flow_lines.specs.declared.whole_input.InputRefusal.{InputRefusal}
+use Rattle.flow_lines.specs.declared.whole_input.InputRefusal.TheVariants as whole
+use Rattle.stix_bundles.specs.declared.outline.TheConstants.{MAX_OBJECTS}
+use Rattle.match_input.specs.declared.rule.InputRule.{InputRule}
+use Rattle.match_input.specs.declared.rule.InputRule.TheVariants as rule
+use Rattle.match_input.specs.declared.read_end.ReadEnd.{ReadEnd}
+use Rattle.match_input.specs.declared.read_end.ReadEnd.TheVariants.{Input, ReadFault, Ended as HasEnded, NoMemory}
+use Rattle.match_input.specs.declared.stage.Stage.{Stage}
+use Rattle.match_input.specs.declared.stage.Stage.TheVariants.{Lines, Whole, AtEnd, Ended}
+use Rattle.match_input.specs.Reading.{IsTooLong}
+use Rattle.match_input.specs.Ahead.{ahead, Moves, TakesLittle, BreaksOff, ComesToEnd}
+
+-- the end for a refusal of the lines, and for one of an input that is read whole
+abbrev pub end_of_line : LineRefusal → ReadEnd
+end_of_line refusal.Fault = ReadFault
+end_of_line (refusal.LineTooLong number) = Input number rule.LineTooLong
+end_of_line (refusal.InputTooLong number) = Input number rule.InputTooLong
+end_of_line refusal.NoMemory = NoMemory
+
+abbrev pub end_of_whole : InputRefusal → ReadEnd
+end_of_whole whole.Fault = ReadFault
+end_of_whole whole.TooLong = Input 1 rule.InputTooLong
+end_of_whole whole.NoMemory = NoMemory
+
+-- the first of the lines that came yet is given, and the others come yet
+pub record GivesBytes (before after : Stage) (left left_after : Option (List ℕ)) (number : ℕ) (bytes : List ℕ) : Type 0 where
+  pub line : ahead before left ≡ option_map (λ later. line_then number bytes later) (ahead after left_after)
+  pub moves : Moves before after left left_after
+  -- where the line is refused yet
+  pub little : TakesLittle before number left left_after
+
+-- the first of the lines that came yet is too long, or the input is with it
+pub record IsTooLongAhead (before : Stage) (left left_after : Option (List ℕ)) (line : ℕ) (why : InputRule) : Type 0 where
+  pub refused : IfSome (ahead before left) (λ lines. (refusal : LineRefusal) × (lines ≡ refused refusal) × IsTooLong refusal line why)
+  pub little : TakesLittle before line left left_after
+
+abbrev pub AnswersTurn : Stage → Stage → Option (List ℕ) → Option (List ℕ) → Result (Option Line) ReadEnd → Type 0
+AnswersTurn before after left left_after (Ok (Some line)) = GivesBytes before after left left_after line.number line.bytes
+AnswersTurn before after left left_after (Ok None) = ComesToEnd before after left left_after
+AnswersTurn before after left left_after (Err (Input line why)) = IsTooLongAhead before left left_after line why
+AnswersTurn before after left left_after (Err ReadFault) = BreaksOff before left left_after
+AnswersTurn before after left left_after (Err HasEnded) = before ≡ Ended
+AnswersTurn before after left left_after (Err NoMemory) = ⊤
+
+-- so few observations were given, for the bytes of the lines that went by
+abbrev pub AreFew : Stage → ℕ → Type 0
+AreFew (Lines lines) observations = observations ≤ lines.given * MAX_OBJECTS
+AreFew Whole observations = observations ≡ 0
+AreFew AtEnd observations = ⊤
+AreFew Ended observations = ⊤

@@ -1,0 +1,132 @@
+ghost use Rattle.std.specs.Prelude.{◌≡◌, ◌≤◌, ◌+◌, ◌^◌, ℤ, List, ℕ, Option, IfOk, IfErr, IfSome, IfNone};
+ghost use Rattle.stix_json.specs.DataOf.{data_of};
+ghost use Rattle.stix_json.specs.Ordered.{IsOrdered};
+ghost use Rattle.stix_json.specs.Reading.{IsJsonOf};
+ghost use Rattle.stix_bundles.specs.declared.outline.TheConstants.{MAX_OBJECTS};
+ghost use Rattle.stix_bundles.specs.Objects.{data_in};
+ghost use Rattle.stix_bundles.specs.Bundle.{IsBundle};
+ghost use Rattle.match_input.specs.Line.{IsTextOf, IsInOrder, IsBehind, last_after, IsBundleLine, IsRefusedFor};
+
+use crate::InputRule;
+use flow_values::{Items, NoMemory};
+use std::alloc::Global;
+use stix_bundles::{Bundle, BundleRefusal, Observation, ObservationRefusal, observations, read_bundle};
+use stix_json::{Json, JsonRefusal, read_json};
+use stix_times::Instant;
+use stix_times::laws::is_before;
+
+/// The bundle of a line, and its observations.
+#[derive(Drop)]
+pub(crate) struct BundleLine {
+    pub(crate) bundle: Bundle,
+    pub(crate) observations: Items<Observation>,
+}
+
+/// What the bytes of a line are, behind an observation that was last observed then, where the next
+/// observation has that number: a bundle with its observations, or why the line is refused.
+pub(crate) fn read_line(
+    alloc: Global,
+    last: Option<Instant>,
+    next: u64,
+    bytes: &[u8],
+) -> Result<Result<BundleLine, InputRule>, NoMemory>
+    requires { next + MAX_OBJECTS ≤ 2 ^ 64 }
+    ensures ok { IfOk result (λ outcome. IfOk outcome (λ line.
+        IsBundleLine last next bytes.now (data_in line.bundle) line.observations)) }
+    ensures refused { IfOk result (λ outcome. IfErr outcome (IsRefusedFor last next bytes.now)) }
+{
+    let json = match json_of(alloc, bytes)? {
+        Ok(json) => json,
+        Err(rule) => return Ok(Err(rule)),
+    };
+    let bundle = match bundle_of(alloc, json)? {
+        Ok(bundle) => bundle,
+        Err(rule) => return Ok(Err(rule)),
+    };
+    in_order(alloc, last, next, bundle)
+}
+
+/// The JSON value that the bytes are.
+fn json_of(alloc: Global, bytes: &[u8]) -> Result<Result<Json, InputRule>, NoMemory>
+    ensures ok { IfOk result (λ outcome. IfOk outcome (IsJsonOf bytes.now)) }
+    ensures refused { (last : Option ℤ) (next : ℕ) → IfOk result (λ outcome. IfErr outcome (IsRefusedFor last next bytes.now)) }
+{
+    match read_json(alloc, bytes) {
+        Ok(json) => Ok(Ok(json)),
+        Err(JsonRefusal::NoMemory) => Err(NoMemory),
+        Err(refusal) => Ok(Err(InputRule::Json(refusal))),
+    }
+}
+
+/// The bundle that a JSON value is.
+fn bundle_of(alloc: Global, json: Json) -> Result<Result<Bundle, InputRule>, NoMemory>
+    requires { IsOrdered (data_of json) }
+    ensures ok { IfOk result (λ outcome. IfOk outcome (λ bundle. IsBundle (data_of json) (data_in bundle))) }
+    ensures refused { (last : Option ℤ) (next : ℕ) (bytes : List ℕ) → IsJsonOf bytes json
+        → IfOk result (λ outcome. IfErr outcome (IsRefusedFor last next bytes)) }
+{
+    match read_bundle(alloc, json) {
+        Ok(bundle) => Ok(Ok(bundle)),
+        Err(BundleRefusal::NoMemory) => Err(NoMemory),
+        Err(refusal) => Ok(Err(InputRule::Bundle(refusal))),
+    }
+}
+
+/// A bundle with its observations, where none holds its objects itself, and the first one may follow.
+fn in_order(
+    alloc: Global,
+    last: Option<Instant>,
+    next: u64,
+    bundle: Bundle,
+) -> Result<Result<BundleLine, InputRule>, NoMemory>
+    requires { next + MAX_OBJECTS ≤ 2 ^ 64 }
+    ensures ok { (bytes : List ℕ) → IsTextOf bytes (data_in bundle) → IfOk result (λ outcome. IfOk outcome (λ line.
+        IsBundleLine last next bytes (data_in line.bundle) line.observations)) }
+    ensures refused { (bytes : List ℕ) → IsTextOf bytes (data_in bundle)
+        → IfOk result (λ outcome. IfErr outcome (IsRefusedFor last next bytes)) }
+{
+    let _counted = bundle.objects();
+    let observations = match observations(alloc, &bundle, next) {
+        Ok(observations) => observations,
+        Err(ObservationRefusal::EmbeddedObjects { object }) => {
+            return Ok(Err(InputRule::Embedded { object }));
+        }
+        Err(ObservationRefusal::NoMemory) => return Err(NoMemory),
+    };
+    match fallen_time(last, observations.as_slice()) {
+        Some((last, now)) => Ok(Err(InputRule::OutOfOrder { last, now })),
+        None => Ok(Ok(BundleLine {
+            bundle,
+            observations,
+        })),
+    }
+}
+
+/// The last time before and that of the first observation, where this one is earlier.
+fn fallen_time(
+    last: Option<Instant>,
+    observations: &[Observation],
+) -> Option<(Instant, Instant)>
+    ensures some { IfSome result (λ (before, now). IsBehind last observations.now before now) }
+    ensures none { IfNone result (IsInOrder last observations.now) }
+{
+    let before = last?;
+    let [first, ..] = observations else {
+        return None;
+    };
+    if is_before(first.last, before) {
+        Some((before, first.last))
+    } else {
+        None
+    }
+}
+
+/// When the last of some observations was last observed; `last` where there are none.
+pub(crate) fn last_time(last: Option<Instant>, observations: &[Observation]) -> Option<Instant>
+    ensures { result ≡ last_after last observations.now }
+{
+    match observations.last() {
+        Some(observation) => Some(observation.last),
+        None => last,
+    }
+}

@@ -1,0 +1,88 @@
+ghost use Rattle.std.specs.Prelude.{◌≡◌, ◌++◌, codes};
+ghost use Rattle.match_log.specs.Texts.{at_path, tree_text, bundle_text, rule_text, first_break_text};
+ghost use Rattle.match_log.specs.inner.Reason.{reason_text};
+
+use crate::InputRule;
+use stix_bundles::{BundleRefusal, ObjectBreak};
+use stix_json::JsonRefusal;
+use stix_objects::Rule;
+
+/// An object of a bundle, and a rule that it breaks.
+#[derive(Clone, Copy, Debug)]
+pub(crate) struct Breaking {
+    pub(crate) object: u32,
+    pub(crate) rule: Rule,
+}
+
+/// What is said of a refusal: its name, the object that is broken, and the path to what it is told of.
+#[derive(Clone, Copy, Debug)]
+pub(crate) struct Reason<'a> {
+    pub(crate) name: &'static str,
+    pub(crate) broken: Option<Breaking>,
+    pub(crate) path: &'a str,
+}
+
+impl<'a> Reason<'a> {
+    fn at(name: &'static str, path: &'a str) -> Reason<'a>
+        ensures { reason_text result ≡ at_path name.now path.now }
+    {
+        Reason {
+            name,
+            broken: None,
+            path,
+        }
+    }
+
+    /// What is said of a rule.
+    pub(crate) fn of(rule: &'a InputRule) -> Reason<'a>
+        ensures { reason_text result ≡ rule_text rule.now }
+    {
+        match rule {
+            InputRule::NotYet => Reason::at("NotYet", ""),
+            InputRule::InputTooLong => Reason::at("InputTooLong", ""),
+            InputRule::Json(refusal) => Reason::of_tree(refusal),
+            InputRule::Bundle(refusal) => Reason::of_bundle(refusal),
+        }
+    }
+
+    fn of_tree(refusal: &'a JsonRefusal) -> Reason<'a>
+        ensures { reason_text result ≡ tree_text refusal.now }
+    {
+        match refusal {
+            JsonRefusal::NotJson => Reason::at("NotJson", ""),
+            JsonRefusal::TooDeep { path } => Reason::at("TooDeep", path.as_str()),
+            JsonRefusal::NotWhole { path } => Reason::at("NotWhole", path.as_str()),
+            JsonRefusal::Null { path } => Reason::at("Null", path.as_str()),
+            JsonRefusal::OutOfRange { path } => Reason::at("OutOfRange", path.as_str()),
+            JsonRefusal::NotList => Reason::at("NotList", ""),
+            JsonRefusal::NoMemory => Reason::at("out of memory", ""),
+        }
+    }
+
+    fn of_bundle(refusal: &'a BundleRefusal) -> Reason<'a>
+        ensures { reason_text result ≡ bundle_text refusal.now }
+    {
+        match refusal {
+            BundleRefusal::NotBundle { path } => Reason::at("NotBundle", path.as_str()),
+            BundleRefusal::Breaks(breaks) => Reason::of_first(breaks.as_slice()),
+            BundleRefusal::NoMemory => Reason::at("out of memory", ""),
+        }
+    }
+
+    /// The first break is told.
+    fn of_first(breaks: &'a [ObjectBreak]) -> Reason<'a>
+        ensures { reason_text result ≡ codes "Breaks" ++ first_break_text breaks.now }
+    {
+        match breaks {
+            [first, ..] => Reason {
+                name: "Breaks",
+                broken: Some(Breaking {
+                    object: first.object,
+                    rule: first.found.rule,
+                }),
+                path: first.found.path.as_str(),
+            },
+            [] => Reason::at("Breaks", ""),
+        }
+    }
+}

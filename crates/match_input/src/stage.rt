@@ -1,0 +1,100 @@
+ghost use Rattle.std.specs.Prelude.{◌≡◌, ◌≢◌, ◌≤◌, ◌×◌, Err, Ok, None};
+ghost use Rattle.flow_edges.specs.Faults.{Rose};
+ghost use Rattle.match_input.specs.Ahead.{HoldsLines};
+ghost use Rattle.match_input.specs.inner.Turn.{AnswersTurn};
+
+use crate::{InputRule, ReadEnd};
+use flow_edges::Source;
+use flow_lines::{InputRefusal, Line, LineRefusal, Lines, read_whole};
+use std::alloc::Global;
+
+/// How far an input is read.
+#[derive(Drop)]
+pub enum Stage {
+    /// Its lines are read in turn.
+    Lines(Lines),
+    /// It is to be read whole.
+    Whole,
+    /// Nothing is left.
+    AtEnd,
+    /// A line was refused, a read failed, or memory ran out.
+    Ended,
+}
+
+impl Stage {
+    /// The next line that isn't blank; of an input that is read whole all of it, as line 1. None at the
+    /// end.
+    pub(crate) fn next_line<S: Source>(
+        &mut self,
+        alloc: Global,
+        source: &mut S,
+    ) -> Result<Option<Line>, ReadEnd>
+        ensures lines { AnswersTurn self.old self.new (S.left source.old) (S.left source.new) result }
+        ensures unread { HoldsLines self.old → source.new ≡ source.old }
+        ensures at_end { self.old ≡ Stage.AtEnd → (result ≡ Ok None) × (self.new ≡ self.old) × (source.new ≡ source.old) }
+        ensures ended { self.old ≡ Stage.Ended → (result ≡ Err ReadEnd.Ended) × (source.new ≡ source.old) }
+        ensures failed { result ≡ Err ReadEnd.ReadFault → Rose (S.faults source.old) (S.faults source.new) }
+        ensures quiet { result ≢ Err ReadEnd.ReadFault → S.faults source.new ≡ S.faults source.old }
+        ensures later { S.faults source.old ≤ S.faults source.new }
+    {
+        let line = match self {
+            Stage::Lines(lines) => lines.next_line(source)?,
+            Stage::Whole => Some(whole_line(alloc, source)?),
+            Stage::AtEnd => return Ok(None),
+            Stage::Ended => return Err(ReadEnd::Ended),
+        };
+        if line.is_none() || matches!(self, Stage::Whole) {
+            *self = Stage::AtEnd;
+        }
+        Ok(line)
+    }
+}
+
+/// The whole input as line 1.
+fn whole_line<S: Source>(alloc: Global, source: &mut S) -> Result<Line, ReadEnd>
+    ensures lines { AnswersTurn Stage.Whole Stage.AtEnd (S.left source.old) (S.left source.new) (result_map Some result) }
+    ensures failed { result ≡ Err ReadEnd.ReadFault → Rose (S.faults source.old) (S.faults source.new) }
+    ensures quiet { result ≢ Err ReadEnd.ReadFault → S.faults source.new ≡ S.faults source.old }
+    ensures later { S.faults source.old ≤ S.faults source.new }
+{
+    let bytes = read_whole(alloc, source)?;
+    Ok(Line { number: 1, bytes })
+}
+
+impl From<LineRefusal> for ReadEnd {
+    ghost use Rattle.match_input.specs.inner.Turn.{end_of_line};
+
+    ghost from_gives = { λ refusal end. end ≡ end_of_line refusal };
+
+    fn from(refusal: LineRefusal) -> ReadEnd {
+        match refusal {
+            LineRefusal::Fault => ReadEnd::ReadFault,
+            LineRefusal::LineTooLong { number } => ReadEnd::Input {
+                line: number,
+                rule: InputRule::LineTooLong,
+            },
+            LineRefusal::InputTooLong { number } => ReadEnd::Input {
+                line: number,
+                rule: InputRule::InputTooLong,
+            },
+            LineRefusal::NoMemory => ReadEnd::NoMemory,
+        }
+    }
+}
+
+impl From<InputRefusal> for ReadEnd {
+    ghost use Rattle.match_input.specs.inner.Turn.{end_of_whole};
+
+    ghost from_gives = { λ refusal end. end ≡ end_of_whole refusal };
+
+    fn from(refusal: InputRefusal) -> ReadEnd {
+        match refusal {
+            InputRefusal::Fault => ReadEnd::ReadFault,
+            InputRefusal::TooLong => ReadEnd::Input {
+                line: 1,
+                rule: InputRule::InputTooLong,
+            },
+            InputRefusal::NoMemory => ReadEnd::NoMemory,
+        }
+    }
+}
