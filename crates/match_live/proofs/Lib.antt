@@ -1,1 +1,5 @@
-
+pub mod ListLemmas
+pub mod PairsLemmas
+pub mod OnceLemmas
+pub mod LivesLemmas
+pub mod LevelLemmas

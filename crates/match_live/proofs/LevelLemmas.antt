@@ -1,0 +1,38 @@
+-- Levels one after another, and those that aren't made.
+use Rattle.std.proofs.Common.{◌≡◌, ℕ, zero, suc, ◌+◌, ◌-◌, ◌≤◌, ◌<◌, List, [], ◌∷◌, ◌++◌, length, refl, sym, ◌∙◌, ap, arith, ℤ}
+use Rattle.std.specs.Prelude.{map}
+use Rattle.match_windows.specs.declared.window.Window.{Window}
+use Rattle.match_live.specs.declared.join.Join.TheVariants as join
+use Rattle.match_live.specs.HeldTree.{HeldTree}
+use Rattle.match_live.specs.inner.Steps.{kept, stored, joins, levels_new, levels_after, no_levels, risen, raised}
+
+pub new_append : (w : Window) (t : ℤ) (first new : List HeldTree) (xs ys : List (List HeldTree)) →
+    levels_new w t first new (xs ++ ys) ≡ levels_new w t (levels_new w t first new xs) new ys
+new_append w t first new [] ys = refl
+new_append w t first new (x ∷ xs) ys = new_append w t (joins join.Repeats (kept w t x) new) new xs ys
+
+pub after_append : (w : Window) (t : ℤ) (first new : List HeldTree) (xs ys : List (List HeldTree)) →
+    levels_after w t first new (xs ++ ys) ≡ levels_after w t first new xs ++ levels_after w t (levels_new w t first new xs) new ys
+after_append w t first new [] ys = refl
+after_append w t first new (x ∷ xs) ys = ap (λ z. stored w t x first ∷ z) (after_append w t (joins join.Repeats (kept w t x) new) new xs ys)
+
+-- nothing is new above a level that holds nothing
+none_new : (w : Window) (t : ℤ) (new : List HeldTree) (k : ℕ) → levels_new w t [] new (no_levels k) ≡ []
+none_new w t new zero = refl
+none_new w t new (suc k) = none_new w t new k
+
+none_after : (w : Window) (t : ℤ) (new : List HeldTree) (k : ℕ) → levels_after w t [] new (no_levels k) ≡ no_levels k
+none_after w t new zero = refl
+none_after w t new (suc k) = ap (λ z. [] ∷ z) (none_after w t new k)
+
+pub above_new : (w : Window) (t : ℤ) (first new : List HeldTree) (k : ℕ) → levels_new w t first new (no_levels k) ≡ risen k first
+above_new w t first new zero = refl
+above_new w t first new (suc k) = none_new w t new k
+
+pub above_after : (w : Window) (t : ℤ) (first new : List HeldTree) (k : ℕ) → levels_after w t first new (no_levels k) ≡ raised w t k first
+above_after w t first new zero = refl
+above_after w t first new (suc k) = ap (λ z. kept w t first ∷ z) (none_after w t new k)
+
+pub length_after : (w : Window) (t : ℤ) (first new : List HeldTree) (xs : List (List HeldTree)) → length (levels_after w t first new xs) ≡ length xs
+length_after w t first new [] = refl
+length_after w t first new (x ∷ xs) = ap suc (length_after w t (joins join.Repeats (kept w t x) new) new xs)
