@@ -3,3 +3,8 @@ pub mod PairsLemmas
 pub mod OnceLemmas
 pub mod LivesLemmas
 pub mod LevelLemmas
+pub mod AliveLemmas
+pub mod NumberLemmas
+pub mod JoinLemmas
+pub mod StoreLemmas
+pub mod StepLemmas

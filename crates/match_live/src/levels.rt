@@ -53,7 +53,8 @@ impl Levels {
         let first = singles(alloc, new)?;
         let (made, last) = step_made(alloc, stores, &self.window, now, first, new)?;
         self.stores = made;
-        self.raise(alloc, last, now)
+        let answer = self.raise(alloc, last, now)?;
+        Ok(answer)
     }
 
     /// What is new above the levels that are made: it is the answer where there is no level above, and is

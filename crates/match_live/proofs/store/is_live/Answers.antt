@@ -1,3 +1,8 @@
+use Rattle.match_live.proofs.StepLemmas.{step_law}
+use Rattle.match_live.proofs.StoreLemmas.{AreHeld}
+use Rattle.match_live.proofs.AliveLemmas.{alive_min}
+use Rattle.match_live.proofs.NumberLemmas.{apart}
+use Rattle.match_live.proofs.JoinLemmas.{join_law}
 use Rattle.match_live.proofs.LivesLemmas.{not_expired}
 use Rattle.match_live.proofs.store.is_live.Goals as goal
 
