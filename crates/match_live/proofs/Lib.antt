@@ -8,3 +8,6 @@ pub mod NumberLemmas
 pub mod JoinLemmas
 pub mod StoreLemmas
 pub mod StepLemmas
+pub mod LastingLemmas
+pub mod LogLemmas
+pub mod ShapeLemmas

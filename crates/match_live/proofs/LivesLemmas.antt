@@ -25,7 +25,7 @@ lt_false a b h = grind (arith, ints)
 false_lt : (a b : ℤ) → b ≤ℤ a → int_lt a b ≡ false
 false_lt a b h = grind (arith, ints)
 
-le_false : (a b : ℤ) → int_le a b ≡ false → b <ℤ a
+pub le_false : (a b : ℤ) → int_le a b ≡ false → b <ℤ a
 le_false a b h = grind (arith, ints)
 
 false_le : (a b : ℤ) → b <ℤ a → int_le a b ≡ false

@@ -1,3 +1,6 @@
+use Rattle.match_live.proofs.LogLemmas.{take_law}
+use Rattle.match_live.proofs.ShapeLemmas.{to_held}
+use Rattle.match_live.proofs.LastingLemmas.{any_time}
 use Rattle.match_live.proofs.StepLemmas.{step_law}
 use Rattle.match_live.proofs.StoreLemmas.{AreHeld}
 use Rattle.match_live.proofs.AliveLemmas.{alive_min}
