@@ -15,39 +15,27 @@ pub record Store : Type 0 where
   pub part : Part
   pub window : Window
 
--- the window under the bounds that the qualifiers above a part leave it
-abbrev pub window_of : Bounds → Window
-window_of above = record { seconds = above.seconds; start = above.start; stop = above.stop; behind = false }
+-- the window that the bounds above a store leave it; what is behind is the right side of a FOLLOWEDBY
+abbrev pub window_of : Bounds → Bool → Window
+window_of above behind = record { seconds = above.seconds; start = above.start; stop = above.stop; behind = behind }
 
--- that of the right side of a FOLLOWEDBY
-abbrev pub behind_of : Bounds → Window
-behind_of above = record { seconds = above.seconds; start = above.start; stop = above.stop; behind = true }
-
-abbrev pub side : Bounds → NumberedPattern → Store
-side above p = record { part = a_side p; window = window_of above }
-
--- the right side of a FOLLOWEDBY
-abbrev pub side_behind : Bounds → NumberedPattern → Store
-side_behind above p = record { part = a_side p; window = behind_of above }
+abbrev pub side : Bounds → Bool → NumberedPattern → Store
+side above behind p = record { part = a_side p; window = window_of above behind }
 
 abbrev pub level : Bounds → NumberedPattern → ℕ → Store
-level above p j = record { part = a_level p j; window = window_of above }
+level above p j = record { part = a_level p j; window = window_of above false }
 
--- the levels from j on, so many
-abbrev pub levels_from : ℕ → ℕ → Bounds → NumberedPattern → List Store
-levels_from j zero above p = []
-levels_from j (suc k) above p = level above p j ∷ levels_from (suc j) k above p
-
--- the levels of so many repeats: from 1 to below their count
+-- the levels of so many repeats, from 1 to below their count
 abbrev pub levels : Bounds → NumberedPattern → ℕ → List Store
 levels above p zero = []
-levels above p (suc n) = levels_from 1 n above p
+levels above p (suc zero) = []
+levels above p (suc (suc n)) = levels above p (suc n) ++ level above p (suc n) ∷ []
 
 -- the stores of a part under these bounds: its own before those of the parts in it, the left side first
 abbrev pub stores_under : Bounds → NumberedPattern → List Store
 stores_under above (Leaf k) = []
-stores_under above (Both p q) = side above p ∷ side above q ∷ (stores_under above p ++ stores_under above q)
-stores_under above (Then p q) = side above p ∷ side_behind above q ∷ (stores_under above p ++ stores_under above q)
+stores_under above (Both p q) = side above false p ∷ side above false q ∷ (stores_under above p ++ stores_under above q)
+stores_under above (Then p q) = side above false p ∷ side above true q ∷ (stores_under above p ++ stores_under above q)
 stores_under above (Either p q) = stores_under above p ++ stores_under above q
 stores_under above (Within p x) = stores_under (within above x) p
 stores_under above (Between p x y) = stores_under (between above x y) p

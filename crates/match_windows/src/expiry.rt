@@ -22,9 +22,7 @@ fn are_past(seconds: Option<u32>, earliest: Instant, now: Instant) -> bool
     ensures { IsTrue result ↔ ArePast seconds earliest now }
 {
     match seconds {
-        Some(seconds) => {
-            nanos(earliest) + NANOS_PER_SECOND * i128::from(seconds) <= nanos(now)
-        }
+        Some(seconds) => { nanos(earliest) + NANOS_PER_SECOND * i128::from(seconds) <= nanos(now) }
         None => false,
     }
 }

@@ -7,8 +7,6 @@
 
 mod expiry;
 mod window;
-mod windows;
 
 pub use expiry::expired;
-pub use window::Window;
-pub use windows::windows;
+pub use window::{Window, windows};

@@ -1,10 +1,12 @@
 -- The last times in order, and the observations that are told at them.
-use Rattle.std.proofs.Common.{arith, ◌≡◌, ◌≢◌, ◌⊎◌, inl, inr, ◌+◌, ◌-◌, ◌<◌, ◌<ℤ◌, ℕ, zero, suc, ℤ, List, map, get_or, slice_get, Option, Some, None, option_map, Result, Ok, Err, IfOk, false, is_lt, int_cmp, nat_cmp, sym, ap, refl, subst, ◌∙◌}
+use Rattle.std.proofs.Common.{arith, length, ◌≡◌, ◌≢◌, ◌⊎◌, inl, inr, ◌+◌, ◌-◌, ◌<◌, ◌<ℤ◌, ℕ, zero, suc, ℤ, List, map, get_or, slice_get, Option, Some, None, option_map, Result, Ok, Err, IfOk, false, is_lt, int_cmp, nat_cmp, sym, ap, refl, subst, ◌∙◌}
 use Rattle.std.specs.declared.cmp.Ordering.{Ordering}
 use Rattle.std.specs.declared.cmp.Ordering.TheVariants.{Less, Equal, Greater}
 use Rattle.std.specs.Ordering.{ordering_then, MatchOrdering}
 use Rattle.std.specs.List.{IsDistinct}
 use Rattle.std.specs.List.Sorted.{IsSorted}
+use Rattle.std.proofs.lemmas.List.{length-map}
+use Rattle.std.proofs.Math.Seq.{take-length}
 use Rattle.std.proofs.lemmas.Int.{ints}
 use Rattle.std.proofs.lemmas.Bool.Decides.{nat_tests}
 use Rattle.std.proofs.lemmas.Cmp.{int_ranked}
@@ -15,7 +17,7 @@ use Rattle.serde_json.specs.Data.{Data}
 use Rattle.flow_values.specs.declared.no_memory.NoMemory.{NoMemory}
 use Rattle.stix_bundles.specs.declared.last_time.LastTime.{LastTime}
 use Rattle.stix_bundles.specs.declared.observation.Observation.{Observation}
-use Rattle.stix_bundles.specs.Observations.{ObservationAt, AreObservations}
+use Rattle.stix_bundles.specs.Observations.{ObservationAt, AreObservations, how_many}
 use Rattle.stix_bundles.specs.inner.LastTimes.{AreLastTimes, IsUpTo, AreInOrder, last_time_of, AreObservationsAt}
 use Rattle.stix_bundles.proofs.ObjectsLemmas.{same_some}
 use Rattle.stix_bundles.proofs.LastTimesLemmas.{same_place}
@@ -117,3 +119,11 @@ pub observations_well : (ds : List Data) (first : ℕ) (ms : List LastTime) → 
     → IfOk outcome (AreObservationsAt ds first ms) → IfOk outcome (AreObservations ds first)
 observations_well ds first ms are ordered (Ok list) told = observations_of ds first ms list are ordered told
 observations_well ds first ms are ordered (Err error) told = tt
+
+-- there are as many of them as observed-data
+pub counted_well : (ds : List Data) (first : ℕ) (ms : List LastTime) → AreLastTimes ds ms → (outcome : Result (List Observation) NoMemory)
+    → IfOk outcome (AreObservationsAt ds first ms) → IfOk outcome (λ list. length list ≡ how_many ds)
+counted_well ds first ms are (Ok list) told =
+    ap length told.are ∙ length-map told.seen (λ s. s.observation) ∙ sym (length-map told.seen last_time_of) ∙ ap length told.at
+    ∙ are.count ∙ ap how_many (take-length ds)
+counted_well ds first ms are (Err error) told = tt

@@ -29,8 +29,9 @@ pub fn observations(
     bundle: &Bundle,
     first: u64,
 ) -> Result<Items<Observation>, ObservationRefusal>
-    requires { first + how_many (data_in bundle.now) ≤ 2 ^ 63 }
+    requires { first + how_many (data_in bundle.now) ≤ 2 ^ 64 }
     ensures ok { IfOk result (AreObservations (data_in bundle.now) first) }
+    ensures counted { IfOk result (λ observations. length observations ≡ how_many (data_in bundle.now)) }
     ensures whole { OnOk result (NoneEmbeds (data_in bundle.now)) }
     ensures err { IfErr result (AreRefused (data_in bundle.now)) }
 {
@@ -45,8 +46,9 @@ pub fn observations(
 
 /// The same, whether or not an observed-data holds its objects itself.
 fn all_observed(alloc: Global, bundle: &Bundle, first: u64) -> Result<Items<Observation>, NoMemory>
-    requires { first + how_many (data_in bundle.now) ≤ 2 ^ 63 }
-    ensures { IfOk result (AreObservations (data_in bundle.now) first) }
+    requires { first + how_many (data_in bundle.now) ≤ 2 ^ 64 }
+    ensures ok { IfOk result (AreObservations (data_in bundle.now) first) }
+    ensures counted { IfOk result (λ observations. length observations ≡ how_many (data_in bundle.now)) }
 {
     let last_times = last_times_in_order(alloc, bundle.objects())?;
     observed(alloc, bundle, first, last_times.as_slice())
@@ -81,7 +83,7 @@ fn observed(
     last_times: &[LastTime],
 ) -> Result<Items<Observation>, NoMemory>
     requires each { All (IsLastTimeOf (data_in bundle.now)) last_times.now }
-    requires fits { first + length last_times.now ≤ 2 ^ 63 }
+    requires fits { first + length last_times.now ≤ 2 ^ 64 }
     ensures { IfOk result (AreObservationsAt (data_in bundle.now) first last_times.now) }
 {
     let mut observations = Items::new(alloc);
