@@ -241,6 +241,10 @@ exactly_listed o p xs each up = record {
   no_binding x h false e = e
 
 -- what is sorted by rank rises
+pub sorted_rise : (o : Observed) (p : NumberedPattern) (xs : List BindTree) → ((x : BindTree) → count x xs ≤ bit (is_binding o p x)) → IsSortedBy comes_before xs → Rises xs
+sorted_rise o p xs most up = rises_from o p xs (once_each (is_binding o p) xs most) (sorted_by xs up)
+
+-- so it is the listing where it has all bindings
 pub listing_from : (o : Observed) (p : NumberedPattern) (xs : List BindTree) → Exactly (is_binding o p) xs → IsSortedBy comes_before xs → IsListing o p xs
 listing_from o p xs each up =
-    exactly_listed o p xs each (rises_from o p xs (once_each (is_binding o p) xs (λ x. let e = each x in omega (arith, e))) (sorted_by xs up))
+    exactly_listed o p xs each (sorted_rise o p xs (λ x. let e = each x in omega (arith, e)) up)

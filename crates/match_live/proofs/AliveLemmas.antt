@@ -8,7 +8,7 @@ use Rattle.match_bindings.specs.declared.bounds.Bounds.{Bounds}
 use Rattle.match_bindings.specs.Bounds.{least_seconds, latest_start, earliest_stop, within, between}
 use Rattle.match_bindings.specs.Span.{later_by}
 use Rattle.match_windows.specs.declared.window.Window.{Window}
-use Rattle.match_windows.specs.Stores.{window_of, behind_of}
+use Rattle.match_windows.specs.Stores.{window_of}
 use Rattle.match_live.specs.inner.Lives.{in_seconds, from_start, before_stop, alive, is_ahead, lives}
 use Rattle.match_live.proofs.LivesLemmas.{lt_true, true_lt, le_true, true_le}
 
@@ -101,11 +101,11 @@ lives_before w e s t h k =
     (and_from _ _ (seconds_before w.seconds e s t h parts.0) (and_from _ _ more.0 (stop_before w.stop s t h more.1)))
 
 -- what lives behind is alive
-pub behind_alive : (w : Bounds) (e t : ℤ) → lives (behind_of w) e t ≡ true → alive w e t ≡ true
+pub behind_alive : (w : Bounds) (e t : ℤ) → lives (window_of w true) e t ≡ true → alive w e t ≡ true
 behind_alive w e t h = (and_parts (is_ahead true e t) (alive w e t) h).1
 
 -- what isn't earlier lives behind where it is alive
-pub behind_ahead : (w : Bounds) (e t : ℤ) → t ≤ℤ e → lives (behind_of w) e t ≡ alive w e t
+pub behind_ahead : (w : Bounds) (e t : ℤ) → t ≤ℤ e → lives (window_of w true) e t ≡ alive w e t
 behind_ahead w e t h = let yes_it_is = true_le t e h in rw yes_it_is refl
 
 -- ---- narrower bounds

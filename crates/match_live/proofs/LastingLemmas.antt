@@ -12,7 +12,7 @@ use Rattle.match_bindings.specs.Span.{earliest, latest, later_by}
 use Rattle.match_bindings.specs.Test.{are_repeats, is_binding}
 use Rattle.match_bindings.specs.Once.{bit, same, count, Exactly}
 use Rattle.match_windows.specs.declared.window.Window.{Window}
-use Rattle.match_windows.specs.Stores.{window_of, behind_of}
+use Rattle.match_windows.specs.Stores.{window_of}
 use Rattle.match_live.specs.declared.join.Join.TheVariants as join
 use Rattle.match_live.specs.HeldTree.{HeldTree, hold}
 use Rattle.match_live.specs.inner.Lives.{alive, lives}
@@ -172,7 +172,7 @@ lasting_levels : (o o' : Observed) (n : ℕ) (s : ℤ) (w : Bounds) (f f' : ℕ 
     (j : ℕ) (levels : List (List HeldTree)) → LevelsStand o f s w count j levels → LevelsStand o' (λ i x. f' i x && not (has n x)) s w count j levels
 lasting_levels o o' n s w f f' count times still j [] st = st
 lasting_levels o o' n s w f f' count times still j (held ∷ levels) st =
-    ( lasting_store o o' n s (window_of w) (f j) (f' j) held (times j) (still j) st.0
+    ( lasting_store o o' n s (window_of w false) (f j) (f' j) held (times j) (still j) st.0
     , lasting_levels o o' n s w f f' count times still (suc j) levels st.1 )
 
 lasting_all_levels : (o o' : Observed) (n : ℕ) (s : ℤ) (w : Bounds) (f f' : ℕ → BindTree → Bool) (count : ℕ) →
@@ -188,7 +188,7 @@ lasting_sides : (o o' : Observed) (n : ℕ) (s : ℤ) (w : Bounds) (v : Window) 
 lasting_sides o o' n s w v f f' g g' sides tf sf tg sg st = record {
   left_window = st.left_window;
   right_window = st.right_window;
-  left = lasting_store o o' n s (window_of w) f f' sides.left tf sf st.left;
+  left = lasting_store o o' n s (window_of w false) f f' sides.left tf sf st.left;
   right = lasting_store o o' n s v g g' sides.right tg sg st.right;
 }
 
@@ -197,11 +197,11 @@ pub lasting_stands : (o o' : Observed) (n : ℕ) (s : ℤ) → GoesOn o o' n →
 lasting_stands o o' n s g (Leaf k) w (a_leaf leaf window) st = st
 lasting_stands o o' n s g (Both p q) w (a_join join.Both l r sides) st =
     ( lasting_stands o o' n s g p w l st.0, lasting_stands o o' n s g q w r st.1
-    , lasting_sides o o' n s w (window_of w) (is_binding o p) (is_binding o' p) (is_binding o q) (is_binding o' q) sides
+    , lasting_sides o o' n s w (window_of w false) (is_binding o p) (is_binding o' p) (is_binding o q) (is_binding o' q) sides
         (same_times o o' n g p) (lasting o o' n g p) (same_times o o' n g q) (lasting o o' n g q) st.2 )
 lasting_stands o o' n s g (Then p q) w (a_join join.Then l r sides) st =
     ( lasting_stands o o' n s g p w l st.0, lasting_stands o o' n s g q w r st.1
-    , lasting_sides o o' n s w (behind_of w) (is_binding o p) (is_binding o' p) (is_binding o q) (is_binding o' q) sides
+    , lasting_sides o o' n s w (window_of w true) (is_binding o p) (is_binding o' p) (is_binding o q) (is_binding o' q) sides
         (same_times o o' n g p) (lasting o o' n g p) (same_times o o' n g q) (lasting o o' n g q) st.2 )
 lasting_stands o o' n s g (Either p q) w (a_choice l r) st = ( lasting_stands o o' n s g p w l st.0, lasting_stands o o' n s g q w r st.1 )
 lasting_stands o o' n s g (Within p x) w (a_limit part) st = lasting_stands o o' n s g p (within w x) part st
@@ -228,7 +228,7 @@ any_store o f v s t held h = held_same o (λ x. f x && lives v (earliest o.first
 any_levels : (o : Observed) (f : ℕ → BindTree → Bool) (w : Bounds) (s t : ℤ) (n j : ℕ) (levels : List (List HeldTree)) → ((j : ℕ) (x : BindTree) → f j x ≡ false) →
     LevelsStand o f s w n j levels → LevelsStand o f t w n j levels
 any_levels o f w s t n j [] h st = st
-any_levels o f w s t n j (held ∷ levels) h st = ( any_store o (f j) (window_of w) s t held (h j) st.0, any_levels o f w s t n (suc j) levels h st.1 )
+any_levels o f w s t n j (held ∷ levels) h st = ( any_store o (f j) (window_of w false) s t held (h j) st.0, any_levels o f w s t n (suc j) levels h st.1 )
 
 any_all_levels : (o : Observed) (f : ℕ → BindTree → Bool) (w : Bounds) (s t : ℤ) (n : ℕ) (levels : List (List HeldTree)) → ((j : ℕ) (x : BindTree) → f j x ≡ false) →
     AllLevelsStand o f s w n levels → AllLevelsStand o f t w n levels
@@ -240,7 +240,7 @@ any_sides : (o : Observed) (f g : BindTree → Bool) (w : Bounds) (v : Window) (
 any_sides o f g w v s t sides hf hg st = record {
   left_window = st.left_window;
   right_window = st.right_window;
-  left = any_store o f (window_of w) s t sides.left hf st.left;
+  left = any_store o f (window_of w false) s t sides.left hf st.left;
   right = any_store o g v s t sides.right hg st.right;
 }
 
@@ -249,9 +249,9 @@ pub any_time : (o : Observed) → ((p : NumberedPattern) (x : BindTree) → is_b
     (p : NumberedPattern) (w : Bounds) (z : State) → Stands o (all_of o) s w p z → Stands o (all_of o) t w p z
 any_time o h s t (Leaf k) w (a_leaf leaf window) st = st
 any_time o h s t (Both p q) w (a_join join.Both l r sides) st =
-    ( any_time o h s t p w l st.0, any_time o h s t q w r st.1, any_sides o (is_binding o p) (is_binding o q) w (window_of w) s t sides (h p) (h q) st.2 )
+    ( any_time o h s t p w l st.0, any_time o h s t q w r st.1, any_sides o (is_binding o p) (is_binding o q) w (window_of w false) s t sides (h p) (h q) st.2 )
 any_time o h s t (Then p q) w (a_join join.Then l r sides) st =
-    ( any_time o h s t p w l st.0, any_time o h s t q w r st.1, any_sides o (is_binding o p) (is_binding o q) w (behind_of w) s t sides (h p) (h q) st.2 )
+    ( any_time o h s t p w l st.0, any_time o h s t q w r st.1, any_sides o (is_binding o p) (is_binding o q) w (window_of w true) s t sides (h p) (h q) st.2 )
 any_time o h s t (Either p q) w (a_choice l r) st = ( any_time o h s t p w l st.0, any_time o h s t q w r st.1 )
 any_time o h s t (Within p x) w (a_limit part) st = any_time o h s t p (within w x) part st
 any_time o h s t (Between p x y) w (a_limit part) st = any_time o h s t p (between w x y) part st

@@ -11,3 +11,4 @@ pub mod StepLemmas
 pub mod LastingLemmas
 pub mod LogLemmas
 pub mod ShapeLemmas
+pub mod RoomLemmas

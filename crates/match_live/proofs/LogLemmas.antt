@@ -12,7 +12,7 @@ use Rattle.match_bindings.specs.Log.{LastIsBy, IsInOrder, numbered, first_time, 
 use Rattle.match_bindings.specs.Span.{earliest}
 use Rattle.match_bindings.specs.Test.{are_repeats, is_binding}
 use Rattle.match_windows.specs.declared.window.Window.{Window}
-use Rattle.match_windows.specs.Stores.{window_of, behind_of}
+use Rattle.match_windows.specs.Stores.{window_of}
 use Rattle.match_live.specs.declared.row.Row.{Row}
 use Rattle.match_live.specs.declared.join.Join.TheVariants as join
 use Rattle.match_live.specs.HeldTree.{HeldTree, hold}
@@ -192,7 +192,7 @@ none_held f h s v = ([], refl, λ x. let no_one = h x in rw no_one refl)
 
 no_levels_stand : (f : ℕ → BindTree → Bool) → ((j : ℕ) (x : BindTree) → f j x ≡ false) → (s : ℤ) (w : Bounds) (n k j : ℕ) → n ≡ k + j → LevelsStand (observed_in []) f s w n j (no_levels k)
 no_levels_stand f h s w n zero j e = omega arith
-no_levels_stand f h s w n (suc k) j e = ( none_held (f j) (h j) s (window_of w), no_levels_stand f h s w n k (suc j) (omega arith) )
+no_levels_stand f h s w n (suc k) j e = ( none_held (f j) (h j) s (window_of w false), no_levels_stand f h s w n k (suc j) (omega arith) )
 
 no_all_levels_stand : (f : ℕ → BindTree → Bool) → ((j : ℕ) (x : BindTree) → f j x ≡ false) → (s : ℤ) (w : Bounds) (n : ℕ) → AllLevelsStand (observed_in []) f s w n (no_levels (n - 1))
 no_all_levels_stand f h s w zero = refl
@@ -200,19 +200,19 @@ no_all_levels_stand f h s w (suc n) =
     subst (λ (k : ℕ). LevelsStand (observed_in []) f s w (suc n) 1 (no_levels k)) (let e : n ≡ suc n - 1 = omega arith in e) (no_levels_stand f h s w (suc n) n 1 (omega arith))
 
 no_sides_stand : (p q : NumberedPattern) (s : ℤ) (w : Bounds) (v : Window) →
-    SidesStand (observed_in []) (is_binding (observed_in []) p) (is_binding (observed_in []) q) s w v (empty_sides (window_of w) v)
+    SidesStand (observed_in []) (is_binding (observed_in []) p) (is_binding (observed_in []) q) s w v (empty_sides (window_of w false) v)
 no_sides_stand p q s w v = record {
   left_window = refl;
   right_window = refl;
-  left = none_held (is_binding (observed_in []) p) (nothing p) s (window_of w);
+  left = none_held (is_binding (observed_in []) p) (nothing p) s (window_of w false);
   right = none_held (is_binding (observed_in []) q) (nothing q) s v;
 }
 
 -- a new matcher stands for the empty log
 pub empty_stands : (p : NumberedPattern) (w : Bounds) (s : ℤ) → Stands (observed_in []) (all_of (observed_in [])) s w p (empty_state w p)
 empty_stands (Leaf k) w s = (refl, refl)
-empty_stands (Both p q) w s = ( empty_stands p w s, empty_stands q w s, no_sides_stand p q s w (window_of w) )
-empty_stands (Then p q) w s = ( empty_stands p w s, empty_stands q w s, no_sides_stand p q s w (behind_of w) )
+empty_stands (Both p q) w s = ( empty_stands p w s, empty_stands q w s, no_sides_stand p q s w (window_of w false) )
+empty_stands (Then p q) w s = ( empty_stands p w s, empty_stands q w s, no_sides_stand p q s w (window_of w true) )
 empty_stands (Either p q) w s = ( empty_stands p w s, empty_stands q w s )
 empty_stands (Within p x) w s = empty_stands p (within w x) s
 empty_stands (Between p x y) w s = empty_stands p (between w x y) s

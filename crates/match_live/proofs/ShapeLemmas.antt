@@ -14,7 +14,7 @@ use Rattle.match_bindings.specs.Binding.{AreRepeats, IsBinding}
 use Rattle.match_bindings.specs.Test.{are_repeats, is_binding}
 use Rattle.match_bindings.specs.Once.{bit, count, Exactly}
 use Rattle.match_windows.specs.declared.window.Window.{Window}
-use Rattle.match_windows.specs.Stores.{Part, a_side, a_level, Store, window_of, behind_of, side, side_behind, level, levels_from, levels, stores_under}
+use Rattle.match_windows.specs.Stores.{Part, a_side, a_level, Store, window_of, side, level, levels, stores_under}
 use Rattle.match_windows.specs.Expiry.{HasExpired}
 use Rattle.match_live.specs.declared.row.Row.{Row}
 use Rattle.match_live.specs.declared.join.Join.TheVariants as join
@@ -147,6 +147,24 @@ window_self a = and_from _ _ (and_from _ _ (count_self a.seconds) (time_self a.s
 
 -- ---- levels
 
+-- so many levels, from j on
+abbrev levels_from : ℕ → ℕ → Bounds → NumberedPattern → List Store
+levels_from j zero w p = []
+levels_from j (suc k) w p = level w p j ∷ levels_from (suc j) k w p
+
+levels_from_more : (j k : ℕ) (w : Bounds) (p : NumberedPattern) → levels_from j (suc k) w p ≡ levels_from j k w p ++ level w p (j + k) ∷ []
+levels_from_more j zero w p = ap (λ n. level w p n ∷ []) (let e : j ≡ j + 0 = omega arith in e)
+levels_from_more j (suc k) w p =
+    ap (λ z. level w p j ∷ z) (levels_from_more (suc j) k w p)
+    ∙ ap (λ n. level w p j ∷ (levels_from (suc j) k w p ++ level w p n ∷ [])) (let e : suc j + k ≡ j + suc k = omega arith in e)
+
+levels_are : (n : ℕ) (w : Bounds) (p : NumberedPattern) → levels w p (suc n) ≡ levels_from 1 n w p
+levels_are zero w p = refl
+levels_are (suc n) w p =
+    ap (λ z. z ++ level w p (suc n) ∷ []) (levels_are n w p)
+    ∙ ap (λ m. levels_from 1 n w p ++ level w p m ∷ []) (let e : suc n ≡ 1 + n = omega arith in e)
+    ∙ sym (levels_from_more 1 n w p)
+
 to_levels : Rule → (o : Observed) (s : ℤ) (w : Bounds) (p : NumberedPattern) (n k j : ℕ) (held : List (List HeldTree)) → n ≡ k + j →
     AreLive o s (levels_from j k w p) held → LevelsStand o (are_repeats (is_binding o p)) s w n j held
 to_levels rule o s w p n zero j [] e h = omega arith
@@ -171,13 +189,15 @@ to_all_levels : Rule → (o : Observed) (s : ℤ) (w : Bounds) (p : NumberedPatt
     AreLive o s (levels w p n) held → AllLevelsStand o (are_repeats (is_binding o p)) s w n held
 to_all_levels rule o s w p zero [] h = refl
 to_all_levels rule o s w p zero (u ∷ us) h = absurd h
-to_all_levels rule o s w p (suc n) held h = to_levels rule o s w p (suc n) n 1 held (omega arith) h
+to_all_levels rule o s w p (suc n) held h =
+    to_levels rule o s w p (suc n) n 1 held (omega arith) (subst (λ (z : List Store). AreLive o s z held) (levels_are n w p) h)
 
 from_all_levels : Rule → (o : Observed) (s : ℤ) (w : Bounds) (p : NumberedPattern) (n : ℕ) (held : List (List HeldTree)) →
     AllLevelsStand o (are_repeats (is_binding o p)) s w n held → AreLive o s (levels w p n) held
 from_all_levels rule o s w p zero [] st = tt
 from_all_levels rule o s w p zero (u ∷ us) st = absurd (cc)
-from_all_levels rule o s w p (suc n) held st = from_levels rule o s w p (suc n) n 1 held (omega arith) st
+from_all_levels rule o s w p (suc n) held st =
+    subst (λ (z : List Store). AreLive o s z held) (sym (levels_are n w p)) (from_levels rule o s w p (suc n) n 1 held (omega arith) st)
 
 from_length : (j k : ℕ) (w : Bounds) (p : NumberedPattern) → length (levels_from j k w p) ≡ k
 from_length j zero w p = refl
@@ -185,7 +205,7 @@ from_length j (suc k) w p = ap suc (from_length (suc j) k w p)
 
 levels_count : (w : Bounds) (p : NumberedPattern) (n : ℕ) → length (levels w p n) ≡ n - 1
 levels_count w p zero = omega arith
-levels_count w p (suc n) = omega (arith, from_length 1 n w p)
+levels_count w p (suc n) = omega (arith, ap length (levels_are n w p), from_length 1 n w p)
 
 -- ---- patterns
 
@@ -193,11 +213,11 @@ levels_count w p (suc n) = omega (arith, from_length 1 n w p)
 stores_length : (p : NumberedPattern) (w : Bounds) (z : State) → fits w p z ≡ true → length (stores_under w p) ≡ length (contents_of z)
 stores_length (Leaf k) w (a_leaf leaf window) h = refl
 stores_length (Both p q) w (a_join join.Both l r sides) h =
-    let parts = and_parts (fits w p l && fits w q r) (have_windows sides (window_of w) (window_of w)) h in
+    let parts = and_parts (fits w p l && fits w q r) (have_windows sides (window_of w false) (window_of w false)) h in
     let both = and_parts (fits w p l) (fits w q r) parts.0 in
     omega (arith, length-append (stores_under w p) (stores_under w q), length-append (contents_of l) (contents_of r), stores_length p w l both.0, stores_length q w r both.1)
 stores_length (Then p q) w (a_join join.Then l r sides) h =
-    let parts = and_parts (fits w p l && fits w q r) (have_windows sides (window_of w) (behind_of w)) h in
+    let parts = and_parts (fits w p l && fits w q r) (have_windows sides (window_of w false) (window_of w true)) h in
     let both = and_parts (fits w p l) (fits w q r) parts.0 in
     omega (arith, length-append (stores_under w p) (stores_under w q), length-append (contents_of l) (contents_of r), stores_length p w l both.0, stores_length q w r both.1)
 stores_length (Either p q) w (a_choice l r) h =
@@ -206,21 +226,21 @@ stores_length (Either p q) w (a_choice l r) h =
 stores_length (Within p x) w (a_limit part) h = stores_length p (within w x) part h
 stores_length (Between p x y) w (a_limit part) h = stores_length p (between w x y) part h
 stores_length (Repeats p n) w (a_chain part count window held) h =
-    let parts = and_parts (fits w p part && same_window window (window_of w)) (nat_eq count n && nat_eq (length held) (n - 1)) h in
-    let two = and_parts (fits w p part) (same_window window (window_of w)) parts.0 in
+    let parts = and_parts (fits w p part && same_window window (window_of w false)) (nat_eq count n && nat_eq (length held) (n - 1)) h in
+    let two = and_parts (fits w p part) (same_window window (window_of w false)) parts.0 in
     let last = and_parts (nat_eq count n) (nat_eq (length held) (n - 1)) parts.1 in
     let many : length held ≡ n - 1 = eqb-true (length held) (n - 1) last.1 in
     omega (arith, length-append (levels w p n) (stores_under w p), length-append held (contents_of part), stores_length p w part two.0, levels_count w p n, many)
 stores_length p w z h = absurd (cc)
 
 sides_from : Rule → (o : Observed) (s : ℤ) (p q : NumberedPattern) (w : Bounds) (v : Window) (right : Store) → right.part ≡ a_side q → right.window ≡ v → (sides : SideStores) →
-    have_windows sides (window_of w) v ≡ true → HoldsLive o s (side w p) sides.left → HoldsLive o s right sides.right →
+    have_windows sides (window_of w false) v ≡ true → HoldsLive o s (side w false p) sides.left → HoldsLive o s right sides.right →
     SidesStand o (is_binding o p) (is_binding o q) s w v sides
 sides_from rule o s p q w v right part window sides h left_live right_live =
-    let parts = and_parts (same_window sides.left_window (window_of w)) (same_window sides.right_window v) h in record {
-      left_window = same_window_is sides.left_window (window_of w) parts.0;
+    let parts = and_parts (same_window sides.left_window (window_of w false)) (same_window sides.right_window v) h in record {
+      left_window = same_window_is sides.left_window (window_of w false) parts.0;
       right_window = same_window_is sides.right_window v parts.1;
-      left = to_held o s (side w p) (is_binding o p) (λ x. rule o p x) sides.left left_live;
+      left = to_held o s (side w false p) (is_binding o p) (λ x. rule o p x) sides.left left_live;
       right = subst (λ (u : Window). AreHeld o (λ x. is_binding o q x && lives u (earliest o.first x) s) sides.right) window
           (to_held o s right (is_binding o q) (λ x. subst (λ (u : Part). (is_binding o q x ≡ true) ↔ MayHold o u x) (sym part) (rule o q x)) sides.right right_live);
     }
@@ -228,19 +248,19 @@ sides_from rule o s p q w v right part window sides h left_live right_live =
 pub stands_from : Rule → (o : Observed) (s : ℤ) (p : NumberedPattern) (w : Bounds) (z : State) → fits w p z ≡ true → AreLive o s (stores_under w p) (contents_of z) →
     Stands o (all_of o) s w p z
 stands_from rule o s (Leaf k) w (a_leaf leaf window) h live =
-    let parts = and_parts (nat_eq leaf k) (same_window window (window_of w)) h in ( eqb-true leaf k parts.0, same_window_is window (window_of w) parts.1 )
+    let parts = and_parts (nat_eq leaf k) (same_window window (window_of w false)) h in ( eqb-true leaf k parts.0, same_window_is window (window_of w false) parts.1 )
 stands_from rule o s (Both p q) w (a_join join.Both l r sides) h live =
-    let parts = and_parts (fits w p l && fits w q r) (have_windows sides (window_of w) (window_of w)) h in
+    let parts = and_parts (fits w p l && fits w q r) (have_windows sides (window_of w false) (window_of w false)) h in
     let both = and_parts (fits w p l) (fits w q r) parts.0 in
     let rest = live_split o s (stores_under w p) (stores_under w q) (contents_of l) (contents_of r) (stores_length p w l both.0) live.1.1 in
     ( stands_from rule o s p w l both.0 rest.0, stands_from rule o s q w r both.1 rest.1
-    , sides_from rule o s p q w (window_of w) (side w q) refl refl sides parts.1 live.0 live.1.0 )
+    , sides_from rule o s p q w (window_of w false) (side w false q) refl refl sides parts.1 live.0 live.1.0 )
 stands_from rule o s (Then p q) w (a_join join.Then l r sides) h live =
-    let parts = and_parts (fits w p l && fits w q r) (have_windows sides (window_of w) (behind_of w)) h in
+    let parts = and_parts (fits w p l && fits w q r) (have_windows sides (window_of w false) (window_of w true)) h in
     let both = and_parts (fits w p l) (fits w q r) parts.0 in
     let rest = live_split o s (stores_under w p) (stores_under w q) (contents_of l) (contents_of r) (stores_length p w l both.0) live.1.1 in
     ( stands_from rule o s p w l both.0 rest.0, stands_from rule o s q w r both.1 rest.1
-    , sides_from rule o s p q w (behind_of w) (side_behind w q) refl refl sides parts.1 live.0 live.1.0 )
+    , sides_from rule o s p q w (window_of w true) (side w true q) refl refl sides parts.1 live.0 live.1.0 )
 stands_from rule o s (Either p q) w (a_choice l r) h live =
     let both = and_parts (fits w p l) (fits w q r) h in
     let rest = live_split o s (stores_under w p) (stores_under w q) (contents_of l) (contents_of r) (stores_length p w l both.0) live in
@@ -248,24 +268,24 @@ stands_from rule o s (Either p q) w (a_choice l r) h live =
 stands_from rule o s (Within p x) w (a_limit part) h live = stands_from rule o s p (within w x) part h live
 stands_from rule o s (Between p x y) w (a_limit part) h live = stands_from rule o s p (between w x y) part h live
 stands_from rule o s (Repeats p n) w (a_chain part count window held) h live =
-    let parts = and_parts (fits w p part && same_window window (window_of w)) (nat_eq count n && nat_eq (length held) (n - 1)) h in
-    let two = and_parts (fits w p part) (same_window window (window_of w)) parts.0 in
+    let parts = and_parts (fits w p part && same_window window (window_of w false)) (nat_eq count n && nat_eq (length held) (n - 1)) h in
+    let two = and_parts (fits w p part) (same_window window (window_of w false)) parts.0 in
     let last = and_parts (nat_eq count n) (nat_eq (length held) (n - 1)) parts.1 in
     let many : length held ≡ n - 1 = eqb-true (length held) (n - 1) last.1 in
     let rest = live_split o s (levels w p n) (stores_under w p) held (contents_of part) (levels_count w p n ∙ sym many) live in
-    ( stands_from rule o s p w part two.0 rest.1, eqb-true count n last.0, same_window_is window (window_of w) two.1
+    ( stands_from rule o s p w part two.0 rest.1, eqb-true count n last.0, same_window_is window (window_of w false) two.1
     , to_all_levels rule o s w p n held rest.0 )
 stands_from rule o s p w z h live = absurd (cc)
 
 pub live_from : Rule → (o : Observed) (s : ℤ) (p : NumberedPattern) (w : Bounds) (z : State) → Stands o (all_of o) s w p z → AreLive o s (stores_under w p) (contents_of z)
 live_from rule o s (Leaf k) w (a_leaf leaf window) st = tt
 live_from rule o s (Both p q) w (a_join join.Both l r sides) st =
-    ( from_held o s (side w p) (is_binding o p) (λ x. rule o p x) sides.left st.2.left
-    , ( from_held o s (side w q) (is_binding o q) (λ x. rule o q x) sides.right st.2.right
+    ( from_held o s (side w false p) (is_binding o p) (λ x. rule o p x) sides.left st.2.left
+    , ( from_held o s (side w false q) (is_binding o q) (λ x. rule o q x) sides.right st.2.right
       , live_append o s (stores_under w p) (stores_under w q) (contents_of l) (contents_of r) (live_from rule o s p w l st.0) (live_from rule o s q w r st.1) ) )
 live_from rule o s (Then p q) w (a_join join.Then l r sides) st =
-    ( from_held o s (side w p) (is_binding o p) (λ x. rule o p x) sides.left st.2.left
-    , ( from_held o s (side_behind w q) (is_binding o q) (λ x. rule o q x) sides.right st.2.right
+    ( from_held o s (side w false p) (is_binding o p) (λ x. rule o p x) sides.left st.2.left
+    , ( from_held o s (side w true q) (is_binding o q) (λ x. rule o q x) sides.right st.2.right
       , live_append o s (stores_under w p) (stores_under w q) (contents_of l) (contents_of r) (live_from rule o s p w l st.0) (live_from rule o s q w r st.1) ) )
 live_from rule o s (Either p q) w (a_choice l r) st =
     live_append o s (stores_under w p) (stores_under w q) (contents_of l) (contents_of r) (live_from rule o s p w l st.0) (live_from rule o s q w r st.1)
@@ -282,18 +302,18 @@ both_same a b c d e f = cc
 pub fits_step : (row : Row) (truths : List Bool) (p : NumberedPattern) (w : Bounds) (z : State) → fits w p (step_state row truths z) ≡ fits w p z
 fits_step row truths (Leaf k) w (a_leaf leaf window) = refl
 fits_step row truths (Both p q) w (a_join join.Both l r sides) =
-    ap (λ b. b && have_windows sides (window_of w) (window_of w))
+    ap (λ b. b && have_windows sides (window_of w false) (window_of w false))
       (both_same (fits w p (step_state row truths l)) (fits w q (step_state row truths r)) (fits w p l) (fits w q r) (fits_step row truths p w l) (fits_step row truths q w r))
 fits_step row truths (Then p q) w (a_join join.Then l r sides) =
-    ap (λ b. b && have_windows sides (window_of w) (behind_of w))
+    ap (λ b. b && have_windows sides (window_of w false) (window_of w true))
       (both_same (fits w p (step_state row truths l)) (fits w q (step_state row truths r)) (fits w p l) (fits w q r) (fits_step row truths p w l) (fits_step row truths q w r))
 fits_step row truths (Either p q) w (a_choice l r) =
     both_same (fits w p (step_state row truths l)) (fits w q (step_state row truths r)) (fits w p l) (fits w q r) (fits_step row truths p w l) (fits_step row truths q w r)
 fits_step row truths (Within p x) w (a_limit part) = fits_step row truths p (within w x) part
 fits_step row truths (Between p x y) w (a_limit part) = fits_step row truths p (between w x y) part
 fits_step row truths (Repeats p n) w (a_chain part count window held) =
-    ap (λ b. (b && same_window window (window_of w)) && (nat_eq count n && nat_eq (length (levels_after window row.last (map (held_with Single) (step_new row truths part)) (step_new row truths part) held)) (n - 1))) (fits_step row truths p w part)
-    ∙ ap (λ m. (fits w p part && same_window window (window_of w)) && (nat_eq count n && nat_eq m (n - 1))) (length_after window row.last (map (held_with Single) (step_new row truths part)) (step_new row truths part) held)
+    ap (λ b. (b && same_window window (window_of w false)) && (nat_eq count n && nat_eq (length (levels_after window row.last (map (held_with Single) (step_new row truths part)) (step_new row truths part) held)) (n - 1))) (fits_step row truths p w part)
+    ∙ ap (λ m. (fits w p part && same_window window (window_of w false)) && (nat_eq count n && nat_eq m (n - 1))) (length_after window row.last (map (held_with Single) (step_new row truths part)) (step_new row truths part) held)
 fits_step row truths p w z = refl
 
 no_levels_length : (k : ℕ) → length (no_levels k) ≡ k
@@ -301,12 +321,12 @@ no_levels_length zero = refl
 no_levels_length (suc k) = ap suc (no_levels_length k)
 
 pub fits_empty : (p : NumberedPattern) (w : Bounds) → fits w p (empty_state w p) ≡ true
-fits_empty (Leaf k) w = and_from _ _ (eq-eqb k k refl) (window_self (window_of w))
-fits_empty (Both p q) w = and_from _ _ (and_from _ _ (fits_empty p w) (fits_empty q w)) (and_from _ _ (window_self (window_of w)) (window_self (window_of w)))
-fits_empty (Then p q) w = and_from _ _ (and_from _ _ (fits_empty p w) (fits_empty q w)) (and_from _ _ (window_self (window_of w)) (window_self (behind_of w)))
+fits_empty (Leaf k) w = and_from _ _ (eq-eqb k k refl) (window_self (window_of w false))
+fits_empty (Both p q) w = and_from _ _ (and_from _ _ (fits_empty p w) (fits_empty q w)) (and_from _ _ (window_self (window_of w false)) (window_self (window_of w false)))
+fits_empty (Then p q) w = and_from _ _ (and_from _ _ (fits_empty p w) (fits_empty q w)) (and_from _ _ (window_self (window_of w false)) (window_self (window_of w true)))
 fits_empty (Either p q) w = and_from _ _ (fits_empty p w) (fits_empty q w)
 fits_empty (Within p x) w = fits_empty p (within w x)
 fits_empty (Between p x y) w = fits_empty p (between w x y)
 fits_empty (Repeats p n) w =
-    and_from _ _ (and_from _ _ (fits_empty p w) (window_self (window_of w)))
+    and_from _ _ (and_from _ _ (fits_empty p w) (window_self (window_of w false)))
       (and_from _ _ (eq-eqb n n refl) (eq-eqb (length (no_levels (n - 1))) (n - 1) (no_levels_length (n - 1))))

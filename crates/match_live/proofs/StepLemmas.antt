@@ -12,7 +12,7 @@ use Rattle.match_bindings.specs.Span.{earliest, latest, later_by}
 use Rattle.match_bindings.specs.Test.{are_repeats, is_binding}
 use Rattle.match_bindings.specs.Once.{bit, same, count, Exactly}
 use Rattle.match_windows.specs.declared.window.Window.{Window}
-use Rattle.match_windows.specs.Stores.{window_of, behind_of}
+use Rattle.match_windows.specs.Stores.{window_of}
 use Rattle.match_live.specs.declared.join.Join.{Join}
 use Rattle.match_live.specs.declared.join.Join.TheVariants as join
 use Rattle.match_live.specs.declared.row.Row.{Row}
@@ -48,7 +48,7 @@ without n o = record {
 
 -- the stores of two sides hold what counts and lives at s
 pub record SidesStand (o : Observed) (f g : BindTree → Bool) (s : ℤ) (w : Bounds) (v : Window) (sides : SideStores) : Type 0 where
-  pub left_window : sides.left_window ≡ window_of w
+  pub left_window : sides.left_window ≡ window_of w false
   pub right_window : sides.right_window ≡ v
   pub left : AreHeld o (λ x. f x && alive w (earliest o.first x) s) sides.left
   pub right : AreHeld o (λ x. g x && lives v (earliest o.first x) s) sides.right
@@ -65,14 +65,14 @@ AllLevelsStand o f s w (suc n) levels = LevelsStand o f s w (suc n) 1 levels
 
 -- the stores hold what counts and lives at s
 abbrev pub Stands : Observed → Counted → ℤ → Bounds → NumberedPattern → State → Type 0
-Stands o b s w (Leaf k) (a_leaf leaf window) = (leaf ≡ k) × (window ≡ window_of w)
-Stands o b s w (Both p q) (a_join join.Both l r sides) = Stands o b s w p l × Stands o b s w q r × SidesStand o (b.binding p) (b.binding q) s w (window_of w) sides
-Stands o b s w (Then p q) (a_join join.Then l r sides) = Stands o b s w p l × Stands o b s w q r × SidesStand o (b.binding p) (b.binding q) s w (behind_of w) sides
+Stands o b s w (Leaf k) (a_leaf leaf window) = (leaf ≡ k) × (window ≡ window_of w false)
+Stands o b s w (Both p q) (a_join join.Both l r sides) = Stands o b s w p l × Stands o b s w q r × SidesStand o (b.binding p) (b.binding q) s w (window_of w false) sides
+Stands o b s w (Then p q) (a_join join.Then l r sides) = Stands o b s w p l × Stands o b s w q r × SidesStand o (b.binding p) (b.binding q) s w (window_of w true) sides
 Stands o b s w (Either p q) (a_choice l r) = Stands o b s w p l × Stands o b s w q r
 Stands o b s w (Within p x) (a_limit part) = Stands o b s (within w x) p part
 Stands o b s w (Between p x y) (a_limit part) = Stands o b s (between w x y) p part
 Stands o b s w (Repeats p n) (a_chain part count window levels) =
-    Stands o b s w p part × (count ≡ n) × (window ≡ window_of w) × AllLevelsStand o (b.level p) s w n levels
+    Stands o b s w p part × (count ≡ n) × (window ≡ window_of w false) × AllLevelsStand o (b.level p) s w n levels
 Stands o b s w _ _ = ⊥
 
 -- what ends at row n, at time t, and hasn't expired by the qualifiers above
@@ -137,7 +137,7 @@ leaf_exactly o row truths s g k w (Single x) = leaf_other row.number (truth_at t
 leaf_exactly o row truths s g k w (More x y) = leaf_other row.number (truth_at truths k && alive w row.first row.last) (More x y) refl
 
 leaf_law : (o : Observed) (row : Row) (truths : List Bool) (s : ℤ) → Given o row truths s → (k : ℕ) (w : Bounds) →
-    AreHeld o (ends o row.number row.last w (Leaf k)) (new_at_leaf row truths k (window_of w))
+    AreHeld o (ends o row.number row.last w (Leaf k)) (new_at_leaf row truths k (window_of w false))
 leaf_law o row truths s g k w = (
   cond (truth_at truths k && alive w row.first row.last) (One row.number ∷ []) [],
   leaf_map o row (truth_at truths k && alive w row.first row.last) g.first g.last,
@@ -273,13 +273,13 @@ sides_law : (o : Observed) (n : ℕ) (s t : ℤ) (w : Bounds) (v : Window) (j : 
 sides_law o n s t w v j p q f k h sides st new_l new_r hl hr =
     let old_l : AreHeld o (λ x. (p x && alive w (earliest o.first x) t) && not (has n x)) (kept sides.left_window t sides.left) =
       subst (λ (u : Window). AreHeld o (λ x. (p x && alive w (earliest o.first x) t) && not (has n x)) (kept u t sides.left)) (sym st.left_window)
-        (kept_law o (window_of w) s t n p sides.left h st.left) in
+        (kept_law o (window_of w false) s t n p sides.left h st.left) in
     let old_r : AreHeld o (λ x. (q x && lives v (earliest o.first x) t) && not (has n x)) (kept sides.right_window t sides.right) =
       subst (λ (u : Window). AreHeld o (λ x. (q x && lives v (earliest o.first x) t) && not (has n x)) (kept u t sides.right)) (sym st.right_window)
         (kept_law o v s t n q sides.right h st.right) in
     let add_l : AreHeld o (λ x. (p x && alive w (earliest o.first x) t) && has n x) (kept sides.left_window t new_l) =
       subst (λ (u : Window). AreHeld o (λ x. (p x && alive w (earliest o.first x) t) && has n x) (kept u t new_l)) (sym st.left_window)
-        (added_law o (window_of w) w t n p new_l (λ e z. z) hl) in
+        (added_law o (window_of w false) w t n p new_l (λ e z. z) hl) in
     let add_r : AreHeld o (λ x. (q x && lives v (earliest o.first x) t) && has n x) (kept sides.right_window t new_r) =
       subst (λ (u : Window). AreHeld o (λ x. (q x && lives v (earliest o.first x) t) && has n x) (kept u t new_r)) (sym st.right_window)
         (added_law o v w t n q new_r k.lasting hr) in
@@ -298,7 +298,7 @@ no_pair x h a b e =
     let both : true ≡ false = sym is ∙ no in
     cc
 
-both_joined : (o : Observed) (n : ℕ) (t : ℤ) (w : Bounds) (p q : NumberedPattern) → Joined o n t w (window_of w) join.Both (is_binding o p) (is_binding o q) (is_binding o (Both p q))
+both_joined : (o : Observed) (n : ℕ) (t : ℤ) (w : Bounds) (p q : NumberedPattern) → Joined o n t w (window_of w false) join.Both (is_binding o p) (is_binding o q) (is_binding o (Both p q))
 both_joined o n t w p q = record {
   makes = λ a b. refl;
   other = other;
@@ -312,7 +312,7 @@ both_joined o n t w p q = record {
   other x h = refl
 
 then_joined : (o : Observed) (row : Row) (truths : List Bool) (s : ℤ) → Given o row truths s → (w : Bounds) (p q : NumberedPattern) →
-    Joined o row.number row.last w (behind_of w) join.Then (is_binding o p) (is_binding o q) (is_binding o (Then p q))
+    Joined o row.number row.last w (window_of w true) join.Then (is_binding o p) (is_binding o q) (is_binding o (Then p q))
 then_joined o row truths s g w p q = record {
   makes = λ a b. refl;
   other = other;
@@ -401,27 +401,27 @@ levels_law : (o : Observed) (row : Row) (truths : List Bool) (s : ℤ) → Given
     AreHeld o (λ x. (are_repeats (is_binding o p) (suc j) x && alive w (earliest o.first x) row.last) && has row.number x) first →
     AreHeld o (ends o row.number row.last w p) new →
     LevelsStand o (λ i x. are_repeats (is_binding o p) i x && not (has row.number x)) s w n (suc j) levels →
-    AreHeld o (λ x. (are_repeats (is_binding o p) n x && alive w (earliest o.first x) row.last) && has row.number x) (levels_new (window_of w) row.last first new levels)
-    × LevelsStand o (λ i x. are_repeats (is_binding o p) i x) row.last w n (suc j) (levels_after (window_of w) row.last first new levels)
+    AreHeld o (λ x. (are_repeats (is_binding o p) n x && alive w (earliest o.first x) row.last) && has row.number x) (levels_new (window_of w false) row.last first new levels)
+    × LevelsStand o (λ i x. are_repeats (is_binding o p) i x) row.last w n (suc j) (levels_after (window_of w false) row.last first new levels)
 levels_law o row truths s g p w n j first new [] hf hn st =
     ( subst (λ (i : ℕ). AreHeld o (λ x. (are_repeats (is_binding o p) i x && alive w (earliest o.first x) row.last) && has row.number x) first) (sym st) hf, st )
 levels_law o row truths s g p w n j first new (held ∷ levels) hf hn st =
-    let old = kept_law o (window_of w) s row.last row.number (λ x. are_repeats (is_binding o p) (suc j) x) held g.earlier st.0 in
-    let add = added_law o (window_of w) w row.last row.number (λ x. are_repeats (is_binding o p) (suc j) x) first (λ e z. z) hf in
-    let up = level_node o row truths s g p w j (kept (window_of w) row.last held) new old hn in
-    let rest = levels_law o row truths s g p w n (suc j) (joins join.Repeats (kept (window_of w) row.last held) new) new levels up hn st.1 in
+    let old = kept_law o (window_of w false) s row.last row.number (λ x. are_repeats (is_binding o p) (suc j) x) held g.earlier st.0 in
+    let add = added_law o (window_of w false) w row.last row.number (λ x. are_repeats (is_binding o p) (suc j) x) first (λ e z. z) hf in
+    let up = level_node o row truths s g p w j (kept (window_of w false) row.last held) new old hn in
+    let rest = levels_law o row truths s g p w n (suc j) (joins join.Repeats (kept (window_of w false) row.last held) new) new levels up hn st.1 in
     ( rest.0
-    , ( stored_law o row.number (λ x. are_repeats (is_binding o p) (suc j) x && alive w (earliest o.first x) row.last) (kept (window_of w) row.last held) (kept (window_of w) row.last first) old add
+    , ( stored_law o row.number (λ x. are_repeats (is_binding o p) (suc j) x && alive w (earliest o.first x) row.last) (kept (window_of w false) row.last held) (kept (window_of w false) row.last first) old add
       , rest.1 ) )
 
 -- the sets of a REPEATS
 chain_law : (o : Observed) (row : Row) (truths : List Bool) (s : ℤ) → Given o row truths s → (p : NumberedPattern) (w : Bounds) (n : ℕ)
     (new : List HeldTree) (levels : List (List HeldTree)) → AreHeld o (ends o row.number row.last w p) new →
     AllLevelsStand o (λ i x. are_repeats (is_binding o p) i x && not (has row.number x)) s w n levels →
-    AreHeld o (ends o row.number row.last w (Repeats p n)) (counted n (levels_new (window_of w) row.last (map (held_with Single) new) new levels))
-    × AllLevelsStand o (λ i x. are_repeats (is_binding o p) i x) row.last w n (levels_after (window_of w) row.last (map (held_with Single) new) new levels)
+    AreHeld o (ends o row.number row.last w (Repeats p n)) (counted n (levels_new (window_of w false) row.last (map (held_with Single) new) new levels))
+    × AllLevelsStand o (λ i x. are_repeats (is_binding o p) i x) row.last w n (levels_after (window_of w false) row.last (map (held_with Single) new) new levels)
 chain_law o row truths s g p w zero new levels hn st =
-    (([], refl, λ x. refl), ap (levels_after (window_of w) row.last (map (held_with Single) new) new) st)
+    (([], refl, λ x. refl), ap (levels_after (window_of w false) row.last (map (held_with Single) new) new) st)
 chain_law o row truths s g p w (suc n) new levels hn st =
     levels_law o row truths s g p w (suc n) zero (map (held_with Single) new) new levels (first_level o row.number row.last p w new hn) hn st
 
@@ -463,13 +463,13 @@ step_law o row truths s g (Leaf k) w (a_leaf leaf window) st =
 step_law o row truths s g (Both p q) w (a_join join.Both l r sides) st =
     let one = step_law o row truths s g p w l st.0 in
     let two = step_law o row truths s g q w r st.1 in
-    let law = sides_law o row.number s row.last w (window_of w) join.Both (is_binding o p) (is_binding o q) (is_binding o (Both p q))
+    let law = sides_law o row.number s row.last w (window_of w false) join.Both (is_binding o p) (is_binding o q) (is_binding o (Both p q))
       (both_joined o row.number row.last w p q) g.earlier sides st.2 (step_new row truths l) (step_new row truths r) one.0 two.0 in
     ( law.0, (one.1, two.1, law.1) )
 step_law o row truths s g (Then p q) w (a_join join.Then l r sides) st =
     let one = step_law o row truths s g p w l st.0 in
     let two = step_law o row truths s g q w r st.1 in
-    let law = sides_law o row.number s row.last w (behind_of w) join.Then (is_binding o p) (is_binding o q) (is_binding o (Then p q))
+    let law = sides_law o row.number s row.last w (window_of w true) join.Then (is_binding o p) (is_binding o q) (is_binding o (Then p q))
       (then_joined o row truths s g w p q) g.earlier sides st.2 (step_new row truths l) (step_new row truths r) one.0 two.0 in
     ( law.0, (one.1, two.1, law.1) )
 step_law o row truths s g (Either p q) w (a_choice l r) st =

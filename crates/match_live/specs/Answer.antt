@@ -1,5 +1,5 @@
 -- What a matcher answers to a row: the bindings that end there.
-use Rattle.std.specs.Prelude.{◌≡◌, ℕ, ◌+◌, List, length}
+use Rattle.std.specs.Prelude.{◌≡◌, ℕ, ◌+◌, ◌≤◌, ◌<◌, List, length}
 use Rattle.match_bindings.specs.declared.log_entry.LogEntry.{LogEntry}
 use Rattle.match_bindings.specs.NumberedPattern.{NumberedPattern}
 use Rattle.match_bindings.specs.BindTree.{BindTree, greatest}
@@ -27,3 +27,11 @@ pub record IsLiveCount (p : NumberedPattern) (log : List LogEntry) (n : ℕ) : T
   pub live : IsLivePart p log contents
   pub ending : IsAnswer p log answer
   pub sum : n ≡ held_count contents + length answer
+
+-- the live count passes the cap
+abbrev pub IsCrowded : NumberedPattern → List LogEntry → ℕ → Type 0
+IsCrowded p log cap = (n : ℕ) × IsLiveCount p log n × (cap < n)
+
+-- it doesn't
+abbrev pub IsRoomy : NumberedPattern → List LogEntry → ℕ → Type 0
+IsRoomy p log cap = (n : ℕ) × IsLiveCount p log n × (n ≤ cap)

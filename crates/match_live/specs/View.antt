@@ -9,9 +9,9 @@ use Rattle.match_live.specs.inner.Nodes.{state_of}
 abbrev pub matcher_state : Matcher → MatcherState
 matcher_state m = record {
   pattern = numbered_pattern m.pattern.now;
-  cap = m.cap;
+  cap = m.run.cap;
   ended = m.ended;
-  rows = m.rows;
-  last = m.last;
-  contents = contents_of (state_of m.node);
+  rows = m.run.rows;
+  last = m.run.last;
+  contents = contents_of (state_of m.run.node);
 }

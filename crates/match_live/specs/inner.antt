@@ -3,3 +3,4 @@ pub mod Helds
 pub mod Nodes
 pub mod Steps
 pub mod Shape
+pub mod Runs

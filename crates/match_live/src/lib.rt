@@ -13,7 +13,9 @@ mod join;
 mod levels;
 mod matcher;
 mod node;
+mod room;
 mod row;
+mod run;
 mod sides;
 mod store;
 

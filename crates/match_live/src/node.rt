@@ -2,6 +2,7 @@ ghost use Rattle.std.specs.Prelude.{◌≡◌, ◌+◌, ◌<◌, ◌^◌, ◌++�
 ghost use Rattle.pattern_types.specs.Leaves.{leaves};
 ghost use Rattle.match_bindings.specs.NumberedPattern.{numbered_from};
 ghost use Rattle.match_bindings.specs.BindTree.{One, First, Second};
+ghost use Rattle.match_windows.specs.Stores.{window_of};
 ghost use Rattle.match_live.specs.inner.Helds.{held_tree, held_trees};
 ghost use Rattle.match_live.specs.inner.Steps.{held_with, a_join, step_new, step_state, new_at_leaf, empty_state};
 ghost use Rattle.match_live.specs.inner.Nodes.{side_stores, state_of};
@@ -45,17 +46,17 @@ pub(crate) fn empty_node(
     ensures { IfOk result (λ node. state_of node ≡ empty_state above (numbered_from leaf pattern.now)) }
 {
     match pattern {
-        Pattern::Leaf(_) => Ok(Node::Leaf(leaf, Window::new(above))),
+        Pattern::Leaf(_) => Ok(Node::Leaf(leaf, store_window(&above, false))),
         Pattern::Both(left, right) => {
             let left_node = empty_node(alloc, left, leaf, above)?;
             let right_node = empty_node(alloc, right, leaf + leaf_count(left), above)?;
-            let sides = Sides::new(alloc, Window::new(above), Window::new(above));
+            let sides = Sides::new(alloc, store_window(&above, false), store_window(&above, false));
             sides_node(alloc, Join::Both, left_node, right_node, sides)
         }
         Pattern::Then(left, right) => {
             let left_node = empty_node(alloc, left, leaf, above)?;
             let right_node = empty_node(alloc, right, leaf + leaf_count(left), above)?;
-            let sides = Sides::new(alloc, Window::new(above), Window::behind(above));
+            let sides = Sides::new(alloc, store_window(&above, false), store_window(&above, true));
             sides_node(alloc, Join::Then, left_node, right_node, sides)
         }
         Pattern::Either(left, right) => {
@@ -73,9 +74,21 @@ pub(crate) fn empty_node(
         }
         Pattern::Repeats(part, count) => {
             let node = empty_node(alloc, part, leaf, above)?;
-            let levels = Levels::new(alloc, *count, Window::new(above));
+            let levels = Levels::new(alloc, *count, store_window(&above, false));
             Ok(Node::Repeats(Box::new(alloc, node)?, levels))
         }
+    }
+}
+
+/// The window of a store under these bounds.
+fn store_window(above: &Bounds, behind: bool) -> Window
+    ensures { result ≡ window_of above.now behind }
+{
+    Window {
+        seconds: above.seconds,
+        start: above.start,
+        stop: above.stop,
+        behind,
     }
 }
 

@@ -4,7 +4,7 @@ use Rattle.match_bindings.specs.declared.bounds.Bounds.{Bounds}
 use Rattle.match_bindings.specs.Bounds.{within, between}
 use Rattle.match_bindings.specs.NumberedPattern.{NumberedPattern, Leaf, Both, Then, Either, Within, Between, Repeats}
 use Rattle.match_windows.specs.declared.window.Window.{Window}
-use Rattle.match_windows.specs.Stores.{window_of, behind_of}
+use Rattle.match_windows.specs.Stores.{window_of}
 use Rattle.match_live.specs.declared.join.Join.{Join}
 use Rattle.match_live.specs.declared.join.Join.TheVariants as join
 use Rattle.match_live.specs.inner.Steps.{SideStores, State, a_leaf, a_join, a_choice, a_limit, a_chain}
@@ -32,12 +32,12 @@ have_windows sides left right = same_window sides.left_window left && same_windo
 
 -- for this pattern under these bounds
 abbrev pub fits : Bounds → NumberedPattern → State → Bool
-fits above (Leaf k) (a_leaf leaf window) = nat_eq leaf k && same_window window (window_of above)
-fits above (Both p q) (a_join join.Both l r sides) = (fits above p l && fits above q r) && have_windows sides (window_of above) (window_of above)
-fits above (Then p q) (a_join join.Then l r sides) = (fits above p l && fits above q r) && have_windows sides (window_of above) (behind_of above)
+fits above (Leaf k) (a_leaf leaf window) = nat_eq leaf k && same_window window (window_of above false)
+fits above (Both p q) (a_join join.Both l r sides) = (fits above p l && fits above q r) && have_windows sides (window_of above false) (window_of above false)
+fits above (Then p q) (a_join join.Then l r sides) = (fits above p l && fits above q r) && have_windows sides (window_of above false) (window_of above true)
 fits above (Either p q) (a_choice l r) = fits above p l && fits above q r
 fits above (Within p x) (a_limit part) = fits (within above x) p part
 fits above (Between p x y) (a_limit part) = fits (between above x y) p part
 fits above (Repeats p n) (a_chain part count window levels) =
-    (fits above p part && same_window window (window_of above)) && (nat_eq count n && nat_eq (length levels) (n - 1))
+    (fits above p part && same_window window (window_of above false)) && (nat_eq count n && nat_eq (length levels) (n - 1))
 fits above _ _ = false

@@ -7,7 +7,7 @@ use Rattle.match_bindings.specs.Bounds.{within, between}
 use Rattle.match_bindings.specs.NumberedPattern.{NumberedPattern, Leaf, Both, Then, Either, Within, Between, Repeats}
 use Rattle.match_bindings.specs.BindTree.{BindTree, One, Pair, First, Second, Single, add_part, disjoint}
 use Rattle.match_windows.specs.declared.window.Window.{Window}
-use Rattle.match_windows.specs.Stores.{window_of, behind_of}
+use Rattle.match_windows.specs.Stores.{window_of}
 use Rattle.match_live.specs.declared.join.Join.{Join}
 use Rattle.match_live.specs.declared.join.Join.TheVariants as join
 use Rattle.match_live.specs.declared.row.Row.{Row}
@@ -150,13 +150,13 @@ empty_sides left right = record { left = []; right = []; left_window = left; rig
 
 -- what is kept without rows
 abbrev pub empty_state : Bounds → NumberedPattern → State
-empty_state above (Leaf k) = a_leaf k (window_of above)
-empty_state above (Both p q) = a_join join.Both (empty_state above p) (empty_state above q) (empty_sides (window_of above) (window_of above))
-empty_state above (Then p q) = a_join join.Then (empty_state above p) (empty_state above q) (empty_sides (window_of above) (behind_of above))
+empty_state above (Leaf k) = a_leaf k (window_of above false)
+empty_state above (Both p q) = a_join join.Both (empty_state above p) (empty_state above q) (empty_sides (window_of above false) (window_of above false))
+empty_state above (Then p q) = a_join join.Then (empty_state above p) (empty_state above q) (empty_sides (window_of above false) (window_of above true))
 empty_state above (Either p q) = a_choice (empty_state above p) (empty_state above q)
 empty_state above (Within p x) = a_limit (empty_state (within above x) p)
 empty_state above (Between p x y) = a_limit (empty_state (between above x y) p)
-empty_state above (Repeats p n) = a_chain (empty_state above p) n (window_of above) (no_levels (n - 1))
+empty_state above (Repeats p n) = a_chain (empty_state above p) n (window_of above false) (no_levels (n - 1))
 
 -- what the stores hold, in the order of stores_of
 abbrev pub contents_of : State → List (List HeldTree)

@@ -1,11 +1,3 @@
-use Rattle.match_live.proofs.LogLemmas.{take_law}
-use Rattle.match_live.proofs.ShapeLemmas.{to_held}
-use Rattle.match_live.proofs.LastingLemmas.{any_time}
-use Rattle.match_live.proofs.StepLemmas.{step_law}
-use Rattle.match_live.proofs.StoreLemmas.{AreHeld}
-use Rattle.match_live.proofs.AliveLemmas.{alive_min}
-use Rattle.match_live.proofs.NumberLemmas.{apart}
-use Rattle.match_live.proofs.JoinLemmas.{join_law}
 use Rattle.match_live.proofs.LivesLemmas.{not_expired}
 use Rattle.match_live.proofs.store.is_live.Goals as goal
 
