@@ -12,3 +12,5 @@ pub mod LastingLemmas
 pub mod LogLemmas
 pub mod ShapeLemmas
 pub mod RoomLemmas
+pub mod AnswerLemmas
+pub mod TakeLemmas

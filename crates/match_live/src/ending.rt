@@ -1,4 +1,5 @@
-use flow_values::NoMemory;
+ghost use Rattle.std.specs.Prelude.{◌≡◌};
+
 use stix_times::Instant;
 
 /// Why a matcher has ended.
@@ -21,8 +22,21 @@ pub enum MatchRefusal {
     Ended(Ending),
 }
 
-impl From<NoMemory> for Ending {
-    fn from(_: NoMemory) -> Ending {
-        Ending::NoMemory
+impl Ending {
+    /// An equal one.
+    pub(crate) fn copied(&self) -> Ending
+        ensures { result ≡ self.now }
+    {
+        match self {
+            Ending::Crowded { number, cap } => Ending::Crowded {
+                number: *number,
+                cap: *cap,
+            },
+            Ending::OutOfOrder { last, now } => Ending::OutOfOrder {
+                last: *last,
+                now: *now,
+            },
+            Ending::NoMemory => Ending::NoMemory,
+        }
     }
 }

@@ -89,13 +89,13 @@ impl<'p> Matcher<'p> {
     {
         laws::test_is_the_rule();
         laws::sorted_bindings_rise();
-        if let Some(ending) = self.ended {
-            return Err(MatchRefusal::Ended(ending));
+        if let Some(ending) = &self.ended {
+            return Err(MatchRefusal::Ended(ending.copied()));
         }
         match self.run.take(first, last, truths) {
             Ok(binds) => Ok(binds),
             Err(ending) => {
-                self.ended = Some(ending);
+                self.ended = Some(ending.copied());
                 Err(MatchRefusal::Stopped(ending))
             }
         }

@@ -29,7 +29,7 @@ pub(crate) struct Run {
 }
 
 impl Run {
-    ghost use Rattle.match_live.specs.inner.Runs.{next_row, live_after, AreSteps, TookRow};
+    ghost use Rattle.match_live.specs.inner.Runs.{next_row, AreSteps, TookRow, IsOver};
 
     /// Takes a row, and gives the binds that end there.
     pub fn take(
@@ -43,7 +43,7 @@ impl Run {
             ↔ ((self.old.last ≡ Some before) × (now ≡ last) × (now <ℤ before)) }
         ensures crowded { (number cap : ℕ) → result ≡ Err (ending.Crowded number cap)
             → (number ≡ self.old.rows + 1) × (cap ≡ self.old.cap) × (¬ (Falls self.old.last last))
-                × (cap < live_after self.old (next_row self.old.rows first last) truths.now) }
+                × IsOver self.old (next_row self.old.rows first last) truths.now }
         ensures order { OnOk result (¬ (Falls self.old.last last)) }
         ensures took { OnOk result (TookRow self.old self.new (next_row self.old.rows first last) truths.now) }
         ensures binds { IfOk result (λ binds. AreSteps self.old (next_row self.old.rows first last) truths.now (map tree_of binds)) }
@@ -77,7 +77,7 @@ impl Run {
     fn answer(&mut self, row: &Row, truths: &[bool]) -> Result<Option<Items<Bind>>, NoMemory>
         ensures took { IfOk result (λ answer. IfSome answer (λ binds. TookRow self.old self.new row.now truths.now)) }
         ensures binds { IfOk result (λ answer. IfSome answer (λ binds. AreSteps self.old row.now truths.now (map tree_of binds))) }
-        ensures crowded { IfOk result (λ answer. IfNone answer (self.old.cap < live_after self.old row.now truths.now)) }
+        ensures crowded { IfOk result (λ answer. IfNone answer (IsOver self.old row.now truths.now)) }
         ensures cap { self.new.cap ≡ self.old.cap }
     {
         let new = step(self.alloc, &mut self.node, row, truths)?;

@@ -33,3 +33,7 @@ pub record TookRow (old new : Run) (row : Row) (truths : List Bool) : Type 0 whe
   pub node : state_of new.node ≡ step_state row truths (state_of old.node)
   pub cap : new.cap ≡ old.cap
   pub room : live_after old row truths ≤ old.cap
+
+-- more is live after a row than the cap allows; these bindings end there
+abbrev pub IsOver : Run → Row → List Bool → Type 0
+IsOver run row truths = (binds : List BindTree) × AreSteps run row truths binds × (run.cap < live_after run row truths)
