@@ -1,6 +1,3 @@
-use Rattle.match_live.proofs.LogLemmas.{take_law}
-use Rattle.match_live.proofs.ShapeLemmas.{to_held}
-use Rattle.match_live.proofs.AnswerLemmas.{answer_law}
 use Rattle.match_live.proofs.LivesLemmas.{not_expired}
 use Rattle.match_live.proofs.store.is_live.Goals as goal
 
