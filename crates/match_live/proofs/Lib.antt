@@ -14,3 +14,4 @@ pub mod ShapeLemmas
 pub mod RoomLemmas
 pub mod AnswerLemmas
 pub mod TakeLemmas
+pub mod KeptLemmas

@@ -4,3 +4,4 @@ pub mod Nodes
 pub mod Steps
 pub mod Shape
 pub mod Runs
+pub mod Numbers

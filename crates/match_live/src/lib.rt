@@ -10,6 +10,7 @@
 mod ending;
 mod held;
 mod join;
+mod kept;
 mod levels;
 mod matcher;
 mod node;

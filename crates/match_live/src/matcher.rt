@@ -8,11 +8,13 @@ ghost use Rattle.match_live.specs.declared.ending.Ending.TheVariants as ending;
 ghost use Rattle.match_live.specs.declared.ending.MatchRefusal.TheVariants as refusal;
 ghost use Rattle.match_live.specs.MatcherState.{StandsFor, with_row, Falls};
 ghost use Rattle.match_live.specs.Answer.{IsAnswer, IsCrowded, IsRoomy};
+ghost use Rattle.match_live.specs.Kept.{AreKept};
 ghost use Rattle.match_bindings.specs.Bounds.{no_bounds};
 ghost use Rattle.match_bindings.specs.NumberedPattern.{numbered_pattern};
 ghost use Rattle.match_live.specs.inner.Nodes.{state_of};
 ghost use Rattle.match_live.specs.inner.Shape.{fits};
 
+use crate::kept::kept_numbers;
 use crate::node::empty_node;
 use crate::run::Run;
 use crate::{Ending, MatchRefusal};
@@ -99,6 +101,18 @@ impl<'p> Matcher<'p> {
                 Err(MatchRefusal::Stopped(ending))
             }
         }
+    }
+
+    /// The numbers of the rows that the stores hold, rising, each once; none where the matcher ended.
+    pub fn kept(&self) -> Result<Items<u64>, NoMemory>
+        ensures kept { IfOk result (λ numbers. (matcher_state self.now).ended ≡ None → AreKept (matcher_state self.now).contents numbers) }
+        ensures ended { IfOk result (λ numbers. (ending : Ending) → (matcher_state self.now).ended ≡ Some ending → numbers ≡ []) }
+    {
+        if self.ended.is_some() {
+            return Ok(Items::new(self.run.alloc));
+        }
+        let kept = kept_numbers(self.run.alloc, &self.run.node)?;
+        Ok(Items::from_vec(kept))
     }
 
     /// The pattern. Takes no memory.
