@@ -15,3 +15,5 @@ pub mod RoomLemmas
 pub mod AnswerLemmas
 pub mod TakeLemmas
 pub mod KeptLemmas
+pub mod CountLemmas
+pub mod ListingLemmas

@@ -1,5 +1,5 @@
 -- What a matcher answers to a row: the bindings that end there.
-use Rattle.std.specs.Prelude.{◌≡◌, ℕ, ◌+◌, ◌≤◌, ◌<◌, List, length}
+use Rattle.std.specs.Prelude.{◌≡◌, ℕ, ◌+◌, ◌≤◌, ◌<◌, ⊤, List, [], ◌∷◌, ◌++◌, length}
 use Rattle.match_bindings.specs.declared.log_entry.LogEntry.{LogEntry}
 use Rattle.match_bindings.specs.NumberedPattern.{NumberedPattern}
 use Rattle.match_bindings.specs.BindTree.{BindTree, greatest}
@@ -35,3 +35,18 @@ IsCrowded p log cap = (n : ℕ) × IsLiveCount p log n × (cap < n)
 -- it doesn't
 abbrev pub IsRoomy : NumberedPattern → List LogEntry → ℕ → Type 0
 IsRoomy p log cap = (n : ℕ) × IsLiveCount p log n × (n ≤ cap)
+
+-- an answer for each row of a log, where these rows were taken before
+abbrev pub AnswersAfter : NumberedPattern → List LogEntry → List LogEntry → List (List BindTree) → Type 0
+AnswersAfter p before [] [] = ⊤
+AnswersAfter p before (row ∷ log) (xs ∷ answers) = IsAnswer p (before ++ row ∷ []) xs × AnswersAfter p (before ++ row ∷ []) log answers
+AnswersAfter p before _ _ = ⊥
+
+-- the answers to all rows of a log
+abbrev pub AreAnswers : NumberedPattern → List LogEntry → List (List BindTree) → Type 0
+AreAnswers p log answers = AnswersAfter p [] log answers
+
+-- answers one after another
+abbrev pub joined_answers : List (List BindTree) → List BindTree
+joined_answers [] = []
+joined_answers (xs ∷ answers) = xs ++ joined_answers answers

@@ -11,6 +11,7 @@ mod ending;
 mod held;
 mod join;
 mod kept;
+pub mod laws;
 mod levels;
 mod matcher;
 mod node;
