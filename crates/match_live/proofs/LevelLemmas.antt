@@ -1,10 +1,22 @@
 -- Levels one after another, and those that aren't made.
-use Rattle.std.proofs.Common.{◌≡◌, ℕ, zero, suc, ◌+◌, ◌-◌, ◌≤◌, ◌<◌, List, [], ◌∷◌, ◌++◌, length, refl, sym, ◌∙◌, ap, arith, ℤ}
+use Rattle.std.proofs.Common.{◌≡◌, ℕ, zero, suc, ◌+◌, ◌-◌, ◌≤◌, ◌<◌, List, [], ◌∷◌, ◌++◌, length, refl, sym, ◌∙◌, ap, arith, ℤ, append-nil}
 use Rattle.std.specs.Prelude.{map}
 use Rattle.match_windows.specs.declared.window.Window.{Window}
+use Rattle.match_live.specs.declared.join.Join.{Join}
 use Rattle.match_live.specs.declared.join.Join.TheVariants as join
+use Rattle.match_live.specs.declared.held.Held.{Held}
 use Rattle.match_live.specs.HeldTree.{HeldTree}
+use Rattle.match_live.specs.inner.Helds.{held_trees}
 use Rattle.match_live.specs.inner.Steps.{kept, stored, joins, levels_new, levels_after, no_levels, levels_above, all_levels, risen, raised}
+
+-- nothing is joined with nothing
+joins_none : (j : Join) (xs : List HeldTree) → joins j xs [] ≡ []
+joins_none j [] = refl
+joins_none j (x ∷ xs) = joins_none j xs
+
+pub joins_empty : (j : Join) (out xs : List HeldTree) (ys : List Held) → length ys ≡ 0 → out ≡ out ++ joins j xs (held_trees ys)
+joins_empty j out xs [] h = sym (append-nil out) ∙ ap (λ z. out ++ z) (sym (joins_none j xs))
+joins_empty j out xs (y ∷ ys) h = absurd (omega arith)
 
 pub new_append : (w : Window) (t : ℤ) (first new : List HeldTree) (xs ys : List (List HeldTree)) →
     levels_new w t first new (xs ++ ys) ≡ levels_new w t (levels_new w t first new xs) new ys

@@ -89,6 +89,9 @@ impl Join {
     ) -> Result<(), NoMemory>
         ensures { OnOk result (held_trees out.new.items ≡ held_trees out.old.items ++ joins self (held_trees firsts.now) (held_trees seconds.now)) }
     {
+        if seconds.is_empty() {
+            return Ok(());
+        }
         for first in firsts {
             self.join_row(alloc, first, seconds, out)?;
         }
