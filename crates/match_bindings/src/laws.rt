@@ -1,6 +1,6 @@
 //! What follows from the definitions: the contracts are the laws, and the functions do nothing.
 
-ghost use Rattle.std.specs.Prelude.{◌≡◌, ◌≤◌, ◌↔◌, ◌++◌, true, List};
+ghost use Rattle.std.specs.Prelude.{◌≡◌, ◌≤◌, ◌<◌, ◌↔◌, ◌∷◌, ◌++◌, true, List};
 ghost use Rattle.std.specs.List.Sorted.{IsSortedBy};
 ghost use Rattle.match_bindings.specs.declared.log_entry.LogEntry.{LogEntry};
 ghost use Rattle.match_bindings.specs.NumberedPattern.{NumberedPattern};
@@ -42,4 +42,14 @@ pub fn bindings_last()
 pub fn sorted_bindings_rise()
     ensures { (o : Observed) (p : NumberedPattern) (xs : List BindTree) → ((x : BindTree) → count x xs ≤ bit (is_binding o p x))
         → IsSortedBy comes_before xs → Rises xs }
+{}
+
+/// Every log has a listing.
+pub fn listings_exist()
+    ensures { (log : List LogEntry) (p : NumberedPattern) → (xs : List BindTree) × IsListing (observed_in log) p xs }
+{}
+
+/// In a rising list each tree comes before all behind it.
+pub fn rising_lists_are_ordered()
+    ensures { (x : BindTree) (xs : List BindTree) → Rises (x ∷ xs) → (y : BindTree) → 0 < count y xs → comes_before x y ≡ true }
 {}

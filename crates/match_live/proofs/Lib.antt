@@ -17,3 +17,4 @@ pub mod TakeLemmas
 pub mod KeptLemmas
 pub mod CountLemmas
 pub mod ListingLemmas
+pub mod PrefixLemmas

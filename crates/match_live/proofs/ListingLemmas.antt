@@ -39,7 +39,7 @@ lesser_first x y h =
     let less : nat_cmp (greatest x) (greatest y) ≡ Less = rw yes_it_is refl in
     rw less refl
 
-rises_append : (xs ys : List BindTree) → Rises xs → Rises ys → ((x y : BindTree) → 0 < count x xs → 0 < count y ys → comes_before x y ≡ true) → Rises (xs ++ ys)
+pub rises_append : (xs ys : List BindTree) → Rises xs → Rises ys → ((x y : BindTree) → 0 < count x xs → 0 < count y ys → comes_before x y ≡ true) → Rises (xs ++ ys)
 rises_append [] ys hx hy h = hy
 rises_append (x ∷ []) [] hx hy h = tt
 rises_append (x ∷ []) (y ∷ ys) hx hy h =

@@ -1,6 +1,6 @@
 //! What follows from the definitions: the contracts are the laws, and the functions do nothing.
 
-ghost use Rattle.std.specs.Prelude.{◌≡◌, ℕ, List};
+ghost use Rattle.std.specs.Prelude.{◌≡◌, ◌++◌, ℕ, List};
 ghost use Rattle.match_bindings.specs.declared.log_entry.LogEntry.{LogEntry};
 ghost use Rattle.match_bindings.specs.NumberedPattern.{NumberedPattern};
 ghost use Rattle.match_bindings.specs.BindTree.{BindTree};
@@ -22,4 +22,14 @@ pub fn answers_are_the_listing()
 {
     match_bindings::laws::test_is_the_rule();
     match_bindings::laws::listing_is_by_the_test();
+}
+
+/// The listing of a longer log begins with that of the log.
+pub fn listings_go_on()
+    ensures { (p : NumberedPattern) (log more : List LogEntry) (xs ys : List BindTree) → IsListing (observed_in log) p xs
+        → IsListing (observed_in (log ++ more)) p ys → (zs : List BindTree) × (ys ≡ xs ++ zs) }
+{
+    match_bindings::laws::listing_is_by_the_test();
+    match_bindings::laws::one_listing();
+    match_bindings::laws::rising_lists_are_ordered();
 }
