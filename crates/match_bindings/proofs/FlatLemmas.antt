@@ -105,15 +105,15 @@ less_from Less h = refl
 less_from Equal h = absurd (cc)
 less_from Greater h = absurd (cc)
 
-before_trans : (x y z : BindTree) → comes_before x y ≡ true → comes_before y z ≡ true → comes_before x z ≡ true
+pub before_trans : (x y z : BindTree) → comes_before x y ≡ true → comes_before y z ≡ true → comes_before x z ≡ true
 before_trans x y z h k =
     ap is_lt (nat_list_cmp_total.trans (rank x) (rank y) (rank z) (less_from (slice_cmp nat_cmp (rank x) (rank y)) h) (less_from (slice_cmp nat_cmp (rank y) (rank z)) k))
 
-never_before_itself : (x : BindTree) → comes_before x x ≡ false
+pub never_before_itself : (x : BindTree) → comes_before x x ≡ false
 never_before_itself x = ap is_lt (tied_itself nat_list_cmp_total (rank x))
 
 -- the first of a rising list comes before each other one
-first_before : (x : BindTree) (xs : List BindTree) → Rises (x ∷ xs) → (y : BindTree) → 0 < count y xs → comes_before x y ≡ true
+pub first_before : (x : BindTree) (xs : List BindTree) → Rises (x ∷ xs) → (y : BindTree) → 0 < count y xs → comes_before x y ≡ true
 first_before x [] rises y h = absurd (omega arith)
 first_before x (z ∷ zs) rises y h = by_test (same y z) refl (λ k. first_before z zs rises.1 y k) where
   by_test : (b : Bool) → same y z ≡ b → (0 < count y zs → comes_before z y ≡ true) → comes_before x y ≡ true
@@ -176,7 +176,7 @@ one_listing o p xs ys hx hy = same_lists xs ys hx.rises hy.rises (λ x. listed_e
 -- ---- what is sorted by rank
 
 -- all that pass, and none twice
-abbrev Once : (BindTree → Bool) → List BindTree → Type 0
+abbrev pub Once : (BindTree → Bool) → List BindTree → Type 0
 Once f [] = Unit {0}
 Once f (x ∷ xs) = (f x ≡ true) × (count x xs ≡ 0) × Once f xs
 
@@ -188,7 +188,7 @@ bit_some : (b : Bool) → 0 < bit b → b ≡ true
 bit_some true h = refl
 bit_some false h = absurd (omega arith)
 
-once_each : (f : BindTree → Bool) (xs : List BindTree) → ((x : BindTree) → count x xs ≤ bit (f x)) → Once f xs
+pub once_each : (f : BindTree → Bool) (xs : List BindTree) → ((x : BindTree) → count x xs ≤ bit (f x)) → Once f xs
 once_each f [] h = tt
 once_each f (x ∷ xs) h =
     let me : same x x ≡ true = same_self x in
@@ -197,7 +197,7 @@ once_each f (x ∷ xs) h =
     let most = bit_most (f x) in
     (bit_some (f x) (omega arith), omega arith, once_each f xs (λ y. let there : bit (same y x) + count y xs ≤ bit (f y) = h y in omega arith))
 
-abbrev Sorted : List BindTree → Type 0
+abbrev pub Sorted : List BindTree → Type 0
 Sorted [] = Unit {0}
 Sorted (x ∷ []) = Unit {0}
 Sorted (x ∷ y ∷ xs) = (comes_before y x ≡ false) × Sorted (y ∷ xs)
@@ -215,7 +215,7 @@ sorted_by (x ∷ y ∷ xs) up = (
 same_rank : (x y : BindTree) → rank x ≡ rank y → flat x ≡ flat y
 same_rank x y h = cc
 
-rises_from : (o : Observed) (p : NumberedPattern) (xs : List BindTree) → Once (is_binding o p) xs → Sorted xs → Rises xs
+pub rises_from : (o : Observed) (p : NumberedPattern) (xs : List BindTree) → Once (is_binding o p) xs → Sorted xs → Rises xs
 rises_from o p [] once up = tt
 rises_from o p (x ∷ []) once up = tt
 rises_from o p (x ∷ y ∷ xs) once up = (by_test (comes_before x y) refl, rises_from o p (y ∷ xs) once.2 up.1) where
@@ -241,6 +241,10 @@ exactly_listed o p xs each up = record {
   no_binding x h false e = e
 
 -- what is sorted by rank rises
+pub sorted_rise : (o : Observed) (p : NumberedPattern) (xs : List BindTree) → ((x : BindTree) → count x xs ≤ bit (is_binding o p x)) → IsSortedBy comes_before xs → Rises xs
+sorted_rise o p xs most up = rises_from o p xs (once_each (is_binding o p) xs most) (sorted_by xs up)
+
+-- so it is the listing where it has all bindings
 pub listing_from : (o : Observed) (p : NumberedPattern) (xs : List BindTree) → Exactly (is_binding o p) xs → IsSortedBy comes_before xs → IsListing o p xs
 listing_from o p xs each up =
-    exactly_listed o p xs each (rises_from o p xs (once_each (is_binding o p) xs (λ x. let e = each x in omega (arith, e))) (sorted_by xs up))
+    exactly_listed o p xs each (sorted_rise o p xs (λ x. let e = each x in omega (arith, e)) up)

@@ -12,3 +12,4 @@ pub mod CandidatesLemmas
 pub mod SortedLemmas
 pub mod FlatLemmas
 pub mod LongerLogLemmas
+pub mod ExistenceLemmas

@@ -4,10 +4,9 @@ use Rattle.std.specs.Prelude.{Bool, true, false, ◌&&◌, ◌||◌, max, map}
 use Rattle.std.specs.List.{flat_map}
 use Rattle.std.proofs.lemmas.List.{take_all}
 use Rattle.match_bindings.specs.declared.bind.Bind.{Bind}
-use Rattle.match_bindings.specs.BindTree.{tree_of, BindTree, Empty, Single, More, has, disjoint, greatest, more_of, many_of}
+use Rattle.match_bindings.specs.BindTree.{tree_of, BindTree, Empty, Single, More, has, disjoint, greatest, more_of, many_of, add_part}
 use Rattle.match_bindings.proofs.PartsLemmas.{any_has, all_apart, greatest_from}
 use Rattle.match_bindings.specs.inner.Kinds.{is_one, is_pair, is_chain, chain_of}
-use Rattle.match_bindings.specs.inner.Candidates.{add_part}
 use Rattle.match_bindings.specs.Flat.{flat}
 use Rattle.match_bindings.specs.Line.{entries_text}
 

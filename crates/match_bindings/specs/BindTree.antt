@@ -24,6 +24,12 @@ abbrev pub many_of : List BindTree → BindTree
 many_of [] = Empty
 many_of (x ∷ xs) = more_of (Single x) xs
 
+-- a chain with one more part at its end; what is no chain has no parts
+abbrev pub add_part : BindTree → BindTree → BindTree
+add_part (Single x) a = More (Single x) a
+add_part (More m x) a = More (More m x) a
+add_part _ a = Single a
+
 -- one level of a bind, whose parts are trees already
 abbrev pub tree_level : Bind-F BindTree → BindTree
 tree_level (bind.One number) = One number

@@ -1,6 +1,6 @@
 ghost use Rattle.std.specs.Prelude.{◌≡◌, ◌++◌, IfOk, OnOk, map};
-ghost use Rattle.match_bindings.specs.BindTree.{tree_of, many_of};
-ghost use Rattle.match_bindings.specs.inner.Candidates.{spanned_tree, spanned_trees, joined_tree, admits, may_join, join_row, joins, add_part};
+ghost use Rattle.match_bindings.specs.BindTree.{tree_of, many_of, add_part};
+ghost use Rattle.match_bindings.specs.inner.Candidates.{spanned_tree, spanned_trees, joined_tree, admits, may_join, join_row, joins};
 ghost use Rattle.match_bindings.specs.inner.Kinds.{chain_of};
 
 use crate::Bind;
@@ -97,8 +97,8 @@ impl Join {
     }
 }
 
-/// The parts of a `Many`, with one more at the end.
-fn with_part(alloc: Global, parts: &Bind, part: &Bind) -> Result<Bind, NoMemory>
+/// Copies of the parts of a `Many`, and one more part at the end; that part alone for another bind.
+pub fn with_part(alloc: Global, parts: &Bind, part: &Bind) -> Result<Bind, NoMemory>
     ensures { IfOk result (λ bind. tree_of bind ≡ add_part (tree_of parts.now) (tree_of part.now)) }
 {
     let mut parts = copy_parts(alloc, parts)?;

@@ -1,14 +1,15 @@
 //! What follows from the definitions: the contracts are the laws, and the functions do nothing.
 
-ghost use Rattle.std.specs.Prelude.{◌≡◌, ◌↔◌, ◌++◌, true, List};
+ghost use Rattle.std.specs.Prelude.{◌≡◌, ◌≤◌, ◌<◌, ◌↔◌, ◌∷◌, ◌++◌, true, List};
+ghost use Rattle.std.specs.List.Sorted.{IsSortedBy};
 ghost use Rattle.match_bindings.specs.declared.log_entry.LogEntry.{LogEntry};
 ghost use Rattle.match_bindings.specs.NumberedPattern.{NumberedPattern};
 ghost use Rattle.match_bindings.specs.BindTree.{BindTree};
 ghost use Rattle.match_bindings.specs.Log.{Observed, observed_in};
 ghost use Rattle.match_bindings.specs.Binding.{IsBinding};
 ghost use Rattle.match_bindings.specs.Test.{is_binding};
-ghost use Rattle.match_bindings.specs.Once.{Exactly};
-ghost use Rattle.match_bindings.specs.Flat.{flat, Rises};
+ghost use Rattle.match_bindings.specs.Once.{bit, count, Exactly};
+ghost use Rattle.match_bindings.specs.Flat.{flat, comes_before, Rises};
 ghost use Rattle.match_bindings.specs.Listing.{IsListing};
 
 /// The test of a binding is the rule.
@@ -35,4 +36,20 @@ pub fn flat_lists_tell()
 pub fn bindings_last()
     ensures { (log more : List LogEntry) (p : NumberedPattern) (x : BindTree) → IsBinding (observed_in log) p x
         → IsBinding (observed_in (log ++ more)) p x }
+{}
+
+/// Bindings of one pattern, none of them twice, rise where each isn't before the one ahead of it.
+pub fn sorted_bindings_rise()
+    ensures { (o : Observed) (p : NumberedPattern) (xs : List BindTree) → ((x : BindTree) → count x xs ≤ bit (is_binding o p x))
+        → IsSortedBy comes_before xs → Rises xs }
+{}
+
+/// Every log has a listing.
+pub fn listings_exist()
+    ensures { (log : List LogEntry) (p : NumberedPattern) → (xs : List BindTree) × IsListing (observed_in log) p xs }
+{}
+
+/// In a rising list each tree comes before all behind it.
+pub fn rising_lists_are_ordered()
+    ensures { (x : BindTree) (xs : List BindTree) → Rises (x ∷ xs) → (y : BindTree) → 0 < count y xs → comes_before x y ≡ true }
 {}

@@ -30,5 +30,8 @@ pub use bounds::Bounds;
 pub use check::check_binding;
 pub use copy::copy_bind;
 pub use flat_list::flat;
+pub use join::with_part;
 pub use line::line_of;
 pub use log::Log;
+pub use numbers::are_disjoint;
+pub use order::in_order;

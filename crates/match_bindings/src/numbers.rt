@@ -30,9 +30,9 @@ fn any_has_number(number: u64, binds: &[Bind]) -> bool
     false
 }
 
-/// Whether two binds share no number.
+/// Whether two binds share no number. Takes no memory.
 #[cycle(disjoint)]
-pub(crate) fn are_disjoint(bind: &Bind, other: &Bind) -> bool
+pub fn are_disjoint(bind: &Bind, other: &Bind) -> bool
     ensures { result ≡ disjoint (tree_of bind.now) (tree_of other.now) }
 {
     match bind {

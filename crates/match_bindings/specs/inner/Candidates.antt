@@ -10,7 +10,7 @@ use Rattle.match_bindings.specs.declared.join.Join.{Join}
 use Rattle.match_bindings.specs.declared.join.Join.TheVariants as join
 use Rattle.match_bindings.specs.Bounds.{within, between}
 use Rattle.match_bindings.specs.NumberedPattern.{NumberedPattern, Leaf, Both, Then, Either, Within, Between, Repeats}
-use Rattle.match_bindings.specs.BindTree.{BindTree, One, Pair, First, Second, Single, More, tree_of, disjoint, greatest}
+use Rattle.match_bindings.specs.BindTree.{BindTree, One, Pair, First, Second, Single, More, tree_of, add_part, disjoint, greatest}
 use Rattle.match_bindings.specs.Log.{Observed}
 use Rattle.match_bindings.specs.Span.{earliest, latest, later_by}
 use Rattle.match_bindings.specs.Test.{is_binding}
@@ -69,12 +69,6 @@ trees_of xs = map (λ x. x.tree) xs
 -- the same thing under one constructor
 abbrev pub spanned_with : (BindTree → BindTree) → SpannedTree → SpannedTree
 spanned_with f a = record { tree = f a.tree; span = a.span }
-
--- a chain with one more part at its end; what is no chain has no parts
-abbrev pub add_part : BindTree → BindTree → BindTree
-add_part (Single x) a = More (Single x) a
-add_part (More m x) a = More (More m x) a
-add_part _ a = Single a
 
 abbrev pub joined_tree : Join → BindTree → BindTree → BindTree
 joined_tree join.Both a b = Pair a b

@@ -2,8 +2,7 @@
 use Rattle.std.proofs.Common.{◌≡◌, ◌++◌, ◌∷◌, [], List, ◌∙◌, ap}
 use Rattle.std.specs.Prelude.{map}
 use Rattle.match_bindings.specs.declared.bind.Bind.{Bind}
-use Rattle.match_bindings.specs.BindTree.{tree_of, BindTree, many_of}
-use Rattle.match_bindings.specs.inner.Candidates.{add_part}
+use Rattle.match_bindings.specs.BindTree.{tree_of, BindTree, many_of, add_part}
 use Rattle.match_bindings.specs.inner.Kinds.{chain_of}
 use Rattle.match_bindings.proofs.ManyLemmas.{many_add, add_chain}
 use Rattle.match_bindings.proofs.ListLemmas.{map_append}

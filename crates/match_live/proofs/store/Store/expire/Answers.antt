@@ -1,0 +1,15 @@
+-- What a store keeps is what lives.
+use Rattle.std.proofs.Common.{◌≡◌, ap, ◌∙◌, sym, rules}
+use Rattle.std.specs.Prelude.{filter}
+use Rattle.std.proofs.lemmas.Fn.{filter_same}
+use Rattle.match_live.specs.declared.held.Held.{Held}
+use Rattle.match_live.specs.inner.Lives.{lives}
+use Rattle.match_live.specs.inner.Helds.{held_tree, held_trees}
+use Rattle.match_live.proofs.ListLemmas.{filter_map}
+use Rattle.match_live.proofs.store.Store.expire.Goals as goal
+
+pub returns : goal.returns
+returns c =
+    let test = λ (h : Held). lives c.args.window.now h.earliest c.args.now in
+    let is : c.retain.new.self.items ≡ filter test c.args.self.now.held.items = filter_same _ test _ (λ x b f' k. search rules) _ _ c.retain.ensures.filtered in
+    ap held_trees is ∙ sym (filter_map held_tree (λ h. lives c.args.window.now h.earliest c.args.now) c.args.self.now.held.items)

@@ -1,0 +1,30 @@
+-- For private clauses: what the stores and nodes of a matcher hold.
+use Rattle.std.specs.Prelude.{List, map}
+use Rattle.match_live.specs.declared.store.Store.{Store}
+use Rattle.match_live.specs.declared.sides.Sides.{Sides}
+use Rattle.match_live.specs.declared.node.Node.{Node}
+use Rattle.match_live.specs.declared.node.Node.TheVariants as node
+use Rattle.match_live.specs.HeldTree.{HeldTree}
+use Rattle.match_live.specs.inner.Helds.{held_trees}
+use Rattle.match_live.specs.inner.Steps.{SideStores, State, a_leaf, a_join, a_choice, a_limit, a_chain, all_levels}
+
+abbrev pub store_list : Store → List HeldTree
+store_list store = held_trees store.held.items
+
+abbrev pub store_lists : List Store → List (List HeldTree)
+store_lists stores = map store_list stores
+
+abbrev pub side_stores : Sides → SideStores
+side_stores sides = record {
+  left = store_list sides.left;
+  right = store_list sides.right;
+  left_window = sides.left_window;
+  right_window = sides.right_window;
+}
+
+abbrev pub state_of : Node → State
+state_of (node.Leaf leaf window) = a_leaf leaf window
+state_of (node.Sides' how at_left left at_right right sides) = a_join how (state_of left) (state_of right) (side_stores sides)
+state_of (node.Either' at_left left at_right right) = a_choice (state_of left) (state_of right)
+state_of (node.Under' at_part part) = a_limit (state_of part)
+state_of (node.Repeats' at_part part levels) = a_chain (state_of part) levels.count levels.window (all_levels levels.count (store_lists levels.stores.items))

@@ -1,0 +1,39 @@
+-- For private clauses: what a run is after a row.
+use Rattle.std.specs.Prelude.{◌≡◌, ◌≤◌, ◌<◌, ◌+◌, ℕ, ℤ, Bool, Some, List, map, length}
+use Rattle.std.specs.List.Sorted.{IsSortedBy}
+use Rattle.match_bindings.specs.declared.bind.Bind.{Bind}
+use Rattle.match_bindings.specs.BindTree.{BindTree, tree_of}
+use Rattle.match_bindings.specs.Once.{count}
+use Rattle.match_bindings.specs.Flat.{comes_before}
+use Rattle.match_live.specs.declared.row.Row.{Row}
+use Rattle.match_live.specs.declared.run.Run.{Run}
+use Rattle.match_live.specs.HeldTree.{trees_in}
+use Rattle.match_live.specs.LivePart.{held_count}
+use Rattle.match_live.specs.MatcherState.{Falls}
+use Rattle.match_live.specs.inner.Steps.{step_new, step_state, contents_of}
+use Rattle.match_live.specs.inner.Nodes.{state_of}
+
+-- the next row
+abbrev pub next_row : ℕ → ℤ → ℤ → Row
+next_row rows first last = record { number = rows + 1; first = first; last = last }
+
+-- how much is live after a row: what is held and what ended there
+abbrev pub live_after : Run → Row → List Bool → ℕ
+live_after run row truths = length (step_new row truths (state_of run.node)) + held_count (contents_of (step_state row truths (state_of run.node)))
+
+-- the binds are those that end at the row, sorted
+pub record AreSteps (run : Run) (row : Row) (truths : List Bool) (binds : List BindTree) : Type 0 where
+  pub counts : (x : BindTree) → count x binds ≡ count x (trees_in (step_new row truths (state_of run.node)))
+  pub sorted : IsSortedBy comes_before binds
+
+-- a run took a row
+pub record TookRow (old new : Run) (row : Row) (truths : List Bool) : Type 0 where
+  pub rows : new.rows ≡ row.number
+  pub last : new.last ≡ Some row.last
+  pub node : state_of new.node ≡ step_state row truths (state_of old.node)
+  pub cap : new.cap ≡ old.cap
+  pub room : live_after old row truths ≤ old.cap
+
+-- more is live after a row than the cap allows; these bindings end there
+abbrev pub IsOver : Run → Row → List Bool → Type 0
+IsOver run row truths = (binds : List BindTree) × AreSteps run row truths binds × (run.cap < live_after run row truths)

@@ -1,0 +1,167 @@
+-- For private clauses: what a matcher keeps as plain lists, and one row of it.
+use Rattle.std.specs.Prelude.{◌≡◌, ℕ, zero, suc, ◌-◌, ℤ, int_le, Bool, true, false, ◌&&◌, cond, unwrap_or, slice_get, List, [], ◌∷◌, ◌++◌, map, filter, length}
+use Rattle.std.specs.Int.{int_min, int_max}
+use Rattle.std.specs.List.{flat_map}
+use Rattle.match_bindings.specs.declared.bounds.Bounds.{Bounds}
+use Rattle.match_bindings.specs.Bounds.{within, between}
+use Rattle.match_bindings.specs.NumberedPattern.{NumberedPattern, Leaf, Both, Then, Either, Within, Between, Repeats}
+use Rattle.match_bindings.specs.BindTree.{BindTree, One, Pair, First, Second, Single, add_part, disjoint}
+use Rattle.match_windows.specs.declared.window.Window.{Window}
+use Rattle.match_windows.specs.Stores.{window_of}
+use Rattle.match_live.specs.declared.join.Join.{Join}
+use Rattle.match_live.specs.declared.join.Join.TheVariants as join
+use Rattle.match_live.specs.declared.row.Row.{Row}
+use Rattle.match_live.specs.HeldTree.{HeldTree}
+use Rattle.match_live.specs.inner.Lives.{lives}
+
+-- the same thing under one constructor
+abbrev pub held_with : (BindTree → BindTree) → HeldTree → HeldTree
+held_with f a = record { tree = f a.tree; earliest = a.earliest; latest = a.latest }
+
+-- two trees as one
+abbrev pub joined_tree : Join → BindTree → BindTree → BindTree
+joined_tree join.Both a b = Pair a b
+joined_tree join.Then a b = Pair a b
+joined_tree join.Repeats a b = add_part a b
+
+abbrev pub joined : Join → HeldTree → HeldTree → HeldTree
+joined j a b = record { tree = joined_tree j a.tree b.tree; earliest = int_min a.earliest b.earliest; latest = int_max a.latest b.latest }
+
+-- whether two things are joined
+abbrev pub may_join : Join → HeldTree → HeldTree → Bool
+may_join join.Both a b = disjoint a.tree b.tree
+may_join join.Then a b = int_le a.latest b.earliest && disjoint a.tree b.tree
+may_join join.Repeats a b = disjoint a.tree b.tree
+
+-- a thing with each of ys that it is joined with
+abbrev pub join_row : Join → HeldTree → List HeldTree → List HeldTree
+join_row j x ys = map (joined j x) (filter (may_join j x) ys)
+
+-- each of xs with each of ys that it is joined with
+abbrev pub joins : Join → List HeldTree → List HeldTree → List HeldTree
+joins j xs ys = flat_map (λ x. join_row j x ys) xs
+
+-- what a store still holds
+abbrev pub kept : Window → ℤ → List HeldTree → List HeldTree
+kept window now held = filter (λ h. lives window h.earliest now) held
+
+-- what a store holds after a row
+abbrev pub stored : Window → ℤ → List HeldTree → List HeldTree → List HeldTree
+stored window now held new = kept window now held ++ kept window now new
+
+-- the stores of a node that joins two sides, each with its window
+pub record SideStores : Type 0 where
+  pub left : List HeldTree
+  pub right : List HeldTree
+  pub left_window : Window
+  pub right_window : Window
+
+-- what a matcher keeps for a pattern
+pub data State : Type 0 where
+  a_leaf : (leaf : ℕ) (window : Window) → State
+  a_join : (how : Join) (left right : State) (sides : SideStores) → State
+  a_choice : (left right : State) → State
+  a_limit : (part : State) → State
+  a_chain : (part : State) (count : ℕ) (window : Window) (levels : List (List HeldTree)) → State
+
+abbrev pub truth_at : List Bool → ℕ → Bool
+truth_at truths leaf = unwrap_or (slice_get truths leaf) false
+
+-- what is new at a leaf
+abbrev pub new_at_leaf : Row → List Bool → ℕ → Window → List HeldTree
+new_at_leaf row truths leaf window =
+    cond (truth_at truths leaf && lives window row.first row.last) (record { tree = One row.number; earliest = row.first; latest = row.last } ∷ []) []
+
+-- what is new where two sides are joined: the new on the left with what the right still holds, and what the left still holds
+-- with the new on the right
+abbrev pub joins_new : Join → ℤ → SideStores → List HeldTree → List HeldTree → List HeldTree
+joins_new j now sides left right = joins j left (kept sides.right_window now sides.right) ++ joins j (kept sides.left_window now sides.left) right
+
+abbrev pub sides_after : ℤ → SideStores → List HeldTree → List HeldTree → SideStores
+sides_after now sides left right = record {
+  left = stored sides.left_window now sides.left left;
+  right = stored sides.right_window now sides.right right;
+  left_window = sides.left_window;
+  right_window = sides.right_window;
+}
+
+-- what is new at the last level, where first is new at the level of the first store, and new at the operand
+abbrev pub levels_new : Window → ℤ → List HeldTree → List HeldTree → List (List HeldTree) → List HeldTree
+levels_new window now first new [] = first
+levels_new window now first new (held ∷ levels) = levels_new window now (joins join.Repeats (kept window now held) new) new levels
+
+-- the levels after it
+abbrev pub levels_after : Window → ℤ → List HeldTree → List HeldTree → List (List HeldTree) → List (List HeldTree)
+levels_after window now first new [] = []
+levels_after window now first new (held ∷ levels) =
+    stored window now held first ∷ levels_after window now (joins join.Repeats (kept window now held) new) new levels
+
+-- nothing at so many levels
+abbrev pub no_levels : ℕ → List (List HeldTree)
+no_levels zero = []
+no_levels (suc k) = [] ∷ no_levels k
+
+-- how many levels below the count aren't made
+abbrev pub levels_above : ℕ → List (List HeldTree) → ℕ
+levels_above count made = count - 1 - length made
+
+-- all levels below the count, of which those that aren't made hold nothing
+abbrev pub all_levels : ℕ → List (List HeldTree) → List (List HeldTree)
+all_levels count made = made ++ no_levels (levels_above count made)
+
+-- what is new above the levels that are made is an answer only where no level is above them
+abbrev pub risen : ℕ → List HeldTree → List HeldTree
+risen zero sets = sets
+risen (suc above) sets = []
+
+-- and is held in the first of those else
+abbrev pub raised : Window → ℤ → ℕ → List HeldTree → List (List HeldTree)
+raised window now zero sets = []
+raised window now (suc above) sets = kept window now sets ∷ no_levels above
+
+-- the sets of a REPEATS, of which none has no part
+abbrev pub counted : ℕ → List HeldTree → List HeldTree
+counted zero held = []
+counted (suc n) held = held
+
+-- what ends at a row
+abbrev pub step_new : Row → List Bool → State → List HeldTree
+step_new row truths (a_leaf leaf window) = new_at_leaf row truths leaf window
+step_new row truths (a_join j l r sides) = joins_new j row.last sides (step_new row truths l) (step_new row truths r)
+step_new row truths (a_choice l r) = map (held_with First) (step_new row truths l) ++ map (held_with Second) (step_new row truths r)
+step_new row truths (a_limit part) = step_new row truths part
+step_new row truths (a_chain part count window levels) =
+    counted count (levels_new window row.last (map (held_with Single) (step_new row truths part)) (step_new row truths part) levels)
+
+-- what is kept after it
+abbrev pub step_state : Row → List Bool → State → State
+step_state row truths (a_leaf leaf window) = a_leaf leaf window
+step_state row truths (a_join j l r sides) =
+    a_join j (step_state row truths l) (step_state row truths r) (sides_after row.last sides (step_new row truths l) (step_new row truths r))
+step_state row truths (a_choice l r) = a_choice (step_state row truths l) (step_state row truths r)
+step_state row truths (a_limit part) = a_limit (step_state row truths part)
+step_state row truths (a_chain part count window levels) =
+    a_chain (step_state row truths part) count window
+    (levels_after window row.last (map (held_with Single) (step_new row truths part)) (step_new row truths part) levels)
+
+-- the sides of a node without rows
+abbrev pub empty_sides : Window → Window → SideStores
+empty_sides left right = record { left = []; right = []; left_window = left; right_window = right }
+
+-- what is kept without rows
+abbrev pub empty_state : Bounds → NumberedPattern → State
+empty_state above (Leaf k) = a_leaf k (window_of above false)
+empty_state above (Both p q) = a_join join.Both (empty_state above p) (empty_state above q) (empty_sides (window_of above false) (window_of above false))
+empty_state above (Then p q) = a_join join.Then (empty_state above p) (empty_state above q) (empty_sides (window_of above false) (window_of above true))
+empty_state above (Either p q) = a_choice (empty_state above p) (empty_state above q)
+empty_state above (Within p x) = a_limit (empty_state (within above x) p)
+empty_state above (Between p x y) = a_limit (empty_state (between above x y) p)
+empty_state above (Repeats p n) = a_chain (empty_state above p) n (window_of above false) (no_levels (n - 1))
+
+-- what the stores hold, in the order of stores_of
+abbrev pub contents_of : State → List (List HeldTree)
+contents_of (a_leaf leaf window) = []
+contents_of (a_join j l r sides) = sides.left ∷ sides.right ∷ (contents_of l ++ contents_of r)
+contents_of (a_choice l r) = contents_of l ++ contents_of r
+contents_of (a_limit part) = contents_of part
+contents_of (a_chain part count window levels) = levels ++ contents_of part

@@ -1,0 +1,114 @@
+ghost use Rattle.std.specs.Prelude.{◌≡◌, ◌++◌, IfOk, OnOk};
+ghost use Rattle.std.specs.Int.{int_min, int_max};
+ghost use Rattle.match_bindings.specs.BindTree.{tree_of};
+ghost use Rattle.match_live.specs.inner.Helds.{held_tree, held_trees};
+ghost use Rattle.match_live.specs.inner.Steps.{joined_tree, joined, may_join, join_row, joins};
+
+use crate::held::Held;
+use flow_values::NoMemory;
+use match_bindings::{Bind, are_disjoint, copy_bind, with_part};
+use std::alloc::Global;
+use stix_times::Instant;
+
+/// How two things are joined.
+#[derive(Clone, Copy)]
+pub(crate) enum Join {
+    /// As the sides of an `AND`.
+    Both,
+    /// As the sides of a `FOLLOWEDBY`.
+    Then,
+    /// As the parts of a `REPEATS` so far, and the next one.
+    Repeats,
+}
+
+impl Join {
+    /// The bind of copies of two binds.
+    fn bind(self, alloc: Global, first: &Bind, second: &Bind) -> Result<Bind, NoMemory>
+        ensures { IfOk result (λ bind. tree_of bind ≡ joined_tree self (tree_of first.now) (tree_of second.now)) }
+    {
+        match self {
+            Join::Both | Join::Then => {
+                let left = copy_bind(alloc, first)?;
+                let right = copy_bind(alloc, second)?;
+                Ok(Bind::Both(Box::new(alloc, left)?, Box::new(alloc, right)?))
+            }
+            Join::Repeats => with_part(alloc, first, second),
+        }
+    }
+
+    /// Whether two things are joined.
+    fn may_join(self, first: &Held, second: &Held) -> bool
+        ensures { result ≡ may_join self (held_tree first.now) (held_tree second.now) }
+    {
+        match self {
+            Join::Both | Join::Repeats => are_disjoint(&first.bind, &second.bind),
+            Join::Then => {
+                first.latest <= second.earliest && are_disjoint(&first.bind, &second.bind)
+            }
+        }
+    }
+
+    /// Two things as one.
+    fn joined(self, alloc: Global, first: &Held, second: &Held) -> Result<Held, NoMemory>
+        ensures { IfOk result (λ held. held_tree held ≡ joined self (held_tree first.now) (held_tree second.now)) }
+    {
+        let bind = self.bind(alloc, &first.bind, &second.bind)?;
+        Ok(Held {
+            bind,
+            earliest: earlier(first.earliest, second.earliest),
+            latest: later(first.latest, second.latest),
+        })
+    }
+
+    /// Joins a thing with each of the others that it is joined with.
+    fn join_row(
+        self,
+        alloc: Global,
+        first: &Held,
+        seconds: &[Held],
+        out: &mut Vec<Held>,
+    ) -> Result<(), NoMemory>
+        ensures { OnOk result (held_trees out.new.items ≡ held_trees out.old.items ++ join_row self (held_tree first.now) (held_trees seconds.now)) }
+    {
+        for second in seconds {
+            if self.may_join(first, second) {
+                let held = self.joined(alloc, first, second)?;
+                out.push(held)?;
+            }
+        }
+        Ok(())
+    }
+
+    /// Adds each of the first things joined with each of the second ones that it is joined with.
+    pub fn join(
+        self,
+        alloc: Global,
+        firsts: &[Held],
+        seconds: &[Held],
+        out: &mut Vec<Held>,
+    ) -> Result<(), NoMemory>
+        ensures { OnOk result (held_trees out.new.items ≡ held_trees out.old.items ++ joins self (held_trees firsts.now) (held_trees seconds.now)) }
+    {
+        if seconds.is_empty() {
+            return Ok(());
+        }
+        for first in firsts {
+            self.join_row(alloc, first, seconds, out)?;
+        }
+        Ok(())
+    }
+}
+
+/// The earlier of two instants.
+fn earlier(one: Instant, other: Instant) -> Instant
+    ensures { result ≡ int_min one other }
+{
+    if other < one { other } else { one }
+}
+
+/// The later of two instants.
+fn later(one: Instant, other: Instant) -> Instant
+    ensures { result ≡ int_max one other }
+{
+    if other < one { one } else { other }
+}

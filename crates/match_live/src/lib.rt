@@ -1,0 +1,25 @@
+//! The streaming matcher: it takes the observations of a log one by one, and answers to each the
+//! bindings that end there.
+//!
+//! A `Matcher` holds the live part of its pattern alone: what can still become part of a binding by
+//! the windows and the order of the pattern. `Matcher::take` says what it holds after a row, and that
+//! its answer is every binding that ends at the row, each once. The laws say that the answers of the
+//! rows of a log, one after another, are the listing of `match_bindings`.
+#![tactic(auto)]
+
+mod ending;
+mod held;
+mod join;
+mod kept;
+pub mod laws;
+mod levels;
+mod matcher;
+mod node;
+mod room;
+mod row;
+mod run;
+mod sides;
+mod store;
+
+pub use ending::{Ending, MatchRefusal};
+pub use matcher::Matcher;

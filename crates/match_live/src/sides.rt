@@ -1,0 +1,59 @@
+ghost use Rattle.std.specs.Prelude.{◌≡◌, IfOk, OnOk};
+ghost use Rattle.match_live.specs.inner.Helds.{held_trees};
+ghost use Rattle.match_live.specs.inner.Steps.{joins_new, sides_after, empty_sides};
+ghost use Rattle.match_live.specs.inner.Nodes.{side_stores};
+
+use crate::held::Held;
+use crate::join::Join;
+use crate::store::Store;
+use flow_values::NoMemory;
+use match_windows::Window;
+use std::alloc::Global;
+use stix_times::Instant;
+
+/// The stores of a node that joins two sides.
+#[derive(Drop)]
+pub(crate) struct Sides {
+    pub left: Store,
+    pub right: Store,
+    pub left_window: Window,
+    pub right_window: Window,
+}
+
+impl Sides {
+    /// Stores that hold nothing. Takes no memory.
+    pub fn new(alloc: Global, left_window: Window, right_window: Window) -> Sides
+        ensures { side_stores result ≡ empty_sides left_window right_window }
+    {
+        Sides {
+            left: Store::new(alloc),
+            right: Store::new(alloc),
+            left_window,
+            right_window,
+        }
+    }
+
+    /// One row, given what is new on each side: what is new where they are joined.
+    pub fn step(
+        &mut self,
+        alloc: Global,
+        join: Join,
+        now: Instant,
+        new_left: Vec<Held>,
+        new_right: Vec<Held>,
+    ) -> Result<Vec<Held>, NoMemory>
+        ensures new { IfOk result (λ new. held_trees new.items
+            ≡ joins_new join now (side_stores self.old) (held_trees new_left.items) (held_trees new_right.items)) }
+        ensures kept { OnOk result (side_stores self.new
+            ≡ sides_after now (side_stores self.old) (held_trees new_left.items) (held_trees new_right.items)) }
+    {
+        self.left.expire(&self.left_window, now);
+        self.right.expire(&self.right_window, now);
+        let mut new = Vec::new(alloc);
+        join.join(alloc, &new_left, &self.right.held, &mut new)?;
+        join.join(alloc, &self.left.held, &new_right, &mut new)?;
+        self.left.admit(new_left, &self.left_window, now)?;
+        self.right.admit(new_right, &self.right_window, now)?;
+        Ok(new)
+    }
+}
