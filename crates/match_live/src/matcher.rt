@@ -34,7 +34,7 @@ pub struct Matcher<'p> {
 }
 
 impl<'p> Matcher<'p> {
-    ghost use Rattle.match_live.specs.View.{matcher_state};
+    ghost use Rattle.match_live.specs.View.{matcher_state, pattern_of};
 
     /// A matcher of a pattern that took no row yet. More than `cap` may never be live: so much, held or
     /// ending at the last row, is kept in memory at once.
@@ -43,6 +43,7 @@ impl<'p> Matcher<'p> {
         ensures stands { IfOk result (λ matcher. StandsFor (matcher_state matcher) []) }
         ensures pattern { IfOk result (λ matcher. (matcher_state matcher).pattern ≡ numbered_pattern pattern.now) }
         ensures cap { IfOk result (λ matcher. (matcher_state matcher).cap ≡ cap) }
+        ensures made { IfOk result (λ matcher. pattern_of matcher ≡ pattern.now) }
     {
         laws::test_is_the_rule();
         let node = empty_node(alloc, pattern, 0, Bounds::open())?;
@@ -69,7 +70,7 @@ impl<'p> Matcher<'p> {
         truths: &[bool],
     ) -> Result<Items<Bind>, MatchRefusal>
         requires span { first ≤ℤ last }
-        requires room { (matcher_state self.old).ended ≡ None → (matcher_state self.old).rows + 1 < 2 ^ 63 }
+        requires room { (matcher_state self.old).ended ≡ None → (matcher_state self.old).rows + 1 < 2 ^ 64 }
         ensures stands { (log : List LogEntry) → StandsFor (matcher_state self.old) log → IsInOrder log →
             OnOk result (StandsFor (matcher_state self.new) (with_row log first last truths.now)) }
         ensures answers { (log : List LogEntry) → StandsFor (matcher_state self.old) log → IsInOrder log →
@@ -88,6 +89,7 @@ impl<'p> Matcher<'p> {
         ensures unchanged { (ending : Ending) → (matcher_state self.old).ended ≡ Some ending → matcher_state self.new ≡ matcher_state self.old }
         ensures pattern { (matcher_state self.new).pattern ≡ (matcher_state self.old).pattern }
         ensures cap { (matcher_state self.new).cap ≡ (matcher_state self.old).cap }
+        ensures made { pattern_of self.new ≡ pattern_of self.old }
     {
         laws::test_is_the_rule();
         laws::sorted_bindings_rise();
@@ -117,7 +119,8 @@ impl<'p> Matcher<'p> {
 
     /// The pattern. Takes no memory.
     pub fn pattern(&self) -> &'p Pattern
-        ensures { numbered_pattern result.now ≡ (matcher_state self.now).pattern }
+        ensures made { result.now ≡ pattern_of self.now }
+        ensures numbered { numbered_pattern result.now ≡ (matcher_state self.now).pattern }
     {
         self.pattern
     }

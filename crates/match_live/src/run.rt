@@ -38,7 +38,7 @@ impl Run {
         last: Instant,
         truths: &[bool],
     ) -> Result<Items<Bind>, Ending>
-        requires { self.old.rows + 1 < 2 ^ 63 }
+        requires { self.old.rows + 1 < 2 ^ 64 }
         ensures out_of_order { (before now : ℤ) → (result ≡ Err (ending.OutOfOrder before now))
             ↔ ((self.old.last ≡ Some before) × (now ≡ last) × (now <ℤ before)) }
         ensures crowded { (number cap : ℕ) → result ≡ Err (ending.Crowded number cap)
