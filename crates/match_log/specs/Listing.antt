@@ -1,30 +1,23 @@
--- What is written for a log: one line for each observation that holds.
-use Rattle.std.specs.Prelude.{ℕ, ◌+◌, ℤ, List, [], ◌∷◌, ◌++◌, Bool, if◌then◌else◌, codes, decimal}
+-- What is written of a log: the line of each of its bindings.
+use Rattle.std.specs.Prelude.{◌≡◌, ℕ, List, [], ◌∷◌}
 use Rattle.std.specs.List.{flat_map}
+use Rattle.pattern_types.specs.declared.pattern.Pattern.{Pattern}
+use Rattle.match_bindings.specs.declared.log_entry.LogEntry.{LogEntry}
+use Rattle.match_bindings.specs.NumberedPattern.{numbered_pattern}
+use Rattle.match_bindings.specs.BindTree.{BindTree, greatest}
+use Rattle.match_bindings.specs.Log.{observed_in}
+use Rattle.match_bindings.specs.Listing.{IsListing}
+use Rattle.match_bindings.specs.Line.{line_text}
 
--- an observation of a log: its time, and whether the bracket holds
-pub record FirstEntry : Type 0 where
-  pub time : ℤ
-  pub holds : Bool
+-- these are the bindings of a pattern over a log, each once, in order of their last observation
+abbrev pub AreBindings : Pattern → List LogEntry → List BindTree → Type 0
+AreBindings p log trees = IsListing (observed_in log) (numbered_pattern p) trees
 
--- the numbers of the rows that hold, where the first row has the number n
-abbrev pub holding_from : ℕ → List FirstEntry → List ℕ
-holding_from n [] = []
-holding_from n (row ∷ rows) = if row.holds then n ∷ holding_from (n + 1) rows else holding_from (n + 1) rows
+abbrev pub listing_text : List BindTree → List ℕ
+listing_text trees = flat_map line_text trees
 
--- rows are numbered from 1
-abbrev pub holding : List FirstEntry → List ℕ
-holding rows = holding_from 1 rows
-
--- n: n
-abbrev pub binding_text : ℕ → List ℕ
-binding_text n = decimal n ++ (codes ": " ++ (decimal n ++ codes "\n"))
-
-abbrev pub listing_text : List FirstEntry → List ℕ
-listing_text rows = flat_map binding_text (holding rows)
-
--- the last of some numbers, or 0
-abbrev pub last_or_zero : List ℕ → ℕ
-last_or_zero [] = 0
-last_or_zero (n ∷ []) = n
-last_or_zero (n ∷ m ∷ ns) = last_or_zero (m ∷ ns)
+-- the greatest number of the last one, or 0
+abbrev pub last_number : List BindTree → ℕ
+last_number [] = 0
+last_number (x ∷ []) = greatest x
+last_number (x ∷ y ∷ trees) = last_number (y ∷ trees)

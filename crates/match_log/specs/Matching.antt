@@ -1,68 +1,169 @@
--- What a run over a log has done, by how it ended.
-use Rattle.std.specs.Prelude.{◌≡◌, ⊤, ℕ, ◌+◌, ◌≤◌, ℤ, List, length, Option, IsTrue, ◌↔◌}
-use Rattle.serde_json.specs.Data.{Data}
+-- What a run over an input has done, by how it ended: what was read, what was written, and what the matcher stands for.
+use Rattle.std.specs.Prelude.{◌≡◌, ℕ, ℤ, ◌+◌, ◌≤◌, List, [], ◌∷◌, ◌++◌, length, Option, Some, IfSome}
 use Rattle.flow_edges.specs.declared.source.TheConstants.{MAX_READ}
-use Rattle.flow_edges.specs.Flow.{IsAtEnd, written_with}
-use Rattle.flow_lines.specs.Lines.{LinesState, lines_start, AccountsFor}
+use Rattle.flow_edges.specs.Flow.{IsAtEnd, TakesAtMost, WritesPrefix, written_with}
+use Rattle.flow_lines.specs.Lines.{LinesState, lines_start, lines_ahead, AccountsFor, NoLineFeed}
 use Rattle.flow_lines.specs.declared.refusal.TheConstants.{MAX_LINE}
-use Rattle.flow_lines.specs.declared.refusal.LineRefusal.{LineRefusal}
-use Rattle.flow_lines.specs.declared.refusal.LineRefusal.TheVariants as refusal
-use Rattle.match_log.specs.FirstForm.{FirstForm}
-use Rattle.match_log.specs.Line.{Holds}
-use Rattle.match_log.specs.Listing.{FirstEntry, holding, listing_text, last_or_zero}
-use Rattle.match_log.specs.Reading.{Whole, Refused, ReadsInput, IsNext}
+use Rattle.flow_lines.specs.declared.whole_input.TheConstants.{MAX_WHOLE_INPUT}
+use Rattle.pattern_types.specs.declared.pattern.Pattern.{Pattern}
+use Rattle.pattern_types.specs.PlainPattern.{plain_pattern}
+use Rattle.match_bindings.specs.declared.log_entry.LogEntry.{LogEntry}
+use Rattle.match_bindings.specs.NumberedPattern.{numbered_pattern}
+use Rattle.match_bindings.specs.BindTree.{BindTree}
+use Rattle.match_live.specs.declared.ending.Ending.TheVariants as ending
+use Rattle.match_live.specs.MatcherState.{MatcherState, StandsFor}
+use Rattle.match_live.specs.Answer.{IsCrowded, IsRoomy}
+use Rattle.match_input.specs.declared.mode.Mode.{Mode}
+use Rattle.match_input.specs.declared.mode.Mode.TheVariants.{Lines, Whole as WholeInput}
+use Rattle.match_input.specs.declared.rule.InputRule.{InputRule}
+use Rattle.match_input.specs.Reading.{BundleOf, InputEnd, Whole, Refused, Reads, Reading}
 use Rattle.match_log.specs.Streams.{Streams}
+use Rattle.match_log.specs.Entries.{AreEntries}
+use Rattle.match_log.specs.Listing.{AreBindings, listing_text, last_number}
 use Rattle.match_log.specs.declared.end.MatchEnd.{MatchEnd}
-use Rattle.match_log.specs.declared.end.MatchEnd.TheVariants.{Done, Input, ReadFault, WriteFault, NoMemory}
-use Rattle.match_log.specs.declared.end.InputRule.TheVariants.{NotYet}
+use Rattle.match_log.specs.declared.end.MatchEnd.TheVariants.{Done, Input, ReadFault, WriteFault, Crowded, NoMemory}
 
--- the whole log was read and listed
-pub record ListsWhole (form : FirstForm) (before after : Streams) (observations bindings last : ℕ) : Type 0 where
-  pub rows : List FirstEntry
-  pub reading : ReadsInput form before.left rows Whole
-  pub listing : after.written ≡ written_with (listing_text rows) before.written
+-- the bytes of the input are read so, where the source tells them
+abbrev pub ReadsInput : Mode → Option (List ℕ) → List BundleOf → InputEnd → Type 0
+ReadsInput mode left bundles end = IfSome left (λ bytes. Reading mode bytes bundles end)
+
+-- whatever the input is read as begins with these bundles
+abbrev pub BeginsSo : Mode → Option (List ℕ) → List BundleOf → Type 0
+BeginsSo mode left bundles = (all : List BundleOf) (end : InputEnd) → ReadsInput mode left all end
+    → IfSome left (λ bytes. (later : List BundleOf) × (all ≡ bundles ++ later))
+
+-- the live count passes the cap at no row of a log
+abbrev pub IsNeverCrowded : Pattern → ℕ → List LogEntry → Type 0
+IsNeverCrowded p cap log = (rows more : List LogEntry) (row : LogEntry) → log ≡ rows ++ row ∷ more
+    → IsRoomy (numbered_pattern p) (rows ++ row ∷ []) cap
+
+-- the bindings of a log are written
+pub record ListsLog (p : Pattern) (cap : ℕ) (bundles : List BundleOf) (log : List LogEntry) (trees : List BindTree) (written written_after : Option (List ℕ)) : Type 0 where
+  pub entries : AreEntries (plain_pattern p) bundles log
+  pub roomy : IsNeverCrowded p cap log
+  pub bindings : AreBindings p log trees
+  pub text : written_after ≡ written_with (listing_text trees) written
+
+-- the whole input was read, its bindings were written, and the matcher stands for its log
+pub record ListsWhole (mode : Mode) (p : Pattern) (cap : ℕ) (before after : Streams) (state : MatcherState) (observations bindings last : ℕ) : Type 0 where
+  pub bundles : List BundleOf
+  pub reading : ReadsInput mode before.left bundles Whole
+  pub log : List LogEntry
+  pub trees : List BindTree
+  pub lists : ListsLog p cap bundles log trees before.written after.written
+  pub stands : StandsFor state log
   pub drained : IsAtEnd after.left
-  pub observations_are : observations ≡ length rows
-  pub bindings_are : bindings ≡ length (holding rows)
-  pub last_is : last ≡ last_or_zero (holding rows)
+  pub observations_are : observations ≡ length log
+  pub bindings_are : bindings ≡ length trees
+  pub last_is : last ≡ last_number trees
 
--- no more lines went by than up to that one, and of what follows no more bytes are taken than a line may have and one
--- read gives
-pub record StopsAt (line : ℕ) (left left_after : Option (List ℕ)) : Type 0 where
+-- no more lines went by than up to that one, and of what follows no more bytes are taken than a line may have and one read
+-- gives; of an input that is read whole no more than it may have and one read
+pub record StopsIn (line : ℕ) (left left_after : Option (List ℕ)) : Type 0 where
   pub at : LinesState
   pub lines : at.count ≤ line
   pub few : length at.held ≤ MAX_LINE + MAX_READ
   pub accounts : AccountsFor lines_start at left left_after
 
--- the log before the first refused line was read and listed, and little more was read
-pub record ListsBefore (form : FirstForm) (before after : Streams) (line : ℕ) : Type 0 where
-  pub rows : List FirstEntry
-  pub reading : ReadsInput form before.left rows (Refused line)
-  pub listing : after.written ≡ written_with (listing_text rows) before.written
-  pub stops : StopsAt line before.left after.left
+abbrev pub TakesLittle : Mode → ℕ → Option (List ℕ) → Option (List ℕ) → Type 0
+TakesLittle Lines line left left_after = StopsIn line left left_after
+TakesLittle WholeInput line left left_after = TakesAtMost (MAX_WHOLE_INPUT + MAX_READ) left left_after
 
--- what an end says of the log and of what was written
-abbrev pub AnswersMatch : FirstForm → Streams → Streams → MatchEnd → Type 0
-AnswersMatch form before after (Done observations bindings last) = ListsWhole form before after observations bindings last
-AnswersMatch form before after (Input line rule) = ListsBefore form before after line
-AnswersMatch form before after ReadFault = ⊤
-AnswersMatch form before after WriteFault = ⊤
-AnswersMatch form before after NoMemory = ⊤
+-- the input was read up to the first line that is refused, the bindings of what stands before it were written, and the
+-- matcher stands for its log
+pub record ListsBefore (mode : Mode) (p : Pattern) (cap : ℕ) (before after : Streams) (state : MatcherState) (line : ℕ) (why : InputRule) : Type 0 where
+  pub bundles : List BundleOf
+  pub reading : ReadsInput mode before.left bundles (Refused line why)
+  pub log : List LogEntry
+  pub trees : List BindTree
+  pub lists : ListsLog p cap bundles log trees before.written after.written
+  pub stands : StandsFor state log
+  pub little : TakesLittle mode line before.left after.left
 
--- so far each line that is refused is so for the one rule of what isn't read yet
-abbrev pub IsNotYet : MatchEnd → Type 0
-IsNotYet (Input line rule) = rule ≡ NotYet
-IsNotYet _ = ⊤
+-- these bundles are what the whole lines in the bytes taken are read as: what comes yet is read behind them, and no whole line
+-- is among the bytes held
+pub record ReadsTaken (bundles : List BundleOf) (left left_after : Option (List ℕ)) : Type 0 where
+  pub at : LinesState
+  pub part : NoLineFeed at.held
+  pub accounts : AccountsFor lines_start at left left_after
+  pub last : Option ℤ
+  pub next : ℕ
+  pub behind : (later : List BundleOf) (end : InputEnd) → IfSome (lines_ahead at left_after) (λ lines. Reads last next lines later end)
+      → ReadsInput Lines left (bundles ++ later) end
 
--- the end for a refusal of the lines
-abbrev pub end_of : LineRefusal → MatchEnd
-end_of refusal.Fault = ReadFault
-end_of (refusal.LineTooLong number) = Input number NotYet
-end_of (refusal.InputTooLong number) = Input number NotYet
-end_of refusal.NoMemory = NoMemory
+abbrev pub HasTaken : Mode → List BundleOf → Option (List ℕ) → Option (List ℕ) → Type 0
+HasTaken Lines bundles left left_after = ReadsTaken bundles left left_after
+HasTaken WholeInput bundles left left_after = bundles ≡ []
 
--- the row that a line adds to a log
-pub record IsEntryOf (form : FirstForm) (last : Option ℤ) (bytes : List ℕ) (row : FirstEntry) : Type 0 where
-  pub object : Data
-  pub next : IsNext last bytes row.time object
-  pub truth : IsTrue row.holds ↔ Holds form object
+-- a read failed: the bindings of the whole lines in the bytes taken were written, and the matcher stands for their log; where
+-- the input is read whole there are none
+pub record ListsTaken (mode : Mode) (p : Pattern) (cap : ℕ) (before after : Streams) (state : MatcherState) : Type 0 where
+  pub bundles : List BundleOf
+  pub begins : BeginsSo mode before.left bundles
+  pub log : List LogEntry
+  pub trees : List BindTree
+  pub lists : ListsLog p cap bundles log trees before.written after.written
+  pub stands : StandsFor state log
+  pub taken : HasTaken mode bundles before.left after.left
+
+-- more was live at the row of that number than the cap allows, and at no row before it: the bindings of these were written,
+-- and the matcher ended so
+pub record StopsCrowded (mode : Mode) (p : Pattern) (cap : ℕ) (before after : Streams) (state : MatcherState) (number named : ℕ) : Type 0 where
+  pub bundles : List BundleOf
+  pub begins : BeginsSo mode before.left bundles
+  pub log more : List LogEntry
+  pub row : LogEntry
+  pub entries : AreEntries (plain_pattern p) bundles (log ++ row ∷ more)
+  pub numbered : number ≡ length log + 1
+  pub cap_is : named ≡ cap
+  pub crowded : IsCrowded (numbered_pattern p) (log ++ row ∷ []) cap
+  pub roomy : IsNeverCrowded p cap log
+  pub trees : List BindTree
+  pub bindings : AreBindings p log trees
+  pub text : after.written ≡ written_with (listing_text trees) before.written
+  pub ended : state.ended ≡ Some (ending.Crowded number cap)
+
+-- few bytes are taken behind the line of that number
+pub record HoldsFew (line : ℕ) (left left_after : Option (List ℕ)) : Type 0 where
+  pub at : LinesState
+  pub line_is : at.count ≡ line
+  pub few : length at.held ≤ MAX_READ
+  pub accounts : AccountsFor lines_start at left left_after
+
+abbrev pub TakesFew : Mode → ℕ → Option (List ℕ) → Option (List ℕ) → Type 0
+TakesFew Lines line left left_after = HoldsFew line left left_after
+TakesFew WholeInput line left left_after = TakesAtMost (MAX_WHOLE_INPUT + MAX_READ) left left_after
+
+-- a write failed: the bindings of the earlier bundles were written, and of those that end in the next bundle a prefix; behind
+-- the line of that bundle few bytes are taken
+pub record StopsWriting (mode : Mode) (p : Pattern) (before after : Streams) : Type 0 where
+  pub earlier : List BundleOf
+  pub bundle : BundleOf
+  pub begins : BeginsSo mode before.left (earlier ++ bundle ∷ [])
+  pub log own : List LogEntry
+  pub entries : AreEntries (plain_pattern p) earlier log
+  pub own_entries : AreEntries (plain_pattern p) (bundle ∷ []) own
+  pub trees more : List BindTree
+  pub bindings : AreBindings p log trees
+  pub all_bindings : AreBindings p (log ++ own) (trees ++ more)
+  pub prefix : WritesPrefix (listing_text more) (written_with (listing_text trees) before.written) after.written
+  pub few : TakesFew mode bundle.line before.left after.left
+
+-- memory ran out: the bindings of the bundles before were written
+pub record StopsWithoutMemory (mode : Mode) (p : Pattern) (before after : Streams) : Type 0 where
+  pub bundles : List BundleOf
+  pub begins : BeginsSo mode before.left bundles
+  pub log : List LogEntry
+  pub entries : AreEntries (plain_pattern p) bundles log
+  pub trees : List BindTree
+  pub bindings : AreBindings p log trees
+  pub text : after.written ≡ written_with (listing_text trees) before.written
+
+-- what an end says
+abbrev pub AnswersMatch : Mode → Pattern → ℕ → Streams → Streams → MatcherState → MatchEnd → Type 0
+AnswersMatch mode p cap before after state (Done observations bindings last) = ListsWhole mode p cap before after state observations bindings last
+AnswersMatch mode p cap before after state (Input line why) = ListsBefore mode p cap before after state line why
+AnswersMatch mode p cap before after state ReadFault = ListsTaken mode p cap before after state
+AnswersMatch mode p cap before after state WriteFault = StopsWriting mode p before after
+AnswersMatch mode p cap before after state (Crowded number named) = StopsCrowded mode p cap before after state number named
+AnswersMatch mode p cap before after state NoMemory = StopsWithoutMemory mode p before after

@@ -1,2 +1,1 @@
-pub mod Reason
-pub mod Tally
+pub mod Ends

@@ -1,29 +1,9 @@
 ghost use Rattle.std.specs.Prelude.{◌≡◌};
 ghost use Rattle.match_log.specs.declared.end.MatchEnd.TheVariants.{NoMemory as OutOfMemory};
+ghost use Rattle.match_log.specs.inner.Ends.{end_of_read};
 
 use flow_values::NoMemory;
-use stix_bundles::BundleRefusal;
-use stix_json::JsonRefusal;
-
-/// How the input is cut into bundles.
-#[derive(Clone, Copy, Debug, PartialEq, Eq)]
-pub enum Mode {
-    /// Each line that isn't blank is one bundle.
-    Lines,
-}
-
-/// Why an input line is refused. An input that is read whole is line 1.
-#[derive(Debug, Drop)]
-pub enum InputRule {
-    /// The line isn't of the first form, or is earlier than the one before, or is too long.
-    NotYet,
-    /// The input is longer than it may be.
-    InputTooLong,
-    /// The bytes are no tree.
-    Json(JsonRefusal),
-    /// The tree is no bundle.
-    Bundle(BundleRefusal),
-}
+use match_input::{InputRule, ReadEnd};
 
 /// How a run over a log ended.
 #[derive(Debug, Drop)]
@@ -36,14 +16,13 @@ pub enum MatchEnd {
         last: u64,
     },
     /// The line of that number is the first that is refused.
-    Input {
-        line: u64,
-        rule: InputRule,
-    },
+    Input { line: u64, rule: InputRule },
     /// The input failed, and counted it.
     ReadFault,
     /// The output failed, and counted it.
     WriteFault,
+    /// More is live after the observation of that number than the cap allows.
+    Crowded { number: u64, cap: u64 },
     /// Memory ran out.
     NoMemory,
 }
@@ -53,5 +32,17 @@ impl From<NoMemory> for MatchEnd {
 
     fn from(_error: NoMemory) -> MatchEnd {
         MatchEnd::NoMemory
+    }
+}
+
+impl From<ReadEnd> for MatchEnd {
+    ghost from_gives = { λ read end. end ≡ end_of_read read };
+
+    fn from(end: ReadEnd) -> MatchEnd {
+        match end {
+            ReadEnd::Input { line, rule } => MatchEnd::Input { line, rule },
+            ReadEnd::ReadFault => MatchEnd::ReadFault,
+            ReadEnd::Ended | ReadEnd::NoMemory => MatchEnd::NoMemory,
+        }
     }
 }

@@ -1,25 +1,18 @@
-//! A stream of observed data to the lines of its bindings: from the bytes in to the bytes out.
+//! A log to the lines of its bindings: from the bytes in to the bytes out.
 //!
-//! `match_stream` reads a log, one bundle a line, and writes a line for each observation that the
-//! bracket of the pattern matches. What it writes is a function of the bytes alone, however they are
-//! cut into reads; the first line that is refused ends it.
+//! `match_stream` reads an input, bundle by bundle, gives each of its observations to a matcher, and writes
+//! the line of each binding as soon as it ends. What it writes is a function of the bytes alone, however
+//! they are cut into reads; the first line that is refused, or the first observation at which too much is
+//! live, ends it.
 #![tactic(auto)]
 
-mod comparison;
+mod answers;
+mod batch;
 mod end;
-mod entries;
-pub mod laws;
-mod line_refusal;
-mod observation;
-mod reason;
-mod refusal_text;
 mod stream;
 mod tally;
 
-pub use comparison::is_built;
-pub use end::{InputRule, MatchEnd, Mode};
-pub use refusal_text::write_input_refusal;
+pub use end::MatchEnd;
+pub use match_input::{InputRule, Mode};
+pub use match_live::Matcher;
 pub use stream::match_stream;
-
-#[cfg(test)]
-mod tests;

@@ -1,6 +1,0 @@
-pub mod JsonListLemmas
-pub mod IsFirstLineLemmas
-pub mod ListingLemmas
-pub mod ReadsSoFarLemmas
-pub mod ReadingLemmas
-pub mod InputRefusalTextLemmas
