@@ -1,0 +1,11 @@
+use Rattle.match_input.proofs.OneReadingLemmas.{Laws, goes_on}
+use Rattle.match_input.proofs.laws.goes_on.Goals as goal
+
+pub returns : goal.returns
+returns c = λ last next number bytes later objects observations all end.
+    goes_on (record {
+      bundle = c.one_reading.ensures.bundle;
+      refusal = c.one_reading.ensures.refusal;
+      either = c.one_reading.ensures.either;
+      list = c.one_list_of_observations.ensures;
+    }) last next number bytes later objects observations all end
