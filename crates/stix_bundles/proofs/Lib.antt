@@ -17,3 +17,4 @@ pub mod ReferencesLemmas
 pub mod LastTimeLemmas
 pub mod OneObservationsLemmas
 pub mod OneBundleLemmas
+pub mod SpansLemmas

@@ -1,17 +1,17 @@
 //! What follows from the definitions: the contracts are the laws, and the functions do nothing.
 
-ghost use Rattle.std.specs.Prelude.{◌≡◌, ℕ, ℤ, List, Option, None, slice_get, Some};
+ghost use Rattle.std.specs.Prelude.{◌≡◌, ℕ, ℤ, List, [], Option, None, slice_get, Some, All, ◌≤ℤ◌};
 ghost use Rattle.serde_json.specs.Data.{Data};
 ghost use Rattle.stix_ids.specs.declared.id.Id.{Id};
 ghost use Rattle.stix_ids.specs.Identifier.{IsTextOf};
 ghost use Rattle.stix_bundles.specs.declared.refusal.BundleRefusal.{BundleRefusal};
-ghost use Rattle.stix_bundles.specs.Bundle.{IsBundle, IsBundleRefused};
+ghost use Rattle.stix_bundles.specs.Bundle.{AreAllBreaks, IsBundle, IsBundleRefused};
 ghost use Rattle.stix_bundles.specs.declared.observation.Observation.{Observation};
 ghost use Rattle.stix_bundles.specs.Observations.{AreObservations};
 ghost use Rattle.stix_bundles.specs.Lookup.{IsModified, IsOf, Means};
 
 use stix_ids::laws::one_identifier;
-use stix_objects::laws::{one_id, one_list, one_timestamp};
+use stix_objects::laws::{no_breaks, one_id, one_list, one_timestamp};
 
 /// An object was modified at one time or at none.
 pub fn one_modified()
@@ -43,6 +43,15 @@ pub fn one_list_of_observations()
     one_id();
     one_timestamp();
     one_meaning();
+}
+
+/// Where no object breaks a rule, no observation ends before it begins.
+pub fn observations_are_spans()
+    ensures { (objects : List Data) (number : ℕ) (observations : List Observation) → AreAllBreaks 0 objects []
+        → AreObservations objects number observations → All (λ observation. observation.first ≤ℤ observation.last) observations }
+{
+    no_breaks();
+    one_timestamp();
 }
 
 /// A value is one bundle, or is refused for one cause.
