@@ -90,23 +90,24 @@ not_refused reading tree misread meaning faulty text p refused.NoMemory x y = y
 too_long : (text : List ℕ) → MAX_TEXT < length text → length text ≤ MAX_TEXT → ⊥
 too_long text h k = omega (arith, h, k)
 
-pub one_refused : OneReading → OneTree → NoneMisread → OneMisread → NoneFaulty → OneFault → (text : List ℕ) (r s : PatternRefusal) → IsRefusedAs text r → IsRefusedAs text s → r ≡ s
-one_refused reading tree misread one faulty fault text r refused.NoMemory x y = absurd y
-one_refused reading tree misread one faulty fault text refused.NoMemory s x y = absurd x
-one_refused reading tree misread one faulty fault text refused.TooLong refused.TooLong x y = refl
-one_refused reading tree misread one faulty fault text refused.TooLong s x y = absurd (too_long text x y.0)
-one_refused reading tree misread one faulty fault text r refused.TooLong x y = absurd (too_long text y x.0)
-one_refused reading tree misread one faulty fault text (refused.Token r) (refused.Token s) x y = ap refused.Token (same_err r s (reading text (Err r) (Err s) x.1 y.1))
-one_refused reading tree misread one faulty fault text (refused.Token r) (refused.Syntax s) x y = absurd (no_fault reading text y.1.tokens r y.1.of_text x.1)
-one_refused reading tree misread one faulty fault text (refused.Token r) s x y = absurd (no_fault reading text y.1.spelled.tokens r y.1.spelled.of_text x.1)
-one_refused reading tree misread one faulty fault text (refused.Syntax r) (refused.Token s) x y = absurd (no_fault reading text x.1.tokens s x.1.of_text y.1)
-one_refused reading tree misread one faulty fault text r (refused.Token s) x y = absurd (no_fault reading text x.1.spelled.tokens s x.1.spelled.of_text y.1)
-one_refused reading tree misread one faulty fault text (refused.Syntax r) (refused.Syntax s) x y = ap refused.Syntax (one_unspelled reading one text r s x.1 y.1)
-one_refused reading tree misread one faulty fault text (refused.Syntax r) s x y = absurd (not_unspelled reading misread text y.1.tree r y.1.spelled x.1)
-one_refused reading tree misread one faulty fault text r (refused.Syntax s) x y = absurd (not_unspelled reading misread text x.1.tree s x.1.spelled y.1)
-one_refused reading tree misread one faulty fault text (refused.Value r) (refused.Value s) x y =
-    let same = one_spelled reading tree text x.1.tree y.1.tree x.1.spelled y.1.spelled in
-    ap refused.Value (fault text y.1.tree r s (subst (λ (t : Tree). IsEarliest (RefusalOf text t) r) same x.1.earliest) y.1.earliest)
-one_refused reading tree misread one faulty fault text (refused.Value r) refused.TooWide x y = absurd (not_faulty faulty text y.1.tree x.1.tree y.1.wide.pattern r (one_spelled reading tree text y.1.tree x.1.tree y.1.spelled x.1.spelled) y.1.wide.meant x.1.earliest)
-one_refused reading tree misread one faulty fault text refused.TooWide (refused.Value s) x y = absurd (not_faulty faulty text x.1.tree y.1.tree x.1.wide.pattern s (one_spelled reading tree text x.1.tree y.1.tree x.1.spelled y.1.spelled) x.1.wide.meant y.1.earliest)
-one_refused reading tree misread one faulty fault text refused.TooWide refused.TooWide x y = refl
+module _ (reading : OneReading) (tree : OneTree) (misread : NoneMisread) (one : OneMisread) (faulty : NoneFaulty) (fault : OneFault) where
+  pub one_refused : (text : List ℕ) (r s : PatternRefusal) → IsRefusedAs text r → IsRefusedAs text s → r ≡ s
+  one_refused text r refused.NoMemory x y = absurd y
+  one_refused text refused.NoMemory s x y = absurd x
+  one_refused text refused.TooLong refused.TooLong x y = refl
+  one_refused text refused.TooLong s x y = absurd (too_long text x y.0)
+  one_refused text r refused.TooLong x y = absurd (too_long text y x.0)
+  one_refused text (refused.Token r) (refused.Token s) x y = ap refused.Token (same_err r s (reading text (Err r) (Err s) x.1 y.1))
+  one_refused text (refused.Token r) (refused.Syntax s) x y = absurd (no_fault reading text y.1.tokens r y.1.of_text x.1)
+  one_refused text (refused.Token r) s x y = absurd (no_fault reading text y.1.spelled.tokens r y.1.spelled.of_text x.1)
+  one_refused text (refused.Syntax r) (refused.Token s) x y = absurd (no_fault reading text x.1.tokens s x.1.of_text y.1)
+  one_refused text r (refused.Token s) x y = absurd (no_fault reading text x.1.spelled.tokens s x.1.spelled.of_text y.1)
+  one_refused text (refused.Syntax r) (refused.Syntax s) x y = ap refused.Syntax (one_unspelled reading one text r s x.1 y.1)
+  one_refused text (refused.Syntax r) s x y = absurd (not_unspelled reading misread text y.1.tree r y.1.spelled x.1)
+  one_refused text r (refused.Syntax s) x y = absurd (not_unspelled reading misread text x.1.tree s x.1.spelled y.1)
+  one_refused text (refused.Value r) (refused.Value s) x y =
+      let same = one_spelled reading tree text x.1.tree y.1.tree x.1.spelled y.1.spelled in
+      ap refused.Value (fault text y.1.tree r s (subst (λ (t : Tree). IsEarliest (RefusalOf text t) r) same x.1.earliest) y.1.earliest)
+  one_refused text (refused.Value r) refused.TooWide x y = absurd (not_faulty faulty text y.1.tree x.1.tree y.1.wide.pattern r (one_spelled reading tree text y.1.tree x.1.tree y.1.spelled x.1.spelled) y.1.wide.meant x.1.earliest)
+  one_refused text refused.TooWide (refused.Value s) x y = absurd (not_faulty faulty text x.1.tree y.1.tree x.1.wide.pattern s (one_spelled reading tree text x.1.tree y.1.tree x.1.spelled y.1.spelled) x.1.wide.meant y.1.earliest)
+  one_refused text refused.TooWide refused.TooWide x y = refl

@@ -42,7 +42,8 @@ ascii_word : (text : List ℕ) → HasAt 0 IsWordStart text → BeginsAscii text
 ascii_word [] h = absurd h
 ascii_word (c ∷ text) h = grind arith
 
-ascii_sign : (c : ℕ) (digits : List ℕ) (minus plus : Bool) → (minus ≡ true → c < 128) → (plus ≡ true → c < 128) → IsNumeral 10 (cond minus digits (drop (cond plus 1 0) (c ∷ digits))) → c < 128
+ascii_sign : (c : ℕ) (digits : List ℕ) (minus plus : Bool) → (minus ≡ true → c < 128) → (plus ≡ true → c < 128)
+    → IsNumeral 10 (cond minus digits (drop (cond plus 1 0) (c ∷ digits))) → c < 128
 ascii_sign c digits true plus f g h = f refl
 ascii_sign c digits false true f g h = g refl
 ascii_sign c digits false false f g h = let d = digit_at (c ∷ digits) 0 h.1 (omega arith) in omega (arith, d.1)
@@ -79,14 +80,17 @@ low_end : (blanks : List ℕ) → All IsBlank blanks → get_or blanks 0 0 < 128
 low_end [] all = omega arith
 low_end (c ∷ blanks) all = blank_below c (All-head IsBlank c blanks all)
 
-boundary : (whole : List ℕ) (at : ℕ) (left : List ℕ) → at ≤ length whole → drop at whole ≡ left → get_or left 0 0 < 128 → IsCharBoundary whole at
+boundary : (whole : List ℕ) (at : ℕ) (left : List ℕ) → at ≤ length whole → drop at whole ≡ left → get_or left 0 0 < 128
+    → IsCharBoundary whole at
 boundary whole at left b e h =
-    let here : get_or left 0 0 ≡ get_or whole at 0 = ap (λ (x : List ℕ). get_or x 0 0) (sym e) ∙ get_or-drop at whole 0 0 ∙ ap (λ (i : ℕ). get_or whole i 0) (omega arith) in
+    let first = ap (λ (x : List ℕ). get_or x 0 0) (sym e) in
+    let here : get_or left 0 0 ≡ get_or whole at 0 = first ∙ get_or-drop at whole 0 0 ∙ ap (λ (i : ℕ). get_or whole i 0) (omega arith) in
     let low : get_or whole at 0 < 128 = subst (λ (x : ℕ). x < 128) here h in
     (b, λ i k. absurd (omega arith))
 
 -- what follows a part of what is left of a text
-further : (whole : List ℕ) (at : ℕ) (part rest : List ℕ) → at ≤ length whole → drop at whole ≡ part ++ rest → (at + length part ≤ length whole) × (drop (at + length part) whole ≡ rest) × (take (at + length part - at) (drop at whole) ≡ part)
+further : (whole : List ℕ) (at : ℕ) (part rest : List ℕ) → at ≤ length whole → drop at whole ≡ part ++ rest
+    → (at + length part ≤ length whole) × (drop (at + length part) whole ≡ rest) × (take (at + length part - at) (drop at whole) ≡ part)
 further whole at part rest b e =
     let n = ap length e in
     let more : at + length part ≤ length whole = omega (arith, n, length-drop at whole, length-append part rest) in (
@@ -95,7 +99,8 @@ further whole at part rest b e =
       ap (λ (i : ℕ). take i (drop at whole)) (omega arith) ∙ ap (λ (x : List ℕ). take (length part) x) e ∙ take-append_seam part rest,
     )
 
-all_worth : (whole : List ℕ) (at : ℕ) (left : List ℕ) (ts : List Token) (rest : List ℕ) → at ≤ length whole → drop at whole ≡ left → AreTokens at left ts rest → All IsBlank rest → AllWorth whole ts × (get_or left 0 0 < 128)
+all_worth : (whole : List ℕ) (at : ℕ) (left : List ℕ) (ts : List Token) (rest : List ℕ) → at ≤ length whole → drop at whole ≡ left
+    → AreTokens at left ts rest → All IsBlank rest → AllWorth whole ts × (get_or left 0 0 < 128)
 all_worth whole at left [] rest b e h blank = (tt, subst (λ (x : List ℕ). get_or x 0 0 < 128) (sym h) (low_end rest blank))
 all_worth whole at left (t ∷ ts) rest b e h blank =
     let n = h.1 in
@@ -104,8 +109,11 @@ all_worth whole at left (t ∷ ts) rest b e h blank =
     let k = further whole (at + length n.blanks) n.text h.0 d.0 d.1 in
     let f : t.from ≡ at + length n.blanks = n.from in
     let g : t.to ≡ at + length n.blanks + length n.text = n.to ∙ ap (λ (i : ℕ). i + length n.text) f in
-    let spelled : text_at whole t ≡ n.text = ap (λ (i : ℕ). take (t.to - i) (drop i whole)) f ∙ ap (λ (i : ℕ). take (i - (at + length n.blanks)) (drop (at + length n.blanks) whole)) g ∙ k.2 in
-    let more = all_worth whole t.to h.0 ts rest (subst (λ (i : ℕ). i ≤ length whole) (sym g) k.0) (subst (λ (i : ℕ). drop i whole ≡ h.0) (sym g) k.1) h.2 blank in
+    let begins = ap (λ (i : ℕ). take (t.to - i) (drop i whole)) f in
+    let ends = ap (λ (i : ℕ). take (i - (at + length n.blanks)) (drop (at + length n.blanks) whole)) g in
+    let spelled : text_at whole t ≡ n.text = begins ∙ ends ∙ k.2 in
+    let in_whole = subst (λ (i : ℕ). i ≤ length whole) (sym g) k.0 in
+    let more = all_worth whole t.to h.0 ts rest in_whole (subst (λ (i : ℕ). drop i whole ≡ h.0) (sym g) k.1) h.2 blank in
     let first = low_text n.text h.0 (ascii t.kind n.text n.first.token) in
     let cut : IsCut whole t = record {
       ordered = omega (arith, n.to);
