@@ -26,44 +26,22 @@ pub data Opens : List ℕ → Type 0 where
   words : (w : List ℕ) → Opens (string_text w)
   lettered : (l : ℕ) (inside : List ℕ) → (l ≡ 104) ⊎ ((l ≡ 98) ⊎ (l ≡ 116)) → All (λ c. c ≢ 39) inside → Opens (quoted (l ∷ []) inside)
 
-letter_alone : (b : ℕ) → 58 < b → b ≢ 91 → ¬ IsAlone b
-letter_alone b h k x = grind arith
-
-low_alone : (b : ℕ) → b < 58 → b ≢ 40 → b ≢ 46 → ¬ IsAlone b
-low_alone b h k l x = grind arith
-
 -- letters, `!`, `<` and `>`
 abbrev begins_literal : ℕ → Bool
 begins_literal b = (nat_le 60 b && nat_le b 90) || ((nat_le 97 b && nat_le b 122) || (b == 33))
-
-literal_quote : (b : ℕ) → begins_literal b ≡ true → b ≢ 39
-literal_quote b h e = grind (arith, nat_tests)
-
-literal_alone : (b : ℕ) → begins_literal b ≡ true → ¬ IsAlone b
-literal_alone b h x = grind (arith, nat_tests)
 
 abbrev opens_test : List ℕ → Bool
 opens_test [] = true
 opens_test (b ∷ []) = not (b == 39)
 opens_test (b ∷ c ∷ r) = begins_literal b && not (c == 39)
 
-no_quote : (c : ℕ) → not (c == 39) ≡ true → c ≢ 39
-no_quote c h e = let g : not (39 == 39) ≡ true = rw e at h in cc
-
 opens_literal : (literal : List ℕ) → opens_test literal ≡ true → Opens literal
 opens_literal [] h = nothing
-opens_literal (b ∷ []) h = mark b (no_quote b h)
-opens_literal (b ∷ c ∷ r) h =
-    let parts = and_parts (begins_literal b) (not (c == 39)) h in letters b (c ∷ r) (literal_quote b parts.0) (literal_alone b parts.0) (no_quote c parts.1)
+opens_literal (b ∷ []) h = mark b (λ e. grind (arith, nat_tests))
+opens_literal (b ∷ c ∷ r) h = letters b (c ∷ r) (λ e. grind (arith, nat_tests)) (λ a. grind (arith, nat_tests)) (λ e. grind (arith, nat_tests))
 
 opens_as : (literal text : List ℕ) → opens_test literal ≡ true → text ≡ literal → Opens text
 opens_as literal text h e = subst Opens (sym e) (opens_literal literal h)
-
-start_quote : (c : ℕ) → IsWordStart c → c ≢ 39
-start_quote c h e = grind arith
-
-start_alone : (c : ℕ) → IsWordStart c → ¬ IsAlone c
-start_alone c h x = grind arith
 
 pub part_quote : (c : ℕ) → IsHyphenWordPart c → c ≢ 39
 part_quote c h e = grind arith
@@ -74,7 +52,7 @@ second_quote (c ∷ text) h e = part_quote c (h 0 0 (omega arith)) e
 
 opens_word : (text : List ℕ) → HasAt 0 IsWordStart text → All IsHyphenWordPart text → Opens text
 opens_word [] h all = absurd h
-opens_word (c ∷ text) h all = letters c text (start_quote c h) (start_alone c h) (second_quote text (λ k d b. all (suc k) d (omega arith)))
+opens_word (c ∷ text) h all = letters c text (λ e. grind arith) (λ a. grind arith) (second_quote text (λ k d b. all (suc k) d (omega arith)))
 
 digits_quote : (digits : List ℕ) → AllDigits 10 digits → get_or digits 0 0 ≢ 39
 digits_quote [] h e = omega arith
@@ -127,15 +105,7 @@ abbrev IsBareByte : ℕ → Type 0
 IsBareByte c = (c ≢ 39) × (c ≢ 92) × (escaped c ≡ c ∷ [])
 
 escape_view : (c : ℕ) → IsEscaped c ⊎ IsBareByte c
-escape_view c = quote (eqb_tells c 39)
-  where
-    slash : (c == 39) ≡ false → c ≢ 39 → (((c == 92) ≡ true) × (c ≡ 92)) ⊎ (((c == 92) ≡ false) × (c ≢ 92)) → IsEscaped c ⊎ IsBareByte c
-    slash p n (inl x) = let q = x.0 in inl (inr x.1, rw (p, q) refl)
-    slash p n (inr x) = let q = x.0 in inr (n, x.1, rw (p, q) refl)
-
-    quote : (((c == 39) ≡ true) × (c ≡ 39)) ⊎ (((c == 39) ≡ false) × (c ≢ 39)) → IsEscaped c ⊎ IsBareByte c
-    quote (inl x) = let p = x.0 in inl (inl x.1, rw p refl)
-    quote (inr x) = slash x.0 x.1 (eqb_tells c 92)
+escape_view c = grind (arith, nat_tests)
 
 end_differs : (d : ℕ) (a rest : List ℕ) → 39 ∷ a ≡ escaped d ++ rest → ⊥
 end_differs d a rest e = case (escape_view d)
