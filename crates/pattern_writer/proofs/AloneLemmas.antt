@@ -108,22 +108,10 @@ escape_view : (c : ℕ) → IsEscaped c ⊎ IsBareByte c
 escape_view c = grind (arith, nat_tests)
 
 end_differs : (d : ℕ) (a rest : List ℕ) → 39 ∷ a ≡ escaped d ++ rest → ⊥
-end_differs d a rest e = case (escape_view d)
-  where
-    case : IsEscaped d ⊎ IsBareByte d → ⊥
-    case (inl x) = let q = x.1 in let h : 39 ∷ a ≡ 92 ∷ d ∷ rest = rw q at e in let f : 39 ≡ 92 = first_bytes 39 92 a (d ∷ rest) h in omega (arith, f)
-    case (inr x) = let q = x.2 in let h : 39 ∷ a ≡ d ∷ rest = rw q at e in x.0 (sym (first_bytes 39 d a rest h))
+end_differs d a rest e = grind (arith, nat_tests)
 
 same_step : (c d : ℕ) (x y : List ℕ) → escaped c ++ x ≡ escaped d ++ y → (c ≡ d) × (x ≡ y)
-same_step c d x y e = case (escape_view c) (escape_view d)
-  where
-    case : IsEscaped c ⊎ IsBareByte c → IsEscaped d ⊎ IsBareByte d → (c ≡ d) × (x ≡ y)
-    case (inl p) (inl q) =
-        let f = p.1 in let g = q.1 in let h : 92 ∷ c ∷ x ≡ 92 ∷ d ∷ y = rw (f, g) at e in
-        let k = rests 92 92 (c ∷ x) (d ∷ y) h in (first_bytes c d x y k, rests c d x y k)
-    case (inl p) (inr q) = let f = p.1 in let g = q.2 in let h : 92 ∷ c ∷ x ≡ d ∷ y = rw (f, g) at e in absurd (q.1 (sym (first_bytes 92 d (c ∷ x) y h)))
-    case (inr p) (inl q) = let f = p.2 in let g = q.1 in let h : c ∷ x ≡ 92 ∷ d ∷ y = rw (f, g) at e in absurd (p.1 (first_bytes c 92 x (d ∷ y) h))
-    case (inr p) (inr q) = let f = p.2 in let g = q.2 in let h : c ∷ x ≡ d ∷ y = rw (f, g) at e in (first_bytes c d x y h, rests c d x y h)
+same_step c d x y e = grind (arith, nat_tests)
 
 pub same_words : (v w a b : List ℕ) → flat_map escaped v ++ 39 ∷ a ≡ flat_map escaped w ++ 39 ∷ b → v ≡ w
 same_words [] [] a b e = refl
