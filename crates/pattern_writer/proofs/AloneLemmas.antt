@@ -1,17 +1,16 @@
 -- Tokens that end by themselves: brackets, dots and colons, words in quotes, and what stands in quotes
 -- behind a letter.
-use Rattle.std.proofs.Common.{◌≡◌, ◌≢◌, ◌⊎◌, inl, inr, ℕ, suc, ◌<◌, ◌≤◌, Bool, true, false, not, ◌&&◌, ◌||◌, ◌==◌, List, [], ◌∷◌, ◌++◌, length, get_or, refl, sym, ◌∙◌, subst, arith, append_assoc}
+use Rattle.std.proofs.Common.{◌≡◌, ◌≢◌, ◌⊎◌, inl, inr, ℕ, suc, ◌≤◌, Bool, true, not, ◌&&◌, ◌||◌, ◌==◌, List, [], ◌∷◌, ◌++◌, length, get_or, refl, sym, ◌∙◌, subst, arith, append_assoc}
 use Rattle.std.specs.Prelude.{All, nat_le, flat_map}
 use Rattle.std.specs.Str.Parse.{IsNumeral, AllDigits}
-use Rattle.std.proofs.lemmas.Bool.{and_parts}
-use Rattle.std.proofs.lemmas.Bool.Decides.{eqb_tells, nat_tests}
+use Rattle.std.proofs.lemmas.Bool.Decides.{nat_tests}
 use Rattle.std.proofs.lemmas.Str.Parse.{digit_at}
 use Rattle.pattern_tokens.specs.declared.token.TokenKind.{TokenKind}
 use Rattle.pattern_tokens.specs.declared.token.TokenKind.TheVariants.{Word, HyphenWord, Number, String, Hex, Binary, Timestamp}
 use Rattle.pattern_tokens.specs.Word.{IsWordStart, IsHyphenWordPart, HasAt}
 use Rattle.pattern_tokens.specs.Values.{IsNumberText, quoted, escaped, string_text}
 use Rattle.pattern_tokens.specs.Table.{IsToken}
-use Rattle.pattern_writer.proofs.LongestLemmas.{IsSigned, signed, first_bytes, rests}
+use Rattle.pattern_writer.proofs.LongestLemmas.{IsSigned, signed, rests}
 
 -- the marks that any token may follow: `(`, `.`, `:` and `[`
 abbrev pub IsAlone : ℕ → Type 0
@@ -96,16 +95,6 @@ longest_alone m after a other whole more e h = alone_front m after whole more a 
 -- what is written for words tells them from what follows
 closed : (u v a b : List ℕ) → (u ++ 39 ∷ []) ++ a ≡ (v ++ 39 ∷ []) ++ b → u ++ 39 ∷ a ≡ v ++ 39 ∷ b
 closed u v a b e = sym (append_assoc u (39 ∷ []) a) ∙ e ∙ append_assoc v (39 ∷ []) b
-
--- with a backslash, or as it is
-abbrev IsEscaped : ℕ → Type 0
-IsEscaped c = ((c ≡ 39) ⊎ (c ≡ 92)) × (escaped c ≡ 92 ∷ c ∷ [])
-
-abbrev IsBareByte : ℕ → Type 0
-IsBareByte c = (c ≢ 39) × (c ≢ 92) × (escaped c ≡ c ∷ [])
-
-escape_view : (c : ℕ) → IsEscaped c ⊎ IsBareByte c
-escape_view c = grind (arith, nat_tests)
 
 end_differs : (d : ℕ) (a rest : List ℕ) → 39 ∷ a ≡ escaped d ++ rest → ⊥
 end_differs d a rest e = grind (arith, nat_tests)
