@@ -19,11 +19,11 @@ use Rattle.match_live.proofs.ShapeLemmas.{Rule, to_held}
 use Rattle.match_live.proofs.AnswerLemmas.{held_counts, same_length, trees_length}
 
 -- what a store may hold, as a test
-abbrev may_hold : Observed → Part → BindTree → Bool
+abbrev pub may_hold : Observed → Part → BindTree → Bool
 may_hold o (a_side p) x = is_binding o p x
 may_hold o (a_level p j) x = are_repeats (is_binding o p) j x
 
-may_rule : Rule → (o : Observed) (part : Part) (x : BindTree) → (may_hold o part x ≡ true) ↔ MayHold o part x
+pub may_rule : Rule → (o : Observed) (part : Part) (x : BindTree) → (may_hold o part x ≡ true) ↔ MayHold o part x
 may_rule rule o (a_side p) x = rule o p x
 may_rule rule o (a_level p j) x = rule o (Repeats p j) x
 

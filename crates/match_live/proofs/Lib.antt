@@ -18,3 +18,4 @@ pub mod KeptLemmas
 pub mod CountLemmas
 pub mod ListingLemmas
 pub mod PrefixLemmas
+pub mod WithinLemmas
