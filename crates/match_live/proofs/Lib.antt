@@ -19,3 +19,4 @@ pub mod CountLemmas
 pub mod ListingLemmas
 pub mod PrefixLemmas
 pub mod WithinLemmas
+pub mod OldestLemmas

@@ -1,6 +1,6 @@
-ghost use Rattle.std.specs.Prelude.{◌≡◌, ◌++◌, [], OnOk, not};
+ghost use Rattle.std.specs.Prelude.{◌≡◌, ◌++◌, [], true, Some, OnOk, not};
 ghost use Rattle.match_live.specs.inner.Lives.{lives};
-ghost use Rattle.match_live.specs.inner.Helds.{held_trees};
+ghost use Rattle.match_live.specs.inner.Helds.{held_trees, none_before, oldest_with};
 ghost use Rattle.match_live.specs.inner.Steps.{kept};
 
 use crate::held::Held;
@@ -13,6 +13,9 @@ use stix_times::Instant;
 #[derive(Drop)]
 pub(crate) struct Store {
     pub held: Vec<Held>,
+    /// Nothing that is held has an earlier time. While it lives, all does.
+    pub oldest: Option<Instant>,
+    ghost none_older: { none_before oldest (held_trees held.items) ≡ true },
 }
 
 impl Store {
@@ -22,6 +25,7 @@ impl Store {
     {
         Store {
             held: Vec::new(alloc),
+            oldest: None,
         }
     }
 
@@ -29,8 +33,14 @@ impl Store {
     pub fn expire(&mut self, window: &Window, now: Instant)
         ensures { held_trees self.new.held.items ≡ kept window.now now (held_trees self.old.held.items) }
     {
+        if let Some(oldest) = self.oldest {
+            if is_live(window, oldest, now) {
+                return;
+            }
+        }
         self.held
             .retain(|held| is_live(window, held.earliest, now));
+        self.oldest = oldest_of(&self.held);
     }
 
     /// Adds what hasn't expired.
@@ -39,10 +49,34 @@ impl Store {
     {
         for held in new {
             if is_live(window, held.earliest, now) {
+                let earliest = held.earliest;
                 self.held.push(held)?;
+                self.oldest = older(self.oldest, earliest);
             }
         }
         Ok(())
+    }
+}
+
+/// The least earliest time of some things.
+fn oldest_of(held: &[Held]) -> Option<Instant>
+    ensures { none_before result (held_trees held.now) ≡ true }
+{
+    let mut oldest = None;
+    for one in held {
+        oldest = older(oldest, one.earliest);
+    }
+    oldest
+}
+
+/// The earlier of two times, the first of which may be absent.
+fn older(oldest: Option<Instant>, time: Instant) -> Option<Instant>
+    ensures { result ≡ Some (oldest_with oldest time) }
+{
+    match oldest {
+        Some(other) if other < time => Some(other),
+        Some(_) => Some(time),
+        None => Some(time),
     }
 }
 
