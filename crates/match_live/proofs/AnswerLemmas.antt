@@ -13,7 +13,7 @@ use Rattle.match_bindings.specs.Binding.{IsBinding}
 use Rattle.match_bindings.specs.Test.{is_binding}
 use Rattle.match_bindings.specs.Once.{bit, same, count}
 use Rattle.match_bindings.specs.Flat.{comes_before, Rises}
-use Rattle.match_live.specs.HeldTree.{HeldTree, hold, trees_in}
+use Rattle.match_live.specs.PieceTree.{PieceTree, hold, trees_in}
 use Rattle.match_live.specs.Answer.{EndsAtLast, IsAnswer}
 use Rattle.match_live.proofs.OnceLemmas.{same_is, same_self}
 use Rattle.match_live.proofs.NumberLemmas.{has_greatest, greatest_binding, old_binding}
@@ -52,11 +52,11 @@ bit_and_most true false = omega arith
 bit_and_most false c = omega arith
 
 -- the trees of what is held stand there as often as the test says
-pub held_counts : (o : Observed) (f : BindTree → Bool) (held : List HeldTree) → AreHeld o f held → (x : BindTree) → count x (trees_in held) ≡ bit (f x)
+pub held_counts : (o : Observed) (f : BindTree → Bool) (held : List PieceTree) → AreHeld o f held → (x : BindTree) → count x (trees_in held) ≡ bit (f x)
 held_counts o f held (xs, is, each) x = ap (count x) (ap trees_in is ∙ trees_held o xs) ∙ each x
 
 -- what ends at the last row of a log
-pub answer_law : Rule → Rise → (p : NumberedPattern) (log : List LogEntry) (r : LogEntry) (new : List HeldTree) (xs : List BindTree) →
+pub answer_law : Rule → Rise → (p : NumberedPattern) (log : List LogEntry) (r : LogEntry) (new : List PieceTree) (xs : List BindTree) →
     AreHeld (observed_in (log ++ r ∷ [])) (ends (observed_in (log ++ r ∷ [])) (suc (length log)) r.last no_bounds p) new →
     ((x : BindTree) → count x xs ≡ count x (trees_in new)) → IsSortedBy comes_before xs → IsAnswer p (log ++ r ∷ []) xs
 answer_law rule rise p log r new xs held same sorted = record {
@@ -134,5 +134,5 @@ same_length (x ∷ xs) ys h =
       omega arith) in
     ap suc rest ∙ sym (dropped_length x ys some)
 
-pub trees_length : (held : List HeldTree) → length (trees_in held) ≡ length held
+pub trees_length : (held : List PieceTree) → length (trees_in held) ≡ length held
 trees_length held = length-map held (λ h. h.tree)

@@ -10,7 +10,7 @@ use Rattle.match_bindings.specs.Span.{earliest}
 use Rattle.match_bindings.specs.Test.{are_repeats, is_binding}
 use Rattle.match_bindings.specs.Once.{bit, count}
 use Rattle.match_windows.specs.Stores.{Part, a_side, a_level, Store, stores_of}
-use Rattle.match_live.specs.HeldTree.{HeldTree, trees_in}
+use Rattle.match_live.specs.PieceTree.{PieceTree, trees_in}
 use Rattle.match_live.specs.LivePart.{MayHold, HoldsLive, AreLive, time_of, held_count}
 use Rattle.match_live.specs.Answer.{EndsAtLast, IsAnswer, IsLiveCount}
 use Rattle.match_live.specs.inner.Lives.{lives}
@@ -27,7 +27,7 @@ pub may_rule : Rule → (o : Observed) (part : Part) (x : BindTree) → (may_hol
 may_rule rule o (a_side p) x = rule o p x
 may_rule rule o (a_level p j) x = rule o (Repeats p j) x
 
-same_store : Rule → (o : Observed) (now : ℤ) (store : Store) (us vs : List HeldTree) → HoldsLive o now store us → HoldsLive o now store vs → length us ≡ length vs
+same_store : Rule → (o : Observed) (now : ℤ) (store : Store) (us vs : List PieceTree) → HoldsLive o now store us → HoldsLive o now store vs → length us ≡ length vs
 same_store rule o now store us vs hu hv =
     let f = λ (x : BindTree). may_hold o store.part x && lives store.window (earliest o.first x) now in
     let one = to_held o now store (may_hold o store.part) (may_rule rule o store.part) us hu in
@@ -35,7 +35,7 @@ same_store rule o now store us vs hu hv =
     let same : length (trees_in us) ≡ length (trees_in vs) = same_length (trees_in us) (trees_in vs) (λ x. held_counts o f us one x ∙ sym (held_counts o f vs two x)) in
     sym (trees_length us) ∙ same ∙ trees_length vs
 
-same_held : Rule → (o : Observed) (now : ℤ) (stores : List Store) (us vs : List (List HeldTree)) → AreLive o now stores us → AreLive o now stores vs → held_count us ≡ held_count vs
+same_held : Rule → (o : Observed) (now : ℤ) (stores : List Store) (us vs : List (List PieceTree)) → AreLive o now stores us → AreLive o now stores vs → held_count us ≡ held_count vs
 same_held rule o now [] [] [] hu hv = refl
 same_held rule o now (store ∷ stores) (u ∷ us) (v ∷ vs) hu hv =
     omega (arith, same_store rule o now store u v hu.0 hv.0, same_held rule o now stores us vs hu.1 hv.1)

@@ -14,7 +14,7 @@ use Rattle.match_bindings.specs.Once.{bit, same, count, Exactly}
 use Rattle.match_windows.specs.declared.window.Window.{Window}
 use Rattle.match_windows.specs.Stores.{window_of}
 use Rattle.match_live.specs.declared.join.Join.TheVariants as join
-use Rattle.match_live.specs.HeldTree.{HeldTree, hold}
+use Rattle.match_live.specs.PieceTree.{PieceTree, hold}
 use Rattle.match_live.specs.inner.Lives.{alive, lives}
 use Rattle.match_live.specs.inner.Steps.{SideStores, State, a_leaf, a_join, a_choice, a_limit, a_chain}
 use Rattle.match_live.proofs.OnceLemmas.{same_self}
@@ -141,7 +141,7 @@ lasting o o' n g p x = refl
 
 -- ---- what is held
 
-map_same : (f g : BindTree → HeldTree) (xs : List BindTree) → ((x : BindTree) → 0 < count x xs → f x ≡ g x) → map f xs ≡ map g xs
+map_same : (f g : BindTree → PieceTree) (xs : List BindTree) → ((x : BindTree) → 0 < count x xs → f x ≡ g x) → map f xs ≡ map g xs
 map_same f g [] h = refl
 map_same f g (x ∷ xs) h =
     let me : same x x ≡ true = same_self x in
@@ -152,7 +152,7 @@ map_same f g (x ∷ xs) h =
 same_hold : (o o' : Observed) (x : BindTree) → SameTimes o o' x → hold o x ≡ hold o' x
 same_hold o o' x e = ap (λ z. record { tree = x; earliest = z; latest = latest o.last x }) e.0 ∙ ap (λ z. record { tree = x; earliest = earliest o'.first x; latest = z }) e.1
 
-lasting_store : (o o' : Observed) (n : ℕ) (s : ℤ) (v : Window) (f f' : BindTree → Bool) (held : List HeldTree) →
+lasting_store : (o o' : Observed) (n : ℕ) (s : ℤ) (v : Window) (f f' : BindTree → Bool) (held : List PieceTree) →
     ((x : BindTree) → f x ≡ true → SameTimes o o' x) → ((x : BindTree) → f x ≡ (f' x && not (has n x))) →
     AreHeld o (λ x. f x && lives v (earliest o.first x) s) held →
     AreHeld o' (λ x. (f' x && not (has n x)) && lives v (earliest o'.first x) s) held
@@ -169,7 +169,7 @@ lasting_store o o' n s v f f' held times still (xs, is, each) = (
 
 lasting_levels : (o o' : Observed) (n : ℕ) (s : ℤ) (w : Bounds) (f f' : ℕ → BindTree → Bool) (count : ℕ) →
     ((j : ℕ) (x : BindTree) → f j x ≡ true → SameTimes o o' x) → ((j : ℕ) (x : BindTree) → f j x ≡ (f' j x && not (has n x))) →
-    (j : ℕ) (levels : List (List HeldTree)) → LevelsStand o f s w count j levels → LevelsStand o' (λ i x. f' i x && not (has n x)) s w count j levels
+    (j : ℕ) (levels : List (List PieceTree)) → LevelsStand o f s w count j levels → LevelsStand o' (λ i x. f' i x && not (has n x)) s w count j levels
 lasting_levels o o' n s w f f' count times still j [] st = st
 lasting_levels o o' n s w f f' count times still j (held ∷ levels) st =
     ( lasting_store o o' n s (window_of w false) (f j) (f' j) held (times j) (still j) st.0
@@ -177,7 +177,7 @@ lasting_levels o o' n s w f f' count times still j (held ∷ levels) st =
 
 lasting_all_levels : (o o' : Observed) (n : ℕ) (s : ℤ) (w : Bounds) (f f' : ℕ → BindTree → Bool) (count : ℕ) →
     ((j : ℕ) (x : BindTree) → f j x ≡ true → SameTimes o o' x) → ((j : ℕ) (x : BindTree) → f j x ≡ (f' j x && not (has n x))) →
-    (levels : List (List HeldTree)) → AllLevelsStand o f s w count levels → AllLevelsStand o' (λ i x. f' i x && not (has n x)) s w count levels
+    (levels : List (List PieceTree)) → AllLevelsStand o f s w count levels → AllLevelsStand o' (λ i x. f' i x && not (has n x)) s w count levels
 lasting_all_levels o o' n s w f f' zero times still levels st = st
 lasting_all_levels o o' n s w f f' (suc count) times still levels st = lasting_levels o o' n s w f f' (suc count) times still 1 levels st
 
@@ -221,16 +221,16 @@ no_sets f h (suc zero) (Single a) = h a
 no_sets f h (suc (suc j)) (More m a) = rw (no_sets f h (suc j) m) refl
 no_sets f h j x = refl
 
-any_store : (o : Observed) (f : BindTree → Bool) (v : Window) (s t : ℤ) (held : List HeldTree) → ((x : BindTree) → f x ≡ false) →
+any_store : (o : Observed) (f : BindTree → Bool) (v : Window) (s t : ℤ) (held : List PieceTree) → ((x : BindTree) → f x ≡ false) →
     AreHeld o (λ x. f x && lives v (earliest o.first x) s) held → AreHeld o (λ x. f x && lives v (earliest o.first x) t) held
 any_store o f v s t held h = held_same o (λ x. f x && lives v (earliest o.first x) s) (λ x. f x && lives v (earliest o.first x) t) held (λ x. let no = h x in rw no refl)
 
-any_levels : (o : Observed) (f : ℕ → BindTree → Bool) (w : Bounds) (s t : ℤ) (n j : ℕ) (levels : List (List HeldTree)) → ((j : ℕ) (x : BindTree) → f j x ≡ false) →
+any_levels : (o : Observed) (f : ℕ → BindTree → Bool) (w : Bounds) (s t : ℤ) (n j : ℕ) (levels : List (List PieceTree)) → ((j : ℕ) (x : BindTree) → f j x ≡ false) →
     LevelsStand o f s w n j levels → LevelsStand o f t w n j levels
 any_levels o f w s t n j [] h st = st
 any_levels o f w s t n j (held ∷ levels) h st = ( any_store o (f j) (window_of w false) s t held (h j) st.0, any_levels o f w s t n (suc j) levels h st.1 )
 
-any_all_levels : (o : Observed) (f : ℕ → BindTree → Bool) (w : Bounds) (s t : ℤ) (n : ℕ) (levels : List (List HeldTree)) → ((j : ℕ) (x : BindTree) → f j x ≡ false) →
+any_all_levels : (o : Observed) (f : ℕ → BindTree → Bool) (w : Bounds) (s t : ℤ) (n : ℕ) (levels : List (List PieceTree)) → ((j : ℕ) (x : BindTree) → f j x ≡ false) →
     AllLevelsStand o f s w n levels → AllLevelsStand o f t w n levels
 any_all_levels o f w s t zero levels h st = st
 any_all_levels o f w s t (suc n) levels h st = any_levels o f w s t (suc n) 1 levels h st

@@ -14,7 +14,7 @@ pub mod ShapeLemmas
 pub mod RoomLemmas
 pub mod AnswerLemmas
 pub mod TakeLemmas
-pub mod KeptLemmas
+pub mod RowNumbersLemmas
 pub mod CountLemmas
 pub mod ListingLemmas
 pub mod PrefixLemmas

@@ -15,7 +15,7 @@ use Rattle.match_windows.specs.declared.window.Window.{Window}
 use Rattle.match_windows.specs.Stores.{window_of}
 use Rattle.match_live.specs.declared.row.Row.{Row}
 use Rattle.match_live.specs.declared.join.Join.TheVariants as join
-use Rattle.match_live.specs.HeldTree.{HeldTree, hold}
+use Rattle.match_live.specs.PieceTree.{PieceTree, hold}
 use Rattle.match_live.specs.LivePart.{time_of}
 use Rattle.match_live.specs.MatcherState.{last_of, Falls}
 use Rattle.match_live.specs.inner.Lives.{lives}

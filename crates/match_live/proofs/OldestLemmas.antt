@@ -7,10 +7,10 @@ use Rattle.std.proofs.lemmas.Int.{ints, clamps}
 use Rattle.std.proofs.lemmas.List.{take_more}
 use Rattle.match_bindings.specs.Span.{later_by}
 use Rattle.match_windows.specs.declared.window.Window.{Window}
-use Rattle.match_live.specs.declared.held.Held.{Held}
-use Rattle.match_live.specs.HeldTree.{HeldTree}
+use Rattle.match_live.specs.declared.piece.Piece.{Piece}
+use Rattle.match_live.specs.PieceTree.{PieceTree}
 use Rattle.match_live.specs.inner.Lives.{in_seconds, from_start, before_stop, is_ahead, lives}
-use Rattle.match_live.specs.inner.Helds.{held_tree, held_trees, none_before, oldest_with}
+use Rattle.match_live.specs.inner.Pieces.{piece_tree, piece_trees, none_before, oldest_with}
 use Rattle.match_live.specs.inner.Steps.{kept}
 use Rattle.match_live.proofs.ListLemmas.{map_append}
 use Rattle.match_live.proofs.LivesLemmas.{lt_true, true_lt, le_true, true_le}
@@ -40,7 +40,7 @@ lives_later w e f t h k =
     let more = and_parts (from_start w.start e) (before_stop w.stop t) parts.1 in
     and_from _ _ (ahead_later w.behind e f t h front.0) (and_from _ _ (seconds_later w.seconds e f t h parts.0) (and_from _ _ (start_later w.start e f h more.0) more.1))
 
-pub all_kept : (w : Window) (e t : ℤ) (held : List HeldTree) → lives w e t ≡ true → none_before (Some e) held ≡ true → held ≡ kept w t held
+pub all_kept : (w : Window) (e t : ℤ) (held : List PieceTree) → lives w e t ≡ true → none_before (Some e) held ≡ true → held ≡ kept w t held
 all_kept w e t [] h k = refl
 all_kept w e t (x ∷ held) h k =
     let parts = and_parts (int_le e x.earliest) (none_before (Some e) held) k in
@@ -58,21 +58,21 @@ min_second a b = omega (arith, ints, clamps)
 le_self : (a : ℤ) → a ≤ℤ a
 le_self a = omega (arith, ints)
 
-weaker : (e f : ℤ) (held : List HeldTree) → f ≤ℤ e → none_before (Some e) held ≡ true → none_before (Some f) held ≡ true
+weaker : (e f : ℤ) (held : List PieceTree) → f ≤ℤ e → none_before (Some e) held ≡ true → none_before (Some f) held ≡ true
 weaker e f [] h k = refl
 weaker e f (x ∷ held) h k =
     let parts = and_parts (int_le e x.earliest) (none_before (Some e) held) k in
     and_from _ _ (true_le f x.earliest (le_trans f e x.earliest h (le_true e x.earliest parts.0))) (weaker e f held h parts.1)
 
-at_end : (e : ℤ) (held : List HeldTree) (x : HeldTree) → e ≤ℤ x.earliest → none_before (Some e) held ≡ true → none_before (Some e) (held ++ x ∷ []) ≡ true
+at_end : (e : ℤ) (held : List PieceTree) (x : PieceTree) → e ≤ℤ x.earliest → none_before (Some e) held ≡ true → none_before (Some e) (held ++ x ∷ []) ≡ true
 at_end e [] x h k = and_from _ _ (true_le e x.earliest h) refl
 at_end e (y ∷ held) x h k = let parts = and_parts (int_le e y.earliest) (none_before (Some e) held) k in and_from _ _ parts.0 (at_end e held x h parts.1)
 
-pub one_more : (o : Option ℤ) (held : List HeldTree) (x : HeldTree) → none_before o held ≡ true → none_before (Some (oldest_with o x.earliest)) (held ++ x ∷ []) ≡ true
+pub one_more : (o : Option ℤ) (held : List PieceTree) (x : PieceTree) → none_before o held ≡ true → none_before (Some (oldest_with o x.earliest)) (held ++ x ∷ []) ≡ true
 one_more None [] x k = and_from _ _ (true_le x.earliest x.earliest (le_self x.earliest)) refl
 one_more None (y ∷ held) x k = absurd (cc)
 one_more (Some e) held x k =
     at_end (int_min e x.earliest) held x (min_second e x.earliest) (weaker e (int_min e x.earliest) held (min_first e x.earliest) k)
 
-pub next_taken : (held : List Held) (at : ℕ) (d : Held) → at < length held → held_trees (take (at + 1) held) ≡ held_trees (take at held) ++ held_tree (get_or held at d) ∷ []
-next_taken held at d h = ap held_trees (take_more held at d h) ∙ map_append held_tree (take at held) (get_or held at d ∷ [])
+pub next_taken : (held : List Piece) (at : ℕ) (d : Piece) → at < length held → piece_trees (take (at + 1) held) ≡ piece_trees (take at held) ++ piece_tree (get_or held at d) ∷ []
+next_taken held at d h = ap piece_trees (take_more held at d h) ∙ map_append piece_tree (take at held) (get_or held at d ∷ [])

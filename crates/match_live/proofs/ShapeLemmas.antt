@@ -18,7 +18,7 @@ use Rattle.match_windows.specs.Stores.{Part, a_side, a_level, Store, window_of, 
 use Rattle.match_windows.specs.Expiry.{HasExpired}
 use Rattle.match_live.specs.declared.row.Row.{Row}
 use Rattle.match_live.specs.declared.join.Join.TheVariants as join
-use Rattle.match_live.specs.HeldTree.{HeldTree, hold, trees_in}
+use Rattle.match_live.specs.PieceTree.{PieceTree, hold, trees_in}
 use Rattle.match_live.specs.LivePart.{MayHold, IsLive, HoldsLive, AreLive}
 use Rattle.match_live.specs.inner.Lives.{alive, lives}
 use Rattle.match_live.specs.inner.Steps.{held_with, SideStores, State, a_leaf, a_join, a_choice, a_limit, a_chain, step_new, step_state, levels_after, no_levels, empty_state, contents_of}
@@ -55,7 +55,7 @@ not_live o now store f h x k z = by (f x) (lives store.window (earliest o.first 
   by true false ea eb e = z.1 (gone_expired store.window (earliest o.first x) now eb)
   by true true ea eb e = cc
 
-pub to_held : (o : Observed) (now : ℤ) (store : Store) (f : BindTree → Bool) → ((x : BindTree) → (f x ≡ true) ↔ MayHold o store.part x) → (held : List HeldTree) →
+pub to_held : (o : Observed) (now : ℤ) (store : Store) (f : BindTree → Bool) → ((x : BindTree) → (f x ≡ true) ↔ MayHold o store.part x) → (held : List PieceTree) →
     HoldsLive o now store held → AreHeld o (λ x. f x && lives store.window (earliest o.first x) now) held
 to_held o now store f h held live = ( trees_in held, live.times, each ) where
   by : (x : BindTree) (t : Bool) → (f x && lives store.window (earliest o.first x) now) ≡ t → count x (trees_in held) ≡ bit (f x && lives store.window (earliest o.first x) now)
@@ -64,7 +64,7 @@ to_held o now store f h held live = ( trees_in held, live.times, each ) where
   each : (x : BindTree) → count x (trees_in held) ≡ bit (f x && lives store.window (earliest o.first x) now)
   each x = by x (f x && lives store.window (earliest o.first x) now) refl
 
-pub from_held : (o : Observed) (now : ℤ) (store : Store) (f : BindTree → Bool) → ((x : BindTree) → (f x ≡ true) ↔ MayHold o store.part x) → (held : List HeldTree) →
+pub from_held : (o : Observed) (now : ℤ) (store : Store) (f : BindTree → Bool) → ((x : BindTree) → (f x ≡ true) ↔ MayHold o store.part x) → (held : List PieceTree) →
     AreHeld o (λ x. f x && lives store.window (earliest o.first x) now) held → HoldsLive o now store held
 from_held o now store f h held (xs, is, each) = record {
   times = is ∙ sym (ap (map (hold o)) same);
@@ -82,12 +82,12 @@ from_held o now store f h held (xs, is, each) = record {
 
 -- ---- lists of stores
 
-live_append : (o : Observed) (now : ℤ) (xs ys : List Store) (us vs : List (List HeldTree)) → AreLive o now xs us → AreLive o now ys vs → AreLive o now (xs ++ ys) (us ++ vs)
+live_append : (o : Observed) (now : ℤ) (xs ys : List Store) (us vs : List (List PieceTree)) → AreLive o now xs us → AreLive o now ys vs → AreLive o now (xs ++ ys) (us ++ vs)
 live_append o now [] ys [] vs h k = k
 live_append o now (x ∷ xs) ys (u ∷ us) vs h k = ( h.0, live_append o now xs ys us vs h.1 k )
 live_append o now xs ys us vs h k = absurd h
 
-live_split : (o : Observed) (now : ℤ) (xs ys : List Store) (us vs : List (List HeldTree)) → length xs ≡ length us → AreLive o now (xs ++ ys) (us ++ vs) →
+live_split : (o : Observed) (now : ℤ) (xs ys : List Store) (us vs : List (List PieceTree)) → length xs ≡ length us → AreLive o now (xs ++ ys) (us ++ vs) →
     AreLive o now xs us × AreLive o now ys vs
 live_split o now [] ys [] vs e h = ( tt, h )
 live_split o now [] ys (u ∷ us) vs e h = absurd (omega arith)
@@ -165,7 +165,7 @@ levels_are (suc n) w p =
     ∙ ap (λ m. levels_from 1 n w p ++ level w p m ∷ []) (let e : suc n ≡ 1 + n = omega arith in e)
     ∙ sym (levels_from_more 1 n w p)
 
-to_levels : Rule → (o : Observed) (s : ℤ) (w : Bounds) (p : NumberedPattern) (n k j : ℕ) (held : List (List HeldTree)) → n ≡ k + j →
+to_levels : Rule → (o : Observed) (s : ℤ) (w : Bounds) (p : NumberedPattern) (n k j : ℕ) (held : List (List PieceTree)) → n ≡ k + j →
     AreLive o s (levels_from j k w p) held → LevelsStand o (are_repeats (is_binding o p)) s w n j held
 to_levels rule o s w p n zero j [] e h = omega arith
 to_levels rule o s w p n zero j (u ∷ us) e h = absurd h
@@ -173,11 +173,11 @@ to_levels rule o s w p n (suc k) j [] e h = absurd h
 to_levels rule o s w p n (suc k) j (u ∷ us) e h =
     ( to_held o s (level w p j) (are_repeats (is_binding o p) j) (λ x. rule o (Repeats p j) x) u h.0, to_levels rule o s w p n k (suc j) us (omega arith) h.1 )
 
-levels_length : (o : Observed) (f : ℕ → BindTree → Bool) (s : ℤ) (w : Bounds) (n j : ℕ) (held : List (List HeldTree)) → LevelsStand o f s w n j held → n ≡ length held + j
+levels_length : (o : Observed) (f : ℕ → BindTree → Bool) (s : ℤ) (w : Bounds) (n j : ℕ) (held : List (List PieceTree)) → LevelsStand o f s w n j held → n ≡ length held + j
 levels_length o f s w n j [] st = omega (arith, st)
 levels_length o f s w n j (u ∷ us) st = omega (arith, levels_length o f s w n (suc j) us st.1)
 
-from_levels : Rule → (o : Observed) (s : ℤ) (w : Bounds) (p : NumberedPattern) (n k j : ℕ) (held : List (List HeldTree)) → n ≡ k + j →
+from_levels : Rule → (o : Observed) (s : ℤ) (w : Bounds) (p : NumberedPattern) (n k j : ℕ) (held : List (List PieceTree)) → n ≡ k + j →
     LevelsStand o (are_repeats (is_binding o p)) s w n j held → AreLive o s (levels_from j k w p) held
 from_levels rule o s w p n zero j [] e st = tt
 from_levels rule o s w p n (suc k) j [] e st = absurd (omega (arith, st))
@@ -185,14 +185,14 @@ from_levels rule o s w p n zero j (u ∷ us) e st = absurd (omega (arith, levels
 from_levels rule o s w p n (suc k) j (u ∷ us) e st =
     ( from_held o s (level w p j) (are_repeats (is_binding o p) j) (λ x. rule o (Repeats p j) x) u st.0, from_levels rule o s w p n k (suc j) us (omega arith) st.1 )
 
-to_all_levels : Rule → (o : Observed) (s : ℤ) (w : Bounds) (p : NumberedPattern) (n : ℕ) (held : List (List HeldTree)) →
+to_all_levels : Rule → (o : Observed) (s : ℤ) (w : Bounds) (p : NumberedPattern) (n : ℕ) (held : List (List PieceTree)) →
     AreLive o s (levels w p n) held → AllLevelsStand o (are_repeats (is_binding o p)) s w n held
 to_all_levels rule o s w p zero [] h = refl
 to_all_levels rule o s w p zero (u ∷ us) h = absurd h
 to_all_levels rule o s w p (suc n) held h =
     to_levels rule o s w p (suc n) n 1 held (omega arith) (subst (λ (z : List Store). AreLive o s z held) (levels_are n w p) h)
 
-from_all_levels : Rule → (o : Observed) (s : ℤ) (w : Bounds) (p : NumberedPattern) (n : ℕ) (held : List (List HeldTree)) →
+from_all_levels : Rule → (o : Observed) (s : ℤ) (w : Bounds) (p : NumberedPattern) (n : ℕ) (held : List (List PieceTree)) →
     AllLevelsStand o (are_repeats (is_binding o p)) s w n held → AreLive o s (levels w p n) held
 from_all_levels rule o s w p zero [] st = tt
 from_all_levels rule o s w p zero (u ∷ us) st = absurd (cc)

@@ -16,7 +16,7 @@ use Rattle.match_windows.specs.Stores.{window_of}
 use Rattle.match_live.specs.declared.join.Join.{Join}
 use Rattle.match_live.specs.declared.join.Join.TheVariants as join
 use Rattle.match_live.specs.declared.row.Row.{Row}
-use Rattle.match_live.specs.HeldTree.{HeldTree, hold}
+use Rattle.match_live.specs.PieceTree.{PieceTree, hold}
 use Rattle.match_live.specs.inner.Lives.{alive, lives}
 use Rattle.match_live.specs.inner.Steps.{held_with, joined_tree, may_join, joins, kept, stored, SideStores, State, a_leaf, a_join, a_choice, a_limit, a_chain, truth_at, new_at_leaf, joins_new, sides_after, levels_new, levels_after, counted, step_new, step_state}
 use Rattle.match_live.proofs.ListLemmas.{map_append}
@@ -54,12 +54,12 @@ pub record SidesStand (o : Observed) (f g : BindTree → Bool) (s : ℤ) (w : Bo
   pub right : AreHeld o (λ x. g x && lives v (earliest o.first x) s) sides.right
 
 -- the stores of the levels from j on, up to the one before n
-abbrev pub LevelsStand : Observed → (ℕ → BindTree → Bool) → ℤ → Bounds → ℕ → ℕ → List (List HeldTree) → Type 0
+abbrev pub LevelsStand : Observed → (ℕ → BindTree → Bool) → ℤ → Bounds → ℕ → ℕ → List (List PieceTree) → Type 0
 LevelsStand o f s w n j [] = n ≡ j
 LevelsStand o f s w n j (held ∷ levels) = AreHeld o (λ x. f j x && alive w (earliest o.first x) s) held × LevelsStand o f s w n (suc j) levels
 
 -- none of no repeats
-abbrev pub AllLevelsStand : Observed → (ℕ → BindTree → Bool) → ℤ → Bounds → ℕ → List (List HeldTree) → Type 0
+abbrev pub AllLevelsStand : Observed → (ℕ → BindTree → Bool) → ℤ → Bounds → ℕ → List (List PieceTree) → Type 0
 AllLevelsStand o f s w zero levels = levels ≡ []
 AllLevelsStand o f s w (suc n) levels = LevelsStand o f s w (suc n) 1 levels
 
@@ -220,7 +220,7 @@ pub record Joined (o : Observed) (n : ℕ) (t : ℤ) (w : Bounds) (v : Window) (
   pub lasting : (e : ℤ) → lives v e t ≡ true → alive w e t ≡ true
 
 join_node : (o : Observed) (n : ℕ) (t : ℤ) (w : Bounds) (v : Window) (j : Join) (p q f : BindTree → Bool) → Joined o n t w v j p q f →
-    (new_l left new_r right : List HeldTree) →
+    (new_l left new_r right : List PieceTree) →
     AreHeld o (λ x. (p x && alive w (earliest o.first x) t) && has n x) new_l →
     AreHeld o (λ x. (p x && alive w (earliest o.first x) t) && not (has n x)) left →
     AreHeld o (λ x. (q x && alive w (earliest o.first x) t) && has n x) new_r →
@@ -266,7 +266,7 @@ join_node o n t w v j p q f k new_l left new_r right (us, u_is, u_each) (cs, c_i
 
 -- what ends at a node that joins two sides, and what is kept there
 sides_law : (o : Observed) (n : ℕ) (s t : ℤ) (w : Bounds) (v : Window) (j : Join) (p q f : BindTree → Bool) → Joined o n t w v j p q f → s ≤ℤ t →
-    (sides : SideStores) → SidesStand o (λ x. p x && not (has n x)) (λ x. q x && not (has n x)) s w v sides → (new_l new_r : List HeldTree) →
+    (sides : SideStores) → SidesStand o (λ x. p x && not (has n x)) (λ x. q x && not (has n x)) s w v sides → (new_l new_r : List PieceTree) →
     AreHeld o (λ x. (p x && alive w (earliest o.first x) t) && has n x) new_l →
     AreHeld o (λ x. (q x && alive w (earliest o.first x) t) && has n x) new_r →
     AreHeld o (λ x. (f x && alive w (earliest o.first x) t) && has n x) (joins_new j t sides new_l new_r) × SidesStand o p q t w v (sides_after t sides new_l new_r)
@@ -339,7 +339,7 @@ swap_bits p q false true x h = refl
 swap_bits p q false false x h = refl
 
 -- one level up: the older sets of the level below, each with a new part
-level_node : (o : Observed) (row : Row) (truths : List Bool) (s : ℤ) → Given o row truths s → (p : NumberedPattern) (w : Bounds) (j : ℕ) (held new : List HeldTree) →
+level_node : (o : Observed) (row : Row) (truths : List Bool) (s : ℤ) → Given o row truths s → (p : NumberedPattern) (w : Bounds) (j : ℕ) (held new : List PieceTree) →
     AreHeld o (λ x. (are_repeats (is_binding o p) (suc j) x && alive w (earliest o.first x) row.last) && not (has row.number x)) held →
     AreHeld o (ends o row.number row.last w p) new →
     AreHeld o (λ x. (are_repeats (is_binding o p) (suc (suc j)) x && alive w (earliest o.first x) row.last) && has row.number x) (joins join.Repeats held new)
@@ -380,7 +380,7 @@ level_node o row truths s g p w j held new (xs, x_is, x_each) (ys, y_is, y_each)
   each (Pair x y) = none (Pair x y) (λ a b. refl) refl
 
 -- what is new at the first level
-first_level : (o : Observed) (n : ℕ) (t : ℤ) (p : NumberedPattern) (w : Bounds) (new : List HeldTree) →
+first_level : (o : Observed) (n : ℕ) (t : ℤ) (p : NumberedPattern) (w : Bounds) (new : List PieceTree) →
     AreHeld o (ends o n t w p) new →
     AreHeld o (λ x. (are_repeats (is_binding o p) (suc zero) x && alive w (earliest o.first x) t) && has n x) (map (held_with Single) new)
 first_level o n t p w new (ys, y_is, y_each) = (
@@ -397,7 +397,7 @@ first_level o n t p w new (ys, y_is, y_each) = (
 
 -- all levels from j on
 levels_law : (o : Observed) (row : Row) (truths : List Bool) (s : ℤ) → Given o row truths s → (p : NumberedPattern) (w : Bounds) (n j : ℕ)
-    (first new : List HeldTree) (levels : List (List HeldTree)) →
+    (first new : List PieceTree) (levels : List (List PieceTree)) →
     AreHeld o (λ x. (are_repeats (is_binding o p) (suc j) x && alive w (earliest o.first x) row.last) && has row.number x) first →
     AreHeld o (ends o row.number row.last w p) new →
     LevelsStand o (λ i x. are_repeats (is_binding o p) i x && not (has row.number x)) s w n (suc j) levels →
@@ -416,7 +416,7 @@ levels_law o row truths s g p w n j first new (held ∷ levels) hf hn st =
 
 -- the sets of a REPEATS
 chain_law : (o : Observed) (row : Row) (truths : List Bool) (s : ℤ) → Given o row truths s → (p : NumberedPattern) (w : Bounds) (n : ℕ)
-    (new : List HeldTree) (levels : List (List HeldTree)) → AreHeld o (ends o row.number row.last w p) new →
+    (new : List PieceTree) (levels : List (List PieceTree)) → AreHeld o (ends o row.number row.last w p) new →
     AllLevelsStand o (λ i x. are_repeats (is_binding o p) i x && not (has row.number x)) s w n levels →
     AreHeld o (ends o row.number row.last w (Repeats p n)) (counted n (levels_new (window_of w false) row.last (map (held_with Single) new) new levels))
     × AllLevelsStand o (λ i x. are_repeats (is_binding o p) i x) row.last w n (levels_after (window_of w false) row.last (map (held_with Single) new) new levels)
@@ -427,7 +427,7 @@ chain_law o row truths s g p w (suc n) new levels hn st =
 
 -- ---- OR
 
-either_node : (o : Observed) (n : ℕ) (t : ℤ) (p q : NumberedPattern) (w : Bounds) (new_l new_r : List HeldTree) →
+either_node : (o : Observed) (n : ℕ) (t : ℤ) (p q : NumberedPattern) (w : Bounds) (new_l new_r : List PieceTree) →
     AreHeld o (ends o n t w p) new_l → AreHeld o (ends o n t w q) new_r →
     AreHeld o (ends o n t w (Either p q)) (map (held_with First) new_l ++ map (held_with Second) new_r)
 either_node o n t p q w new_l new_r (xs, x_is, x_each) (ys, y_is, y_each) = (

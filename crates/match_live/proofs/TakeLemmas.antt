@@ -11,7 +11,7 @@ use Rattle.match_live.specs.declared.ending.MatchRefusal.{MatchRefusal}
 use Rattle.match_live.specs.declared.ending.MatchRefusal.TheVariants as refusal
 use Rattle.match_live.specs.declared.row.Row.{Row}
 use Rattle.match_live.specs.declared.run.Run.{Run}
-use Rattle.match_live.specs.HeldTree.{HeldTree, trees_in}
+use Rattle.match_live.specs.PieceTree.{PieceTree, trees_in}
 use Rattle.match_live.specs.LivePart.{IsLivePart, held_count, time_of}
 use Rattle.match_live.specs.Answer.{IsAnswer, IsLiveCount}
 use Rattle.match_live.specs.MatcherState.{MatcherState, StandsFor, with_row, Falls, last_of}

@@ -14,9 +14,9 @@ use Rattle.match_bindings.specs.Span.{earliest, later_by}
 use Rattle.match_bindings.specs.Once.{bit, same, count}
 use Rattle.match_windows.specs.declared.window.Window.{Window}
 use Rattle.match_windows.specs.Stores.{Store, side, level, levels, stores_under}
-use Rattle.match_live.specs.HeldTree.{HeldTree, hold}
+use Rattle.match_live.specs.PieceTree.{PieceTree, hold}
 use Rattle.match_live.specs.LivePart.{HoldsLive, AreLive, IsLivePart, time_of}
-use Rattle.match_live.specs.Kept.{any_has, is_kept}
+use Rattle.match_live.specs.RowNumbers.{any_has, is_kept}
 use Rattle.match_live.specs.inner.Lives.{in_seconds, from_start, before_stop, is_ahead, lives}
 use Rattle.match_live.proofs.OnceLemmas.{same_self}
 use Rattle.match_live.proofs.LivesLemmas.{lt_true}
@@ -97,11 +97,11 @@ who_has o n (x ∷ xs) h = elim (or_cases (has n x) (any_has n (map (hold o) xs)
     inl l ↦ (let me : same x x ≡ true = same_self x in (x, rw me (omega arith), l))
   | inr r ↦ (let rest = who_has o n xs r in (rest.0, omega (arith, rest.1), rest.2)) ]
 
-store_recent : Rule → (o : Observed) (now : ℤ) (x n : ℕ) (store : Store) (held : List HeldTree) → IsNarrow x store.window.seconds → HoldsLive o now store held → any_has n held ≡ true →
+store_recent : Rule → (o : Observed) (now : ℤ) (x n : ℕ) (store : Store) (held : List PieceTree) → IsNarrow x store.window.seconds → HoldsLive o now store held → any_has n held ≡ true →
     now <ℤ later_by x (o.first n)
 store_recent rule o now x n store held narrow live h =
     let all = to_held o now store (may_hold o store.part) (may_rule rule o store.part) held live in
-    let who = who_has o n all.0 (subst (λ (hs : List HeldTree). any_has n hs ≡ true) all.1 h) in
+    let who = who_has o n all.0 (subst (λ (hs : List PieceTree). any_has n hs ≡ true) all.1 h) in
     let passes = bit_positive (may_hold o store.part who.0 && lives store.window (earliest o.first who.0) now) (count who.0 all.0) (all.2 who.0) who.1 in
     let alive = (and_parts (may_hold o store.part who.0) (lives store.window (earliest o.first who.0) now) passes).1 in
     let rest = and_parts (is_ahead store.window.behind (earliest o.first who.0) now)
@@ -111,7 +111,7 @@ store_recent rule o now x n store held narrow live h =
     later_than now (earliest o.first who.0) (o.first n) narrow.least x
       (lt_true now (later_by narrow.least (earliest o.first who.0)) within_least) (earliest_has o.first n who.0 who.2) narrow.most
 
-all_recent : Rule → (o : Observed) (now : ℤ) (x n : ℕ) (stores : List Store) (contents : List (List HeldTree)) → AreNarrow x stores → AreLive o now stores contents → is_kept n contents ≡ true →
+all_recent : Rule → (o : Observed) (now : ℤ) (x n : ℕ) (stores : List Store) (contents : List (List PieceTree)) → AreNarrow x stores → AreLive o now stores contents → is_kept n contents ≡ true →
     now <ℤ later_by x (o.first n)
 all_recent rule o now x n [] [] narrow live h = absurd (cc)
 all_recent rule o now x n (store ∷ stores) (held ∷ contents) narrow live h = elim (or_cases (any_has n held) (is_kept n contents) h) [
@@ -120,7 +120,7 @@ all_recent rule o now x n (store ∷ stores) (held ∷ contents) narrow live h =
 all_recent rule o now x n [] (held ∷ contents) narrow live h = absurd live
 all_recent rule o now x n (store ∷ stores) [] narrow live h = absurd live
 
-pub kept_recent : Rule → (p : NumberedPattern) (x n : ℕ) (log : List LogEntry) (contents : List (List HeldTree)) → IsLivePart (Within p x) log contents → is_kept n contents ≡ true →
+pub kept_recent : Rule → (p : NumberedPattern) (x n : ℕ) (log : List LogEntry) (contents : List (List PieceTree)) → IsLivePart (Within p x) log contents → is_kept n contents ≡ true →
     time_of log <ℤ later_by x ((observed_in log).first n)
 kept_recent rule p x n log contents live h =
     all_recent rule (observed_in log) (time_of log) x n (stores_under (within no_bounds x) p) contents

@@ -7,8 +7,8 @@ ghost use Rattle.match_bindings.specs.Span.{later_by};
 ghost use Rattle.match_bindings.specs.BindTree.{BindTree};
 ghost use Rattle.match_bindings.specs.Log.{observed_in};
 ghost use Rattle.match_bindings.specs.Listing.{IsListing};
-ghost use Rattle.match_live.specs.HeldTree.{HeldTree};
-ghost use Rattle.match_live.specs.Kept.{is_kept};
+ghost use Rattle.match_live.specs.PieceTree.{PieceTree};
+ghost use Rattle.match_live.specs.RowNumbers.{is_kept};
 ghost use Rattle.match_live.specs.LivePart.{IsLivePart, time_of};
 ghost use Rattle.match_live.specs.Answer.{IsLiveCount, AreAnswers, joined_answers};
 
@@ -41,7 +41,7 @@ pub fn listings_go_on()
 /// Under an outermost `WITHIN` each row that is kept began less than its seconds before the time of the
 /// log.
 pub fn kept_rows_are_recent()
-    ensures { (p : NumberedPattern) (seconds number : ℕ) (log : List LogEntry) (contents : List (List HeldTree)) → IsLivePart (Within p seconds) log contents
+    ensures { (p : NumberedPattern) (seconds number : ℕ) (log : List LogEntry) (contents : List (List PieceTree)) → IsLivePart (Within p seconds) log contents
         → is_kept number contents ≡ true → time_of log <ℤ later_by seconds ((observed_in log).first number) }
 {
     match_bindings::laws::test_is_the_rule();

@@ -8,9 +8,9 @@
 #![tactic(auto)]
 
 mod ending;
-mod held;
+mod piece;
 mod join;
-mod kept;
+mod row_numbers;
 pub mod laws;
 mod levels;
 mod matcher;

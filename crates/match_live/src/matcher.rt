@@ -8,13 +8,13 @@ ghost use Rattle.match_live.specs.declared.ending.Ending.TheVariants as ending;
 ghost use Rattle.match_live.specs.declared.ending.MatchRefusal.TheVariants as refusal;
 ghost use Rattle.match_live.specs.MatcherState.{StandsFor, with_row, Falls};
 ghost use Rattle.match_live.specs.Answer.{IsAnswer, IsCrowded, IsRoomy};
-ghost use Rattle.match_live.specs.Kept.{AreKept};
+ghost use Rattle.match_live.specs.RowNumbers.{AreKept};
 ghost use Rattle.match_bindings.specs.Bounds.{no_bounds};
 ghost use Rattle.match_bindings.specs.NumberedPattern.{numbered_pattern};
 ghost use Rattle.match_live.specs.inner.Nodes.{state_of};
 ghost use Rattle.match_live.specs.inner.Shape.{fits};
 
-use crate::kept::kept_numbers;
+use crate::row_numbers::kept_numbers;
 use crate::node::empty_node;
 use crate::run::Run;
 use crate::{Ending, MatchRefusal};

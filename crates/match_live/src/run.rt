@@ -1,15 +1,15 @@
 ghost use Rattle.std.specs.Prelude.{◌≡◌, ◌<◌, ◌+◌, ◌^◌, ◌↔◌, ℕ, ℤ, ◌<ℤ◌, Err, Some, map, IfOk, OnOk, IfSome, IfNone};
 ghost use Rattle.match_bindings.specs.BindTree.{tree_of};
 ghost use Rattle.match_live.specs.declared.ending.Ending.TheVariants as ending;
-ghost use Rattle.match_live.specs.HeldTree.{trees_in};
+ghost use Rattle.match_live.specs.PieceTree.{trees_in};
 ghost use Rattle.match_live.specs.LivePart.{held_count};
 ghost use Rattle.match_live.specs.MatcherState.{Falls};
-ghost use Rattle.match_live.specs.inner.Helds.{held_trees};
+ghost use Rattle.match_live.specs.inner.Pieces.{piece_trees};
 ghost use Rattle.match_live.specs.inner.Steps.{contents_of};
 ghost use Rattle.match_live.specs.inner.Nodes.{state_of};
 
 use crate::Ending;
-use crate::held::Held;
+use crate::piece::Piece;
 use crate::node::{Node, step};
 use crate::room::room_after;
 use crate::row::Row;
@@ -103,8 +103,8 @@ impl Run {
 }
 
 /// The binds alone.
-fn binds_of(alloc: Global, held: Vec<Held>) -> Result<Vec<Bind>, NoMemory>
-    ensures { IfOk result (λ binds. map tree_of binds.items ≡ trees_in (held_trees held.items)) }
+fn binds_of(alloc: Global, held: Vec<Piece>) -> Result<Vec<Bind>, NoMemory>
+    ensures { IfOk result (λ binds. map tree_of binds.items ≡ trees_in (piece_trees held.items)) }
 {
     let mut binds = Vec::new(alloc);
     for one in held {

@@ -1,9 +1,9 @@
 ghost use Rattle.std.specs.Prelude.{◌≡◌, IfOk, OnOk};
-ghost use Rattle.match_live.specs.inner.Helds.{held_trees};
+ghost use Rattle.match_live.specs.inner.Pieces.{piece_trees};
 ghost use Rattle.match_live.specs.inner.Steps.{joins_new, sides_after, empty_sides};
 ghost use Rattle.match_live.specs.inner.Nodes.{side_stores};
 
-use crate::held::Held;
+use crate::piece::Piece;
 use crate::join::Join;
 use crate::store::Store;
 use flow_values::NoMemory;
@@ -39,13 +39,13 @@ impl Sides {
         alloc: Global,
         join: Join,
         now: Instant,
-        new_left: Vec<Held>,
-        new_right: Vec<Held>,
-    ) -> Result<Vec<Held>, NoMemory>
-        ensures new { IfOk result (λ new. held_trees new.items
-            ≡ joins_new join now (side_stores self.old) (held_trees new_left.items) (held_trees new_right.items)) }
+        new_left: Vec<Piece>,
+        new_right: Vec<Piece>,
+    ) -> Result<Vec<Piece>, NoMemory>
+        ensures new { IfOk result (λ new. piece_trees new.items
+            ≡ joins_new join now (side_stores self.old) (piece_trees new_left.items) (piece_trees new_right.items)) }
         ensures kept { OnOk result (side_stores self.new
-            ≡ sides_after now (side_stores self.old) (held_trees new_left.items) (held_trees new_right.items)) }
+            ≡ sides_after now (side_stores self.old) (piece_trees new_left.items) (piece_trees new_right.items)) }
     {
         self.left.expire(&self.left_window, now);
         self.right.expire(&self.right_window, now);

@@ -7,7 +7,7 @@ use Rattle.match_bindings.specs.Once.{count}
 use Rattle.match_bindings.specs.Flat.{comes_before}
 use Rattle.match_live.specs.declared.row.Row.{Row}
 use Rattle.match_live.specs.declared.run.Run.{Run}
-use Rattle.match_live.specs.HeldTree.{trees_in}
+use Rattle.match_live.specs.PieceTree.{trees_in}
 use Rattle.match_live.specs.LivePart.{held_count}
 use Rattle.match_live.specs.MatcherState.{Falls}
 use Rattle.match_live.specs.inner.Steps.{step_new, step_state, contents_of}

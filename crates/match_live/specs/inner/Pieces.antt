@@ -2,17 +2,17 @@
 use Rattle.std.specs.Prelude.{ℤ, int_le, Bool, true, false, ◌&&◌, List, [], ◌∷◌, map, Option, Some, None}
 use Rattle.std.specs.Int.{int_min}
 use Rattle.match_bindings.specs.BindTree.{tree_of}
-use Rattle.match_live.specs.declared.held.Held.{Held}
-use Rattle.match_live.specs.HeldTree.{HeldTree}
+use Rattle.match_live.specs.declared.piece.Piece.{Piece}
+use Rattle.match_live.specs.PieceTree.{PieceTree}
 
-abbrev pub held_tree : Held → HeldTree
-held_tree h = record { tree = tree_of h.bind; earliest = h.earliest; latest = h.latest }
+abbrev pub piece_tree : Piece → PieceTree
+piece_tree h = record { tree = tree_of h.bind; earliest = h.earliest; latest = h.latest }
 
-abbrev pub held_trees : List Held → List HeldTree
-held_trees helds = map held_tree helds
+abbrev pub piece_trees : List Piece → List PieceTree
+piece_trees helds = map piece_tree helds
 
 -- nothing that is held is earlier than the time; where there is none, nothing is held
-abbrev pub none_before : Option ℤ → List HeldTree → Bool
+abbrev pub none_before : Option ℤ → List PieceTree → Bool
 none_before None [] = true
 none_before None (h ∷ held) = false
 none_before (Some time) [] = true

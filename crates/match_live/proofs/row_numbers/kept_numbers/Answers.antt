@@ -8,8 +8,8 @@ use Rattle.std.proofs.lemmas.Map.Keys.{IsStrictlyIncreasing-dedup}
 use Rattle.match_live.specs.inner.Steps.{contents_of}
 use Rattle.match_live.specs.inner.Nodes.{state_of}
 use Rattle.match_live.specs.inner.Numbers.{all_numbers}
-use Rattle.match_live.proofs.KeptLemmas.{contains_kept}
-use Rattle.match_live.proofs.kept.kept_numbers.Goals as goal
+use Rattle.match_live.proofs.RowNumbersLemmas.{contains_kept}
+use Rattle.match_live.proofs.row_numbers.kept_numbers.Goals as goal
 
 pub returns : goal.returns
 returns c =
