@@ -1,7 +1,7 @@
 -- The line of a refusal, as its pieces tell it.
 use Rattle.std.proofs.Common.{◌≡◌, ℕ, List, [], ◌∷◌, ◌++◌, codes, append_assoc, refl, sym, ap, ◌∙◌}
-use Rattle.match_log.specs.Texts.{at_path, line_of_text}
-use Rattle.match_log.specs.inner.Reason.{broken_words, path_lead}
+use Rattle.match_input.specs.Texts.{at_path, line_of_text}
+use Rattle.match_input.specs.inner.Reason.{broken_words, path_lead}
 
 told : (name object rule tail : List ℕ) → name ++ (codes " object " ++ (object ++ (codes ": " ++ (rule ++ tail)))) ≡ (name ++ broken_words object rule) ++ tail
 told name object rule tail =
@@ -24,3 +24,10 @@ pub broken_line : (line name object rule path : List ℕ)
 broken_line line name object rule path =
     ap (λ (xs : List ℕ). codes "line " ++ (line ++ (codes " refused: " ++ xs)))
     (told name object rule (path_lead path ++ (path ++ codes "\n")) ∙ led (name ++ broken_words object rule) path)
+
+pub times_line : (line last now : List ℕ)
+    → codes "line " ++ (line ++ (codes " refused: OutOfOrder last " ++ (last ++ (codes " now " ++ (now ++ codes "\n")))))
+    ≡ line_of_text line (codes "OutOfOrder last " ++ (last ++ (codes " now " ++ now)))
+times_line line last now =
+    ap (λ (xs : List ℕ). codes "line " ++ (line ++ (codes " refused: OutOfOrder last " ++ xs)))
+    (sym (append_assoc last (codes " now " ++ now) (codes "\n")))

@@ -37,6 +37,13 @@ reader_start cut = record { stage = first_stage cut; observations = 0; last = No
 abbrev pub next_number : ReaderState → ℕ
 next_number state = state.observations + 1
 
+-- the input is still to be read, or read on: its lines weren't refused
+abbrev pub IsOpen : Stage → Type 0
+IsOpen (Lines lines) = lines.refusal ≡ None
+IsOpen Whole = ⊤
+IsOpen AtEnd = ⊥
+IsOpen Ended = ⊥
+
 -- the lines that come yet, where the source tells its bytes
 abbrev pub ahead : Stage → Option (List ℕ) → Option Lined
 ahead (Lines lines) left = lines_ahead lines left
@@ -51,7 +58,7 @@ HoldsLines _ = ⊥
 
 -- a line went by: no byte is lost, and few bytes are taken and not yet given; an input that is read whole is then at its end
 abbrev pub Moves : Stage → Stage → Option (List ℕ) → Option (List ℕ) → Type 0
-Moves (Lines before) (Lines after) left left_after = (before.given < after.given) × (after.given ≤ MAX_INPUT)
+Moves (Lines before) (Lines after) left left_after = (after.refusal ≡ None) × (before.given < after.given) × (after.given ≤ MAX_INPUT)
     × (length after.held ≤ MAX_READ) × GoesOnAccounting before after left left_after
 Moves Whole AtEnd left left_after = TakesAtMost (MAX_WHOLE_INPUT + MAX_READ) left left_after
 Moves _ _ left left_after = ⊥

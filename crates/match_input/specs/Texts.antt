@@ -1,27 +1,28 @@
 -- The texts of refused lines.
-use Rattle.std.specs.Prelude.{ℕ, List, [], ◌∷◌, ◌++◌, codes, decimal}
+use Rattle.std.specs.Prelude.{◌≡◌, ℕ, List, [], ◌∷◌, ◌++◌, codes, decimal}
+use Rattle.stix_times.specs.Writing.{IsCanonicalTextOf}
 use Rattle.stix_json.specs.declared.refusal.JsonRefusal.{JsonRefusal}
-use Rattle.stix_json.specs.declared.refusal.JsonRefusal.TheVariants as tree
+use Rattle.stix_json.specs.declared.refusal.JsonRefusal.TheVariants as json
 use Rattle.stix_objects.specs.RuleName.{rule_name}
 use Rattle.stix_bundles.specs.declared.object_break.ObjectBreak.{ObjectBreak}
 use Rattle.stix_bundles.specs.declared.refusal.BundleRefusal.{BundleRefusal}
 use Rattle.stix_bundles.specs.declared.refusal.BundleRefusal.TheVariants as bundle
-use Rattle.match_log.specs.declared.end.InputRule.{InputRule}
-use Rattle.match_log.specs.declared.end.InputRule.TheVariants.{NotYet, InputTooLong, Json, Bundle}
+use Rattle.match_input.specs.declared.rule.InputRule.{InputRule}
+use Rattle.match_input.specs.declared.rule.InputRule.TheVariants.{LineTooLong, InputTooLong, Json, Bundle, Embedded, OutOfOrder}
 
 -- a name, and the path of what it is told of, where that isn't the whole
 abbrev pub at_path : List ℕ → List ℕ → List ℕ
 at_path name [] = name
 at_path name (c ∷ path) = name ++ (codes " at " ++ c ∷ path)
 
-abbrev pub tree_text : JsonRefusal → List ℕ
-tree_text tree.NotJson = codes "NotJson"
-tree_text (tree.TooDeep path) = at_path (codes "TooDeep") path
-tree_text (tree.NotWhole path) = at_path (codes "NotWhole") path
-tree_text (tree.Null path) = at_path (codes "Null") path
-tree_text (tree.OutOfRange path) = at_path (codes "OutOfRange") path
-tree_text tree.NotList = codes "NotList"
-tree_text tree.NoMemory = codes "out of memory"
+abbrev pub json_text : JsonRefusal → List ℕ
+json_text json.NotJson = codes "NotJson"
+json_text (json.TooDeep path) = at_path (codes "TooDeep") path
+json_text (json.NotWhole path) = at_path (codes "NotWhole") path
+json_text (json.Null path) = at_path (codes "Null") path
+json_text (json.OutOfRange path) = at_path (codes "OutOfRange") path
+json_text json.NotList = codes "NotList"
+json_text json.NoMemory = codes "out of memory"
 
 -- a break of an object of a bundle
 abbrev pub break_text : ObjectBreak → List ℕ
@@ -37,11 +38,15 @@ bundle_text (bundle.NotBundle path) = at_path (codes "NotBundle") path
 bundle_text (bundle.Breaks breaks) = codes "Breaks" ++ first_break_text breaks
 bundle_text bundle.NoMemory = codes "out of memory"
 
-abbrev pub rule_text : InputRule → List ℕ
-rule_text NotYet = codes "NotYet"
-rule_text InputTooLong = codes "InputTooLong"
-rule_text (Json refusal) = tree_text refusal
-rule_text (Bundle refusal) = bundle_text refusal
+-- LineTooLong, NotBundle at .., OutOfOrder last .. now ..: the text of a rule. Of an instant it is the canonical one
+abbrev pub IsRuleText : InputRule → List ℕ → Type 0
+IsRuleText LineTooLong text = text ≡ codes "LineTooLong"
+IsRuleText InputTooLong text = text ≡ codes "InputTooLong"
+IsRuleText (Json refusal) text = text ≡ json_text refusal
+IsRuleText (Bundle refusal) text = text ≡ bundle_text refusal
+IsRuleText (Embedded object) text = text ≡ codes "EmbeddedObjects object " ++ decimal object
+IsRuleText (OutOfOrder last now) text = (before after : List ℕ) × IsCanonicalTextOf before last × IsCanonicalTextOf after now
+    × (text ≡ codes "OutOfOrder last " ++ (before ++ (codes " now " ++ after)))
 
 -- line N refused: WHAT, of the number's text
 abbrev pub line_of_text : List ℕ → List ℕ → List ℕ
@@ -50,5 +55,6 @@ line_of_text number what = codes "line " ++ (number ++ (codes " refused: " ++ (w
 abbrev pub refused_line_text : ℕ → List ℕ → List ℕ
 refused_line_text line what = line_of_text (decimal line) what
 
-abbrev pub input_refusal_text : ℕ → InputRule → List ℕ
-input_refusal_text line rule = refused_line_text line (rule_text rule)
+-- the line of a rule
+abbrev pub IsInputRefusalText : ℕ → InputRule → List ℕ → Type 0
+IsInputRefusalText line rule text = (what : List ℕ) × IsRuleText rule what × (text ≡ refused_line_text line what)

@@ -1,4 +1,4 @@
-ghost use Rattle.std.specs.Prelude.{◌≡◌, ◌≤◌, ◌+◌, ◌^◌, ℤ, List, ℕ, Option, IfOk, IfErr, IfSome, IfNone};
+ghost use Rattle.std.specs.Prelude.{◌≡◌, ◌≤◌, ◌+◌, ◌^◌, ℤ, List, ℕ, Option, length, IfOk, IfErr, IfSome, IfNone};
 ghost use Rattle.stix_json.specs.DataOf.{data_of};
 ghost use Rattle.stix_json.specs.Ordered.{IsOrdered};
 ghost use Rattle.stix_json.specs.Reading.{IsJsonOf};
@@ -10,7 +10,9 @@ ghost use Rattle.match_input.specs.Line.{IsTextOf, IsInOrder, IsBehind, last_aft
 use crate::InputRule;
 use flow_values::{Items, NoMemory};
 use std::alloc::Global;
-use stix_bundles::{Bundle, BundleRefusal, Observation, ObservationRefusal, observations, read_bundle};
+use stix_bundles::{
+    Bundle, BundleRefusal, Observation, ObservationRefusal, observations, read_bundle,
+};
 use stix_json::{Json, JsonRefusal, read_json};
 use stix_times::Instant;
 use stix_times::laws::is_before;
@@ -34,6 +36,7 @@ pub(crate) fn read_line(
     ensures ok { IfOk result (λ outcome. IfOk outcome (λ line.
         IsBundleLine last next bytes.now (data_in line.bundle) line.observations)) }
     ensures refused { IfOk result (λ outcome. IfErr outcome (IsRefusedFor last next bytes.now)) }
+    ensures few { IfOk result (λ outcome. IfOk outcome (λ line. length line.observations ≤ MAX_OBJECTS)) }
 {
     let json = match json_of(alloc, bytes)? {
         Ok(json) => json,
@@ -84,6 +87,7 @@ fn in_order(
         IsBundleLine last next bytes (data_in line.bundle) line.observations)) }
     ensures refused { (bytes : List ℕ) → IsTextOf bytes (data_in bundle)
         → IfOk result (λ outcome. IfErr outcome (IsRefusedFor last next bytes)) }
+    ensures few { IfOk result (λ outcome. IfOk outcome (λ line. length line.observations ≤ MAX_OBJECTS)) }
 {
     let _counted = bundle.objects();
     let observations = match observations(alloc, &bundle, next) {
@@ -103,10 +107,7 @@ fn in_order(
 }
 
 /// The last time before and that of the first observation, where this one is earlier.
-fn fallen_time(
-    last: Option<Instant>,
-    observations: &[Observation],
-) -> Option<(Instant, Instant)>
+fn fallen_time(last: Option<Instant>, observations: &[Observation]) -> Option<(Instant, Instant)>
     ensures some { IfSome result (λ (before, now). IsBehind last observations.now before now) }
     ensures none { IfNone result (IsInOrder last observations.now) }
 {

@@ -1,6 +1,6 @@
 //! What follows from the definitions: the contracts are the laws, and the functions do nothing.
 
-ghost use Rattle.std.specs.Prelude.{◌≡◌, ◌×◌, ℕ, List};
+ghost use Rattle.std.specs.Prelude.{◌≡◌, ℕ, List};
 ghost use Rattle.match_input.specs.declared.mode.Mode.{Mode};
 ghost use Rattle.match_input.specs.Reading.{BundleOf, InputEnd, Reading};
 

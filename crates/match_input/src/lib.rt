@@ -9,6 +9,7 @@ mod batch;
 mod bundle_line;
 pub mod laws;
 mod mode;
+mod progress;
 mod read_end;
 mod reader;
 mod reason;

@@ -1,8 +1,7 @@
 ghost use Rattle.std.specs.Prelude.{◌≡◌, ◌++◌, codes};
-ghost use Rattle.match_log.specs.Texts.{at_path, tree_text, bundle_text, rule_text, first_break_text};
-ghost use Rattle.match_log.specs.inner.Reason.{reason_text};
+ghost use Rattle.match_input.specs.Texts.{at_path, json_text, bundle_text, first_break_text};
+ghost use Rattle.match_input.specs.inner.Reason.{reason_text};
 
-use crate::InputRule;
 use stix_bundles::{BundleRefusal, ObjectBreak};
 use stix_json::JsonRefusal;
 use stix_objects::Rule;
@@ -23,7 +22,8 @@ pub(crate) struct Reason<'a> {
 }
 
 impl<'a> Reason<'a> {
-    fn at(name: &'static str, path: &'a str) -> Reason<'a>
+    /// A name, and the path of what it is told of.
+    pub(crate) fn at(name: &'static str, path: &'a str) -> Reason<'a>
         ensures { reason_text result ≡ at_path name.now path.now }
     {
         Reason {
@@ -33,20 +33,9 @@ impl<'a> Reason<'a> {
         }
     }
 
-    /// What is said of a rule.
-    pub(crate) fn of(rule: &'a InputRule) -> Reason<'a>
-        ensures { reason_text result ≡ rule_text rule.now }
-    {
-        match rule {
-            InputRule::NotYet => Reason::at("NotYet", ""),
-            InputRule::InputTooLong => Reason::at("InputTooLong", ""),
-            InputRule::Json(refusal) => Reason::of_tree(refusal),
-            InputRule::Bundle(refusal) => Reason::of_bundle(refusal),
-        }
-    }
-
-    fn of_tree(refusal: &'a JsonRefusal) -> Reason<'a>
-        ensures { reason_text result ≡ tree_text refusal.now }
+    /// What is said of an input that is no JSON value.
+    pub(crate) fn of_json(refusal: &'a JsonRefusal) -> Reason<'a>
+        ensures { reason_text result ≡ json_text refusal.now }
     {
         match refusal {
             JsonRefusal::NotJson => Reason::at("NotJson", ""),
@@ -59,7 +48,8 @@ impl<'a> Reason<'a> {
         }
     }
 
-    fn of_bundle(refusal: &'a BundleRefusal) -> Reason<'a>
+    /// What is said of a JSON value that is no bundle.
+    pub(crate) fn of_bundle(refusal: &'a BundleRefusal) -> Reason<'a>
         ensures { reason_text result ≡ bundle_text refusal.now }
     {
         match refusal {

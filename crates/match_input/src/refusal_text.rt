@@ -1,24 +1,115 @@
-ghost use Rattle.std.specs.Prelude.{◌≡◌, ◌++◌};
+ghost use Rattle.std.specs.Prelude.{◌≡◌, ◌++◌, List, ℕ, codes, decimal};
 ghost use Rattle.flow_edges.specs.Faults.{Causes};
 ghost use Rattle.flow_edges.specs.Flow.{WritesWhole};
-ghost use Rattle.match_log.specs.inner.Reason.{broken_words, reason_text, path_lead};
-ghost use Rattle.match_log.specs.Texts.{at_path, refused_line_text, line_of_text, input_refusal_text};
+ghost use Rattle.stix_times.specs.Writing.{IsCanonicalTextOf};
+ghost use Rattle.match_input.specs.inner.Reason.{broken_words, reason_text, path_lead};
+ghost use Rattle.match_input.specs.Texts.{at_path, line_of_text, refused_line_text, IsInputRefusalText};
 
 use crate::InputRule;
 use crate::reason::Reason;
 use flow_edges::{Sink, write_pieces};
 use flow_values::Fault;
 use itoa::Buffer;
+use stix_times::Instant;
 
-/// Writes why a line is refused, as `line 2 refused: NotYet` and a line feed. After a `Fault` a prefix
-/// of the text was written. Takes no memory.
+/// Writes why a line is refused, as `line 2 refused: NotBundle at type` and a line feed. After a `Fault`
+/// a prefix of the text was written. Takes no memory.
 pub fn write_input_refusal<S: Sink>(line: u64, rule: &InputRule, sink: &mut S) -> Result<(), Fault>
-    ensures text { WritesWhole (input_refusal_text line rule.now) (S.written sink.old) (S.written sink.new) result }
+    ensures text { (text : List ℕ) × IsInputRefusalText line rule.now text
+        × WritesWhole text (S.written sink.old) (S.written sink.new) result }
     ensures causes { Causes (S.faults sink.old) (S.faults sink.new) result }
 {
-    write_reason(line, Reason::of(rule), sink)
+    match rule {
+        InputRule::LineTooLong => write_reason(line, Reason::at("LineTooLong", ""), sink),
+        InputRule::InputTooLong => write_reason(line, Reason::at("InputTooLong", ""), sink),
+        InputRule::Json(refusal) => write_reason(line, Reason::of_json(refusal), sink),
+        InputRule::Bundle(refusal) => write_reason(line, Reason::of_bundle(refusal), sink),
+        InputRule::Embedded { object } => write_embedded(line, *object, sink),
+        InputRule::OutOfOrder { last, now } => write_out_of_order(line, *last, *now, sink),
+    }
 }
 
+/// Writes the line of an observed-data that holds its objects itself.
+fn write_embedded<S: Sink>(line: u64, object: u32, sink: &mut S) -> Result<(), Fault>
+    ensures text { WritesWhole (refused_line_text line (codes "EmbeddedObjects object " ++ decimal object))
+        (S.written sink.old) (S.written sink.new) result }
+    ensures causes { Causes (S.faults sink.old) (S.faults sink.new) result }
+{
+    let mut buffer = Buffer::new();
+    let line = buffer.format(line);
+    let mut buffer = Buffer::new();
+    let object = buffer.format(object);
+    write_object(line, object, sink)
+}
+
+/// Writes the same line, of the texts of both numbers.
+fn write_object<'a, S: Sink>(line: &'a str, object: &'a str, sink: &mut S) -> Result<(), Fault>
+    ensures text { WritesWhole (line_of_text line.now (codes "EmbeddedObjects object " ++ object.now)) (S.written sink.old) (S.written sink.new) result }
+    ensures causes { Causes (S.faults sink.old) (S.faults sink.new) result }
+{
+    write_pieces(
+        sink,
+        &[
+            b"line ",
+            line.as_bytes(),
+            b" refused: EmbeddedObjects object ",
+            object.as_bytes(),
+            b"\n",
+        ],
+    )
+}
+
+/// Writes the line of an observation that is behind the last one.
+fn write_out_of_order<S: Sink>(
+    line: u64,
+    last: Instant,
+    now: Instant,
+    sink: &mut S,
+) -> Result<(), Fault>
+    ensures text { (text : List ℕ) × IsInputRefusalText line (InputRule.OutOfOrder last now) text
+        × WritesWhole text (S.written sink.old) (S.written sink.new) result }
+    ensures causes { Causes (S.faults sink.old) (S.faults sink.new) result }
+{
+    let mut buffer = Buffer::new();
+    let line = buffer.format(line);
+    let mut last_text = [0u8; 32];
+    let last_length = stix_times::write(last, &mut last_text);
+    let mut now_text = [0u8; 32];
+    let now_length = stix_times::write(now, &mut now_text);
+    write_times(
+        line,
+        &last_text[..last_length],
+        &now_text[..now_length],
+        sink,
+    )
+}
+
+/// Writes the same line, of the texts of the number and of both times.
+fn write_times<'a, S: Sink>(
+    line: &'a str,
+    last: &'a [u8],
+    now: &'a [u8],
+    sink: &mut S,
+) -> Result<(), Fault>
+    ensures text { WritesWhole (line_of_text line.now (codes "OutOfOrder last " ++ (last.now ++ (codes " now " ++ now.now))))
+        (S.written sink.old) (S.written sink.new) result }
+    ensures causes { Causes (S.faults sink.old) (S.faults sink.new) result }
+{
+    write_pieces(
+        sink,
+        &[
+            b"line ",
+            line.as_bytes(),
+            b" refused: OutOfOrder last ",
+            last,
+            b" now ",
+            now,
+            b"\n",
+        ],
+    )
+}
+
+/// Writes the line of a reason.
 fn write_reason<S: Sink>(line: u64, said: Reason<'_>, sink: &mut S) -> Result<(), Fault>
     ensures text { WritesWhole (refused_line_text line (reason_text said.entry)) (S.written sink.old) (S.written sink.new) result }
     ensures causes { Causes (S.faults sink.old) (S.faults sink.new) result }

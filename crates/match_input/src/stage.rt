@@ -1,6 +1,6 @@
-ghost use Rattle.std.specs.Prelude.{◌≡◌, ◌≢◌, ◌≤◌, ◌×◌, Err, Ok, None};
+ghost use Rattle.std.specs.Prelude.{◌≡◌, ◌≢◌, ◌≤◌, Err, Ok, None};
 ghost use Rattle.flow_edges.specs.Faults.{Rose};
-ghost use Rattle.match_input.specs.Ahead.{HoldsLines};
+ghost use Rattle.match_input.specs.Ahead.{IsOpen, HoldsLines};
 ghost use Rattle.match_input.specs.inner.Turn.{AnswersTurn};
 
 use crate::{InputRule, ReadEnd};
@@ -29,17 +29,20 @@ impl Stage {
         alloc: Global,
         source: &mut S,
     ) -> Result<Option<Line>, ReadEnd>
-        ensures lines { AnswersTurn self.old self.new (S.left source.old) (S.left source.new) result }
+        ensures lines { IsOpen self.old → AnswersTurn self.old self.new (S.left source.old) (S.left source.new) result }
         ensures unread { HoldsLines self.old → source.new ≡ source.old }
         ensures at_end { self.old ≡ Stage.AtEnd → (result ≡ Ok None) × (self.new ≡ self.old) × (source.new ≡ source.old) }
-        ensures ended { self.old ≡ Stage.Ended → (result ≡ Err ReadEnd.Ended) × (source.new ≡ source.old) }
-        ensures failed { result ≡ Err ReadEnd.ReadFault → Rose (S.faults source.old) (S.faults source.new) }
+        ensures ended { self.old ≡ Stage.Ended → (result ≡ Err ReadEnd.Ended) × (self.new ≡ self.old) × (source.new ≡ source.old) }
+        ensures failed { IsOpen self.old → result ≡ Err ReadEnd.ReadFault → Rose (S.faults source.old) (S.faults source.new) }
         ensures quiet { result ≢ Err ReadEnd.ReadFault → S.faults source.new ≡ S.faults source.old }
         ensures later { S.faults source.old ≤ S.faults source.new }
     {
         let line = match self {
-            Stage::Lines(lines) => lines.next_line(source)?,
-            Stage::Whole => Some(whole_line(alloc, source)?),
+            Stage::Lines(lines) => match lines.next_line(source) {
+                Ok(line) => line,
+                Err(refusal) => return Err(ReadEnd::from(refusal)),
+            },
+            Stage::Whole => whole_line(alloc, source)?,
             Stage::AtEnd => return Ok(None),
             Stage::Ended => return Err(ReadEnd::Ended),
         };
@@ -51,14 +54,14 @@ impl Stage {
 }
 
 /// The whole input as line 1.
-fn whole_line<S: Source>(alloc: Global, source: &mut S) -> Result<Line, ReadEnd>
-    ensures lines { AnswersTurn Stage.Whole Stage.AtEnd (S.left source.old) (S.left source.new) (result_map Some result) }
+fn whole_line<S: Source>(alloc: Global, source: &mut S) -> Result<Option<Line>, ReadEnd>
+    ensures lines { AnswersTurn Stage.Whole Stage.AtEnd (S.left source.old) (S.left source.new) result }
     ensures failed { result ≡ Err ReadEnd.ReadFault → Rose (S.faults source.old) (S.faults source.new) }
     ensures quiet { result ≢ Err ReadEnd.ReadFault → S.faults source.new ≡ S.faults source.old }
     ensures later { S.faults source.old ≤ S.faults source.new }
 {
     let bytes = read_whole(alloc, source)?;
-    Ok(Line { number: 1, bytes })
+    Ok(Some(Line { number: 1, bytes }))
 }
 
 impl From<LineRefusal> for ReadEnd {

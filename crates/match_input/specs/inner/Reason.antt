@@ -1,9 +1,9 @@
 -- For private clauses: a refusal in its parts, which are lent.
 use Rattle.std.specs.Prelude.{ℕ, List, [], ◌∷◌, ◌++◌, Option, Some, None, codes, decimal}
 use Rattle.stix_objects.specs.RuleName.{rule_name}
-use Rattle.match_log.specs.declared.reason.Reason.{Reason}
-use Rattle.match_log.specs.declared.reason.Breaking.{Breaking}
-use Rattle.match_log.specs.Texts.{at_path}
+use Rattle.match_input.specs.declared.reason.Reason.{Reason}
+use Rattle.match_input.specs.declared.reason.Breaking.{Breaking}
+use Rattle.match_input.specs.Texts.{at_path}
 
 -- ` object N: RULE`, of the texts of a number and a rule
 abbrev pub broken_words : List ℕ → List ℕ → List ℕ

@@ -14,7 +14,8 @@ use Rattle.match_input.specs.declared.read_end.ReadEnd.TheVariants.{Input, ReadF
 use Rattle.match_input.specs.declared.stage.Stage.{Stage}
 use Rattle.match_input.specs.declared.stage.Stage.TheVariants.{Lines, Whole, AtEnd, Ended}
 use Rattle.match_input.specs.Reading.{IsTooLong}
-use Rattle.match_input.specs.Ahead.{ahead, Moves, TakesLittle, BreaksOff, ComesToEnd}
+use Rattle.match_input.specs.declared.progress.Progress.{Progress}
+use Rattle.match_input.specs.Ahead.{ReaderState, ahead, Moves, TakesLittle, BreaksOff, ComesToEnd}
 
 -- the end for a refusal of the lines, and for one of an input that is read whole
 abbrev pub end_of_line : LineRefusal → ReadEnd
@@ -48,9 +49,13 @@ AnswersTurn before after left left_after (Err ReadFault) = BreaksOff before left
 AnswersTurn before after left left_after (Err HasEnded) = before ≡ Ended
 AnswersTurn before after left left_after (Err NoMemory) = ⊤
 
--- so few observations were given, for the bytes of the lines that went by
+-- what contracts see of a reader
+abbrev pub state_of : Progress → ReaderState
+state_of progress = record { stage = progress.stage; observations = progress.observations; last = progress.last }
+
+-- no line was refused, and so few observations were given, for the bytes of the lines that went by
 abbrev pub AreFew : Stage → ℕ → Type 0
-AreFew (Lines lines) observations = observations ≤ lines.given * MAX_OBJECTS
+AreFew (Lines lines) observations = (lines.refusal ≡ None) × (observations ≤ lines.given * MAX_OBJECTS)
 AreFew Whole observations = observations ≡ 0
 AreFew AtEnd observations = ⊤
 AreFew Ended observations = ⊤

@@ -1,6 +1,6 @@
 use Rattle.std.proofs.Common.{rules}
-use Rattle.match_log.proofs.InputRefusalTextLemmas.{broken_line}
-use Rattle.match_log.proofs.refusal_text.write_broken.Goals as goal
+use Rattle.match_input.proofs.InputRefusalTextLemmas.{broken_line}
+use Rattle.match_input.proofs.refusal_text.write_broken.Goals as goal
 
 pub returns-clause-text : goal.returns-clause-text
 returns-clause-text g c =

@@ -1,0 +1,2 @@
+pub mod InputRefusalTextLemmas
+pub mod OneReadingLemmas

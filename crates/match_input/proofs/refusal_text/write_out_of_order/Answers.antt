@@ -1,0 +1,8 @@
+use Rattle.std.proofs.Common.{take, refl}
+use Rattle.match_input.proofs.refusal_text.write_out_of_order.Goals as goal
+
+pub returns-clause-text : goal.returns-clause-text
+returns-clause-text g c =
+    let before = take c.write-last_length.result c.write-last_length.new.out in
+    let after = take c.write-now_length.result c.write-now_length.new.out in
+    (_, (_, (before, after, c.write-last_length.ensures.text, c.write-now_length.ensures.text, refl), refl), rw c.format-line.ensures.text at c.write_times.ensures.text)

@@ -1,0 +1,76 @@
+ghost use Rattle.std.specs.Prelude.{◌≡◌, ◌≢◌, ◌+◌, ◌≤◌, ◌<◌, ◌^◌, None, Ok, Err, OnOk, length};
+ghost use Rattle.flow_edges.specs.Faults.{Rose};
+ghost use Rattle.match_input.specs.Line.{last_after};
+ghost use Rattle.match_input.specs.Ahead.{IsOpen, HoldsLines, AnswersNext};
+ghost use Rattle.match_input.specs.inner.Turn.{state_of, AreFew};
+
+use crate::bundle_line::{BundleLine, last_time, read_line};
+use crate::{Batch, ReadEnd, Stage};
+use flow_edges::Source;
+use std::alloc::Global;
+use stix_times::Instant;
+
+/// How far an input is read, and what its observations so far leave to know.
+#[derive(Drop)]
+pub(crate) struct Progress {
+    pub(crate) alloc: Global,
+    pub(crate) stage: Stage,
+    /// How many observations were given.
+    pub(crate) observations: u64,
+    /// When the last of them was last observed.
+    pub(crate) last: Option<Instant>,
+}
+
+impl Progress {
+    /// The next bundle, with its observations; none at the end.
+    pub(crate) fn next_batch<S: Source>(&mut self, source: &mut S) -> Result<Option<Batch>, ReadEnd>
+        requires { AreFew self.old.stage self.old.observations }
+        ensures next { IsOpen self.old.stage
+            → AnswersNext (state_of self.old) (state_of self.new) (S.left source.old) (S.left source.new) result }
+        ensures few { OnOk result (AreFew self.new.stage self.new.observations) }
+        ensures unread { HoldsLines self.old.stage → source.new ≡ source.old }
+        ensures at_end { self.old.stage ≡ Stage.AtEnd → (result ≡ Ok None) × (state_of self.new ≡ state_of self.old) × (source.new ≡ source.old) }
+        ensures ended { self.old.stage ≡ Stage.Ended
+            → (result ≡ Err ReadEnd.Ended) × (state_of self.new ≡ state_of self.old) × (source.new ≡ source.old) }
+        ensures failed { IsOpen self.old.stage → result ≡ Err ReadEnd.ReadFault → Rose (S.faults source.old) (S.faults source.new) }
+        ensures quiet { result ≢ Err ReadEnd.ReadFault → S.faults source.new ≡ S.faults source.old }
+        ensures later { S.faults source.old ≤ S.faults source.new }
+    {
+        let Some(line) = self.stage.next_line(self.alloc, source)? else {
+            return Ok(None);
+        };
+        match read_line(
+            self.alloc,
+            self.last,
+            self.observations + 1,
+            line.bytes.as_slice(),
+        )? {
+            Ok(read) => Ok(Some(self.give(line.number, read))),
+            Err(rule) => Err(ReadEnd::Input {
+                line: line.number,
+                rule,
+            }),
+        }
+    }
+
+    /// Counts the observations of a bundle, and gives it.
+    fn give(&mut self, line: u64, read: BundleLine) -> Batch
+        requires { self.old.observations + length read.observations < 2 ^ 64 }
+        ensures batch { result ≡ record { line = line; bundle = read.bundle; observations = read.observations } }
+        ensures stage { self.new.stage ≡ self.old.stage }
+        ensures observations { self.new.observations ≡ self.old.observations + length read.observations }
+        ensures last { self.new.last ≡ last_after self.old.last read.observations }
+    {
+        let BundleLine {
+            bundle,
+            observations,
+        } = read;
+        self.last = last_time(self.last, observations.as_slice());
+        self.observations += observations.len() as u64;
+        Batch {
+            line,
+            bundle,
+            observations,
+        }
+    }
+}
