@@ -1,5 +1,5 @@
 -- There is one live count: what is live is listed by tests, and lists with the same counts are as long as each other.
-use Rattle.std.proofs.Common.{◌≡◌, ℕ, ◌+◌, ◌*◌, ℤ, List, [], ◌∷◌, length, refl, sym, ◌∙◌, ap, arith}
+use Rattle.std.proofs.Common.{◌≡◌, ℕ, ℤ, List, [], ◌∷◌, length, refl, sym, ◌∙◌, arith}
 use Rattle.std.specs.Prelude.{Bool, true, false, ◌&&◌, nat_eq, ◌↔◌}
 use Rattle.std.proofs.lemmas.Bool.{eqb-true, eq-eqb}
 use Rattle.match_bindings.specs.declared.log_entry.LogEntry.{LogEntry}
@@ -14,7 +14,6 @@ use Rattle.match_live.specs.PieceTree.{PieceTree, trees_in}
 use Rattle.match_live.specs.LivePart.{MayHold, HoldsLive, AreLive, time_of, held_count}
 use Rattle.match_live.specs.Answer.{EndsAtLast, IsAnswer, IsLiveCount}
 use Rattle.match_live.specs.inner.Lives.{lives}
-use Rattle.match_live.proofs.StoreLemmas.{AreHeld}
 use Rattle.match_live.proofs.ShapeLemmas.{Rule, to_held}
 use Rattle.match_live.proofs.AnswerLemmas.{held_counts, same_length, trees_length}
 
@@ -50,8 +49,10 @@ pub answer_counts : Rule → (p : NumberedPattern) (log : List LogEntry) (xs : L
 answer_counts rule p log xs h x = by (is_binding (observed_in log) p x) (nat_eq (greatest x) (length log)) refl refl where
   no_binding : is_binding (observed_in log) p x ≡ false → EndsAtLast p log x → ⊥
   no_binding e k = let yes_it_is : is_binding (observed_in log) p x ≡ true = (rule (observed_in log) p x).1 k.0 in let no : true ≡ false = sym yes_it_is ∙ e in cc
+
   not_last : nat_eq (greatest x) (length log) ≡ false → EndsAtLast p log x → ⊥
   not_last e k = let yes_it_is : nat_eq (greatest x) (length log) ≡ true = eq-eqb (greatest x) (length log) k.1 in let no : true ≡ false = sym yes_it_is ∙ e in cc
+
   by : (b c : Bool) → is_binding (observed_in log) p x ≡ b → nat_eq (greatest x) (length log) ≡ c →
       count x xs ≡ bit (is_binding (observed_in log) p x && nat_eq (greatest x) (length log))
   by true true eb ec = rw (eb, ec) (h.each_once x ((rule (observed_in log) p x).0 eb, eqb-true (greatest x) (length log) ec))

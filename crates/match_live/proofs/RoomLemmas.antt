@@ -1,8 +1,6 @@
 -- How many things are held, store by store.
-use Rattle.std.proofs.Common.{◌≡◌, ℕ, zero, suc, ◌+◌, ◌≤◌, ◌<◌, List, [], ◌∷◌, ◌++◌, length, get_or, take, refl, sym, ◌∙◌, ap, arith}
-use Rattle.std.specs.Prelude.{map}
+use Rattle.std.proofs.Common.{◌≡◌, ℕ, zero, suc, ◌+◌, ◌≤◌, ◌<◌, List, [], ◌∷◌, ◌++◌, length, get_or, take, refl, ◌∙◌, ap, arith}
 use Rattle.std.proofs.lemmas.List.{take_more, length-map}
-use Rattle.match_live.specs.declared.piece.Piece.{Piece}
 use Rattle.match_live.specs.declared.store.Store.{Store}
 use Rattle.match_live.specs.PieceTree.{PieceTree}
 use Rattle.match_live.specs.LivePart.{held_count}
@@ -29,7 +27,7 @@ count_more stores at d h =
     ap (λ z. held_count (store_lists z)) (take_more stores at d h)
     ∙ ap held_count (map_append store_list (take at stores) (get_or stores at d ∷ []))
     ∙ (let last = length-map (get_or stores at d).held.items piece_tree in
-       omega (arith, count_append (store_lists (take at stores)) (store_lists (get_or stores at d ∷ [])), last))
+    omega (arith, count_append (store_lists (take at stores)) (store_lists (get_or stores at d ∷ [])), last))
 
 -- the first stores hold no more than all
 pub count_take : (stores : List Store) (at : ℕ) → held_count (store_lists (take at stores)) ≤ held_count (store_lists stores)

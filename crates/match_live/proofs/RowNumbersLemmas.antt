@@ -1,5 +1,5 @@
 -- The numbers of what is held, as a list and as a test.
-use Rattle.std.proofs.Common.{◌≡◌, ℕ, zero, suc, ◌+◌, ◌≤◌, ◌<◌, List, [], ◌∷◌, ◌++◌, length, refl, sym, ◌∙◌, ap, arith, append_assoc, append-nil, take, inl, inr}
+use Rattle.std.proofs.Common.{◌≡◌, ℕ, zero, suc, ◌≤◌, ◌<◌, List, [], ◌∷◌, ◌++◌, length, refl, sym, ◌∙◌, ap, arith, append_assoc, append-nil, take, inl, inr}
 use Rattle.std.specs.Prelude.{Bool, true, false, ◌||◌, nat_eq, map, slice_index_or, ◌↔◌}
 use Rattle.std.specs.List.{flat_map, Contains}
 use Rattle.std.proofs.lemmas.Bool.{or_cases, or_left, or_right, eqb-true, eq-eqb}
@@ -83,11 +83,13 @@ contains_among n (x ∷ xs) (suc k) h e = or_right (nat_eq n x) (among n xs) (co
 among_contains : (n : ℕ) (xs : List ℕ) → among n xs ≡ true → Contains xs n
 among_contains n [] h = absurd (cc)
 among_contains n (x ∷ xs) h = elim (or_cases (nat_eq n x) (among n xs) h) [
-    inl e ↦ (zero, omega arith, sym (eqb-true n x e))
-  | inr e ↦ (let rest = among_contains n xs e in (suc rest.0, omega (arith, rest.1), rest.2)) ]
+  | inl e ↦ (zero, omega arith, sym (eqb-true n x e))
+  | inr e ↦ (let rest = among_contains n xs e in (suc rest.0, omega (arith, rest.1), rest.2))
+]
 
 -- what is among the numbers is kept
 pub contains_kept : (n : ℕ) (contents : List (List PieceTree)) → Contains (all_numbers contents) n ↔ (is_kept n contents ≡ true)
-contains_kept n contents =
-    ( λ h. sym (among_all n contents) ∙ contains_among n (all_numbers contents) h.0 h.1 h.2
-    , λ h. among_contains n (all_numbers contents) (among_all n contents ∙ h) )
+contains_kept n contents = (
+  λ h. sym (among_all n contents) ∙ contains_among n (all_numbers contents) h.0 h.1 h.2,
+  λ h. among_contains n (all_numbers contents) (among_all n contents ∙ h),
+)

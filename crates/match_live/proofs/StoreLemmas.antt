@@ -1,9 +1,8 @@
 -- What a store holds after a row, and the joins of things with their times.
 use Rattle.std.proofs.Common.{◌≡◌, ℕ, zero, suc, ◌+◌, ◌*◌, ◌<◌, ℤ, ◌≤ℤ◌, List, [], ◌∷◌, ◌++◌, refl, sym, ◌∙◌, ap, arith}
-use Rattle.std.specs.Prelude.{Bool, true, false, ◌&&◌, ◌||◌, not, map, filter, cond}
+use Rattle.std.specs.Prelude.{Bool, true, false, ◌&&◌, not, map, filter}
 use Rattle.std.specs.Int.{int_min, int_max}
-use Rattle.std.proofs.lemmas.Bool.{and_parts}
-use Rattle.match_bindings.specs.BindTree.{BindTree, One, Pair, First, Second, Empty, Single, More, add_part, has}
+use Rattle.match_bindings.specs.BindTree.{BindTree, Single, More, add_part, has}
 use Rattle.match_bindings.specs.Log.{Observed}
 use Rattle.match_bindings.specs.Span.{earliest, latest}
 use Rattle.match_bindings.specs.Test.{are_repeats}
@@ -12,9 +11,9 @@ use Rattle.match_bindings.specs.declared.bounds.Bounds.{Bounds}
 use Rattle.match_windows.specs.declared.window.Window.{Window}
 use Rattle.match_live.specs.declared.join.Join.{Join}
 use Rattle.match_live.specs.declared.join.Join.TheVariants as join
-use Rattle.match_live.specs.PieceTree.{PieceTree, hold, trees_in}
+use Rattle.match_live.specs.PieceTree.{PieceTree, hold}
 use Rattle.match_live.specs.inner.Lives.{alive, lives}
-use Rattle.match_live.specs.inner.Steps.{held_with, joined_tree, joined, may_join, join_row, joins, kept, stored}
+use Rattle.match_live.specs.inner.Steps.{held_with, joined_tree, joined, may_join, join_row, joins, kept}
 use Rattle.match_live.proofs.ListLemmas.{map_append, map_map, map_agree, filter_map}
 use Rattle.match_live.proofs.PairsLemmas.{pairs}
 use Rattle.match_live.proofs.OnceLemmas.{same_self, count_append, count_filter}

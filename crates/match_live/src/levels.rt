@@ -5,8 +5,8 @@ ghost use Rattle.match_live.specs.inner.Pieces.{piece_tree, piece_trees};
 ghost use Rattle.match_live.specs.inner.Steps.{held_with, kept, stored, joins, levels_new, levels_after, levels_above, all_levels, risen, raised, counted};
 ghost use Rattle.match_live.specs.inner.Nodes.{store_list, store_lists};
 
-use crate::piece::Piece;
 use crate::join::Join;
+use crate::piece::Piece;
 use crate::store::Store;
 use flow_values::{Items, NoMemory};
 use match_bindings::{Bind, copy_bind};
@@ -39,13 +39,18 @@ impl Levels {
     }
 
     /// One row, given what is new at what is repeated: what is new at the last level.
-    pub fn step(&mut self, alloc: Global, now: Instant, new: &[Piece]) -> Result<Vec<Piece>, NoMemory>
+    pub fn step(
+        &mut self,
+        alloc: Global,
+        now: Instant,
+        new: &[Piece],
+    ) -> Result<Vec<Piece>, NoMemory>
         ensures new { IfOk result (λ sets. piece_trees sets.items ≡ counted self.old.count
             (levels_new self.old.window now (map (held_with Single) (piece_trees new.now)) (piece_trees new.now)
-                (all_levels self.old.count (store_lists self.old.stores.items)))) }
+            (all_levels self.old.count (store_lists self.old.stores.items)))) }
         ensures kept { OnOk result (all_levels self.new.count (store_lists self.new.stores.items)
             ≡ levels_after self.old.window now (map (held_with Single) (piece_trees new.now)) (piece_trees new.now)
-                (all_levels self.old.count (store_lists self.old.stores.items))) }
+            (all_levels self.old.count (store_lists self.old.stores.items))) }
         ensures count { OnOk result (self.new.count ≡ self.old.count) }
         ensures window { OnOk result (self.new.window ≡ self.old.window) }
     {
@@ -59,12 +64,17 @@ impl Levels {
 
     /// What is new above the levels that are made: it is the answer where there is no level above, and is
     /// held in the next one else.
-    fn raise(&mut self, alloc: Global, sets: Vec<Piece>, now: Instant) -> Result<Vec<Piece>, NoMemory>
+    fn raise(
+        &mut self,
+        alloc: Global,
+        sets: Vec<Piece>,
+        now: Instant,
+    ) -> Result<Vec<Piece>, NoMemory>
         ensures new { IfOk result (λ answer. piece_trees answer.items
             ≡ counted self.old.count (risen (levels_above self.old.count (store_lists self.old.stores.items)) (piece_trees sets.items))) }
         ensures kept { OnOk result (all_levels self.new.count (store_lists self.new.stores.items)
             ≡ store_lists self.old.stores.items
-                ++ raised self.old.window now (levels_above self.old.count (store_lists self.old.stores.items)) (piece_trees sets.items)) }
+            ++ raised self.old.window now (levels_above self.old.count (store_lists self.old.stores.items)) (piece_trees sets.items)) }
         ensures count { OnOk result (self.new.count ≡ self.old.count) }
         ensures window { OnOk result (self.new.window ≡ self.old.window) }
     {

@@ -8,15 +8,15 @@
 #![tactic(auto)]
 
 mod ending;
-mod piece;
 mod join;
-mod row_numbers;
 pub mod laws;
 mod levels;
 mod matcher;
 mod node;
+mod piece;
 mod room;
 mod row;
+mod row_numbers;
 mod run;
 mod sides;
 mod store;

@@ -14,8 +14,8 @@ ghost use Rattle.match_bindings.specs.NumberedPattern.{numbered_pattern};
 ghost use Rattle.match_live.specs.inner.Nodes.{state_of};
 ghost use Rattle.match_live.specs.inner.Shape.{fits};
 
-use crate::row_numbers::kept_numbers;
 use crate::node::empty_node;
+use crate::row_numbers::kept_numbers;
 use crate::run::Run;
 use crate::{Ending, MatchRefusal};
 use flow_values::{Items, NoMemory};
@@ -79,7 +79,7 @@ impl<'p> Matcher<'p> {
         ensures crowded { (log : List LogEntry) → StandsFor (matcher_state self.old) log → IsInOrder log → (number cap : ℕ) →
             result ≡ Err (refusal.Stopped (ending.Crowded number cap)) →
             (number ≡ suc (length log)) × (cap ≡ (matcher_state self.old).cap) × (¬ (Falls (matcher_state self.old).last last))
-                × IsCrowded (matcher_state self.old).pattern (with_row log first last truths.now) cap }
+            × IsCrowded (matcher_state self.old).pattern (with_row log first last truths.now) cap }
         ensures out_of_order { (before now : ℤ) → (result ≡ Err (refusal.Stopped (ending.OutOfOrder before now)))
             ↔ (((matcher_state self.old).ended ≡ None) × ((matcher_state self.old).last ≡ Some before) × (now ≡ last) × (now <ℤ before)) }
         ensures stopped { (ending : Ending) → result ≡ Err (refusal.Stopped ending) →

@@ -7,9 +7,9 @@ ghost use Rattle.match_live.specs.inner.Pieces.{piece_tree, piece_trees};
 ghost use Rattle.match_live.specs.inner.Steps.{held_with, a_join, step_new, step_state, new_at_leaf, empty_state};
 ghost use Rattle.match_live.specs.inner.Nodes.{side_stores, state_of};
 
-use crate::piece::Piece;
 use crate::join::Join;
 use crate::levels::Levels;
+use crate::piece::Piece;
 use crate::row::Row;
 use crate::sides::Sides;
 use crate::store::is_live;
@@ -50,13 +50,21 @@ pub(crate) fn empty_node(
         Pattern::Both(left, right) => {
             let left_node = empty_node(alloc, left, leaf, above)?;
             let right_node = empty_node(alloc, right, leaf + leaf_count(left), above)?;
-            let sides = Sides::new(alloc, store_window(&above, false), store_window(&above, false));
+            let sides = Sides::new(
+                alloc,
+                store_window(&above, false),
+                store_window(&above, false),
+            );
             sides_node(alloc, Join::Both, left_node, right_node, sides)
         }
         Pattern::Then(left, right) => {
             let left_node = empty_node(alloc, left, leaf, above)?;
             let right_node = empty_node(alloc, right, leaf + leaf_count(left), above)?;
-            let sides = Sides::new(alloc, store_window(&above, false), store_window(&above, true));
+            let sides = Sides::new(
+                alloc,
+                store_window(&above, false),
+                store_window(&above, true),
+            );
             sides_node(alloc, Join::Then, left_node, right_node, sides)
         }
         Pattern::Either(left, right) => {
@@ -180,9 +188,17 @@ fn push_firsts(alloc: Global, left: Vec<Piece>, out: &mut Vec<Piece>) -> Result<
     ensures { OnOk result (piece_trees out.new.items ≡ piece_trees out.old.items ++ map (held_with First) (piece_trees left.items)) }
 {
     for held in left {
-        let Piece { bind, earliest, latest } = held;
+        let Piece {
+            bind,
+            earliest,
+            latest,
+        } = held;
         let bind = Bind::First(Box::new(alloc, bind)?);
-        out.push(Piece { bind, earliest, latest })?;
+        out.push(Piece {
+            bind,
+            earliest,
+            latest,
+        })?;
     }
     Ok(())
 }
@@ -192,9 +208,17 @@ fn push_seconds(alloc: Global, right: Vec<Piece>, out: &mut Vec<Piece>) -> Resul
     ensures { OnOk result (piece_trees out.new.items ≡ piece_trees out.old.items ++ map (held_with Second) (piece_trees right.items)) }
 {
     for held in right {
-        let Piece { bind, earliest, latest } = held;
+        let Piece {
+            bind,
+            earliest,
+            latest,
+        } = held;
         let bind = Bind::Second(Box::new(alloc, bind)?);
-        out.push(Piece { bind, earliest, latest })?;
+        out.push(Piece {
+            bind,
+            earliest,
+            latest,
+        })?;
     }
     Ok(())
 }

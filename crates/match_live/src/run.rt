@@ -9,8 +9,8 @@ ghost use Rattle.match_live.specs.inner.Steps.{contents_of};
 ghost use Rattle.match_live.specs.inner.Nodes.{state_of};
 
 use crate::Ending;
-use crate::piece::Piece;
 use crate::node::{Node, step};
+use crate::piece::Piece;
 use crate::room::room_after;
 use crate::row::Row;
 use flow_values::{Items, NoMemory};
@@ -43,7 +43,7 @@ impl Run {
             ↔ ((self.old.last ≡ Some before) × (now ≡ last) × (now <ℤ before)) }
         ensures crowded { (number cap : ℕ) → result ≡ Err (ending.Crowded number cap)
             → (number ≡ self.old.rows + 1) × (cap ≡ self.old.cap) × (¬ (Falls self.old.last last))
-                × IsOver self.old (next_row self.old.rows first last) truths.now }
+            × IsOver self.old (next_row self.old.rows first last) truths.now }
         ensures order { OnOk result (¬ (Falls self.old.last last)) }
         ensures took { OnOk result (TookRow self.old self.new (next_row self.old.rows first last) truths.now) }
         ensures binds { IfOk result (λ binds. AreSteps self.old (next_row self.old.rows first last) truths.now (map tree_of binds)) }

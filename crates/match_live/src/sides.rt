@@ -3,8 +3,8 @@ ghost use Rattle.match_live.specs.inner.Pieces.{piece_trees};
 ghost use Rattle.match_live.specs.inner.Steps.{joins_new, sides_after, empty_sides};
 ghost use Rattle.match_live.specs.inner.Nodes.{side_stores};
 
-use crate::piece::Piece;
 use crate::join::Join;
+use crate::piece::Piece;
 use crate::store::Store;
 use flow_values::NoMemory;
 use match_windows::Window;

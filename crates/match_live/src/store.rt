@@ -38,8 +38,7 @@ impl Store {
                 return;
             }
         }
-        self.held
-            .retain(|held| is_live(window, held.earliest, now));
+        self.held.retain(|held| is_live(window, held.earliest, now));
         self.oldest = oldest_of(&self.held);
     }
 

@@ -1,5 +1,5 @@
 -- For private clauses: what a matcher keeps as plain lists, and one row of it.
-use Rattle.std.specs.Prelude.{◌≡◌, ℕ, zero, suc, ◌-◌, ℤ, int_le, Bool, true, false, ◌&&◌, cond, unwrap_or, slice_get, List, [], ◌∷◌, ◌++◌, map, filter, length}
+use Rattle.std.specs.Prelude.{ℕ, zero, suc, ◌-◌, ℤ, int_le, Bool, true, false, ◌&&◌, cond, unwrap_or, slice_get, List, [], ◌∷◌, ◌++◌, map, filter, length}
 use Rattle.std.specs.Int.{int_min, int_max}
 use Rattle.std.specs.List.{flat_map}
 use Rattle.match_bindings.specs.declared.bounds.Bounds.{Bounds}

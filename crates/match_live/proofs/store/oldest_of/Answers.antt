@@ -1,4 +1,4 @@
-use Rattle.std.proofs.Common.{◌≡◌, ◌<◌, ◌+◌, ◌∷◌, [], ◌++◌, length, take, sym, ◌∙◌, ap}
+use Rattle.std.proofs.Common.{◌<◌, ◌+◌, ◌∷◌, [], ◌++◌, length, take, sym, ◌∙◌, ap}
 use Rattle.std.specs.Prelude.{Some}
 use Rattle.match_live.specs.inner.Pieces.{piece_tree, piece_trees, none_before, oldest_with}
 use Rattle.match_live.proofs.OldestLemmas.{one_more, next_taken}
@@ -10,5 +10,5 @@ loop-one-preserved c =
     let inside : at < length held = c.loop-one-test.true in
     ap (λ o. none_before o (piece_trees (take (at + 1) held))) c.older-oldest.ensures
     ∙ ap (none_before (Some (oldest_with c.loop-one.oldest x.earliest)))
-      (next_taken held at x inside ∙ ap (λ y. piece_trees (take at held) ++ piece_tree y ∷ []) (sym c.one-item.is))
+    (next_taken held at x inside ∙ ap (λ y. piece_trees (take at held) ++ piece_tree y ∷ []) (sym c.one-item.is))
     ∙ one_more c.loop-one.oldest (piece_trees (take at held)) (piece_tree x) c.loop-one.invariant

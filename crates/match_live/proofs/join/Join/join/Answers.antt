@@ -1,4 +1,4 @@
-use Rattle.std.proofs.Common.{◌≡◌, ℕ, length, arith, rules}
+use Rattle.std.proofs.Common.{◌≡◌, length, rules}
 use Rattle.match_live.specs.inner.Pieces.{piece_trees}
 use Rattle.match_live.proofs.LevelLemmas.{joins_empty}
 use Rattle.match_live.proofs.join.Join.join.Goals as goal

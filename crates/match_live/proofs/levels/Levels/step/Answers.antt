@@ -1,7 +1,6 @@
-use Rattle.std.proofs.Common.{◌≡◌, List, sym, ◌∙◌, ap}
+use Rattle.std.proofs.Common.{◌∙◌, ap}
 use Rattle.std.specs.Prelude.{map}
 use Rattle.match_bindings.specs.BindTree.{Single}
-use Rattle.match_live.specs.PieceTree.{PieceTree}
 use Rattle.match_live.specs.inner.Pieces.{piece_trees}
 use Rattle.match_live.specs.inner.Steps.{held_with, levels_new, levels_after, counted}
 use Rattle.match_live.specs.inner.Nodes.{store_lists}
@@ -16,10 +15,10 @@ returns-clause-new c =
     let made = store_lists c.in_ok-made.made.items in let sets = piece_trees c.in_ok-made.last.items in
     c.in_ok-answer.ensures.new
     ∙ ap (counted c.args.self.now.count) (all_new w t first new c.args.self.now.count xs made sets
-      (c.in_ok-made.ensures.kept ∙ ap (λ z. levels_after w t z new (store_lists c.replace-stores.result.items)) c.in_ok-first.ensures
-        ∙ ap (λ z. levels_after w t first new (store_lists z.items)) c.replace-stores.ensures.value)
-      (c.in_ok-made.ensures.new ∙ ap (λ z. levels_new w t z new (store_lists c.replace-stores.result.items)) c.in_ok-first.ensures
-        ∙ ap (λ z. levels_new w t first new (store_lists z.items)) c.replace-stores.ensures.value))
+    (c.in_ok-made.ensures.kept ∙ ap (λ z. levels_after w t z new (store_lists c.replace-stores.result.items)) c.in_ok-first.ensures
+    ∙ ap (λ z. levels_after w t first new (store_lists z.items)) c.replace-stores.ensures.value)
+    (c.in_ok-made.ensures.new ∙ ap (λ z. levels_new w t z new (store_lists c.replace-stores.result.items)) c.in_ok-first.ensures
+    ∙ ap (λ z. levels_new w t first new (store_lists z.items)) c.replace-stores.ensures.value))
 
 pub returns-clause-kept : goal.returns-clause-kept
 returns-clause-kept c =
@@ -29,7 +28,7 @@ returns-clause-kept c =
     let made = store_lists c.in_ok-made.made.items in let sets = piece_trees c.in_ok-made.last.items in
     c.in_ok-answer.ensures.kept
     ∙ all_after w t first new c.args.self.now.count xs made sets
-      (c.in_ok-made.ensures.kept ∙ ap (λ z. levels_after w t z new (store_lists c.replace-stores.result.items)) c.in_ok-first.ensures
-        ∙ ap (λ z. levels_after w t first new (store_lists z.items)) c.replace-stores.ensures.value)
-      (c.in_ok-made.ensures.new ∙ ap (λ z. levels_new w t z new (store_lists c.replace-stores.result.items)) c.in_ok-first.ensures
-        ∙ ap (λ z. levels_new w t first new (store_lists z.items)) c.replace-stores.ensures.value)
+    (c.in_ok-made.ensures.kept ∙ ap (λ z. levels_after w t z new (store_lists c.replace-stores.result.items)) c.in_ok-first.ensures
+    ∙ ap (λ z. levels_after w t first new (store_lists z.items)) c.replace-stores.ensures.value)
+    (c.in_ok-made.ensures.new ∙ ap (λ z. levels_new w t z new (store_lists c.replace-stores.result.items)) c.in_ok-first.ensures
+    ∙ ap (λ z. levels_new w t first new (store_lists z.items)) c.replace-stores.ensures.value)

@@ -1,4 +1,4 @@
-use Rattle.std.proofs.Common.{◌≡◌, ◌∷◌, [], ◌++◌, ◌∙◌, ap}
+use Rattle.std.proofs.Common.{◌∷◌, [], ◌∙◌, ap}
 use Rattle.std.specs.Prelude.{Some}
 use Rattle.match_live.specs.inner.Pieces.{piece_tree, piece_trees, none_before, oldest_with}
 use Rattle.match_live.proofs.ListLemmas.{map_append}

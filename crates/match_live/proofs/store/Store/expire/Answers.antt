@@ -14,7 +14,7 @@ returns-then-is_live c =
     let store = c.args.self.now in
     let is : store.oldest ≡ Some c.in-Some.oldest = search rules in
     all_kept c.args.window.now c.in-Some.oldest c.args.now (piece_trees store.held.items) (sym c.is_live.ensures ∙ c.if-is_live.true)
-      (subst (λ (o : Option ℤ). none_before o (piece_trees store.held.items) ≡ true) is store.none_older)
+    (subst (λ (o : Option ℤ). none_before o (piece_trees store.held.items) ≡ true) is store.none_older)
 
 pub returns : goal.returns
 returns c =
