@@ -2,7 +2,6 @@ ghost use Rattle.std.specs.Prelude.{◌≡◌, ◌+◌, ◌<◌, ◌^◌, ◌++�
 ghost use Rattle.pattern_types.specs.Leaves.{leaves};
 ghost use Rattle.match_bindings.specs.NumberedPattern.{numbered_from};
 ghost use Rattle.match_bindings.specs.BindTree.{One, First, Second};
-ghost use Rattle.match_windows.specs.Stores.{window_of};
 ghost use Rattle.match_live.specs.inner.Pieces.{piece_tree, piece_trees};
 ghost use Rattle.match_live.specs.inner.Steps.{held_with, a_join, step_new, step_state, new_at_leaf, empty_state};
 ghost use Rattle.match_live.specs.inner.Nodes.{side_stores, state_of};
@@ -12,7 +11,7 @@ use crate::levels::Levels;
 use crate::piece::Piece;
 use crate::row::Row;
 use crate::sides::Sides;
-use crate::store::is_live;
+use crate::store::{is_live, store_window};
 use flow_values::NoMemory;
 use match_bindings::{Bind, Bounds};
 use match_windows::Window;
@@ -50,21 +49,13 @@ pub(crate) fn empty_node(
         Pattern::Both(left, right) => {
             let left_node = empty_node(alloc, left, leaf, above)?;
             let right_node = empty_node(alloc, right, leaf + leaf_count(left), above)?;
-            let sides = Sides::new(
-                alloc,
-                store_window(&above, false),
-                store_window(&above, false),
-            );
+            let sides = Sides::new(alloc, &above, false);
             sides_node(alloc, Join::Both, left_node, right_node, sides)
         }
         Pattern::Then(left, right) => {
             let left_node = empty_node(alloc, left, leaf, above)?;
             let right_node = empty_node(alloc, right, leaf + leaf_count(left), above)?;
-            let sides = Sides::new(
-                alloc,
-                store_window(&above, false),
-                store_window(&above, true),
-            );
+            let sides = Sides::new(alloc, &above, true);
             sides_node(alloc, Join::Then, left_node, right_node, sides)
         }
         Pattern::Either(left, right) => {
@@ -85,18 +76,6 @@ pub(crate) fn empty_node(
             let levels = Levels::new(alloc, *count, store_window(&above, false));
             Ok(Node::Repeats(Box::new(alloc, node)?, levels))
         }
-    }
-}
-
-/// The window of a store under these bounds.
-fn store_window(above: &Bounds, behind: bool) -> Window
-    ensures { result ≡ window_of above.now behind }
-{
-    Window {
-        seconds: above.seconds,
-        start: above.start,
-        stop: above.stop,
-        behind,
     }
 }
 

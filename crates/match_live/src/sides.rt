@@ -1,12 +1,14 @@
-ghost use Rattle.std.specs.Prelude.{◌≡◌, IfOk, OnOk};
+ghost use Rattle.std.specs.Prelude.{◌≡◌, false, IfOk, OnOk};
+ghost use Rattle.match_windows.specs.Stores.{window_of};
 ghost use Rattle.match_live.specs.inner.Pieces.{piece_trees};
 ghost use Rattle.match_live.specs.inner.Steps.{joins_new, sides_after, empty_sides};
 ghost use Rattle.match_live.specs.inner.Nodes.{side_stores};
 
 use crate::join::Join;
 use crate::piece::Piece;
-use crate::store::Store;
+use crate::store::{Store, store_window};
 use flow_values::NoMemory;
+use match_bindings::Bounds;
 use match_windows::Window;
 use std::alloc::Global;
 use stix_times::Instant;
@@ -21,15 +23,16 @@ pub(crate) struct Sides {
 }
 
 impl Sides {
-    /// Stores that hold nothing. Takes no memory.
-    pub fn new(alloc: Global, left_window: Window, right_window: Window) -> Sides
-        ensures { side_stores result ≡ empty_sides left_window right_window }
+    /// Stores under these bounds that hold nothing, the right one behind the left where this is asked.
+    /// Takes no memory.
+    pub fn new(alloc: Global, above: &Bounds, behind: bool) -> Sides
+        ensures { side_stores result ≡ empty_sides (window_of above.now false) (window_of above.now behind) }
     {
         Sides {
             left: Store::new(alloc),
             right: Store::new(alloc),
-            left_window,
-            right_window,
+            left_window: store_window(above, false),
+            right_window: store_window(above, behind),
         }
     }
 

@@ -1,10 +1,12 @@
 ghost use Rattle.std.specs.Prelude.{◌≡◌, ◌++◌, [], true, Some, OnOk, not};
+ghost use Rattle.match_windows.specs.Stores.{window_of};
 ghost use Rattle.match_live.specs.inner.Lives.{lives};
 ghost use Rattle.match_live.specs.inner.Pieces.{piece_trees, none_before, oldest_with};
 ghost use Rattle.match_live.specs.inner.Steps.{kept};
 
 use crate::piece::Piece;
 use flow_values::NoMemory;
+use match_bindings::Bounds;
 use match_windows::{Window, expired};
 use std::alloc::Global;
 use stix_times::Instant;
@@ -54,6 +56,18 @@ impl Store {
             }
         }
         Ok(())
+    }
+}
+
+/// The window of a store under these bounds.
+pub(crate) fn store_window(above: &Bounds, behind: bool) -> Window
+    ensures { result ≡ window_of above.now behind }
+{
+    Window {
+        seconds: above.seconds,
+        start: above.start,
+        stop: above.stop,
+        behind,
     }
 }
 
