@@ -1,7 +1,7 @@
 -- All binds are added.
 use Rattle.std.proofs.Common.{arith}
-use Rattle.match_live.proofs.KeptLemmas.{push_all}
-use Rattle.match_live.proofs.kept.+numbers.Goals as goal
+use Rattle.match_live.proofs.RowNumbersLemmas.{push_all}
+use Rattle.match_live.proofs.row_numbers.+numbers.Goals as goal
 
 pub push_all_numbers-returns : goal.push_all_numbers-returns
 push_all_numbers-returns t c =

@@ -2,7 +2,7 @@
 
 ghost use Rattle.std.specs.Prelude.{◌≡◌, ◌++◌, IfOk, OnOk, map};
 ghost use Rattle.match_bindings.specs.BindTree.{tree_of, many_of};
-ghost use Rattle.match_live.specs.Kept.{AreKept};
+ghost use Rattle.match_live.specs.RowNumbers.{AreKept};
 ghost use Rattle.match_live.specs.inner.Steps.{all_levels, contents_of};
 ghost use Rattle.match_live.specs.inner.Nodes.{store_list, store_lists, state_of};
 ghost use Rattle.match_live.specs.inner.Numbers.{numbers, store_numbers, all_numbers};
@@ -26,7 +26,7 @@ pub(crate) fn kept_numbers(alloc: Global, node: &Node) -> Result<Vec<u64>, NoMem
 }
 
 /// Adds the numbers in the stores of a node.
-#[tactic(auto, using(crate::proofs::KeptLemmas::numbers_append))]
+#[tactic(auto, using(crate::proofs::RowNumbersLemmas::numbers_append))]
 fn push_node(node: &Node, out: &mut Vec<u64>) -> Result<(), NoMemory>
     ensures { OnOk result (out.new.items ≡ out.old.items ++ all_numbers (contents_of (state_of node.now))) }
 {
@@ -52,7 +52,7 @@ fn push_node(node: &Node, out: &mut Vec<u64>) -> Result<(), NoMemory>
 }
 
 /// Adds the numbers in the stores of levels.
-#[tactic(auto, using(crate::proofs::KeptLemmas::numbers_levels))]
+#[tactic(auto, using(crate::proofs::RowNumbersLemmas::numbers_levels))]
 fn push_levels(levels: &Levels, out: &mut Vec<u64>) -> Result<(), NoMemory>
     ensures { OnOk result (out.new.items ≡ out.old.items ++ all_numbers (all_levels levels.now.count (store_lists levels.now.stores.items))) }
 {

@@ -3,7 +3,7 @@ use stix_times::Instant;
 
 /// A bind with its earliest and latest time.
 #[derive(Drop)]
-pub(crate) struct Held {
+pub(crate) struct Piece {
     pub bind: Bind,
     pub earliest: Instant,
     pub latest: Instant,
