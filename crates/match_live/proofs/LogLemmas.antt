@@ -122,6 +122,12 @@ not_falls (r ∷ []) t h = by (int_le r.last t) refl where
   by false e = absurd (h (le_false r.last t e))
 not_falls (r ∷ q ∷ log) t h = not_falls (q ∷ log) t h
 
+-- a row goes at the end of a log whose last time it doesn't precede
+pub in_order_more : (log : List LogEntry) (r : LogEntry) → IsInOrder log → r.first ≤ℤ r.last → LastIsBy log r.last → IsInOrder (log ++ r ∷ [])
+in_order_more [] r order span after = span
+in_order_more (q ∷ []) r order span after = (order, after, span)
+in_order_more (q ∷ s ∷ log) r order span after = (order.0, order.1, in_order_more (s ∷ log) r order.2 span after)
+
 pub time_new : (log : List LogEntry) (r : LogEntry) → time_of (log ++ r ∷ []) ≡ r.last
 time_new log r = ap (λ n. last_time (numbered (log ++ r ∷ []) n)) (length_more log r) ∙ ap last_time (get_seam log r)
 

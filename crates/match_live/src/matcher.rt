@@ -73,6 +73,8 @@ impl<'p> Matcher<'p> {
         requires room { (matcher_state self.old).ended ≡ None → (matcher_state self.old).rows + 1 < 2 ^ 64 }
         ensures stands { (log : List LogEntry) → StandsFor (matcher_state self.old) log → IsInOrder log →
             OnOk result (StandsFor (matcher_state self.new) (with_row log first last truths.now)) }
+        ensures order { (log : List LogEntry) → StandsFor (matcher_state self.old) log → IsInOrder log →
+            OnOk result (IsInOrder (with_row log first last truths.now)) }
         ensures answers { (log : List LogEntry) → StandsFor (matcher_state self.old) log → IsInOrder log →
             IfOk result (λ binds. IsAnswer (matcher_state self.old).pattern (with_row log first last truths.now) (map tree_of binds)) }
         ensures roomy { (log : List LogEntry) → StandsFor (matcher_state self.old) log → IsInOrder log →

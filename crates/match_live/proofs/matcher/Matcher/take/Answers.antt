@@ -1,6 +1,6 @@
 -- The law of a row at the log that the matcher stands for.
-use Rattle.std.proofs.Common.{◌≡◌, ◌+◌, List, length, suc, sym, ◌∙◌, ap, subst, arith, rules}
-use Rattle.std.specs.Prelude.{map, ◌||◌, is_some}
+use Rattle.std.proofs.Common.{ℤ, ◌≡◌, ◌+◌, List, length, suc, sym, ◌∙◌, ap, subst, arith, rules}
+use Rattle.std.specs.Prelude.{Option, map, ◌||◌, is_some}
 use Rattle.match_bindings.specs.declared.bind.Bind.{Bind}
 use Rattle.match_bindings.specs.declared.log_entry.LogEntry.{LogEntry}
 use Rattle.match_bindings.specs.Bounds.{no_bounds}
@@ -16,7 +16,7 @@ use Rattle.match_live.specs.inner.Steps.{State, contents_of}
 use Rattle.match_live.specs.inner.Nodes.{state_of}
 use Rattle.match_live.specs.inner.Shape.{fits}
 use Rattle.match_live.specs.inner.Runs.{next_row, live_after}
-use Rattle.match_live.proofs.LogLemmas.{length_more, last_of_more}
+use Rattle.match_live.proofs.LogLemmas.{not_falls, in_order_more, length_more, last_of_more}
 use Rattle.match_live.proofs.ShapeLemmas.{fits_step}
 use Rattle.match_live.proofs.TakeLemmas.{entry, runs_fits, Goes, live_then, answer_then, count_then, stopped_same, same_stopped, same_err}
 use Rattle.match_live.proofs.matcher.Matcher.take.Goals as goal
@@ -53,6 +53,11 @@ returns-in-Ok-clause-stands c log st order =
       live = subst (λ (z : State). IsLivePart p (with_row log first last truths) (contents_of z)) (sym c.in-Ok.ensures.took.node)
           (live_then c.test_is_the_rule.ensures p (state_of m.run.node) m.run.rows m.run.last log first last truths g);
     }
+
+pub returns-in-Ok-clause-order : goal.returns-in-Ok-clause-order
+returns-in-Ok-clause-order c log st order =
+    in_order_more log (entry c.args.first c.args.last c.args.truths.now) order c.requires.span
+    (not_falls log c.args.last (λ k. c.in-Ok.ensures.order (subst (λ (t : Option ℤ). Falls t c.args.last) (sym st.last) k)))
 
 pub returns-in-Ok-clause-answers : goal.returns-in-Ok-clause-answers
 returns-in-Ok-clause-answers c log st order =
