@@ -117,9 +117,11 @@ pub record AreFirstEntries (p : PlainPattern) (bundles : List BundleOf) (log : L
   pub earlier : List BundleOf
   pub bundle : BundleOf
   pub bundles_are : bundles ≡ earlier ++ bundle ∷ []
-  pub seen later : List Observation
+  pub seen : List Observation
+  pub later : List Observation
   pub observations_are : bundle.observations ≡ seen ++ later
-  pub before own : List LogEntry
+  pub before : List LogEntry
+  pub own : List LogEntry
   pub log_is : log ≡ before ++ own
   pub entries : AreEntries p earlier before
   pub own_entries : AreEntriesOf p bundle.objects seen own
@@ -158,12 +160,15 @@ pub record StopsWriting (mode : Mode) (p : Pattern) (before after : Streams) : T
   pub earlier : List BundleOf
   pub bundle : BundleOf
   pub begins : BeginsSo mode before.left (earlier ++ bundle ∷ [])
-  pub seen later : List Observation
+  pub seen : List Observation
+  pub later : List Observation
   pub observations_are : bundle.observations ≡ seen ++ later
-  pub log own : List LogEntry
+  pub log : List LogEntry
+  pub own : List LogEntry
   pub entries : AreEntries (plain_pattern p) earlier log
   pub own_entries : AreEntriesOf (plain_pattern p) bundle.objects seen own
-  pub trees more : List BindTree
+  pub trees : List BindTree
+  pub more : List BindTree
   pub bindings : AreBindings p log trees
   pub all_bindings : AreBindings p (log ++ own) (trees ++ more)
   pub prefix : WritesPrefix (listing_text more) (written_with (listing_text trees) before.written) after.written

@@ -111,7 +111,8 @@ pub record AddsRows (p : Pattern) (cap : ℕ) (objects : List Data) (observation
 -- the first of some observations add their rows, and the lines of what ends there
 pub record ListsFirst (p : Pattern) (cap : ℕ) (objects : List Data) (observations : List Observation) (log : List LogEntry)
     (answers : List (List BindTree)) (text : List ℕ) : Type 0 where
-  pub seen later : List Observation
+  pub seen : List Observation
+  pub later : List Observation
   pub observations_are : observations ≡ seen ++ later
   pub own : List LogEntry
   pub own_answers : List (List BindTree)
