@@ -1,4 +1,5 @@
 pub mod LogLemmas
 pub mod RowsLemmas
+pub mod EndLemmas
 pub mod FollowLemmas
 pub mod RunsLemmas
