@@ -1,4 +1,4 @@
-ghost use Rattle.std.specs.Prelude.{◌≡◌, ◌≢◌, ◌+◌, ◌≤◌, [], Err, List, OnOk, IfErr};
+ghost use Rattle.std.specs.Prelude.{◌≡◌, ◌≢◌, ◌↔◌, ◌+◌, ◌≤◌, [], Err, IsTrue, List, OnOk, IfErr};
 ghost use Rattle.flow_edges.specs.Faults.{Rose};
 ghost use Rattle.stix_bundles.specs.Objects.{data_in};
 ghost use Rattle.pattern_types.specs.PlainPattern.{plain_pattern};
@@ -45,13 +45,20 @@ pub(crate) fn match_batch<O: Sink>(
 {
     let mut text = Text::new(alloc);
     let ended = answer_all(alloc, matcher, batch, tally, &mut text);
-    if let Err(MatchEnd::NoMemory) = &ended {
+    if is_out_of_memory(&ended) {
         return ended;
     }
     match write_whole(output, text.as_str().as_bytes()) {
         Ok(()) => ended,
         Err(_) => Err(MatchEnd::WriteFault),
     }
+}
+
+/// Whether memory ran out.
+fn is_out_of_memory(ended: &Result<(), MatchEnd>) -> bool
+    ensures { IsTrue result ↔ (ended.now ≡ Err MatchEnd.NoMemory) }
+{
+    matches!(ended, Err(MatchEnd::NoMemory))
 }
 
 /// Gives the observations of a bundle to the matcher, and adds the lines of the bindings that end there.
