@@ -338,16 +338,16 @@ module _ (list : AnswersList) (mode : Mode) (p : Pattern) (most : ℕ) (before n
 pub batch_given : (bundles : List BundleOf) (first left left_after : Option (List ℕ)) (mode : Mode) (reader after : ReaderState) (given : Option Batch) (batch : Batch)
     → IsStageOf mode reader.stage bundles first left → (IsOpen reader.stage → AnswersNext reader after left left_after (Ok given))
     → (reader.stage ≡ stage.AtEnd → ◌≡◌ {A = Result (Option Batch) ReadEnd} (Ok given) (Ok None)) → given ≡ Some batch → GivesBatch reader after left left_after batch
-batch_given bundles first left left_after mode reader after given batch at answers ended is =
-    let opened = must_be_open reader.stage (open_or_end bundles first left mode reader.stage at) (λ end. let none = ended end in cc) in
+batch_given bundles first left left_after mode reader after given batch at answers at_once is =
+    let opened = must_be_open reader.stage (open_or_end bundles first left mode reader.stage at) (λ end. let none = at_once end in cc) in
     subst (λ (o : Option Batch). AnswersNext reader after left left_after (Ok o)) is (answers opened)
 
 -- it ended, so it was open
 pub end_given : (bundles : List BundleOf) (first left left_after : Option (List ℕ)) (mode : Mode) (reader after : ReaderState) (end : ReadEnd)
     → IsStageOf mode reader.stage bundles first left → (IsOpen reader.stage → AnswersNext reader after left left_after (Err end))
     → (reader.stage ≡ stage.AtEnd → ◌≡◌ {A = Result (Option Batch) ReadEnd} (Err end) (Ok None)) → AnswersNext reader after left left_after (Err end)
-end_given bundles first left left_after mode reader after end at answers ended =
-    answers (must_be_open reader.stage (open_or_end bundles first left mode reader.stage at) (λ is. let none = ended is in cc))
+end_given bundles first left left_after mode reader after end at answers at_once =
+    answers (must_be_open reader.stage (open_or_end bundles first left mode reader.stage at) (λ is. let none = at_once is in cc))
 
 -- the observations of the bundle may follow
 pub given_follow : Spans → (reader after : ReaderState) (left left_after : Option (List ℕ)) (batch : Batch) (state : MatcherState)
