@@ -6,7 +6,8 @@ use Rattle.flow_lines.specs.Lines.{LinesState, lines_start, lines_ahead, Account
 use Rattle.flow_lines.specs.declared.refusal.TheConstants.{MAX_LINE}
 use Rattle.flow_lines.specs.declared.whole_input.TheConstants.{MAX_WHOLE_INPUT}
 use Rattle.pattern_types.specs.declared.pattern.Pattern.{Pattern}
-use Rattle.pattern_types.specs.PlainPattern.{plain_pattern}
+use Rattle.stix_bundles.specs.declared.observation.Observation.{Observation}
+use Rattle.pattern_types.specs.PlainPattern.{PlainPattern, plain_pattern}
 use Rattle.match_bindings.specs.declared.log_entry.LogEntry.{LogEntry}
 use Rattle.match_bindings.specs.NumberedPattern.{numbered_pattern}
 use Rattle.match_bindings.specs.BindTree.{BindTree}
@@ -18,7 +19,7 @@ use Rattle.match_input.specs.declared.mode.Mode.TheVariants.{Lines, Whole as Who
 use Rattle.match_input.specs.declared.rule.InputRule.{InputRule}
 use Rattle.match_input.specs.Reading.{BundleOf, InputEnd, Whole, Refused, Reads, Reading}
 use Rattle.match_log.specs.Streams.{Streams}
-use Rattle.match_log.specs.Entries.{AreEntries}
+use Rattle.match_log.specs.Entries.{AreEntriesOf, AreEntries}
 use Rattle.match_log.specs.Listing.{AreBindings, listing_text, last_number}
 use Rattle.match_log.specs.declared.end.MatchEnd.{MatchEnd}
 use Rattle.match_log.specs.declared.end.MatchEnd.TheVariants.{Done, Input, ReadFault, WriteFault, Crowded, NoMemory}
@@ -44,6 +45,11 @@ pub record ListsLog (p : Pattern) (cap : ℕ) (bundles : List BundleOf) (log : L
   pub bindings : AreBindings p log trees
   pub text : written_after ≡ written_with (listing_text trees) written
 
+-- nothing is left of an input that is read in lines; of one that is read whole no more is taken than it may have and one read
+abbrev pub IsReadToEnd : Mode → Option (List ℕ) → Option (List ℕ) → Type 0
+IsReadToEnd Lines left left_after = IsAtEnd left_after
+IsReadToEnd WholeInput left left_after = TakesAtMost (MAX_WHOLE_INPUT + MAX_READ) left left_after
+
 -- the whole input was read, its bindings were written, and the matcher stands for its log
 pub record ListsWhole (mode : Mode) (p : Pattern) (cap : ℕ) (before after : Streams) (state : MatcherState) (observations bindings last : ℕ) : Type 0 where
   pub bundles : List BundleOf
@@ -52,7 +58,7 @@ pub record ListsWhole (mode : Mode) (p : Pattern) (cap : ℕ) (before after : St
   pub trees : List BindTree
   pub lists : ListsLog p cap bundles log trees before.written after.written
   pub stands : StandsFor state log
-  pub drained : IsAtEnd after.left
+  pub drained : IsReadToEnd mode before.left after.left
   pub observations_are : observations ≡ length log
   pub bindings_are : bindings ≡ length trees
   pub last_is : last ≡ last_number trees
@@ -106,14 +112,28 @@ pub record ListsTaken (mode : Mode) (p : Pattern) (cap : ℕ) (before after : St
   pub stands : StandsFor state log
   pub taken : HasTaken mode bundles before.left after.left
 
+-- the rows are those of the earlier bundles, and of the first observations of the next one
+pub record AreFirstEntries (p : PlainPattern) (bundles : List BundleOf) (log : List LogEntry) : Type 0 where
+  pub earlier : List BundleOf
+  pub bundle : BundleOf
+  pub bundles_are : bundles ≡ earlier ++ bundle ∷ []
+  pub seen : List Observation
+  pub later : List Observation
+  pub observations_are : bundle.observations ≡ seen ++ later
+  pub before : List LogEntry
+  pub own : List LogEntry
+  pub log_is : log ≡ before ++ own
+  pub entries : AreEntries p earlier before
+  pub own_entries : AreEntriesOf p bundle.objects seen own
+
 -- more was live at the row of that number than the cap allows, and at no row before it: the bindings of these were written,
 -- and the matcher ended so
 pub record StopsCrowded (mode : Mode) (p : Pattern) (cap : ℕ) (before after : Streams) (state : MatcherState) (number named : ℕ) : Type 0 where
   pub bundles : List BundleOf
   pub begins : BeginsSo mode before.left bundles
-  pub log more : List LogEntry
+  pub log : List LogEntry
   pub row : LogEntry
-  pub entries : AreEntries (plain_pattern p) bundles (log ++ row ∷ more)
+  pub entries : AreFirstEntries (plain_pattern p) bundles (log ++ row ∷ [])
   pub numbered : number ≡ length log + 1
   pub cap_is : named ≡ cap
   pub crowded : IsCrowded (numbered_pattern p) (log ++ row ∷ []) cap
@@ -123,31 +143,36 @@ pub record StopsCrowded (mode : Mode) (p : Pattern) (cap : ℕ) (before after : 
   pub text : after.written ≡ written_with (listing_text trees) before.written
   pub ended : state.ended ≡ Some (ending.Crowded number cap)
 
--- few bytes are taken behind the line of that number
-pub record HoldsFew (line : ℕ) (left left_after : Option (List ℕ)) : Type 0 where
+-- few bytes are taken behind the lines that went by
+pub record HoldsFew (left left_after : Option (List ℕ)) : Type 0 where
   pub at : LinesState
-  pub line_is : at.count ≡ line
   pub few : length at.held ≤ MAX_READ
   pub accounts : AccountsFor lines_start at left left_after
 
-abbrev pub TakesFew : Mode → ℕ → Option (List ℕ) → Option (List ℕ) → Type 0
-TakesFew Lines line left left_after = HoldsFew line left left_after
-TakesFew WholeInput line left left_after = TakesAtMost (MAX_WHOLE_INPUT + MAX_READ) left left_after
+abbrev pub TakesFew : Mode → Option (List ℕ) → Option (List ℕ) → Type 0
+TakesFew Lines left left_after = HoldsFew left left_after
+TakesFew WholeInput left left_after = TakesAtMost (MAX_WHOLE_INPUT + MAX_READ) left left_after
 
--- a write failed: the bindings of the earlier bundles were written, and of those that end in the next bundle a prefix; behind
--- the line of that bundle few bytes are taken
+-- a write failed: the bindings of the earlier bundles were written, and of those that end at the first observations of the
+-- next bundle a prefix; these are all of its observations, or those before one at which too much is live. Few bytes are
+-- taken behind the lines that went by
 pub record StopsWriting (mode : Mode) (p : Pattern) (before after : Streams) : Type 0 where
   pub earlier : List BundleOf
   pub bundle : BundleOf
   pub begins : BeginsSo mode before.left (earlier ++ bundle ∷ [])
-  pub log own : List LogEntry
+  pub seen : List Observation
+  pub later : List Observation
+  pub observations_are : bundle.observations ≡ seen ++ later
+  pub log : List LogEntry
+  pub own : List LogEntry
   pub entries : AreEntries (plain_pattern p) earlier log
-  pub own_entries : AreEntries (plain_pattern p) (bundle ∷ []) own
-  pub trees more : List BindTree
+  pub own_entries : AreEntriesOf (plain_pattern p) bundle.objects seen own
+  pub trees : List BindTree
+  pub more : List BindTree
   pub bindings : AreBindings p log trees
   pub all_bindings : AreBindings p (log ++ own) (trees ++ more)
   pub prefix : WritesPrefix (listing_text more) (written_with (listing_text trees) before.written) after.written
-  pub few : TakesFew mode bundle.line before.left after.left
+  pub few : TakesFew mode before.left after.left
 
 -- memory ran out: the bindings of the bundles before were written
 pub record StopsWithoutMemory (mode : Mode) (p : Pattern) (before after : Streams) : Type 0 where

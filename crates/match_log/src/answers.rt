@@ -1,3 +1,15 @@
+ghost use Rattle.std.specs.Prelude.{◌≡◌, ◌+◌, ◌++◌, ◌≤ℤ◌, List, map, OnOk, IfErr};
+ghost use Rattle.stix_bundles.specs.Objects.{data_in};
+ghost use Rattle.pattern_types.specs.PlainPattern.{plain_pattern};
+ghost use Rattle.pattern_types.specs.Soundness.{IsSoundPattern};
+ghost use Rattle.match_bindings.specs.declared.log_entry.LogEntry.{LogEntry};
+ghost use Rattle.match_bindings.specs.BindTree.{BindTree, tree_of};
+ghost use Rattle.match_live.specs.MatcherState.{Falls};
+ghost use Rattle.match_live.specs.View.{matcher_state, pattern_of};
+ghost use Rattle.match_log.specs.Listing.{listing_text};
+ghost use Rattle.match_log.specs.inner.Ends.{end_of_match};
+ghost use Rattle.match_log.specs.inner.Rows.{IsBehind, IsBehindSome, AddsRow, EndsAtRow};
+
 use crate::MatchEnd;
 use crate::tally::Tally;
 use flow_values::{NoMemory, Text};
@@ -15,7 +27,23 @@ pub(crate) fn answer(
     observation: &Observation,
     tally: &mut Tally,
     text: &mut Text,
-) -> Result<(), MatchEnd> {
+) -> Result<(), MatchEnd>
+    requires sound { IsSoundPattern (plain_pattern (pattern_of matcher.old)) }
+    requires behind { IsBehindSome (pattern_of matcher.old) (matcher_state matcher.old).cap (matcher_state matcher.old) tally.old }
+    requires span { observation.now.first ≤ℤ observation.now.last }
+    requires number { observation.now.number ≡ (matcher_state matcher.old).rows + 1 }
+    requires order { ¬ (Falls (matcher_state matcher.old).last observation.now.last) }
+    ensures row { (log : List LogEntry) (answers : List (List BindTree))
+        → IsBehind (pattern_of matcher.old) (matcher_state matcher.old).cap (matcher_state matcher.old) tally.old log answers
+        → OnOk result (AddsRow (pattern_of matcher.old) (matcher_state matcher.old).cap (data_in bundle.now) observation.now log answers
+            (matcher_state matcher.new) tally.new text.old text.new) }
+    ensures end { (log : List LogEntry) (answers : List (List BindTree))
+        → IsBehind (pattern_of matcher.old) (matcher_state matcher.old).cap (matcher_state matcher.old) tally.old log answers
+        → IfErr result (EndsAtRow (pattern_of matcher.old) (matcher_state matcher.old).cap (data_in bundle.now) observation.now log
+            (matcher_state matcher.new) text.old text.new) }
+    ensures pattern { pattern_of matcher.new ≡ pattern_of matcher.old }
+    ensures cap { (matcher_state matcher.new).cap ≡ (matcher_state matcher.old).cap }
+{
     let truths = leaf_truths(alloc, matcher.pattern(), observation, bundle)?;
     match matcher.take(observation.first, observation.last, truths.as_slice()) {
         Ok(binds) => {
@@ -28,7 +56,9 @@ pub(crate) fn answer(
 }
 
 /// Adds the line of each bind.
-fn add_lines(alloc: Global, binds: &[Bind], text: &mut Text) -> Result<(), NoMemory> {
+fn add_lines(alloc: Global, binds: &[Bind], text: &mut Text) -> Result<(), NoMemory>
+    ensures { OnOk result (text.new ≡ text.old ++ listing_text (map tree_of binds.now)) }
+{
     for bind in binds {
         let line = line_of(alloc, bind)?;
         text.push(line.as_str())?;
@@ -37,7 +67,9 @@ fn add_lines(alloc: Global, binds: &[Bind], text: &mut Text) -> Result<(), NoMem
 }
 
 /// How the run ends where the matcher does: observations never fall in time here.
-fn end_of(refusal: MatchRefusal) -> MatchEnd {
+fn end_of(refusal: MatchRefusal) -> MatchEnd
+    ensures { result ≡ end_of_match refusal }
+{
     match refusal {
         MatchRefusal::Stopped(Ending::Crowded { number, cap }) => MatchEnd::Crowded { number, cap },
         MatchRefusal::Stopped(Ending::OutOfOrder { .. } | Ending::NoMemory)

@@ -1,3 +1,13 @@
+ghost use Rattle.std.specs.Prelude.{◌≡◌, ◌≢◌, ◌+◌, ◌≤◌, [], Err, List, OnOk, IfErr};
+ghost use Rattle.flow_edges.specs.Faults.{Rose};
+ghost use Rattle.stix_bundles.specs.Objects.{data_in};
+ghost use Rattle.pattern_types.specs.PlainPattern.{plain_pattern};
+ghost use Rattle.pattern_types.specs.Soundness.{IsSoundPattern};
+ghost use Rattle.match_bindings.specs.declared.log_entry.LogEntry.{LogEntry};
+ghost use Rattle.match_bindings.specs.BindTree.{BindTree};
+ghost use Rattle.match_live.specs.View.{matcher_state, pattern_of};
+ghost use Rattle.match_log.specs.inner.Rows.{IsBehind, IsBehindSome, MayFollow, AddsRows, EndsAmong, WritesRows, EndsInBundle};
+
 use crate::MatchEnd;
 use crate::answers::answer;
 use crate::tally::Tally;
@@ -15,7 +25,24 @@ pub(crate) fn match_batch<O: Sink>(
     batch: &Batch,
     tally: &mut Tally,
     output: &mut O,
-) -> Result<(), MatchEnd> {
+) -> Result<(), MatchEnd>
+    requires sound { IsSoundPattern (plain_pattern (pattern_of matcher.old)) }
+    requires behind { IsBehindSome (pattern_of matcher.old) (matcher_state matcher.old).cap (matcher_state matcher.old) tally.old }
+    requires follow { MayFollow (matcher_state matcher.old).last ((matcher_state matcher.old).rows + 1) batch.now.observations }
+    ensures rows { (log : List LogEntry) (answers : List (List BindTree))
+        → IsBehind (pattern_of matcher.old) (matcher_state matcher.old).cap (matcher_state matcher.old) tally.old log answers
+        → OnOk result (WritesRows (pattern_of matcher.old) (matcher_state matcher.old).cap (data_in batch.now.bundle) batch.now.observations log answers
+            (matcher_state matcher.new) tally.new (O.written output.old) (O.written output.new)) }
+    ensures end { (log : List LogEntry) (answers : List (List BindTree))
+        → IsBehind (pattern_of matcher.old) (matcher_state matcher.old).cap (matcher_state matcher.old) tally.old log answers
+        → IfErr result (EndsInBundle (pattern_of matcher.old) (matcher_state matcher.old).cap (data_in batch.now.bundle) batch.now.observations log answers
+            (matcher_state matcher.new) (O.written output.old) (O.written output.new)) }
+    ensures pattern { pattern_of matcher.new ≡ pattern_of matcher.old }
+    ensures cap { (matcher_state matcher.new).cap ≡ (matcher_state matcher.old).cap }
+    ensures failed { result ≡ Err MatchEnd.WriteFault → Rose (O.faults output.old) (O.faults output.new) }
+    ensures quiet { result ≢ Err MatchEnd.WriteFault → O.faults output.new ≡ O.faults output.old }
+    ensures later { O.faults output.old ≤ O.faults output.new }
+{
     let mut text = Text::new(alloc);
     let ended = answer_all(alloc, matcher, batch, tally, &mut text);
     if let Err(MatchEnd::NoMemory) = &ended {
@@ -34,9 +61,27 @@ fn answer_all(
     batch: &Batch,
     tally: &mut Tally,
     text: &mut Text,
-) -> Result<(), MatchEnd> {
+) -> Result<(), MatchEnd>
+    requires sound { IsSoundPattern (plain_pattern (pattern_of matcher.old)) }
+    requires behind { IsBehindSome (pattern_of matcher.old) (matcher_state matcher.old).cap (matcher_state matcher.old) tally.old }
+    requires follow { MayFollow (matcher_state matcher.old).last ((matcher_state matcher.old).rows + 1) batch.now.observations }
+    requires empty { text.old ≡ [] }
+    ensures rows { (log : List LogEntry) (answers : List (List BindTree))
+        → IsBehind (pattern_of matcher.old) (matcher_state matcher.old).cap (matcher_state matcher.old) tally.old log answers
+        → OnOk result (AddsRows (pattern_of matcher.old) (matcher_state matcher.old).cap (data_in batch.now.bundle) batch.now.observations log answers
+            (matcher_state matcher.new) tally.new text.new) }
+    ensures end { (log : List LogEntry) (answers : List (List BindTree))
+        → IsBehind (pattern_of matcher.old) (matcher_state matcher.old).cap (matcher_state matcher.old) tally.old log answers
+        → IfErr result (EndsAmong (pattern_of matcher.old) (matcher_state matcher.old).cap (data_in batch.now.bundle) batch.now.observations log answers
+            (matcher_state matcher.new) text.new) }
+    ensures pattern { pattern_of matcher.new ≡ pattern_of matcher.old }
+    ensures cap { (matcher_state matcher.new).cap ≡ (matcher_state matcher.old).cap }
+{
     for observation in batch.observations.as_slice() {
-        answer(alloc, matcher, &batch.bundle, observation, tally, text)?;
+        match answer(alloc, matcher, &batch.bundle, observation, tally, text) {
+            Ok(()) => {}
+            Err(end) => return Err(end),
+        }
     }
     Ok(())
 }

@@ -13,8 +13,11 @@ use crate::{MatchEnd, Mode};
 use flow_edges::{Sink, Source};
 use flow_values::NoMemory;
 use match_input::Reader;
+use match_input::laws::goes_on;
 use match_live::Matcher;
+use match_live::laws::answers_are_the_listing;
 use std::alloc::Global;
+use stix_bundles::laws::observations_are_spans;
 
 /// Matches a pattern against an input, and writes the bindings in order of their last observation, those of
 /// a bundle before the next one is read. The first line that is refused ends it, or the first observation
@@ -36,6 +39,9 @@ pub fn match_stream<I: Source, O: Sink>(
     ensures write_quiet { result ≢ MatchEnd.WriteFault → O.faults output.new ≡ O.faults output.old }
     ensures later { (I.faults input.old ≤ I.faults input.new) × (O.faults output.old ≤ O.faults output.new) }
 {
+    goes_on();
+    observations_are_spans();
+    answers_are_the_listing();
     let mut reader = match Reader::new(alloc, mode) {
         Ok(reader) => reader,
         Err(NoMemory) => return MatchEnd::NoMemory,

@@ -1,11 +1,22 @@
--- For private clauses: how a run ends where the reader does.
+-- For private clauses: how a run ends where the reader does, and where the matcher does.
+use Rattle.match_live.specs.declared.ending.Ending.{Ending}
+use Rattle.match_live.specs.declared.ending.Ending.TheVariants as ending
+use Rattle.match_live.specs.declared.ending.MatchRefusal.{MatchRefusal}
+use Rattle.match_live.specs.declared.ending.MatchRefusal.TheVariants as refusal
 use Rattle.match_input.specs.declared.read_end.ReadEnd.{ReadEnd}
 use Rattle.match_input.specs.declared.read_end.ReadEnd.TheVariants as read
 use Rattle.match_log.specs.declared.end.MatchEnd.{MatchEnd}
-use Rattle.match_log.specs.declared.end.MatchEnd.TheVariants.{Input, ReadFault, NoMemory}
+use Rattle.match_log.specs.declared.end.MatchEnd.TheVariants.{Input, ReadFault, Crowded, NoMemory}
 
 abbrev pub end_of_read : ReadEnd → MatchEnd
 end_of_read (read.Input line why) = Input line why
 end_of_read read.ReadFault = ReadFault
 end_of_read read.Ended = NoMemory
 end_of_read read.NoMemory = NoMemory
+
+-- a matcher that ended is no longer asked
+abbrev pub end_of_match : MatchRefusal → MatchEnd
+end_of_match (refusal.Stopped (ending.Crowded number cap)) = Crowded number cap
+end_of_match (refusal.Stopped (ending.OutOfOrder last now)) = NoMemory
+end_of_match (refusal.Stopped ending.NoMemory) = NoMemory
+end_of_match (refusal.Ended before) = NoMemory

@@ -1,0 +1,4 @@
+pub mod LogLemmas
+pub mod RowsLemmas
+pub mod FollowLemmas
+pub mod RunsLemmas

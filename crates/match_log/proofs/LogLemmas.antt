@@ -1,0 +1,150 @@
+-- A log with one more row, its entries, its answers and their lines.
+use Rattle.std.proofs.Common.{◌≡◌, ◌≢◌, ◌⊎◌, inl, inr, ℕ, suc, ◌+◌, ◌<◌, ℤ, ◌≤ℤ◌, ◌<ℤ◌, Bool, true, List, [], ◌∷◌, ◌++◌, length, Some, refl, sym, ap, subst, ◌∙◌, append_assoc, arith}
+use Rattle.std.proofs.lemmas.List.{append-nil}
+use Rattle.std.proofs.lemmas.Grind.{flat_map-append}
+use Rattle.std.proofs.lemmas.Int.{ints}
+use Rattle.std.proofs.lemmas.Bool.{and_from, eq-eqb}
+use Rattle.serde_json.specs.Data.{Data}
+use Rattle.stix_bundles.specs.declared.observation.Observation.{Observation}
+use Rattle.pattern_types.specs.declared.pattern.Pattern.{Pattern}
+use Rattle.pattern_types.specs.PlainPattern.{PlainPattern}
+use Rattle.match_tests.specs.Truths.{AreTruths}
+use Rattle.match_bindings.specs.declared.log_entry.LogEntry.{LogEntry}
+use Rattle.match_bindings.specs.NumberedPattern.{NumberedPattern, numbered_pattern}
+use Rattle.match_bindings.specs.BindTree.{BindTree, One, Pair, First, Second, Empty, Single, More, greatest}
+use Rattle.match_bindings.specs.Line.{line_text}
+use Rattle.match_bindings.specs.Log.{IsInOrder}
+use Rattle.match_bindings.specs.Once.{same, count}
+use Rattle.match_live.specs.MatcherState.{last_of, Falls}
+use Rattle.match_live.specs.Answer.{IsAnswer, IsRoomy, AnswersAfter, joined_answers}
+use Rattle.match_input.specs.Reading.{BundleOf}
+use Rattle.match_log.specs.Entries.{AreEntriesOf, AreEntries}
+use Rattle.match_log.specs.Listing.{listing_text, last_number}
+use Rattle.match_log.specs.Matching.{IsNeverCrowded}
+use Rattle.match_log.specs.inner.Rows.{last_counted, row_of}
+
+-- ---- answers and lines
+
+pub joined_answers-append : (xs ys : List (List BindTree)) → joined_answers (xs ++ ys) ≡ joined_answers xs ++ joined_answers ys
+joined_answers-append [] ys = refl
+joined_answers-append (x ∷ xs) ys = ap (λ (t : List BindTree). x ++ t) (joined_answers-append xs ys) ∙ sym (append_assoc x (joined_answers xs) (joined_answers ys))
+
+pub joined_answers-one : (xs : List (List BindTree)) (x : List BindTree) → joined_answers (xs ++ x ∷ []) ≡ joined_answers xs ++ x
+joined_answers-one xs x = joined_answers-append xs (x ∷ []) ∙ ap (λ (t : List BindTree). joined_answers xs ++ t) (append-nil x)
+
+pub listing_text-append : (xs ys : List BindTree) → listing_text (xs ++ ys) ≡ listing_text xs ++ listing_text ys
+listing_text-append xs ys = flat_map-append line_text xs ys
+
+pub answers-more : (p : NumberedPattern) (before log : List LogEntry) (row : LogEntry) (answers : List (List BindTree)) (answer : List BindTree)
+    → AnswersAfter p before log answers → IsAnswer p (before ++ (log ++ row ∷ [])) answer → AnswersAfter p before (log ++ row ∷ []) (answers ++ answer ∷ [])
+answers-more p before [] row [] answer are is = (is, tt)
+answers-more p before [] row (other ∷ answers) answer are is = absurd are
+answers-more p before (first ∷ log) row [] answer are is = absurd are
+answers-more p before (first ∷ log) row (other ∷ answers) answer are is = (
+  are.0,
+  answers-more p (before ++ first ∷ []) log row answers answer are.1
+      (subst (λ (l : List LogEntry). IsAnswer p l answer) (sym (append_assoc before (first ∷ []) (log ++ row ∷ []))) is),
+)
+
+-- ---- rows
+
+pub entries_of-more : (p : PlainPattern) (objects : List Data) (observations : List Observation) (log : List LogEntry) (o : Observation) (truths : List Bool)
+    → AreEntriesOf p objects observations log → AreTruths objects o.roots p truths → AreEntriesOf p objects (observations ++ o ∷ []) (log ++ row_of o truths ∷ [])
+entries_of-more p objects [] log o truths entries are = (truths, [], are, refl, ap (λ (l : List LogEntry). l ++ row_of o truths ∷ []) entries)
+entries_of-more p objects (first ∷ observations) log o truths entries are = (
+  entries.0,
+  entries.1 ++ row_of o truths ∷ [],
+  entries.2,
+  entries_of-more p objects observations entries.1 o truths entries.3 are,
+  ap (λ (l : List LogEntry). l ++ row_of o truths ∷ []) entries.4,
+)
+
+pub entries-more : (p : PlainPattern) (bundles : List BundleOf) (log : List LogEntry) (bundle : BundleOf) (own : List LogEntry)
+    → AreEntries p bundles log → AreEntriesOf p bundle.objects bundle.observations own → AreEntries p (bundles ++ bundle ∷ []) (log ++ own)
+entries-more p [] log bundle own entries are = (own, [], are, refl, ap (λ (l : List LogEntry). l ++ own) entries ∙ sym (append-nil own))
+entries-more p (first ∷ bundles) log bundle own entries are = (
+  entries.0,
+  entries.1 ++ own,
+  entries.2,
+  entries-more p bundles entries.1 bundle own entries.3 are,
+  ap (λ (l : List LogEntry). l ++ own) entries.4 ∙ append_assoc entries.0 entries.1 own,
+)
+
+-- as many rows as observations
+pub entries_of-length : (p : PlainPattern) (objects : List Data) (observations : List Observation) (log : List LogEntry)
+    → AreEntriesOf p objects observations log → length log ≡ length observations
+entries_of-length p objects [] log entries = ap length entries
+entries_of-length p objects (o ∷ observations) log entries = ap length entries.4 ∙ ap suc (entries_of-length p objects observations entries.1 entries.3)
+
+pub last_of-more : (log : List LogEntry) (row : LogEntry) → last_of (log ++ row ∷ []) ≡ Some row.last
+last_of-more [] row = refl
+last_of-more (first ∷ []) row = refl
+last_of-more (first ∷ next ∷ log) row = last_of-more (next ∷ log) row
+
+not_below : (a b : ℤ) → ¬ (b <ℤ a) → a ≤ℤ b
+not_below a b h = grind (arith, ints, h)
+
+pub in_order-more : (log : List LogEntry) (row : LogEntry) → IsInOrder log → row.first ≤ℤ row.last → ¬ (Falls (last_of log) row.last) → IsInOrder (log ++ row ∷ [])
+in_order-more [] row order span falls = span
+in_order-more (first ∷ []) row order span falls = (order, not_below first.last row.last falls, span)
+in_order-more (first ∷ next ∷ log) row order span falls = (order.0, order.1, in_order-more (next ∷ log) row order.2 span falls)
+
+-- where a list with one more at its end is cut: at its end or before
+Cuts : (log : List LogEntry) (end : LogEntry) (rows : List LogEntry) (row : LogEntry) → Type 0
+Cuts log end rows row = (rows ++ row ∷ [] ≡ log ++ end ∷ []) ⊎ ((more : List LogEntry) × (log ≡ rows ++ row ∷ more))
+
+cuts : (log : List LogEntry) (end : LogEntry) (rows more : List LogEntry) (row : LogEntry) → log ++ end ∷ [] ≡ rows ++ row ∷ more → Cuts log end rows row
+unfolding Cuts
+cuts [] end [] more row e = inl (cc)
+cuts [] end (x ∷ []) more row e = absurd (cc)
+cuts [] end (x ∷ y ∷ rows) more row e = absurd (cc)
+cuts (l ∷ log) end [] more row e = inr (log, (cc))
+cuts (l ∷ log) end (x ∷ rows) more row e =
+    let head : l ≡ x = cc in
+    let tail : log ++ end ∷ [] ≡ rows ++ row ∷ more = cc in
+    go head (cuts log end rows more row tail)
+  where
+    go : l ≡ x → Cuts log end rows row → Cuts (l ∷ log) end (x ∷ rows) row
+    unfolding Cuts
+    go head (inl whole) = inl (cc)
+    go head (inr before) = inr (before.0, cc (before.1))
+
+pub never_crowded-more : (p : Pattern) (cap : ℕ) (log : List LogEntry) (end : LogEntry) → IsNeverCrowded p cap log
+    → IsRoomy (numbered_pattern p) (log ++ end ∷ []) cap → IsNeverCrowded p cap (log ++ end ∷ [])
+never_crowded-more p cap log end never roomy rows more row e = go (cuts log end rows more row e)
+  where
+    go : Cuts log end rows row → IsRoomy (numbered_pattern p) (rows ++ row ∷ []) cap
+    unfolding Cuts
+    go (inl whole) = subst (λ (l : List LogEntry). IsRoomy (numbered_pattern p) l cap) (sym whole) roomy
+    go (inr before) = never rows before.0 row before.1
+
+-- ---- the last binding
+
+same_self : (x : BindTree) → same x x ≡ true
+same_self (One n) = eq-eqb n n refl
+same_self (Pair a b) = and_from _ _ (same_self a) (same_self b)
+same_self (First a) = same_self a
+same_self (Second a) = same_self a
+same_self Empty = refl
+same_self (Single a) = same_self a
+same_self (More a b) = and_from _ _ (same_self a) (same_self b)
+
+-- an answer ends at the last row
+pub ends_at : (p : NumberedPattern) (log : List LogEntry) (xs : List BindTree) → IsAnswer p log xs → (x : BindTree) → 0 < count x xs → greatest x ≡ length log
+ends_at p log xs is x stands =
+    let none : greatest x ≢ length log → count x xs ≡ 0 = λ other. is.no_other x (λ ends. other ends.1) in
+    omega (arith, none)
+
+last_number-all : (y : BindTree) (ys : List BindTree) (n : ℕ) → ((x : BindTree) → 0 < count x (y ∷ ys) → greatest x ≡ n) → last_number (y ∷ ys) ≡ n
+last_number-all y [] n all = let me = same_self y in all y (rw me (omega arith))
+last_number-all y (z ∷ ys) n all = last_number-all z ys n (λ x stands. all x (omega arith))
+
+last_number-tail : (xs : List BindTree) (y : BindTree) (ys : List BindTree) → last_number (xs ++ y ∷ ys) ≡ last_number (y ∷ ys)
+last_number-tail [] y ys = refl
+last_number-tail (x ∷ []) y ys = refl
+last_number-tail (x ∷ z ∷ xs) y ys = last_number-tail (z ∷ xs) y ys
+
+pub last_number-more : (xs ys : List BindTree) (n : ℕ) → ((x : BindTree) → 0 < count x ys → greatest x ≡ n)
+    → last_number (xs ++ ys) ≡ last_counted (last_number xs) n (length ys)
+last_number-more xs [] n all = ap last_number (append-nil xs)
+last_number-more xs (y ∷ ys) n all = last_number-tail xs y ys ∙ last_number-all y ys n all

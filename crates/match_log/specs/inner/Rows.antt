@@ -1,0 +1,159 @@
+-- For private clauses: what the observations of one bundle add to a log, to what was counted, and to the text.
+use Rattle.std.specs.Prelude.{◌≡◌, ⊤, ℕ, zero, suc, ◌+◌, ◌*◌, ◌^◌, ◌≤◌, ℤ, ◌≤ℤ◌, Bool, List, [], ◌∷◌, ◌++◌, length, Option, Some}
+use Rattle.serde_json.specs.Data.{Data}
+use Rattle.stix_bundles.specs.declared.observation.Observation.{Observation}
+use Rattle.pattern_types.specs.declared.pattern.Pattern.{Pattern}
+use Rattle.pattern_types.specs.PlainPattern.{plain_pattern}
+use Rattle.flow_edges.specs.Flow.{written_with, WritesPrefix}
+use Rattle.match_tests.specs.Truths.{AreTruths}
+use Rattle.match_bindings.specs.declared.log_entry.LogEntry.{LogEntry}
+use Rattle.match_bindings.specs.NumberedPattern.{numbered_pattern}
+use Rattle.match_bindings.specs.BindTree.{BindTree}
+use Rattle.match_bindings.specs.Log.{IsInOrder}
+use Rattle.match_live.specs.declared.ending.Ending.TheVariants as ending
+use Rattle.match_live.specs.MatcherState.{MatcherState, StandsFor, Falls}
+use Rattle.match_live.specs.Answer.{AreAnswers, IsCrowded, joined_answers}
+use Rattle.match_log.specs.Entries.{AreEntriesOf}
+use Rattle.match_log.specs.Listing.{listing_text, last_number}
+use Rattle.match_log.specs.Matching.{IsNeverCrowded}
+use Rattle.match_log.specs.declared.tally.Tally.{Tally}
+use Rattle.match_log.specs.declared.end.MatchEnd.{MatchEnd}
+use Rattle.match_log.specs.declared.end.MatchEnd.TheVariants.{Done, Input, ReadFault, WriteFault, Crowded, NoMemory}
+
+-- ---- what is counted
+
+abbrev pub no_tally : Tally
+no_tally = record { observations = 0; bindings = 0; last = 0 }
+
+-- the number of the last binding, where so many more end at the observation of a number
+abbrev pub last_counted : ℕ → ℕ → ℕ → ℕ
+last_counted last number zero = last
+last_counted last number (suc more) = number
+
+abbrev pub counted : Tally → ℕ → ℕ → Tally
+counted tally number bindings = record {
+  observations = tally.observations + 1;
+  bindings = tally.bindings + bindings;
+  last = last_counted tally.last number bindings;
+}
+
+-- ---- what is kept of a log
+
+-- the rows are in order, too much is live at none of them, and these are their answers
+pub record HasAnswers (p : Pattern) (cap : ℕ) (log : List LogEntry) (answers : List (List BindTree)) : Type 0 where
+  pub order : IsInOrder log
+  pub roomy : IsNeverCrowded p cap log
+  pub answers_are : AreAnswers (numbered_pattern p) log answers
+
+-- a matcher and a tally behind a log with these answers
+pub record IsBehind (p : Pattern) (cap : ℕ) (state : MatcherState) (tally : Tally) (log : List LogEntry) (answers : List (List BindTree)) : Type 0 where
+  pub rows : HasAnswers p cap log answers
+  pub stands : StandsFor state log
+  pub observations_are : tally.observations ≡ length log
+  pub bindings_are : tally.bindings ≡ length (joined_answers answers)
+  pub few : tally.bindings ≤ length log * 2 ^ 64
+  pub last_is : tally.last ≡ last_number (joined_answers answers)
+
+-- behind some log
+abbrev pub IsBehindSome : Pattern → ℕ → MatcherState → Tally → Type 0
+IsBehindSome p cap state tally = (log : List LogEntry) × (answers : List (List BindTree)) × IsBehind p cap state tally log answers
+
+-- ---- observations
+
+-- these may come next: none ends before it begins, they have the numbers from `next` on, and their last times don't fall
+abbrev pub MayFollow : Option ℤ → ℕ → List Observation → Type 0
+MayFollow last next [] = ⊤
+MayFollow last next (o ∷ observations) = (o.first ≤ℤ o.last) × (o.number ≡ next) × (¬ (Falls last o.last))
+    × MayFollow (Some o.last) (next + 1) observations
+
+abbrev pub row_of : Observation → List Bool → LogEntry
+row_of o truths = record { first = o.first; last = o.last; truths = truths }
+
+-- an observation adds its row, and the lines of what ends there
+pub record AddsRow (p : Pattern) (cap : ℕ) (objects : List Data) (o : Observation) (log : List LogEntry) (answers : List (List BindTree))
+    (state : MatcherState) (tally : Tally) (text text_after : List ℕ) : Type 0 where
+  pub truths : List Bool
+  pub are : AreTruths objects o.roots (plain_pattern p) truths
+  pub answer : List BindTree
+  pub behind : IsBehind p cap state tally (log ++ row_of o truths ∷ []) (answers ++ answer ∷ [])
+  pub text_is : text_after ≡ text ++ listing_text answer
+
+-- too much is live at its row, and nothing is added
+pub record IsCrowdedAt (p : Pattern) (cap : ℕ) (objects : List Data) (o : Observation) (log : List LogEntry) (state : MatcherState)
+    (number named : ℕ) : Type 0 where
+  pub truths : List Bool
+  pub are : AreTruths objects o.roots (plain_pattern p) truths
+  pub numbered : number ≡ length log + 1
+  pub cap_is : named ≡ cap
+  pub crowded : IsCrowded (numbered_pattern p) (log ++ row_of o truths ∷ []) cap
+  pub ended : state.ended ≡ Some (ending.Crowded number cap)
+
+-- what an end at an observation says
+abbrev pub EndsAtRow : Pattern → ℕ → List Data → Observation → List LogEntry → MatcherState → List ℕ → List ℕ → MatchEnd → Type 0
+EndsAtRow p cap objects o log state text text_after (Done observations bindings last) = ⊥
+EndsAtRow p cap objects o log state text text_after (Input line why) = ⊥
+EndsAtRow p cap objects o log state text text_after ReadFault = ⊥
+EndsAtRow p cap objects o log state text text_after WriteFault = ⊥
+EndsAtRow p cap objects o log state text text_after (Crowded number named) = IsCrowdedAt p cap objects o log state number named × (text_after ≡ text)
+EndsAtRow p cap objects o log state text text_after NoMemory = ⊤
+
+-- ---- the observations of a bundle
+
+-- some observations add their rows, and the lines of what ends there
+pub record AddsRows (p : Pattern) (cap : ℕ) (objects : List Data) (observations : List Observation) (log : List LogEntry)
+    (answers : List (List BindTree)) (state : MatcherState) (tally : Tally) (text : List ℕ) : Type 0 where
+  pub own : List LogEntry
+  pub own_answers : List (List BindTree)
+  pub entries : AreEntriesOf (plain_pattern p) objects observations own
+  pub behind : IsBehind p cap state tally (log ++ own) (answers ++ own_answers)
+  pub text_is : text ≡ listing_text (joined_answers own_answers)
+
+-- the first of some observations add their rows, and the lines of what ends there
+pub record ListsFirst (p : Pattern) (cap : ℕ) (objects : List Data) (observations : List Observation) (log : List LogEntry)
+    (answers : List (List BindTree)) (text : List ℕ) : Type 0 where
+  pub seen : List Observation
+  pub later : List Observation
+  pub observations_are : observations ≡ seen ++ later
+  pub own : List LogEntry
+  pub own_answers : List (List BindTree)
+  pub entries : AreEntriesOf (plain_pattern p) objects seen own
+  pub rows : HasAnswers p cap (log ++ own) (answers ++ own_answers)
+  pub text_is : text ≡ listing_text (joined_answers own_answers)
+
+-- too much is live at one of them
+pub record StopsAmong (p : Pattern) (cap : ℕ) (objects : List Data) (observations : List Observation) (log : List LogEntry)
+    (answers : List (List BindTree)) (state : MatcherState) (text : List ℕ) (number named : ℕ) : Type 0 where
+  pub first : ListsFirst p cap objects observations log answers text
+  pub o : Observation
+  pub rest : List Observation
+  pub later_are : first.later ≡ o ∷ rest
+  pub crowded : IsCrowdedAt p cap objects o (log ++ first.own) state number named
+
+-- what an end among the observations says
+abbrev pub EndsAmong : Pattern → ℕ → List Data → List Observation → List LogEntry → List (List BindTree) → MatcherState → List ℕ → MatchEnd → Type 0
+EndsAmong p cap objects observations log answers state text (Done seen bindings last) = ⊥
+EndsAmong p cap objects observations log answers state text (Input line why) = ⊥
+EndsAmong p cap objects observations log answers state text ReadFault = ⊥
+EndsAmong p cap objects observations log answers state text WriteFault = ⊥
+EndsAmong p cap objects observations log answers state text (Crowded number named) = StopsAmong p cap objects observations log answers state text number named
+EndsAmong p cap objects observations log answers state text NoMemory = ⊤
+
+-- ---- a bundle, and what is written of it
+
+-- its lines are written
+abbrev pub WritesRows : Pattern → ℕ → List Data → List Observation → List LogEntry → List (List BindTree) → MatcherState → Tally
+    → Option (List ℕ) → Option (List ℕ) → Type 0
+WritesRows p cap objects observations log answers state tally written written_after =
+    (text : List ℕ) × AddsRows p cap objects observations log answers state tally text × (written_after ≡ written_with text written)
+
+-- what an end in a bundle says
+abbrev pub EndsInBundle : Pattern → ℕ → List Data → List Observation → List LogEntry → List (List BindTree) → MatcherState
+    → Option (List ℕ) → Option (List ℕ) → MatchEnd → Type 0
+EndsInBundle p cap objects observations log answers state written written_after (Done seen bindings last) = ⊥
+EndsInBundle p cap objects observations log answers state written written_after (Input line why) = ⊥
+EndsInBundle p cap objects observations log answers state written written_after ReadFault = ⊥
+EndsInBundle p cap objects observations log answers state written written_after WriteFault =
+    (text : List ℕ) × ListsFirst p cap objects observations log answers text × WritesPrefix text written written_after
+EndsInBundle p cap objects observations log answers state written written_after (Crowded number named) =
+    (text : List ℕ) × StopsAmong p cap objects observations log answers state text number named × (written_after ≡ written_with text written)
+EndsInBundle p cap objects observations log answers state written written_after NoMemory = written_after ≡ written
