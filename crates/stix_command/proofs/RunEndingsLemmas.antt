@@ -13,6 +13,7 @@ use Rattle.stix_command.specs.declared.ending.Ending.TheVariants.{Match, Check, 
 use Rattle.match_input.specs.declared.mode.Mode.{Mode}
 use Rattle.match_input.specs.declared.mode.Mode.TheVariants.{Lines, Whole}
 use Rattle.stix_command.specs.CommandLine.{Request, IsCap, match_words, IsMatchLine, IsShowLine, IsCheckLine}
+use Rattle.stix_command.proofs.CommandLineLemmas.{one_line, one_cap}
 use Rattle.stix_command.specs.Streams.{Streams}
 use Rattle.stix_command.specs.MatchEndings.{IsUnread, EndsMatch, IsPatternRefusal, match_status}
 use Rattle.stix_command.specs.CheckEndings.{check_status}
@@ -44,35 +45,13 @@ match_isn't_show words request pattern match show = not_show request.mode match.
 one_shown : (words : List (List ℕ)) (a b : List ℕ) → IsShowLine words a → IsShowLine words b → a ≡ b
 one_shown words a b first second = let same = sym first.line ∙ second.line in cc
 
-one_line : (m n : Mode) (a b : Option (List ℕ)) (p q : List ℕ) → match_words m a p ≡ match_words n b q → (m ≡ n) × (a ≡ b) × (p ≡ q)
-one_line Lines Lines None None p q same = (refl, refl, cc)
-one_line Lines Lines None (Some b) p q same = absurd (cc)
-one_line Lines Lines (Some a) None p q same = absurd (cc)
-one_line Lines Lines (Some a) (Some b) p q same = (refl, cc, cc)
-one_line Lines Whole None None p q same = absurd (cc)
-one_line Lines Whole None (Some b) p q same = absurd (cc)
-one_line Lines Whole (Some a) None p q same = absurd (cc)
-one_line Lines Whole (Some a) (Some b) p q same = absurd (cc)
-one_line Whole Lines None None p q same = absurd (cc)
-one_line Whole Lines None (Some b) p q same = absurd (cc)
-one_line Whole Lines (Some a) None p q same = absurd (cc)
-one_line Whole Lines (Some a) (Some b) p q same = absurd (cc)
-one_line Whole Whole None None p q same = (refl, refl, cc)
-one_line Whole Whole None (Some b) p q same = absurd (cc)
-one_line Whole Whole (Some a) None p q same = absurd (cc)
-one_line Whole Whole (Some a) (Some b) p q same = (refl, cc, cc)
-
-one_cap : (text : Option (List ℕ)) (m n : ℕ) → IsCap text m → IsCap text n → m ≡ n
-one_cap None m n first second = first ∙ sym second
-one_cap (Some text) m n first second = sym first.value ∙ second.value
-
 one_request : (words : List (List ℕ)) (a b : Request) → IsMatchLine words a → IsMatchLine words b → a ≡ b
 one_request words a b first second =
     let same = one_line a.mode b.mode first.cap_text second.cap_text a.pattern b.pattern (sym first.line ∙ second.line) in
-    let caps = one_cap second.cap_text a.cap b.cap (subst (λ (t : Option (List ℕ)). IsCap t a.cap) same.1.0 first.cap_is) second.cap_is in
+    let caps = one_cap second.cap_text a.cap b.cap (subst (λ (t : Option (List ℕ)). IsCap t a.cap) same.1 first.cap_is) second.cap_is in
     ap (λ (m : Mode). record { mode = m; cap = a.cap; pattern = a.pattern }) same.0
     ∙ ap (λ (c : ℕ). record { mode = b.mode; cap = c; pattern = a.pattern }) caps
-    ∙ ap (λ (p : List ℕ). record { mode = b.mode; cap = b.cap; pattern = p }) same.1.1
+    ∙ ap (λ (p : List ℕ). record { mode = b.mode; cap = b.cap; pattern = p }) same.2
 
 -- which statuses a command ends with
 match_statuses : (ending : MatchEnding) → (¬ (match_status ending ≡ 2)) × (match_status ending ≡ 3 → IsPatternRefusal ending)

@@ -56,7 +56,9 @@ pub fn match_request(words: &[String]) -> Option<MatchRequest<'_>>
     ensures some { IfSome result (λ request. IsMatchLine (texts words.now) (request_of request)) }
     ensures none { IfNone result ((request : Request) → ¬ IsMatchLine (texts words.now) request) }
 {
-    let request = request_in(words)?;
+    let Some(request) = request_in(words) else {
+        return None;
+    };
     if is_position(request.pattern) { Some(request) } else { None }
 }
 
@@ -114,7 +116,9 @@ fn capped_request<'a>(mode: Mode, cap: &String, pattern: &'a String) -> Option<M
         × (request.pattern.now ≡ string_bytes pattern.now)) }
     ensures none { IfNone result ((number : ℕ) → ¬ IsCapText (string_bytes cap.now) number) }
 {
-    let cap = cap_of(cap.as_str())?;
+    let Some(cap) = cap_of(cap.as_str()) else {
+        return None;
+    };
     let pattern = pattern.as_str();
     Some(MatchRequest { mode, cap, pattern })
 }
