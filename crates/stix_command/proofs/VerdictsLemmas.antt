@@ -15,8 +15,8 @@ use Rattle.stix_versions.specs.declared.version_break.VersionBreak.{VersionBreak
 use Rattle.stix_versions.specs.declared.marking_break.MarkingBreak.{MarkingBreak}
 use Rattle.stix_versions.specs.Versions.{AreVersionBreaks}
 use Rattle.stix_versions.specs.Markings.{AreMarkingBreaks}
-use Rattle.match_log.specs.declared.end.InputRule.{InputRule}
-use Rattle.match_log.specs.declared.end.InputRule.TheVariants.{NotYet, InputTooLong, Json as NoJson, Bundle as NoBundle}
+use Rattle.match_input.specs.declared.rule.InputRule.{InputRule}
+use Rattle.match_input.specs.declared.rule.InputRule.TheVariants.{NotYet, InputTooLong, Json as NoJson, Bundle as NoBundle}
 use Rattle.stix_command.specs.declared.verdict.Verdict.{Verdict}
 use Rattle.stix_command.specs.declared.verdict.Verdict.TheVariants.{Sound, Broken, Unfit, Refused}
 use Rattle.stix_command.specs.Verdicts.{IsNotBundleFor, AreJudged, IsBundleJudged, HasJson, IsJudged}

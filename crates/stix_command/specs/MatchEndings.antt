@@ -11,13 +11,8 @@ use Rattle.match_log.specs.declared.end.MatchEnd.{MatchEnd}
 use Rattle.match_log.specs.declared.end.MatchEnd.TheVariants as end
 use Rattle.stix_command.specs.declared.matching.MatchEnding.{MatchEnding}
 use Rattle.stix_command.specs.declared.matching.MatchEnding.TheVariants.{PatternRefused, Ended, NoMemory}
-use Rattle.stix_command.specs.declared.command.MatchRequest.{MatchRequest}
 use Rattle.stix_command.specs.CommandLine.{Request}
 use Rattle.stix_command.specs.Streams.{Streams, AreUntouched}
-
--- what is asked for
-abbrev pub request_of : MatchRequest → Request
-request_of request = record { mode = request.mode; cap = request.cap; pattern = request.pattern.now }
 
 -- the text is read as no pattern
 abbrev pub IsUnread : List ℕ → Type 0

@@ -2,6 +2,15 @@
 use Rattle.std.specs.Prelude.{◌≡◌, ◌⊎◌, ℕ, List, [], ◌++◌, Option, codes}
 use Rattle.flow_edges.specs.Faults.{Rose}
 use Rattle.flow_edges.specs.Flow.{written_with, WritesPrefix}
+use Rattle.pattern_types.specs.declared.pattern.Pattern.{Pattern}
+use Rattle.pattern_types.specs.PlainPattern.{plain_pattern}
+use Rattle.pattern_reader.specs.Read.{IsReadAs}
+use Rattle.match_input.specs.Reading.{BundleOf, Whole}
+use Rattle.match_bindings.specs.declared.log_entry.LogEntry.{LogEntry}
+use Rattle.match_bindings.specs.BindTree.{BindTree}
+use Rattle.match_log.specs.Entries.{AreEntries}
+use Rattle.match_log.specs.Listing.{AreBindings, listing_text}
+use Rattle.match_log.specs.Matching.{ReadsInput}
 use Rattle.match_log.specs.declared.end.MatchEnd.TheVariants as match_end
 use Rattle.stix_command.specs.declared.matching.MatchEnding.{MatchEnding}
 use Rattle.stix_command.specs.declared.matching.MatchEnding.TheVariants as matching
@@ -97,3 +106,16 @@ pub record Ends (words : List (List ℕ)) (before after : Streams) (status : ℕ
   pub text : List ℕ
   pub reason_is : IsReasonOf ending text
   pub reason : Writes text
+
+-- the text is read as a pattern, the whole input as bundles, and these make a log for it: all bindings of the pattern over
+-- that log are written, and nothing else
+pub record ListsBindings (request : Request) (before after : Streams) : Type 0 where
+  pub pattern : Pattern
+  pub read : IsReadAs request.pattern pattern
+  pub bundles : List BundleOf
+  pub reading : ReadsInput request.mode before.left bundles Whole
+  pub log : List LogEntry
+  pub entries : AreEntries (plain_pattern pattern) bundles log
+  pub trees : List BindTree
+  pub bindings : AreBindings pattern log trees
+  pub text : after.written ≡ written_with (listing_text trees) before.written

@@ -1,5 +1,7 @@
-ghost use Rattle.std.specs.Prelude.{◌≡◌, ◌↔◌, ℕ, List, IsTrue, IfSome, IfNone};
+ghost use Rattle.std.specs.Prelude.{◌≡◌, ◌↔◌, ℕ, List, Some, IsTrue, IfSome, IfNone, string_bytes};
 ghost use Rattle.stix_command.specs.CommandLine.{texts, IsPosition, IsCapText, Request, IsMatchLine, IsShowLine, IsCheckLine};
+ghost use Rattle.stix_command.specs.MatchRequest.{request_of};
+ghost use Rattle.stix_command.specs.inner.MatchForm.{HasMatchForm};
 
 use match_log::Mode;
 
@@ -51,26 +53,73 @@ pub fn show_pattern(words: &[String]) -> Option<&str>
 
 /// What the command line `match [--whole] [--cap N] PATTERN` asks for.
 pub fn match_request(words: &[String]) -> Option<MatchRequest<'_>>
-    ensures some { IfSome result (λ request. IsMatchLine (texts words.now)
-        (record { mode = request.mode; cap = request.cap; pattern = request.pattern.now })) }
+    ensures some { IfSome result (λ request. IsMatchLine (texts words.now) (request_of request)) }
     ensures none { IfNone result ((request : Request) → ¬ IsMatchLine (texts words.now) request) }
 {
-    let [command, options @ .., pattern] = words else {
+    let Some(request) = request_in(words) else {
+        return None;
+    };
+    if is_position(request.pattern) { Some(request) } else { None }
+}
+
+/// The same, whether its pattern is an option or none.
+fn request_in(words: &[String]) -> Option<MatchRequest<'_>>
+    ensures some { IfSome result (λ request. HasMatchForm (texts words.now) (request_of request)) }
+    ensures none { IfNone result ((request : Request) → ¬ HasMatchForm (texts words.now) request) }
+{
+    match words {
+        [command, pattern] if is_word(command, "match") => {
+            Some(usual_request(Mode::Lines, pattern))
+        }
+        [command, whole, pattern] if is_word(command, "match") && is_word(whole, "--whole") => {
+            Some(usual_request(Mode::Whole, pattern))
+        }
+        [command, option, cap, pattern]
+            if is_word(command, "match") && is_word(option, "--cap") =>
+        {
+            capped_request(Mode::Lines, cap, pattern)
+        }
+        [command, whole, option, cap, pattern]
+            if is_word(command, "match")
+                && is_word(whole, "--whole")
+                && is_word(option, "--cap") =>
+        {
+            capped_request(Mode::Whole, cap, pattern)
+        }
+        _ => None,
+    }
+}
+
+/// Whether a word is that text.
+fn is_word(word: &String, text: &str) -> bool
+    ensures { IsTrue result ↔ (string_bytes word.now ≡ text.now) }
+{
+    word.as_str() == text
+}
+
+/// A request with the usual cap.
+fn usual_request(mode: Mode, pattern: &String) -> MatchRequest<'_>
+    ensures mode { result.mode ≡ mode }
+    ensures cap { result.cap ≡ DEFAULT_CAP }
+    ensures pattern { result.pattern.now ≡ string_bytes pattern.now }
+{
+    MatchRequest {
+        mode,
+        cap: DEFAULT_CAP,
+        pattern: pattern.as_str(),
+    }
+}
+
+/// A request with the cap of that text.
+fn capped_request<'a>(mode: Mode, cap: &String, pattern: &'a String) -> Option<MatchRequest<'a>>
+    ensures some { IfSome result (λ request. (request.mode ≡ mode) × IsCapText (string_bytes cap.now) request.cap
+        × (request.pattern.now ≡ string_bytes pattern.now)) }
+    ensures none { IfNone result ((number : ℕ) → ¬ IsCapText (string_bytes cap.now) number) }
+{
+    let Some(cap) = cap_of(cap.as_str()) else {
         return None;
     };
     let pattern = pattern.as_str();
-    if command.as_str() != "match" || !is_position(pattern) {
-        return None;
-    }
-    let (mode, cap) = match options {
-        [] => (Mode::Lines, DEFAULT_CAP),
-        [whole] if whole.as_str() == "--whole" => (Mode::Whole, DEFAULT_CAP),
-        [option, cap] if option.as_str() == "--cap" => (Mode::Lines, cap_of(cap.as_str())?),
-        [whole, option, cap] if whole.as_str() == "--whole" && option.as_str() == "--cap" => {
-            (Mode::Whole, cap_of(cap.as_str())?)
-        }
-        _ => return None,
-    };
     Some(MatchRequest { mode, cap, pattern })
 }
 

@@ -3,7 +3,8 @@ ghost use Rattle.flow_edges.specs.Faults.{Rose, Causes};
 ghost use Rattle.flow_edges.specs.Flow.{WritesWhole};
 ghost use Rattle.pattern_reader.specs.Read.{IsReadAs};
 ghost use Rattle.stix_command.specs.Streams.{streams};
-ghost use Rattle.stix_command.specs.MatchEndings.{EndsMatch, IsPatternRefusal, request_of};
+ghost use Rattle.stix_command.specs.MatchRequest.{request_of};
+ghost use Rattle.stix_command.specs.MatchEndings.{EndsMatch, IsPatternRefusal};
 
 use crate::command::MatchRequest;
 use crate::reasons::{
@@ -13,8 +14,9 @@ use flow_edges::{Sink, Source, write_whole};
 use flow_values::{Fault, NoMemory};
 use match_input::write_input_refusal;
 use match_log::{MatchEnd, Matcher, match_stream};
-use pattern_reader::laws::{none_refused, one_pattern};
+use pattern_reader::laws::none_refused;
 use pattern_reader::{Pattern, PatternRefusal, read_pattern};
+use pattern_types::laws::leaves_are_brackets;
 use std::alloc::Global;
 
 /// How `match` ends.
@@ -86,6 +88,7 @@ fn match_pattern<I: Source, O: Sink>(
     ensures write_failed { result ≡ MatchEnding.Ended MatchEnd.WriteFault → Rose (O.faults output.old) (O.faults output.new) }
     ensures write_quiet { result ≢ MatchEnding.Ended MatchEnd.WriteFault → O.faults output.new ≡ O.faults output.old }
 {
+    leaves_are_brackets();
     let mut matcher = match Matcher::new(alloc, pattern, request.cap) {
         Ok(matcher) => matcher,
         Err(NoMemory) => return MatchEnding::NoMemory,
@@ -109,7 +112,6 @@ pub fn match_bindings<I: Source, O: Sink>(
     ensures write_failed { result ≡ MatchEnding.Ended MatchEnd.WriteFault → Rose (O.faults output.old) (O.faults output.new) }
     ensures write_quiet { result ≢ MatchEnding.Ended MatchEnd.WriteFault → O.faults output.new ≡ O.faults output.old }
 {
-    one_pattern();
     none_refused();
     match read_pattern(alloc, request.pattern) {
         Ok(read) => match_pattern(alloc, &read, request, input, output),

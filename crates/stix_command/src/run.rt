@@ -1,8 +1,8 @@
 ghost use Rattle.std.specs.Prelude.{◌≡◌, ◌≢◌, ◌⊎◌, ◌↔◌, ℕ, List};
 ghost use Rattle.flow_edges.specs.Faults.{Rose};
-ghost use Rattle.stix_command.specs.CommandLine.{texts, IsShowLine};
+ghost use Rattle.stix_command.specs.CommandLine.{texts, Request, IsMatchLine, IsShowLine};
 ghost use Rattle.stix_command.specs.Streams.{streams};
-ghost use Rattle.stix_command.specs.RunEndings.{status_of, IsReasonOf, IsNoCommand, RefusesPattern, EndsRun, IsReadFault, IsWriteFault, WritesReason, Ends};
+ghost use Rattle.stix_command.specs.RunEndings.{status_of, IsReasonOf, IsNoCommand, RefusesPattern, EndsRun, IsReadFault, IsWriteFault, WritesReason, Ends, ListsBindings};
 
 use crate::checking::check;
 use crate::command::{is_check, match_request, show_pattern};
@@ -63,6 +63,8 @@ pub fn run<I: Source, O: Sink, E: Sink>(
     ensures ends { Ends (texts words.now) (streams (I.left input.old) (O.written output.old))
         (streams (I.left input.new) (O.written output.new)) result
         (λ reason. WritesReason reason (E.written reasons.old) (E.written reasons.new) (E.faults reasons.old) (E.faults reasons.new)) }
+    ensures listing { result ≡ 0 → (request : Request) → IsMatchLine (texts words.now) request
+        → ListsBindings request (streams (I.left input.old) (O.written output.old)) (streams (I.left input.new) (O.written output.new)) }
     ensures usage { (result ≡ 2) ↔ IsNoCommand (texts words.now) }
     ensures pattern { result ≡ 3 → RefusesPattern (texts words.now) }
     ensures refused { RefusesPattern (texts words.now) → (result ≡ 3) ⊎ (result ≡ 1) }
