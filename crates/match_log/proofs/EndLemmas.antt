@@ -1,5 +1,5 @@
 -- How a run ends where the matcher does.
-use Rattle.std.proofs.Common.{◌≡◌, ℕ, suc, ◌+◌, ℤ, ◌<ℤ◌, ◌↔◌, Bool, List, [], ◌∷◌, ◌++◌, length, Option, None, Some, Result, Err, refl, sym, ap, subst, ◌∙◌, arith}
+use Rattle.std.proofs.Common.{◌≡◌, ℕ, suc, ℤ, ◌<ℤ◌, Bool, List, [], ◌∷◌, ◌++◌, length, Option, None, Some, Result, Err, refl, sym, subst, arith}
 use Rattle.serde_json.specs.Data.{Data}
 use Rattle.stix_bundles.specs.declared.observation.Observation.{Observation}
 use Rattle.pattern_types.specs.declared.pattern.Pattern.{Pattern}
@@ -34,13 +34,12 @@ may_end (refusal.Ended e) state now runs order fallen ended = let some = ended e
 pub ends_row : (p : Pattern) (cap : ℕ) (objects : List Data) (o : Observation) (log : List LogEntry) (state after : MatcherState) (text : List ℕ)
     (truths : List Bool) (why : MatchRefusal) → AreTruths objects o.roots (plain_pattern p) truths
     → ((number named : ℕ) → Answers why (refusal.Stopped (ending.Crowded number named)) → (number ≡ suc (length log)) × (named ≡ cap)
-        × (¬ (Falls state.last o.last)) × IsCrowded (numbered_pattern p) (log ++ row_of o truths ∷ []) named)
+    × (¬ (Falls state.last o.last)) × IsCrowded (numbered_pattern p) (log ++ row_of o truths ∷ []) named)
     → ((e : Ending) → Answers why (refusal.Stopped e) → (state.ended ≡ None) × (after.ended ≡ Some e))
     → EndsAtRow p cap objects o log after text text (end_of_match why)
 ends_row p most objects o log state after text truths (refusal.Stopped (ending.Crowded number named)) are crowded stopped =
     let is = crowded number named refl in
-    let end = stopped (ending.Crowded number named) refl in
-    (
+    let end = stopped (ending.Crowded number named) refl in (
       record {
         truths = truths;
         are = are;

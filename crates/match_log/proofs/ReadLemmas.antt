@@ -2,7 +2,7 @@
 use Rattle.std.proofs.Common.{◌≡◌, ℕ, ◌+◌, ℤ, List, [], ◌∷◌, ◌++◌, length, Option, None, Some, option_map, IfSome, refl, sym, ap, subst, ◌∙◌, append_assoc, arith}
 use Rattle.std.proofs.lemmas.List.{append-nil}
 use Rattle.serde_json.specs.Data.{Data}
-use Rattle.flow_lines.specs.Lines.{Lined, ended, line_then, lines_start, lines_ahead, KeepsLines, GoesOnAccounting}
+use Rattle.flow_lines.specs.Lines.{Lined, ended, line_then, lines_start}
 use Rattle.stix_bundles.specs.Objects.{data_in}
 use Rattle.stix_bundles.specs.declared.observation.Observation.{Observation}
 use Rattle.match_input.specs.declared.batch.Batch.{Batch}
@@ -15,7 +15,7 @@ use Rattle.match_input.specs.Line.{IsBundleLine, last_after}
 use Rattle.match_input.specs.Reading.{BundleOf, InputEnd, Whole, Refused, IsRefusedAt, Reads, at_end, at_refusal, one_bundle}
 use Rattle.match_input.specs.Ahead.{ReaderState, reader_start, next_number, ahead, BreaksOff, GivesBatch}
 use Rattle.match_log.specs.Matching.{ReadsInput, BeginsSo, HasTaken}
-use Rattle.match_log.specs.inner.Runs.{IsStageOf, ReadsOn, IsRest, HasRead, bundle_of}
+use Rattle.match_log.specs.inner.Runs.{IsStageOf, HasRead, bundle_of}
 use Rattle.match_log.proofs.StageLemmas.{ahead_none, ahead_some, start_accounts, moves_on}
 
 -- where the first line that comes is a bundle, all that comes is read as that bundle and what is behind it
@@ -62,12 +62,11 @@ module _ (goes_on : GoesOn) (last last_now : Option ℤ) (next next_now number :
       → IfSome later (λ lines. (rest : List BundleOf) × (all ≡ (bundles ++ this ∷ []) ++ rest) × Reads last_now next_now lines rest end)
   line-backward None bundles all end h = tt
   line-backward (Some lines) bundles all end h =
-      let goes = goes_on last next number bytes lines objects observations h.0 end line h.2 in
-      (
+      let goes = goes_on last next number bytes lines objects observations h.0 end line h.2 in (
         goes.0,
         h.1 ∙ ap (λ (r : List BundleOf). bundles ++ r) goes.1 ∙ sym (append_assoc bundles (this ∷ []) goes.0),
         subst (λ (l : Option ℤ). Reads l next_now lines goes.0 end) (sym last_is)
-        (subst (λ (n : ℕ). Reads (last_after last observations) n lines goes.0 end) (sym next_is) goes.2),
+            (subst (λ (n : ℕ). Reads (last_after last observations) n lines goes.0 end) (sym next_is) goes.2),
       )
 
 told-more : (first left left_after : Option (List ℕ)) (st after : Stage) (number : ℕ) (bytes : List ℕ) → IfSome first (λ _. (there : List ℕ) × (left ≡ Some there))

@@ -1,24 +1,22 @@
 -- What the observations of one bundle add.
-use Rattle.std.proofs.Common.{◌≡◌, ◌≢◌, ℕ, suc, ◌+◌, ◌*◌, ◌^◌, ◌≤◌, ◌<◌, ℤ, ◌≤ℤ◌, Bool, List, [], ◌∷◌, ◌++◌, length, Option, None, Some, Result, Ok, Err, OnOk, IfErr, refl, sym, ap, subst, ◌∙◌, append_assoc, length-append, take, drop, get_or, drop-cons, arith}
+use Rattle.std.proofs.Common.{◌≡◌, ◌≢◌, ℕ, suc, ◌+◌, ◌^◌, ◌≤◌, ◌<◌, ℤ, ◌≤ℤ◌, Bool, List, [], ◌∷◌, ◌++◌, length, Option, Some, Result, Ok, Err, OnOk, IfErr, refl, sym, ap, subst, ◌∙◌, append_assoc, length-append, take, drop, get_or, drop-cons, arith}
 use Rattle.std.proofs.lemmas.List.{append-nil, take_more, take-append-drop}
 use Rattle.serde_json.specs.Data.{Data}
 use Rattle.stix_bundles.specs.declared.observation.Observation.{Observation}
 use Rattle.pattern_types.specs.declared.pattern.Pattern.{Pattern}
 use Rattle.pattern_types.specs.PlainPattern.{plain_pattern}
-use Rattle.match_tests.specs.Truths.{AreTruths}
 use Rattle.match_bindings.specs.declared.log_entry.LogEntry.{LogEntry}
 use Rattle.match_bindings.specs.NumberedPattern.{numbered_pattern}
 use Rattle.match_bindings.specs.BindTree.{BindTree}
-use Rattle.match_live.specs.MatcherState.{MatcherState, StandsFor, last_of, Falls}
+use Rattle.match_live.specs.MatcherState.{MatcherState, StandsFor, Falls}
 use Rattle.match_live.specs.Answer.{IsAnswer, IsRoomy, joined_answers}
-use Rattle.match_log.specs.Entries.{AreEntriesOf}
 use Rattle.match_log.specs.Listing.{listing_text, last_number}
-use Rattle.match_log.specs.inner.Rows.{counted, last_counted, HasAnswers, IsBehind, IsBehindSome, MayFollow, row_of, AddsRow, EndsAtRow, AddsRows, ListsFirst, IsCrowdedAt, StopsAmong, EndsAmong, WritesRows, EndsInBundle}
+use Rattle.match_log.specs.inner.Rows.{counted, last_counted, IsBehind, IsBehindSome, MayFollow, row_of, AddsRow, EndsAtRow, AddsRows, ListsFirst, IsCrowdedAt, StopsAmong, EndsAmong, WritesRows, EndsInBundle}
 use Rattle.match_log.specs.declared.end.MatchEnd.{MatchEnd}
 use Rattle.match_log.specs.declared.end.MatchEnd.TheVariants.{Done, Input, ReadFault, WriteFault, Crowded, NoMemory}
 use Rattle.flow_edges.specs.Flow.{written_with}
 use Rattle.match_log.specs.declared.tally.Tally.{Tally}
-use Rattle.match_log.proofs.LogLemmas.{joined_answers-append, joined_answers-one, listing_text-append, answers-more, entries_of-more, in_order-more, last_of-more, never_crowded-more, ends_at, last_number-more}
+use Rattle.match_log.proofs.LogLemmas.{joined_answers-one, listing_text-append, answers-more, entries_of-more, in_order-more, last_of-more, never_crowded-more, ends_at, last_number-more}
 
 -- the matcher took a row, and its answer was counted
 pub behind-more : (p : Pattern) (cap : ℕ) (state after : MatcherState) (tally : Tally) (log : List LogEntry) (answers : List (List BindTree))
@@ -145,18 +143,17 @@ all_here xs i x within is = sym (take-append-drop i xs) ∙ ap (λ (r : List Obs
 
 module _ (p : Pattern) (most : ℕ) (objects : List Data) (seen : List Observation) (o : Observation) (log : List LogEntry) (answers : List (List BindTree))
     (state after : MatcherState) (tally later : Tally) (text text_after : List ℕ) where
-
   pub turn-rows : (q : Pattern) (limit : ℕ) → q ≡ p → limit ≡ most → AddsRows p most objects seen log answers state tally text
       → ((log : List LogEntry) (answers : List (List BindTree)) → IsBehind q limit state tally log answers
-          → AddsRow q limit objects o log answers after later text text_after)
+      → AddsRow q limit objects o log answers after later text text_after)
       → AddsRows p most objects (seen ++ o ∷ []) log answers after later text_after
   turn-rows q limit same_p same_cap adds row =
       let at_p = subst (λ (q : Pattern). (log : List LogEntry) (answers : List (List BindTree)) → IsBehind q limit state tally log answers
-          → AddsRow q limit objects o log answers after later text text_after) same_p row in
+      → AddsRow q limit objects o log answers after later text text_after) same_p row in
       let at_cap = subst (λ (c : ℕ). (log : List LogEntry) (answers : List (List BindTree)) → IsBehind p c state tally log answers
-          → AddsRow p c objects o log answers after later text text_after) same_cap at_p in
+      → AddsRow p c objects o log answers after later text text_after) same_cap at_p in
       adds-more p most objects seen o log answers state after tally later text text_after adds
-          (at_cap (log ++ adds.own) (answers ++ adds.own_answers) adds.behind)
+      (at_cap (log ++ adds.own) (answers ++ adds.own_answers) adds.behind)
 
   ends-turn : (rest : List Observation) (end : MatchEnd) → (adds : AddsRows p most objects seen log answers state tally text)
       → EndsAtRow p most objects o (log ++ adds.own) after text text_after end → EndsAmong p most objects (seen ++ o ∷ rest) log answers after text_after end
@@ -171,13 +168,13 @@ module _ (p : Pattern) (most : ℕ) (objects : List Data) (seen : List Observati
 
   pub turn-end : (rest : List Observation) (end : MatchEnd) (q : Pattern) (limit : ℕ) → q ≡ p → limit ≡ most → AddsRows p most objects seen log answers state tally text
       → ((log : List LogEntry) (answers : List (List BindTree)) → IsBehind q limit state tally log answers
-          → EndsAtRow q limit objects o log after text text_after end)
+      → EndsAtRow q limit objects o log after text text_after end)
       → EndsAmong p most objects (seen ++ o ∷ rest) log answers after text_after end
   turn-end rest end q limit same_p same_cap adds row =
       let at_p = subst (λ (q : Pattern). (log : List LogEntry) (answers : List (List BindTree)) → IsBehind q limit state tally log answers
-          → EndsAtRow q limit objects o log after text text_after end) same_p row in
+      → EndsAtRow q limit objects o log after text text_after end) same_p row in
       let at_cap = subst (λ (c : ℕ). (log : List LogEntry) (answers : List (List BindTree)) → IsBehind p c state tally log answers
-          → EndsAtRow p c objects o log after text text_after end) same_cap at_p in
+      → EndsAtRow p c objects o log after text text_after end) same_cap at_p in
       ends-turn rest end adds (at_cap (log ++ adds.own) (answers ++ adds.own_answers) adds.behind)
 
 pub turn-behind : (p q : Pattern) (most limit : ℕ) (objects : List Data) (o : Observation) (state after : MatcherState) (tally later : Tally) (text text_after : List ℕ)
@@ -200,7 +197,6 @@ turn-follow p most objects o state after tally later text text_after rest some r
 
 module _ (p : Pattern) (most : ℕ) (objects : List Data) (observations : List Observation) (log : List LogEntry) (answers : List (List BindTree))
     (state : MatcherState) (tally : Tally) (text : List ℕ) (written written_after : Option (List ℕ)) where
-
   pub batch-rows : (answer : Result (Unit {0}) MatchEnd) → OnOk answer (AddsRows p most objects observations log answers state tally text)
       → written_after ≡ written_with text written → OnOk answer (WritesRows p most objects observations log answers state tally written written_after)
   batch-rows (Ok done) adds is = (text, adds, is)

@@ -1,5 +1,5 @@
 -- A run over an input, one bundle at a time, and how it ends.
-use Rattle.std.proofs.Common.{◌≡◌, ◌≢◌, ◌⊎◌, inl, inr, ℕ, suc, ◌+◌, ◌-◌, ◌*◌, ◌^◌, ◌≤◌, ℤ, List, [], ◌∷◌, ◌++◌, length, Option, None, Some, Result, Ok, Err, OnOk, IfErr, option_map, IfSome, slice_get, refl, sym, ap, subst, ◌∙◌, append_assoc, length-append, arith}
+use Rattle.std.proofs.Common.{◌≡◌, ◌⊎◌, inl, inr, ℕ, suc, ◌+◌, ◌-◌, ℤ, List, [], ◌∷◌, ◌++◌, length, Option, None, Some, Result, Ok, Err, option_map, IfSome, slice_get, refl, sym, ap, subst, ◌∙◌, append_assoc, length-append, arith}
 use Rattle.std.specs.Option.{option_or}
 use Rattle.std.proofs.lemmas.List.{append-nil}
 use Rattle.serde_json.specs.Data.{Data}
@@ -24,13 +24,13 @@ use Rattle.match_input.specs.declared.read_end.ReadEnd.TheVariants as read
 use Rattle.match_input.specs.declared.stage.Stage.{Stage}
 use Rattle.match_input.specs.declared.stage.Stage.TheVariants as stage
 use Rattle.match_input.specs.Line.{last_after}
-use Rattle.match_input.specs.Reading.{BundleOf, IsRefusedAt, Whole, Refused}
+use Rattle.match_input.specs.Reading.{BundleOf, IsRefusedAt}
 use Rattle.match_input.specs.Ahead.{ReaderState, reader_start, next_number, ahead, IsOpen, AnswersNext, ComesToEnd, GivesBatch, BreaksOff, TakesLittle}
 use Rattle.match_log.specs.Streams.{Streams, streams}
-use Rattle.match_log.specs.Entries.{AreEntriesOf, AreEntries}
-use Rattle.match_log.specs.Listing.{listing_text, last_number}
-use Rattle.match_log.specs.Matching.{IsNeverCrowded, ListsLog, IsReadToEnd, ListsWhole, ListsBefore, ListsTaken, StopsCrowded, StopsWriting, StopsWithoutMemory, AreFirstEntries, AnswersMatch}
-use Rattle.match_log.specs.inner.Rows.{no_tally, HasAnswers, IsBehind, MayFollow, AddsRows, ListsFirst, StopsAmong, WritesRows, EndsInBundle, row_of}
+use Rattle.match_log.specs.Entries.{AreEntriesOf}
+use Rattle.match_log.specs.Listing.{listing_text}
+use Rattle.match_log.specs.Matching.{IsNeverCrowded, ListsLog, IsReadToEnd, ListsWhole, ListsBefore, ListsTaken, StopsCrowded, StopsWriting, StopsWithoutMemory, AnswersMatch}
+use Rattle.match_log.specs.inner.Rows.{no_tally, IsBehind, MayFollow, ListsFirst, StopsAmong, WritesRows, EndsInBundle, row_of}
 use Rattle.match_log.specs.inner.Ends.{end_of_read}
 use Rattle.match_log.specs.inner.Runs.{IsStageOf, RunsSo, HasRead, bundle_of}
 use Rattle.match_log.specs.declared.tally.Tally.{Tally}
@@ -362,21 +362,21 @@ given_follow spans reader after left left_after batch state gives number time =
 module _ (p q : Pattern) (most limit : ℕ) (same_p : q ≡ p) (same_cap : limit ≡ most) (objects : List Data) (observations : List Observation)
     (state later : MatcherState) (tally tally_after : Tally) (written written_after : Option (List ℕ)) where
   pub rows-here : ((log : List LogEntry) (answers : List (List BindTree)) → IsBehind q limit state tally log answers
-          → WritesRows q limit objects observations log answers later tally_after written written_after)
+      → WritesRows q limit objects observations log answers later tally_after written written_after)
       → (log : List LogEntry) (answers : List (List BindTree)) → IsBehind p most state tally log answers
       → WritesRows p most objects observations log answers later tally_after written written_after
   rows-here rows =
       subst (λ (c : ℕ). (log : List LogEntry) (answers : List (List BindTree)) → IsBehind p c state tally log answers
-          → WritesRows p c objects observations log answers later tally_after written written_after) same_cap
+      → WritesRows p c objects observations log answers later tally_after written written_after) same_cap
       (subst (λ (x : Pattern). (log : List LogEntry) (answers : List (List BindTree)) → IsBehind x limit state tally log answers
-          → WritesRows x limit objects observations log answers later tally_after written written_after) same_p rows)
+      → WritesRows x limit objects observations log answers later tally_after written written_after) same_p rows)
 
   pub end-here : (end : MatchEnd) → ((log : List LogEntry) (answers : List (List BindTree)) → IsBehind q limit state tally log answers
-          → EndsInBundle q limit objects observations log answers later written written_after end)
+      → EndsInBundle q limit objects observations log answers later written written_after end)
       → (log : List LogEntry) (answers : List (List BindTree)) → IsBehind p most state tally log answers
       → EndsInBundle p most objects observations log answers later written written_after end
   end-here end ends =
       subst (λ (c : ℕ). (log : List LogEntry) (answers : List (List BindTree)) → IsBehind p c state tally log answers
-          → EndsInBundle p c objects observations log answers later written written_after end) same_cap
+      → EndsInBundle p c objects observations log answers later written written_after end) same_cap
       (subst (λ (x : Pattern). (log : List LogEntry) (answers : List (List BindTree)) → IsBehind x limit state tally log answers
-          → EndsInBundle x limit objects observations log answers later written written_after end) same_p ends)
+      → EndsInBundle x limit objects observations log answers later written written_after end) same_p ends)

@@ -36,11 +36,11 @@ pub(crate) fn answer(
     ensures row { (log : List LogEntry) (answers : List (List BindTree))
         → IsBehind (pattern_of matcher.old) (matcher_state matcher.old).cap (matcher_state matcher.old) tally.old log answers
         → OnOk result (AddsRow (pattern_of matcher.old) (matcher_state matcher.old).cap (data_in bundle.now) observation.now log answers
-            (matcher_state matcher.new) tally.new text.old text.new) }
+        (matcher_state matcher.new) tally.new text.old text.new) }
     ensures end { (log : List LogEntry) (answers : List (List BindTree))
         → IsBehind (pattern_of matcher.old) (matcher_state matcher.old).cap (matcher_state matcher.old) tally.old log answers
         → IfErr result (EndsAtRow (pattern_of matcher.old) (matcher_state matcher.old).cap (data_in bundle.now) observation.now log
-            (matcher_state matcher.new) text.old text.new) }
+        (matcher_state matcher.new) text.old text.new) }
     ensures pattern { pattern_of matcher.new ≡ pattern_of matcher.old }
     ensures cap { (matcher_state matcher.new).cap ≡ (matcher_state matcher.old).cap }
 {

@@ -32,11 +32,11 @@ pub(crate) fn match_batch<O: Sink>(
     ensures rows { (log : List LogEntry) (answers : List (List BindTree))
         → IsBehind (pattern_of matcher.old) (matcher_state matcher.old).cap (matcher_state matcher.old) tally.old log answers
         → OnOk result (WritesRows (pattern_of matcher.old) (matcher_state matcher.old).cap (data_in batch.now.bundle) batch.now.observations log answers
-            (matcher_state matcher.new) tally.new (O.written output.old) (O.written output.new)) }
+        (matcher_state matcher.new) tally.new (O.written output.old) (O.written output.new)) }
     ensures end { (log : List LogEntry) (answers : List (List BindTree))
         → IsBehind (pattern_of matcher.old) (matcher_state matcher.old).cap (matcher_state matcher.old) tally.old log answers
         → IfErr result (EndsInBundle (pattern_of matcher.old) (matcher_state matcher.old).cap (data_in batch.now.bundle) batch.now.observations log answers
-            (matcher_state matcher.new) (O.written output.old) (O.written output.new)) }
+        (matcher_state matcher.new) (O.written output.old) (O.written output.new)) }
     ensures pattern { pattern_of matcher.new ≡ pattern_of matcher.old }
     ensures cap { (matcher_state matcher.new).cap ≡ (matcher_state matcher.old).cap }
     ensures failed { result ≡ Err MatchEnd.WriteFault → Rose (O.faults output.old) (O.faults output.new) }
@@ -76,11 +76,11 @@ fn answer_all(
     ensures rows { (log : List LogEntry) (answers : List (List BindTree))
         → IsBehind (pattern_of matcher.old) (matcher_state matcher.old).cap (matcher_state matcher.old) tally.old log answers
         → OnOk result (AddsRows (pattern_of matcher.old) (matcher_state matcher.old).cap (data_in batch.now.bundle) batch.now.observations log answers
-            (matcher_state matcher.new) tally.new text.new) }
+        (matcher_state matcher.new) tally.new text.new) }
     ensures end { (log : List LogEntry) (answers : List (List BindTree))
         → IsBehind (pattern_of matcher.old) (matcher_state matcher.old).cap (matcher_state matcher.old) tally.old log answers
         → IfErr result (EndsAmong (pattern_of matcher.old) (matcher_state matcher.old).cap (data_in batch.now.bundle) batch.now.observations log answers
-            (matcher_state matcher.new) text.new) }
+        (matcher_state matcher.new) text.new) }
     ensures pattern { pattern_of matcher.new ≡ pattern_of matcher.old }
     ensures cap { (matcher_state matcher.new).cap ≡ (matcher_state matcher.old).cap }
 {

@@ -1,6 +1,5 @@
 -- For private clauses: how a run ends where the reader does, and where the matcher does.
 use Rattle.std.specs.Prelude.{⊤}
-use Rattle.match_live.specs.declared.ending.Ending.{Ending}
 use Rattle.match_live.specs.declared.ending.Ending.TheVariants as ending
 use Rattle.match_live.specs.declared.ending.MatchRefusal.{MatchRefusal}
 use Rattle.match_live.specs.declared.ending.MatchRefusal.TheVariants as refusal

@@ -1,4 +1,4 @@
-use Rattle.std.proofs.Common.{◌≡◌, ◌+◌, ◌<◌, List, [], ◌∷◌, ◌++◌, length, map, sym, ap, subst, ◌∙◌, arith, Bool}
+use Rattle.std.proofs.Common.{◌≡◌, List, [], ◌∷◌, ◌++◌, length, map, sym, ap, subst, ◌∙◌, arith, Bool}
 use Rattle.std.proofs.lemmas.List.{length-map}
 use Rattle.stix_bundles.specs.Objects.{data_in}
 use Rattle.pattern_types.specs.declared.pattern.Pattern.{Pattern}
@@ -8,7 +8,6 @@ use Rattle.match_bindings.specs.declared.bind.Bind.{Bind}
 use Rattle.match_bindings.specs.BindTree.{tree_of}
 use Rattle.match_live.specs.View.{matcher_state, pattern_of}
 use Rattle.match_log.specs.Listing.{listing_text}
-use Rattle.match_log.specs.inner.Ends.{end_of_match}
 use Rattle.match_log.specs.inner.Rows.{counted, IsBehind, row_of, EndsAtRow}
 use Rattle.match_log.specs.declared.tally.Tally.{Tally}
 use Rattle.match_log.specs.declared.end.MatchEnd.{MatchEnd}
@@ -33,7 +32,7 @@ returns-in-Ok-clause-row c log answers b =
     let truths = c.as_slice.result.now in
     let binds = map tree_of c.in-Ok.binds in
     let own : AreTruths (data_in c.args.bundle.now) o.roots (plain_pattern (pattern_of m)) c.in_ok-truths.truths =
-        subst (λ (p : Pattern). AreTruths (data_in c.args.bundle.now) o.roots (plain_pattern p) c.in_ok-truths.truths) c.pattern.ensures.made c.in_ok-truths.ensures in
+    subst (λ (p : Pattern). AreTruths (data_in c.args.bundle.now) o.roots (plain_pattern p) c.in_ok-truths.truths) c.pattern.ensures.made c.in_ok-truths.ensures in
     let same : length binds ≡ length c.in-Ok.binds = length-map c.in-Ok.binds tree_of in
     let count : c.len.result ≡ length binds = c.len.ensures ∙ sym same in
     record {
@@ -54,7 +53,7 @@ returns-clause-end c log answers b =
     let o = c.args.observation.now in
     let truths = c.as_slice.result.now in
     let own : AreTruths (data_in c.args.bundle.now) o.roots (plain_pattern (pattern_of m)) c.in_ok-truths.truths =
-        subst (λ (p : Pattern). AreTruths (data_in c.args.bundle.now) o.roots (plain_pattern p) c.in_ok-truths.truths) c.pattern.ensures.made c.in_ok-truths.ensures in
+    subst (λ (p : Pattern). AreTruths (data_in c.args.bundle.now) o.roots (plain_pattern p) c.in_ok-truths.truths) c.pattern.ensures.made c.in_ok-truths.ensures in
     let are = subst (λ (ts : List Bool). AreTruths (data_in c.args.bundle.now) o.roots (plain_pattern (pattern_of m)) ts) (sym c.as_slice.ensures) own in
     subst (λ (e : MatchEnd). EndsAtRow (pattern_of m) m.run.cap (data_in c.args.bundle.now) o log (matcher_state c.take.new.self) c.args.text.now c.args.text.now e)
     (sym c.end_of.ensures)

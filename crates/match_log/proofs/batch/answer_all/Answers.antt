@@ -1,4 +1,4 @@
-use Rattle.std.proofs.Common.{◌≡◌, ◌+◌, ◌++◌, List, ◌∷◌, take, drop, sym, subst, ◌∙◌}
+use Rattle.std.proofs.Common.{◌+◌, List, take, drop, sym, subst, ◌∙◌}
 use Rattle.stix_bundles.specs.Objects.{data_in}
 use Rattle.stix_bundles.specs.declared.observation.Observation.{Observation}
 use Rattle.match_live.specs.View.{matcher_state, pattern_of}

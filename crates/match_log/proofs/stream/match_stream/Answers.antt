@@ -1,4 +1,4 @@
-use Rattle.std.proofs.Common.{◌≡◌, Option, Some, None, Ok, Err, List, ℕ, refl, sym, ap, subst, ◌∙◌}
+use Rattle.std.proofs.Common.{Option, Ok, refl, sym, ap, subst, ◌∙◌}
 use Rattle.stix_bundles.specs.Objects.{data_in}
 use Rattle.match_live.specs.View.{matcher_state, pattern_of}
 use Rattle.match_input.specs.declared.batch.Batch.{Batch}
@@ -69,7 +69,7 @@ match_batch-requires-clause-follow g c =
     let after = c.next.new.self in
     let far = c.bundles.invariant.runs in
     let gives = batch_given far.bundles first left left_after c.args.mode reader after c.in-Ok-Some.field-0 c.in-Ok-Some.batch far.read.stage c.in-Ok-Some.ensures.next
-        (λ is. (c.in-Ok-Some.ensures.at_end is).0) c.in-Ok-Some.field-0-is in
+    (λ is. (c.in-Ok-Some.ensures.at_end is).0) c.in-Ok-Some.field-0-is in
     given_follow c.observations_are_spans.ensures reader after left left_after c.in-Ok-Some.batch (matcher_state c.bundles.matcher) gives far.number far.time
 
 pub returns-in-Err-match_batch-clause-end : goal.returns-in-Err-match_batch-clause-end
@@ -87,7 +87,7 @@ returns-in-Err-match_batch-clause-end g c =
     let invariant = c.bundles.invariant in
     let far = invariant.runs in
     let gives = batch_given far.bundles before.left now.left left_after c.args.mode reader after c.in-Ok-Some.field-0 batch far.read.stage c.in-Ok-Some.ensures.next
-        (λ is. (c.in-Ok-Some.ensures.at_end is).0) c.in-Ok-Some.field-0-is in
+    (λ is. (c.in-Ok-Some.ensures.at_end is).0) c.in-Ok-Some.field-0-is in
     run-end c.answers_are_the_listing.ensures c.args.mode (pattern_of m) m.run.cap before now reader (matcher_state old) c.bundles.tally far
     c.goes_on.ensures after (matcher_state new) left_after written_after batch gives c.in-Err-match_batch.end
     (end-here (pattern_of m) (pattern_of old) m.run.cap old.run.cap invariant.pattern invariant.most (data_in batch.bundle) batch.observations (matcher_state old) (matcher_state new)
@@ -108,7 +108,7 @@ bundles-preserved g c =
     let invariant = c.bundles.invariant in
     let far = invariant.runs in
     let gives = batch_given far.bundles before.left now.left left_after c.args.mode reader after c.in-Ok-Some.field-0 batch far.read.stage c.in-Ok-Some.ensures.next
-        (λ is. (c.in-Ok-Some.ensures.at_end is).0) c.in-Ok-Some.field-0-is in
+    (λ is. (c.in-Ok-Some.ensures.at_end is).0) c.in-Ok-Some.field-0-is in
     record {
       pattern = c.in-Ok-match_batch.ensures.pattern ∙ invariant.pattern;
       most = c.in-Ok-match_batch.ensures.cap ∙ invariant.most;

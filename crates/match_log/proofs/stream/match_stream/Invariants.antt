@@ -1,6 +1,4 @@
 use Rattle.std.proofs.Common.{◌≡◌}
-use Rattle.pattern_types.specs.PlainPattern.{plain_pattern}
-use Rattle.pattern_types.specs.Soundness.{IsSoundPattern}
 use Rattle.match_live.specs.View.{matcher_state, pattern_of}
 use Rattle.match_log.specs.Streams.{streams}
 use Rattle.match_log.specs.inner.Runs.{RunsSo, turns_left}
