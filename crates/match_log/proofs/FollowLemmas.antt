@@ -1,5 +1,5 @@
 -- The observations of a line that may follow: none ends before it begins, and their times don't fall.
-use Rattle.std.proofs.Common.{◌≡◌, ◌⊎◌, inl, inr, ℕ, zero, suc, ◌+◌, ◌<◌, ℤ, ◌≤ℤ◌, ◌<ℤ◌, List, [], ◌∷◌, length, map, All, Option, None, Some, slice_get, refl, sym, ap, subst, ◌∙◌, arith}
+use Rattle.std.proofs.Common.{◌≡◌, inl, inr, ℕ, suc, ◌+◌, ◌<◌, ℤ, ◌≤ℤ◌, List, [], ◌∷◌, map, All, Option, None, Some, slice_get, refl, sym, subst, ◌∙◌, arith}
 use Rattle.std.proofs.lemmas.Int.{ints}
 use Rattle.std.proofs.lemmas.List.Elements.{All-head, All-tail}
 use Rattle.serde_json.specs.Data.{Data}
@@ -14,7 +14,6 @@ use Rattle.match_log.specs.inner.Rows.{MayFollow}
 abbrev pub Spans : Type 0
 Spans = (objects : List Data) (number : ℕ) (observations : List Observation) → AreAllBreaks 0 objects []
     → AreObservations objects number observations → All (λ observation. observation.first ≤ℤ observation.last) observations
-
 
 no_fall : (last : Option ℤ) (o : Observation) (more : List Observation) → IsInOrder last (o ∷ more) → ¬ (Falls last o.last)
 no_fall None o more order falls = falls
@@ -36,8 +35,7 @@ follow : (objects : List Data) (last : Option ℤ) (next : ℕ) (seen : List Obs
     → IsInOrder last (map (λ s. s.observation) seen) → MayFollow last next (map (λ s. s.observation) seen)
 follow objects last next [] each before spans order = tt
 follow objects last next (s ∷ seen) each before spans order =
-    let number : s.observation.number ≡ next = (each 0 s refl).numbered ∙ (let e : next + 0 ≡ next = omega arith in e) in
-    (
+    let number : s.observation.number ≡ next = (each 0 s refl).numbered ∙ (let e : next + 0 ≡ next = omega arith in e) in (
       All-head (λ (o : Observation). o.first ≤ℤ o.last) s.observation (map (λ s. s.observation) seen) spans,
       number,
       no_fall last s.observation (map (λ s. s.observation) seen) order,

@@ -1,9 +1,9 @@
 -- A log with one more row, its entries, its answers and their lines.
-use Rattle.std.proofs.Common.{◌≡◌, ◌≢◌, ◌⊎◌, inl, inr, ℕ, suc, ◌+◌, ◌<◌, ℤ, ◌≤ℤ◌, ◌<ℤ◌, Bool, true, List, [], ◌∷◌, ◌++◌, length, Some, refl, sym, ap, subst, ◌∙◌, append_assoc, arith}
+use Rattle.std.proofs.Common.{◌≡◌, ◌⊎◌, inl, inr, ℕ, suc, ◌<◌, ℤ, ◌≤ℤ◌, ◌<ℤ◌, Bool, true, false, eqb, List, [], ◌∷◌, ◌++◌, length, Some, refl, sym, ap, subst, ◌∙◌, append_assoc, arith}
 use Rattle.std.proofs.lemmas.List.{append-nil}
 use Rattle.std.proofs.lemmas.Grind.{flat_map-append}
 use Rattle.std.proofs.lemmas.Int.{ints}
-use Rattle.std.proofs.lemmas.Bool.{and_from, eq-eqb}
+use Rattle.std.proofs.lemmas.Bool.{and_from, eq-eqb, eqb-true}
 use Rattle.serde_json.specs.Data.{Data}
 use Rattle.stix_bundles.specs.declared.observation.Observation.{Observation}
 use Rattle.pattern_types.specs.declared.pattern.Pattern.{Pattern}
@@ -90,11 +90,10 @@ in_order-more (first ∷ []) row order span falls = (order, not_below first.last
 in_order-more (first ∷ next ∷ log) row order span falls = (order.0, order.1, in_order-more (next ∷ log) row order.2 span falls)
 
 -- where a list with one more at its end is cut: at its end or before
-Cuts : (log : List LogEntry) (end : LogEntry) (rows : List LogEntry) (row : LogEntry) → Type 0
+abbrev Cuts : (log : List LogEntry) (end : LogEntry) (rows : List LogEntry) (row : LogEntry) → Type 0
 Cuts log end rows row = (rows ++ row ∷ [] ≡ log ++ end ∷ []) ⊎ ((more : List LogEntry) × (log ≡ rows ++ row ∷ more))
 
 cuts : (log : List LogEntry) (end : LogEntry) (rows more : List LogEntry) (row : LogEntry) → log ++ end ∷ [] ≡ rows ++ row ∷ more → Cuts log end rows row
-unfolding Cuts
 cuts [] end [] more row e = inl (cc)
 cuts [] end (x ∷ []) more row e = absurd (cc)
 cuts [] end (x ∷ y ∷ rows) more row e = absurd (cc)
@@ -105,7 +104,6 @@ cuts (l ∷ log) end (x ∷ rows) more row e =
     go head (cuts log end rows more row tail)
   where
     go : l ≡ x → Cuts log end rows row → Cuts (l ∷ log) end (x ∷ rows) row
-    unfolding Cuts
     go head (inl whole) = inl (cc)
     go head (inr before) = inr (before.0, cc (before.1))
 
@@ -114,7 +112,6 @@ pub never_crowded-more : (p : Pattern) (cap : ℕ) (log : List LogEntry) (end : 
 never_crowded-more p cap log end never roomy rows more row e = go (cuts log end rows more row e)
   where
     go : Cuts log end rows row → IsRoomy (numbered_pattern p) (rows ++ row ∷ []) cap
-    unfolding Cuts
     go (inl whole) = subst (λ (l : List LogEntry). IsRoomy (numbered_pattern p) l cap) (sym whole) roomy
     go (inr before) = never rows before.0 row before.1
 
@@ -132,8 +129,13 @@ same_self (More a b) = and_from _ _ (same_self a) (same_self b)
 -- an answer ends at the last row
 pub ends_at : (p : NumberedPattern) (log : List LogEntry) (xs : List BindTree) → IsAnswer p log xs → (x : BindTree) → 0 < count x xs → greatest x ≡ length log
 ends_at p log xs is x stands =
-    let none : greatest x ≢ length log → count x xs ≡ 0 = λ other. is.no_other x (λ ends. other ends.1) in
-    omega (arith, none)
+    go (eqb (greatest x) (length log)) refl
+  where
+    go : (is_last : Bool) → eqb (greatest x) (length log) ≡ is_last → greatest x ≡ length log
+    go true e = eqb-true (greatest x) (length log) e
+    go false e =
+        let none : count x xs ≡ 0 = is.no_other x (λ ends. let yes = eq-eqb (greatest x) (length log) ends.1 in cc) in
+        absurd (omega arith)
 
 last_number-all : (y : BindTree) (ys : List BindTree) (n : ℕ) → ((x : BindTree) → 0 < count x (y ∷ ys) → greatest x ≡ n) → last_number (y ∷ ys) ≡ n
 last_number-all y [] n all = let me = same_self y in all y (rw me (omega arith))

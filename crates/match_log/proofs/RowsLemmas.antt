@@ -1,21 +1,22 @@
 -- What the observations of one bundle add.
-use Rattle.std.proofs.Common.{◌≡◌, ℕ, ◌+◌, ◌*◌, ◌^◌, ◌≤◌, ◌<◌, ℤ, ◌≤ℤ◌, Bool, List, [], ◌∷◌, ◌++◌, length, Option, None, Some, refl, sym, ap, subst, ◌∙◌, append_assoc, length-append, arith}
-use Rattle.std.proofs.lemmas.List.{append-nil}
+use Rattle.std.proofs.Common.{◌≡◌, ◌≢◌, ℕ, suc, ◌+◌, ◌^◌, ◌≤◌, ◌<◌, ℤ, ◌≤ℤ◌, Bool, List, [], ◌∷◌, ◌++◌, length, Option, Some, Result, Ok, Err, OnOk, IfErr, refl, sym, ap, subst, ◌∙◌, append_assoc, length-append, take, drop, get_or, drop-cons, arith}
+use Rattle.std.proofs.lemmas.List.{append-nil, take_more, take-append-drop}
 use Rattle.serde_json.specs.Data.{Data}
 use Rattle.stix_bundles.specs.declared.observation.Observation.{Observation}
 use Rattle.pattern_types.specs.declared.pattern.Pattern.{Pattern}
 use Rattle.pattern_types.specs.PlainPattern.{plain_pattern}
-use Rattle.match_tests.specs.Truths.{AreTruths}
 use Rattle.match_bindings.specs.declared.log_entry.LogEntry.{LogEntry}
 use Rattle.match_bindings.specs.NumberedPattern.{numbered_pattern}
 use Rattle.match_bindings.specs.BindTree.{BindTree}
-use Rattle.match_live.specs.MatcherState.{MatcherState, StandsFor, last_of, Falls}
+use Rattle.match_live.specs.MatcherState.{MatcherState, StandsFor, Falls}
 use Rattle.match_live.specs.Answer.{IsAnswer, IsRoomy, joined_answers}
-use Rattle.match_log.specs.Entries.{AreEntriesOf}
 use Rattle.match_log.specs.Listing.{listing_text, last_number}
-use Rattle.match_log.specs.inner.Rows.{counted, last_counted, HasAnswers, IsBehind, MayFollow, row_of, AddsRow, AddsRows, ListsFirst, IsCrowdedAt, StopsAmong}
+use Rattle.match_log.specs.inner.Rows.{counted, last_counted, IsBehind, IsBehindSome, MayFollow, row_of, AddsRow, EndsAtRow, AddsRows, ListsFirst, IsCrowdedAt, StopsAmong, EndsAmong, WritesRows, EndsInBundle}
+use Rattle.match_log.specs.declared.end.MatchEnd.{MatchEnd}
+use Rattle.match_log.specs.declared.end.MatchEnd.TheVariants.{Done, Input, ReadFault, WriteFault, Crowded, NoMemory}
+use Rattle.flow_edges.specs.Flow.{written_with}
 use Rattle.match_log.specs.declared.tally.Tally.{Tally}
-use Rattle.match_log.proofs.LogLemmas.{joined_answers-append, joined_answers-one, listing_text-append, answers-more, entries_of-more, in_order-more, last_of-more, never_crowded-more, ends_at, last_number-more}
+use Rattle.match_log.proofs.LogLemmas.{joined_answers-one, listing_text-append, answers-more, entries_of-more, in_order-more, last_of-more, never_crowded-more, ends_at, last_number-more}
 
 -- the matcher took a row, and its answer was counted
 pub behind-more : (p : Pattern) (cap : ℕ) (state after : MatcherState) (tally : Tally) (log : List LogEntry) (answers : List (List BindTree))
@@ -117,6 +118,7 @@ pub stops-next : (p : Pattern) (cap : ℕ) (objects : List Data) (seen rest : Li
     → (adds : AddsRows p cap objects seen log answers state tally text)
     → IsCrowdedAt p cap objects o (log ++ adds.own) after number named
     → StopsAmong p cap objects (seen ++ o ∷ rest) log answers after text number named
+unfolding first-all
 stops-next p cap objects seen rest o log answers state after tally text number named adds crowded = record {
   first = first-all p cap objects seen (o ∷ rest) log answers state tally text adds;
   o = o;
@@ -124,3 +126,109 @@ stops-next p cap objects seen rest o log answers state after tally text number n
   later_are = refl;
   crowded = crowded;
 }
+
+-- an item, and what stands before and behind it
+pub drop_here : (xs : List Observation) (i : ℕ) (x : Observation) → i < length xs → x ≡ get_or xs i x → drop i xs ≡ x ∷ drop (i + 1) xs
+drop_here xs i x within is =
+    let next : suc i ≡ i + 1 = omega arith in
+    drop-cons xs i x within ∙ ap (λ (y : Observation). y ∷ drop (suc i) xs) (sym is) ∙ ap (λ (n : ℕ). x ∷ drop n xs) next
+
+pub take_here : (xs : List Observation) (i : ℕ) (x : Observation) → i < length xs → x ≡ get_or xs i x → take (i + 1) xs ≡ take i xs ++ x ∷ []
+take_here xs i x within is = take_more xs i x within ∙ ap (λ (y : Observation). take i xs ++ y ∷ []) (sym is)
+
+pub all_here : (xs : List Observation) (i : ℕ) (x : Observation) → i < length xs → x ≡ get_or xs i x → xs ≡ take i xs ++ x ∷ drop (i + 1) xs
+all_here xs i x within is = sym (take-append-drop i xs) ∙ ap (λ (r : List Observation). take i xs ++ r) (drop_here xs i x within is)
+
+-- ---- one turn of the loop over the observations, at a pattern and a cap that stay the same
+
+module _ (p : Pattern) (most : ℕ) (objects : List Data) (seen : List Observation) (o : Observation) (log : List LogEntry) (answers : List (List BindTree))
+    (state after : MatcherState) (tally later : Tally) (text text_after : List ℕ) where
+  pub turn-rows : (q : Pattern) (limit : ℕ) → q ≡ p → limit ≡ most → AddsRows p most objects seen log answers state tally text
+      → ((log : List LogEntry) (answers : List (List BindTree)) → IsBehind q limit state tally log answers
+      → AddsRow q limit objects o log answers after later text text_after)
+      → AddsRows p most objects (seen ++ o ∷ []) log answers after later text_after
+  turn-rows q limit same_p same_cap adds row =
+      let at_p = subst (λ (q : Pattern). (log : List LogEntry) (answers : List (List BindTree)) → IsBehind q limit state tally log answers
+      → AddsRow q limit objects o log answers after later text text_after) same_p row in
+      let at_cap = subst (λ (c : ℕ). (log : List LogEntry) (answers : List (List BindTree)) → IsBehind p c state tally log answers
+      → AddsRow p c objects o log answers after later text text_after) same_cap at_p in
+      adds-more p most objects seen o log answers state after tally later text text_after adds
+      (at_cap (log ++ adds.own) (answers ++ adds.own_answers) adds.behind)
+
+  ends-turn : (rest : List Observation) (end : MatchEnd) → (adds : AddsRows p most objects seen log answers state tally text)
+      → EndsAtRow p most objects o (log ++ adds.own) after text text_after end → EndsAmong p most objects (seen ++ o ∷ rest) log answers after text_after end
+  ends-turn rest (Done observations bindings last) adds ends = absurd ends
+  ends-turn rest (Input line why) adds ends = absurd ends
+  ends-turn rest ReadFault adds ends = absurd ends
+  ends-turn rest WriteFault adds ends = absurd ends
+  ends-turn rest (Crowded number named) adds ends =
+      subst (λ (t : List ℕ). StopsAmong p most objects (seen ++ o ∷ rest) log answers after t number named) (sym ends.1)
+      (stops-next p most objects seen rest o log answers state after tally text number named adds ends.0)
+  ends-turn rest NoMemory adds ends = tt
+
+  pub turn-end : (rest : List Observation) (end : MatchEnd) (q : Pattern) (limit : ℕ) → q ≡ p → limit ≡ most → AddsRows p most objects seen log answers state tally text
+      → ((log : List LogEntry) (answers : List (List BindTree)) → IsBehind q limit state tally log answers
+      → EndsAtRow q limit objects o log after text text_after end)
+      → EndsAmong p most objects (seen ++ o ∷ rest) log answers after text_after end
+  turn-end rest end q limit same_p same_cap adds row =
+      let at_p = subst (λ (q : Pattern). (log : List LogEntry) (answers : List (List BindTree)) → IsBehind q limit state tally log answers
+      → EndsAtRow q limit objects o log after text text_after end) same_p row in
+      let at_cap = subst (λ (c : ℕ). (log : List LogEntry) (answers : List (List BindTree)) → IsBehind p c state tally log answers
+      → EndsAtRow p c objects o log after text text_after end) same_cap at_p in
+      ends-turn rest end adds (at_cap (log ++ adds.own) (answers ++ adds.own_answers) adds.behind)
+
+pub turn-behind : (p q : Pattern) (most limit : ℕ) (objects : List Data) (o : Observation) (state after : MatcherState) (tally later : Tally) (text text_after : List ℕ)
+    → q ≡ p → limit ≡ most → IsBehindSome p most state tally
+    → ((log : List LogEntry) (answers : List (List BindTree)) → IsBehind p most state tally log answers → AddsRow p most objects o log answers after later text text_after)
+    → IsBehindSome q limit after later
+turn-behind p q most limit objects o state after tally later text text_after same_p same_cap some row =
+    let adds = row some.0 some.1 some.2 in
+    subst (λ (x : Pattern). IsBehindSome x limit after later) (sym same_p)
+    (subst (λ (c : ℕ). IsBehindSome p c after later) (sym same_cap) (some.0 ++ row_of o adds.truths ∷ [], some.1 ++ adds.answer ∷ [], adds.behind))
+
+pub turn-follow : (p : Pattern) (most : ℕ) (objects : List Data) (o : Observation) (state after : MatcherState) (tally later : Tally) (text text_after : List ℕ)
+    (rest : List Observation) → IsBehindSome p most state tally
+    → ((log : List LogEntry) (answers : List (List BindTree)) → IsBehind p most state tally log answers → AddsRow p most objects o log answers after later text text_after)
+    → MayFollow state.last (state.rows + 1) (o ∷ rest) → MayFollow after.last (after.rows + 1) rest
+turn-follow p most objects o state after tally later text text_after rest some row follow =
+    follow-more p most objects o state after tally later some.0 some.1 text text_after rest some.2 (row some.0 some.1 some.2) follow.3
+
+-- ---- a bundle
+
+module _ (p : Pattern) (most : ℕ) (objects : List Data) (observations : List Observation) (log : List LogEntry) (answers : List (List BindTree))
+    (state : MatcherState) (tally : Tally) (text : List ℕ) (written written_after : Option (List ℕ)) where
+  pub batch-rows : (answer : Result (Unit {0}) MatchEnd) → OnOk answer (AddsRows p most objects observations log answers state tally text)
+      → written_after ≡ written_with text written → OnOk answer (WritesRows p most objects observations log answers state tally written written_after)
+  batch-rows (Ok done) adds is = (text, adds, is)
+  batch-rows (Err end) adds is = tt
+
+  pub batch-end : (answer : Result (Unit {0}) MatchEnd) → IfErr answer (EndsAmong p most objects observations log answers state text)
+      → answer ≢ Err NoMemory → written_after ≡ written_with text written → IfErr answer (EndsInBundle p most objects observations log answers state written written_after)
+  batch-end (Ok done) ends some is = tt
+  batch-end (Err (Done seen bindings last)) ends some is = absurd ends
+  batch-end (Err (Input line why)) ends some is = absurd ends
+  batch-end (Err ReadFault) ends some is = absurd ends
+  batch-end (Err WriteFault) ends some is = absurd ends
+  batch-end (Err (Crowded number named)) ends some is = (text, ends, is)
+  batch-end (Err NoMemory) ends some is = absurd (some refl)
+
+  pub batch-first : (answer : Result (Unit {0}) MatchEnd) → OnOk answer (AddsRows p most objects observations log answers state tally text)
+      → IfErr answer (EndsAmong p most objects observations log answers state text) → answer ≢ Err NoMemory → ListsFirst p most objects observations log answers text
+  batch-first (Ok done) adds ends some =
+      subst (λ (os : List Observation). ListsFirst p most objects os log answers text) (append-nil observations)
+      (first-all p most objects observations [] log answers state tally text adds)
+  batch-first (Err (Done seen bindings last)) adds ends some = absurd ends
+  batch-first (Err (Input line why)) adds ends some = absurd ends
+  batch-first (Err ReadFault) adds ends some = absurd ends
+  batch-first (Err WriteFault) adds ends some = absurd ends
+  batch-first (Err (Crowded number named)) adds ends some = ends.first
+  batch-first (Err NoMemory) adds ends some = absurd (some refl)
+
+  pub no_fault : (answer : Result (Unit {0}) MatchEnd) → IfErr answer (EndsAmong p most objects observations log answers state text) → answer ≢ Err WriteFault
+  no_fault (Ok done) ends is = absurd (cc)
+  no_fault (Err (Done seen bindings last)) ends is = absurd ends
+  no_fault (Err (Input line why)) ends is = absurd ends
+  no_fault (Err ReadFault) ends is = absurd ends
+  no_fault (Err WriteFault) ends is = absurd ends
+  no_fault (Err (Crowded number named)) ends is = absurd (cc)
+  no_fault (Err NoMemory) ends is = absurd (cc)

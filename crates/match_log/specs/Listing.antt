@@ -1,5 +1,5 @@
 -- What is written of a log: the line of each of its bindings.
-use Rattle.std.specs.Prelude.{◌≡◌, ℕ, List, [], ◌∷◌}
+use Rattle.std.specs.Prelude.{ℕ, List, [], ◌∷◌}
 use Rattle.std.specs.List.{flat_map}
 use Rattle.pattern_types.specs.declared.pattern.Pattern.{Pattern}
 use Rattle.match_bindings.specs.declared.log_entry.LogEntry.{LogEntry}

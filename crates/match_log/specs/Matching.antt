@@ -48,7 +48,7 @@ pub record ListsLog (p : Pattern) (cap : ℕ) (bundles : List BundleOf) (log : L
 -- nothing is left of an input that is read in lines; of one that is read whole no more is taken than it may have and one read
 abbrev pub IsReadToEnd : Mode → Option (List ℕ) → Option (List ℕ) → Type 0
 IsReadToEnd Lines left left_after = IsAtEnd left_after
-IsReadToEnd WholeInput left left_after = TakesAtMost (MAX_WHOLE_INPUT + MAX_READ) left left_after
+IsReadToEnd WholeInput left left_after = IfSome left (λ _. TakesAtMost (MAX_WHOLE_INPUT + MAX_READ) left left_after)
 
 -- the whole input was read, its bindings were written, and the matcher stands for its log
 pub record ListsWhole (mode : Mode) (p : Pattern) (cap : ℕ) (before after : Streams) (state : MatcherState) (observations bindings last : ℕ) : Type 0 where

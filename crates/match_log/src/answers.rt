@@ -7,7 +7,7 @@ ghost use Rattle.match_bindings.specs.BindTree.{BindTree, tree_of};
 ghost use Rattle.match_live.specs.MatcherState.{Falls};
 ghost use Rattle.match_live.specs.View.{matcher_state, pattern_of};
 ghost use Rattle.match_log.specs.Listing.{listing_text};
-ghost use Rattle.match_log.specs.inner.Ends.{end_of_match};
+ghost use Rattle.match_log.specs.inner.Ends.{MayEnd, end_of_match};
 ghost use Rattle.match_log.specs.inner.Rows.{IsBehind, IsBehindSome, AddsRow, EndsAtRow};
 
 use crate::MatchEnd;
@@ -36,19 +36,20 @@ pub(crate) fn answer(
     ensures row { (log : List LogEntry) (answers : List (List BindTree))
         → IsBehind (pattern_of matcher.old) (matcher_state matcher.old).cap (matcher_state matcher.old) tally.old log answers
         → OnOk result (AddsRow (pattern_of matcher.old) (matcher_state matcher.old).cap (data_in bundle.now) observation.now log answers
-            (matcher_state matcher.new) tally.new text.old text.new) }
+        (matcher_state matcher.new) tally.new text.old text.new) }
     ensures end { (log : List LogEntry) (answers : List (List BindTree))
         → IsBehind (pattern_of matcher.old) (matcher_state matcher.old).cap (matcher_state matcher.old) tally.old log answers
         → IfErr result (EndsAtRow (pattern_of matcher.old) (matcher_state matcher.old).cap (data_in bundle.now) observation.now log
-            (matcher_state matcher.new) text.old text.new) }
+        (matcher_state matcher.new) text.old text.new) }
     ensures pattern { pattern_of matcher.new ≡ pattern_of matcher.old }
     ensures cap { (matcher_state matcher.new).cap ≡ (matcher_state matcher.old).cap }
 {
+    let number = observation.number;
     let truths = leaf_truths(alloc, matcher.pattern(), observation, bundle)?;
     match matcher.take(observation.first, observation.last, truths.as_slice()) {
         Ok(binds) => {
             add_lines(alloc, binds.as_slice(), text)?;
-            tally.count(observation.number, binds.len());
+            tally.count(number, binds.len());
             Ok(())
         }
         Err(refusal) => Err(end_of(refusal)),
@@ -66,13 +67,14 @@ fn add_lines(alloc: Global, binds: &[Bind], text: &mut Text) -> Result<(), NoMem
     Ok(())
 }
 
-/// How the run ends where the matcher does: observations never fall in time here.
+/// How the run ends where the matcher does.
 fn end_of(refusal: MatchRefusal) -> MatchEnd
+    requires { MayEnd refusal }
     ensures { result ≡ end_of_match refusal }
 {
     match refusal {
         MatchRefusal::Stopped(Ending::Crowded { number, cap }) => MatchEnd::Crowded { number, cap },
-        MatchRefusal::Stopped(Ending::OutOfOrder { .. } | Ending::NoMemory)
-        | MatchRefusal::Ended(_) => MatchEnd::NoMemory,
+        MatchRefusal::Stopped(Ending::NoMemory) => MatchEnd::NoMemory,
+        MatchRefusal::Stopped(Ending::OutOfOrder { .. }) | MatchRefusal::Ended(_) => unreachable!(),
     }
 }

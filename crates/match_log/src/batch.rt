@@ -1,4 +1,4 @@
-ghost use Rattle.std.specs.Prelude.{◌≡◌, ◌≢◌, ◌+◌, ◌≤◌, [], Err, List, OnOk, IfErr};
+ghost use Rattle.std.specs.Prelude.{◌≡◌, ◌≢◌, ◌↔◌, ◌+◌, ◌≤◌, [], Err, IsTrue, List, OnOk, IfErr};
 ghost use Rattle.flow_edges.specs.Faults.{Rose};
 ghost use Rattle.stix_bundles.specs.Objects.{data_in};
 ghost use Rattle.pattern_types.specs.PlainPattern.{plain_pattern};
@@ -32,11 +32,11 @@ pub(crate) fn match_batch<O: Sink>(
     ensures rows { (log : List LogEntry) (answers : List (List BindTree))
         → IsBehind (pattern_of matcher.old) (matcher_state matcher.old).cap (matcher_state matcher.old) tally.old log answers
         → OnOk result (WritesRows (pattern_of matcher.old) (matcher_state matcher.old).cap (data_in batch.now.bundle) batch.now.observations log answers
-            (matcher_state matcher.new) tally.new (O.written output.old) (O.written output.new)) }
+        (matcher_state matcher.new) tally.new (O.written output.old) (O.written output.new)) }
     ensures end { (log : List LogEntry) (answers : List (List BindTree))
         → IsBehind (pattern_of matcher.old) (matcher_state matcher.old).cap (matcher_state matcher.old) tally.old log answers
         → IfErr result (EndsInBundle (pattern_of matcher.old) (matcher_state matcher.old).cap (data_in batch.now.bundle) batch.now.observations log answers
-            (matcher_state matcher.new) (O.written output.old) (O.written output.new)) }
+        (matcher_state matcher.new) (O.written output.old) (O.written output.new)) }
     ensures pattern { pattern_of matcher.new ≡ pattern_of matcher.old }
     ensures cap { (matcher_state matcher.new).cap ≡ (matcher_state matcher.old).cap }
     ensures failed { result ≡ Err MatchEnd.WriteFault → Rose (O.faults output.old) (O.faults output.new) }
@@ -45,13 +45,20 @@ pub(crate) fn match_batch<O: Sink>(
 {
     let mut text = Text::new(alloc);
     let ended = answer_all(alloc, matcher, batch, tally, &mut text);
-    if let Err(MatchEnd::NoMemory) = &ended {
+    if is_out_of_memory(&ended) {
         return ended;
     }
     match write_whole(output, text.as_str().as_bytes()) {
         Ok(()) => ended,
         Err(_) => Err(MatchEnd::WriteFault),
     }
+}
+
+/// Whether memory ran out.
+fn is_out_of_memory(ended: &Result<(), MatchEnd>) -> bool
+    ensures { IsTrue result ↔ (ended.now ≡ Err MatchEnd.NoMemory) }
+{
+    matches!(ended, Err(MatchEnd::NoMemory))
 }
 
 /// Gives the observations of a bundle to the matcher, and adds the lines of the bindings that end there.
@@ -69,11 +76,11 @@ fn answer_all(
     ensures rows { (log : List LogEntry) (answers : List (List BindTree))
         → IsBehind (pattern_of matcher.old) (matcher_state matcher.old).cap (matcher_state matcher.old) tally.old log answers
         → OnOk result (AddsRows (pattern_of matcher.old) (matcher_state matcher.old).cap (data_in batch.now.bundle) batch.now.observations log answers
-            (matcher_state matcher.new) tally.new text.new) }
+        (matcher_state matcher.new) tally.new text.new) }
     ensures end { (log : List LogEntry) (answers : List (List BindTree))
         → IsBehind (pattern_of matcher.old) (matcher_state matcher.old).cap (matcher_state matcher.old) tally.old log answers
         → IfErr result (EndsAmong (pattern_of matcher.old) (matcher_state matcher.old).cap (data_in batch.now.bundle) batch.now.observations log answers
-            (matcher_state matcher.new) text.new) }
+        (matcher_state matcher.new) text.new) }
     ensures pattern { pattern_of matcher.new ≡ pattern_of matcher.old }
     ensures cap { (matcher_state matcher.new).cap ≡ (matcher_state matcher.old).cap }
 {

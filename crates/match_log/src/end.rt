@@ -16,13 +16,19 @@ pub enum MatchEnd {
         last: u64,
     },
     /// The line of that number is the first that is refused.
-    Input { line: u64, rule: InputRule },
+    Input {
+        line: u64,
+        rule: InputRule,
+    },
     /// The input failed, and counted it.
     ReadFault,
     /// The output failed, and counted it.
     WriteFault,
     /// More is live after the observation of that number than the cap allows.
-    Crowded { number: u64, cap: u64 },
+    Crowded {
+        number: u64,
+        cap: u64,
+    },
     /// Memory ran out.
     NoMemory,
 }

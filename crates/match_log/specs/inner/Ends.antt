@@ -1,5 +1,5 @@
 -- For private clauses: how a run ends where the reader does, and where the matcher does.
-use Rattle.match_live.specs.declared.ending.Ending.{Ending}
+use Rattle.std.specs.Prelude.{⊤}
 use Rattle.match_live.specs.declared.ending.Ending.TheVariants as ending
 use Rattle.match_live.specs.declared.ending.MatchRefusal.{MatchRefusal}
 use Rattle.match_live.specs.declared.ending.MatchRefusal.TheVariants as refusal
@@ -14,7 +14,13 @@ end_of_read read.ReadFault = ReadFault
 end_of_read read.Ended = NoMemory
 end_of_read read.NoMemory = NoMemory
 
--- a matcher that ended is no longer asked
+-- what a matcher may answer that hasn't ended, where times don't fall
+abbrev pub MayEnd : MatchRefusal → Type 0
+MayEnd (refusal.Stopped (ending.Crowded number cap)) = ⊤
+MayEnd (refusal.Stopped (ending.OutOfOrder last now)) = ⊥
+MayEnd (refusal.Stopped ending.NoMemory) = ⊤
+MayEnd (refusal.Ended before) = ⊥
+
 abbrev pub end_of_match : MatchRefusal → MatchEnd
 end_of_match (refusal.Stopped (ending.Crowded number cap)) = Crowded number cap
 end_of_match (refusal.Stopped (ending.OutOfOrder last now)) = NoMemory
