@@ -7,7 +7,7 @@ use std::test::Fail;
 
 /// A line in which the account `a` is observed.
 const LOGIN: &str =
-    "{\"type\":\"bundle\",\"id\":\"bundle--00000000-0000-4000-8000-000000000001\",\"objects\":[{\"type\":\"observed-data\",\"spec_version\":\"2.1\",\"id\":\"observed-data--00000000-0000-4000-8000-000000000001\",\"created\":\"2021-06-10T00:00:00Z\",\"modified\":\"2021-06-10T00:00:00Z\",\"first_observed\":\"2021-06-10T00:00:00Z\",\"last_observed\":\"2021-06-10T00:00:00Z\",\"number_observed\":1,\"object_refs\":[\"user-account--00000000-0000-4000-8000-000000000001\"]},{\"type\":\"user-account\",\"id\":\"user-account--00000000-0000-4000-8000-000000000001\",\"account_login\":\"a\"}]}\n";
+    "{\"type\":\"bundle\",\"id\":\"bundle--00000000-0000-4000-8000-000000000001\",\"objects\":[{\"type\":\"observed-data\",\"spec_version\":\"2.1\",\"id\":\"observed-data--00000000-0000-4000-8000-000000000001\",\"created\":\"2021-06-10T00:00:00.000Z\",\"modified\":\"2021-06-10T00:00:00.000Z\",\"first_observed\":\"2021-06-10T00:00:00Z\",\"last_observed\":\"2021-06-10T00:00:00Z\",\"number_observed\":1,\"object_refs\":[\"user-account--00000000-0000-4000-8000-000000000001\"]},{\"type\":\"user-account\",\"id\":\"user-account--00000000-0000-4000-8000-000000000001\",\"account_login\":\"a\"}]}\n";
 
 /// A pattern that holds for it.
 const PATTERN: &str = "[user-account:account_login = 'a']";

@@ -62,7 +62,7 @@ returns-in_default-clause-none c = λ request form.
     let few = lengths (texts words) request form in
     let first = begins (texts words) request form in
     elim c.in_default.branch [
-      | in_default-via-then-words-lt2 w ↦ absurd (omega (arith, same, few.0))
+      | in_default-via-then-words-lt2 w ↦ absurd (grind (arith, same, few.0))
       | in_default-via-in-len2+else-is_word w ↦
           absurd (clash _ (w.is_word.ensures.1 (text_at words 0 _ (omega arith) w.command-item.is ∙ first)) w.if-is_word.false)
       | in_default-via-in-len3+then-is_word-2+else-is_word-3 w ↦
@@ -83,5 +83,5 @@ returns-in_default-clause-none c = λ request form.
           absurd (clash _ (w.is_word-then-is_word-6.ensures.1 (text_at words 1 _ (omega arith) w.whole-item-then-words-lt6.is ∙ both.0)) w.if-is_word-7.false)
       | in_default-via-in-len5+else-is_word-6 w ↦
           absurd (clash _ (w.is_word-then-words-lt6.ensures.1 (text_at words 0 _ (omega arith) w.command-item-then-words-lt6.is ∙ first)) w.if-is_word-6.false)
-      | in_default-via-else-words-lt2+else-words-lt3+else-words-lt4+else-words-lt5+else-words-lt6 w ↦ absurd (omega (arith, same, few.1))
+      | in_default-via-else-words-lt2+else-words-lt3+else-words-lt4+else-words-lt5+else-words-lt6 w ↦ absurd (grind (arith, same, few.1))
     ]

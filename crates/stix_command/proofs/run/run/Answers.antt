@@ -10,8 +10,8 @@ returns-clause-ends g c = record {
   status_is = c.finish.ensures.status;
   stands = c.obey-ending.ensures.end;
   text = c.finish.ensures.reason.0;
-  reason_is = c.finish.ensures.reason.1.0;
-  reason = c.finish.ensures.reason.1.1;
+  reason_is = c.finish.ensures.reason.1;
+  reason = c.finish.ensures.reason.2;
 }
 
 pub returns-clause-listing : goal.returns-clause-listing
