@@ -97,7 +97,7 @@ read-more goes_on mode first left left_after reader after batch bundles far give
           (subst (λ (l : Option Lined). IfSome l (λ lines. (rest : List BundleOf) × (all ≡ bundles ++ rest) × Reads reader.last (next_number reader) lines rest end)) gives.line
           (far.backward all end h));
       told = told-more first left left_after reader.stage after.stage batch.line gives.bytes far.told gives.line;
-      stage = (moves_on bundles (bundles ++ bundle_of batch ∷ []) first left left_after mode reader.stage after.stage far.stage gives.moves).stage_is;
+      stage = (moves_on bundles (bundles ++ bundle_of batch ∷ []) batch.line first left left_after mode reader.stage after.stage far.stage gives.moves).stage_is;
     }
 
 -- ---- what is read at last

@@ -3,7 +3,7 @@ use Rattle.std.proofs.Common.{◌≡◌, ◌⊎◌, inl, inr, ℕ, suc, ◌+◌,
 use Rattle.std.specs.Option.{option_or}
 use Rattle.std.proofs.lemmas.List.{append-nil}
 use Rattle.serde_json.specs.Data.{Data}
-use Rattle.flow_edges.specs.Flow.{written_with, WritesPrefix}
+use Rattle.flow_edges.specs.Flow.{IsAtEnd, written_with, WritesPrefix}
 use Rattle.flow_lines.specs.Lines.{ended}
 use Rattle.stix_bundles.specs.Objects.{data_in}
 use Rattle.stix_bundles.specs.declared.observation.Observation.{Observation}
@@ -29,7 +29,7 @@ use Rattle.match_input.specs.Ahead.{ReaderState, reader_start, next_number, ahea
 use Rattle.match_log.specs.Streams.{Streams, streams}
 use Rattle.match_log.specs.Entries.{AreEntriesOf}
 use Rattle.match_log.specs.Listing.{listing_text}
-use Rattle.match_log.specs.Matching.{IsNeverCrowded, ListsLog, IsReadToEnd, ListsWhole, ListsBefore, ListsTaken, StopsCrowded, StopsWriting, StopsWithoutMemory, AnswersMatch}
+use Rattle.match_log.specs.Matching.{IsNeverCrowded, ListsLog, ListsWhole, ListsBefore, ListsTaken, StopsCrowded, StopsWriting, StopsWithoutMemory, AnswersMatch}
 use Rattle.match_log.specs.inner.Rows.{no_tally, IsBehind, MayFollow, ListsFirst, StopsAmong, WritesRows, EndsInBundle, row_of}
 use Rattle.match_log.specs.inner.Ends.{end_of_read}
 use Rattle.match_log.specs.inner.Runs.{IsStageOf, RunsSo, HasRead, bundle_of}
@@ -183,7 +183,7 @@ module _ (list : AnswersList) (mode : Mode) (p : Pattern) (most : ℕ) (before n
     text = far.text;
   }
 
-  pub run-whole : (left_after : Option (List ℕ)) → IfSome (ahead reader.stage now.left) (λ lines. lines ≡ ended) → IsReadToEnd mode before.left left_after
+  pub run-whole : (left_after : Option (List ℕ)) → IfSome (ahead reader.stage now.left) (λ lines. lines ≡ ended) → IsAtEnd left_after
       → ListsWhole mode p most before (streams left_after now.written) state tally.observations tally.bindings tally.last
   run-whole left_after none drained = record {
     bundles = far.bundles;
@@ -208,7 +208,7 @@ module _ (list : AnswersList) (mode : Mode) (p : Pattern) (most : ℕ) (before n
     trees = joined_answers far.answers;
     lists = lists-log;
     stands = far.behind.stands;
-    little = takes_little far.bundles far.bundles before.left now.left left_after mode reader.stage line far.read.stage little;
+    little = takes_little far.bundles before.left now.left left_after mode reader.stage line far.read.stage little;
   }
 
   pub run-broken : (left_after : Option (List ℕ)) → BreaksOff reader.stage now.left left_after → ListsTaken mode p most before (streams left_after now.written) state
@@ -293,7 +293,7 @@ module _ (list : AnswersList) (mode : Mode) (p : Pattern) (most : ℕ) (before n
           (list (numbered_pattern p) (far.log ++ own.own) (far.answers ++ own.own_answers) own.rows.answers_are);
       prefix = subst (λ (t : List ℕ). WritesPrefix t (written_with (listing_text (joined_answers far.answers)) before.written) written_after) own.text_is
           (subst (λ (w : Option (List ℕ)). WritesPrefix text w written_after) far.text prefix);
-      few = (moves_on far.bundles far.bundles before.left now.left left_after mode reader.stage after.stage far.read.stage gives.moves).few;
+      few = (moves_on far.bundles far.bundles batch.line before.left now.left left_after mode reader.stage after.stage far.read.stage gives.moves).few;
     }
 
     -- an end in the next bundle
@@ -327,7 +327,7 @@ module _ (list : AnswersList) (mode : Mode) (p : Pattern) (most : ℕ) (before n
     where
       go : IsOpen reader.stage ⊎ (reader.stage ≡ stage.AtEnd) → ListsWhole mode p most before (streams left_after now.written) state tally.observations tally.bindings tally.last
       go (inl opened) = run-whole list mode p most before now reader state tally far left_after (comes opened).none
-          (to_end far.bundles before.left now.left left_after mode reader.stage after.stage far.read.stage opened (comes opened))
+          (to_end reader.stage after.stage now.left left_after (comes opened))
       go (inr is) = subst (λ (l : Option (List ℕ)). ListsWhole mode p most before (streams l now.written) state tally.observations tally.bindings tally.last) (sym (same is))
           (run-whole list mode p most before now reader state tally far now.left (none_left reader.stage now.left is)
           (at_end far.bundles before.left now.left mode reader.stage far.read.stage is))

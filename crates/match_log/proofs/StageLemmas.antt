@@ -1,8 +1,8 @@
 -- Where a reader stands in a run, and how it moves on.
-use Rattle.std.proofs.Common.{◌≡◌, ◌⊎◌, inl, inr, ℕ, ◌+◌, ◌<◌, Bool, true, false, List, [], Option, None, Some, IfSome, if◌then◌else◌, refl, subst, arith}
+use Rattle.std.proofs.Common.{◌≡◌, ◌⊎◌, inl, inr, ℕ, ◌+◌, ◌<◌, Bool, true, false, List, [], Option, None, Some, IfSome, if◌then◌else◌, refl, sym, subst, arith}
 use Rattle.std.proofs.lemmas.List.Elements.{All-nil}
 use Rattle.flow_edges.specs.declared.source.TheConstants.{MAX_READ}
-use Rattle.flow_edges.specs.Flow.{TakesAtMost}
+use Rattle.flow_edges.specs.Flow.{IsAtEnd, TakesAtMost}
 use Rattle.flow_lines.specs.Lines.{Lined, ended, refused, line_then, LinesState, RawLine, NoLineFeed, lines_start, AccountsFor}
 use Rattle.flow_lines.specs.declared.refusal.LineRefusal.TheVariants.{InputTooLong}
 use Rattle.flow_lines.specs.declared.whole_input.TheConstants.{MAX_WHOLE_INPUT}
@@ -12,7 +12,7 @@ use Rattle.match_input.specs.declared.stage.Stage.{Stage}
 use Rattle.match_input.specs.declared.stage.Stage.TheVariants as stage
 use Rattle.match_input.specs.Reading.{BundleOf, one_line}
 use Rattle.match_input.specs.Ahead.{IsOpen, ahead, Moves, TakesLittle, ComesToEnd}
-use Rattle.match_log.specs.Matching.{IsReadToEnd, TakesLittle as RunTakesLittle, TakesFew}
+use Rattle.match_log.specs.Matching.{TakesLittle as RunTakesLittle, TakesFew}
 use Rattle.match_log.specs.inner.Runs.{IsStageOf, turns_left}
 
 pub ahead_none : (st : Stage) → ahead st None ≡ None
@@ -49,33 +49,33 @@ module _ (bundles : List BundleOf) (first left : Option (List ℕ)) where
   open_or_end WholeInput stage.Ended s = absurd s
 
 -- what a stage is after a move, how many turns are left, and what was taken
-pub record MovesOn (mode : Mode) (st after : Stage) (more : List BundleOf) (first left_after : Option (List ℕ)) : Type 0 where
+pub record MovesOn (mode : Mode) (line : ℕ) (st after : Stage) (more : List BundleOf) (first left_after : Option (List ℕ)) : Type 0 where
   pub stage_is : IsStageOf mode after more first left_after
   pub fewer : turns_left after < turns_left st
-  pub few : TakesFew mode first left_after
+  pub few : TakesFew mode line first left_after
 
-module _ (bundles more : List BundleOf) (first left left_after : Option (List ℕ)) where
-  moves-lines : (lines : LinesState) (after : Stage) → IsStageOf Lines (stage.Lines lines) bundles first left → Moves (stage.Lines lines) after left left_after
-      → MovesOn Lines (stage.Lines lines) after more first left_after
+module _ (bundles more : List BundleOf) (line : ℕ) (first left left_after : Option (List ℕ)) where
+  moves-lines : (lines : LinesState) (after : Stage) → IsStageOf Lines (stage.Lines lines) bundles first left → Moves line (stage.Lines lines) after left left_after
+      → MovesOn Lines line (stage.Lines lines) after more first left_after
   moves-lines lines (stage.Lines after) s m = record {
-    stage_is = (m.0, m.4 lines_start first s.1, m.2);
-    fewer = omega (arith, m.1, m.2);
-    few = record { at = after; few = m.3; accounts = m.4 lines_start first s.1 };
+    stage_is = (m.0, m.5 lines_start first s.1, m.3);
+    fewer = omega (arith, m.2, m.3);
+    few = record { at = after; line_is = sym m.1; few = m.4; accounts = m.5 lines_start first s.1 };
   }
   moves-lines lines stage.Whole s m = absurd m
   moves-lines lines stage.AtEnd s m = absurd m
   moves-lines lines stage.Ended s m = absurd m
 
-  moves-whole : (after : Stage) → IsStageOf WholeInput stage.Whole bundles first left → Moves stage.Whole after left left_after
-      → MovesOn WholeInput stage.Whole after more first left_after
+  moves-whole : (after : Stage) → IsStageOf WholeInput stage.Whole bundles first left → Moves line stage.Whole after left left_after
+      → MovesOn WholeInput line stage.Whole after more first left_after
   moves-whole (stage.Lines lines) s m = absurd m
   moves-whole stage.Whole s m = absurd m
   moves-whole stage.AtEnd s m =
-      let takes = subst (λ (l : Option (List ℕ)). TakesAtMost (MAX_WHOLE_INPUT + MAX_READ) l left_after) s.0 m in
-      record { stage_is = takes; fewer = omega arith; few = takes }
+      let takes = subst (λ (l : Option (List ℕ)). TakesAtMost (MAX_WHOLE_INPUT + MAX_READ) l left_after) s.0 m.2 in
+      record { stage_is = (m.1, takes); fewer = omega arith; few = takes }
   moves-whole stage.Ended s m = absurd m
 
-  pub moves_on : (mode : Mode) (st after : Stage) → IsStageOf mode st bundles first left → Moves st after left left_after → MovesOn mode st after more first left_after
+  pub moves_on : (mode : Mode) (st after : Stage) → IsStageOf mode st bundles first left → Moves line st after left left_after → MovesOn mode line st after more first left_after
   moves_on Lines (stage.Lines lines) after s m = moves-lines lines after s m
   moves_on Lines stage.Whole after s m = absurd s
   moves_on Lines stage.AtEnd after s m = absurd s
@@ -85,6 +85,7 @@ module _ (bundles more : List BundleOf) (first left left_after : Option (List �
   moves_on WholeInput stage.AtEnd after s m = absurd m
   moves_on WholeInput stage.Ended after s m = absurd s
 
+module _ (bundles : List BundleOf) (first left left_after : Option (List ℕ)) where
   -- a line is refused
   pub takes_little : (mode : Mode) (st : Stage) (line : ℕ) → IsStageOf mode st bundles first left → TakesLittle st line left left_after
       → RunTakesLittle mode line first left_after
@@ -97,34 +98,13 @@ module _ (bundles more : List BundleOf) (first left left_after : Option (List �
   takes_little WholeInput stage.AtEnd line s t = absurd t
   takes_little WholeInput stage.Ended line s t = absurd s
 
-not_ended : (long : Bool) (bytes : List ℕ) → (if long then refused (InputTooLong 1) else line_then 1 bytes ended) ≡ ended → ⊥
-not_ended true bytes e = absurd (cc)
-not_ended false bytes e = absurd (cc)
-
-no_line : (bytes : List ℕ) → one_line bytes ≡ ended → ⊥
-no_line bytes e = not_ended _ bytes e
-
-none_of_whole : (left left_after : Option (List ℕ)) → IfSome (ahead stage.Whole left) (λ lines. lines ≡ ended) → IsReadToEnd WholeInput left left_after
-none_of_whole None left_after none = tt
-none_of_whole (Some bytes) left_after none = absurd (no_line bytes none)
-
 -- the end came of an input that was still to be read
-pub to_end : (bundles : List BundleOf) (first left left_after : Option (List ℕ)) (mode : Mode) (st after : Stage) → IsStageOf mode st bundles first left
-    → IsOpen st → ComesToEnd st after left left_after → IsReadToEnd mode first left_after
-to_end bundles first left left_after Lines st after s opened comes = comes.drained
-to_end bundles first left left_after WholeInput (stage.Lines lines) after s opened comes = absurd s
-to_end bundles first left left_after WholeInput stage.Whole after s opened comes =
-    subst (λ (l : Option (List ℕ)). IsReadToEnd WholeInput l left_after) s.0 (none_of_whole left left_after comes.none)
-to_end bundles first left left_after WholeInput stage.AtEnd after s opened comes = absurd opened
-to_end bundles first left left_after WholeInput stage.Ended after s opened comes = absurd s
-
-told_whole : (first left : Option (List ℕ)) → TakesAtMost (MAX_WHOLE_INPUT + MAX_READ) first left → IsReadToEnd WholeInput first left
-told_whole None left t = tt
-told_whole (Some bytes) left t = t
+pub to_end : (st after : Stage) (left left_after : Option (List ℕ)) → ComesToEnd st after left left_after → IsAtEnd left_after
+to_end st after left left_after comes = comes.drained
 
 -- it had come before
 pub at_end : (bundles : List BundleOf) (first left : Option (List ℕ)) (mode : Mode) (st : Stage) → IsStageOf mode st bundles first left
-    → st ≡ stage.AtEnd → IsReadToEnd mode first left
+    → st ≡ stage.AtEnd → IsAtEnd left
 at_end bundles first left Lines st s is =
     let none : ⊥ = subst (λ (x : Stage). IsStageOf Lines x bundles first left) is s in absurd none
-at_end bundles first left WholeInput st s is = told_whole first left (subst (λ (x : Stage). IsStageOf WholeInput x bundles first left) is s)
+at_end bundles first left WholeInput st s is = (subst (λ (x : Stage). IsStageOf WholeInput x bundles first left) is s).0

@@ -45,11 +45,6 @@ pub record ListsLog (p : Pattern) (cap : ℕ) (bundles : List BundleOf) (log : L
   pub bindings : AreBindings p log trees
   pub text : written_after ≡ written_with (listing_text trees) written
 
--- nothing is left of an input that is read in lines; of one that is read whole no more is taken than it may have and one read
-abbrev pub IsReadToEnd : Mode → Option (List ℕ) → Option (List ℕ) → Type 0
-IsReadToEnd Lines left left_after = IsAtEnd left_after
-IsReadToEnd WholeInput left left_after = IfSome left (λ _. TakesAtMost (MAX_WHOLE_INPUT + MAX_READ) left left_after)
-
 -- the whole input was read, its bindings were written, and the matcher stands for its log
 pub record ListsWhole (mode : Mode) (p : Pattern) (cap : ℕ) (before after : Streams) (state : MatcherState) (observations bindings last : ℕ) : Type 0 where
   pub bundles : List BundleOf
@@ -58,7 +53,7 @@ pub record ListsWhole (mode : Mode) (p : Pattern) (cap : ℕ) (before after : St
   pub trees : List BindTree
   pub lists : ListsLog p cap bundles log trees before.written after.written
   pub stands : StandsFor state log
-  pub drained : IsReadToEnd mode before.left after.left
+  pub drained : IsAtEnd after.left
   pub observations_are : observations ≡ length log
   pub bindings_are : bindings ≡ length trees
   pub last_is : last ≡ last_number trees
@@ -143,19 +138,20 @@ pub record StopsCrowded (mode : Mode) (p : Pattern) (cap : ℕ) (before after : 
   pub text : after.written ≡ written_with (listing_text trees) before.written
   pub ended : state.ended ≡ Some (ending.Crowded number cap)
 
--- few bytes are taken behind the lines that went by
-pub record HoldsFew (left left_after : Option (List ℕ)) : Type 0 where
+-- the lines up to that one went by, and few bytes are taken behind it
+pub record HoldsFew (line : ℕ) (left left_after : Option (List ℕ)) : Type 0 where
   pub at : LinesState
+  pub line_is : at.count ≡ line
   pub few : length at.held ≤ MAX_READ
   pub accounts : AccountsFor lines_start at left left_after
 
-abbrev pub TakesFew : Mode → Option (List ℕ) → Option (List ℕ) → Type 0
-TakesFew Lines left left_after = HoldsFew left left_after
-TakesFew WholeInput left left_after = TakesAtMost (MAX_WHOLE_INPUT + MAX_READ) left left_after
+abbrev pub TakesFew : Mode → ℕ → Option (List ℕ) → Option (List ℕ) → Type 0
+TakesFew Lines line left left_after = HoldsFew line left left_after
+TakesFew WholeInput line left left_after = TakesAtMost (MAX_WHOLE_INPUT + MAX_READ) left left_after
 
 -- a write failed: the bindings of the earlier bundles were written, and of those that end at the first observations of the
 -- next bundle a prefix; these are all of its observations, or those before one at which too much is live. Few bytes are
--- taken behind the lines that went by
+-- taken behind the line of that bundle
 pub record StopsWriting (mode : Mode) (p : Pattern) (before after : Streams) : Type 0 where
   pub earlier : List BundleOf
   pub bundle : BundleOf
@@ -172,7 +168,7 @@ pub record StopsWriting (mode : Mode) (p : Pattern) (before after : Streams) : T
   pub bindings : AreBindings p log trees
   pub all_bindings : AreBindings p (log ++ own) (trees ++ more)
   pub prefix : WritesPrefix (listing_text more) (written_with (listing_text trees) before.written) after.written
-  pub few : TakesFew mode before.left after.left
+  pub few : TakesFew mode bundle.line before.left after.left
 
 -- memory ran out: the bindings of the bundles before were written
 pub record StopsWithoutMemory (mode : Mode) (p : Pattern) (before after : Streams) : Type 0 where

@@ -1,7 +1,7 @@
 -- For private clauses: how far a run over an input is.
 use Rattle.std.specs.Prelude.{◌≡◌, ℕ, ◌+◌, ◌-◌, ◌≤◌, List, [], ◌++◌, Option, None, Some, IfSome}
 use Rattle.flow_edges.specs.declared.source.TheConstants.{MAX_READ}
-use Rattle.flow_edges.specs.Flow.{TakesAtMost, written_with}
+use Rattle.flow_edges.specs.Flow.{IsAtEnd, TakesAtMost, written_with}
 use Rattle.flow_lines.specs.Lines.{lines_start, AccountsFor}
 use Rattle.flow_lines.specs.declared.refusal.TheConstants.{MAX_INPUT}
 use Rattle.flow_lines.specs.declared.whole_input.TheConstants.{MAX_WHOLE_INPUT}
@@ -30,7 +30,7 @@ use Rattle.match_log.specs.declared.tally.Tally.{Tally}
 abbrev pub IsStageOf : Mode → Stage → List BundleOf → Option (List ℕ) → Option (List ℕ) → Type 0
 IsStageOf Lines (stage.Lines lines) bundles first left = (lines.refusal ≡ None) × AccountsFor lines_start lines first left × (lines.given ≤ MAX_INPUT)
 IsStageOf WholeInput stage.Whole bundles first left = (left ≡ first) × (bundles ≡ [])
-IsStageOf WholeInput stage.AtEnd bundles first left = TakesAtMost (MAX_WHOLE_INPUT + MAX_READ) first left
+IsStageOf WholeInput stage.AtEnd bundles first left = IsAtEnd left × TakesAtMost (MAX_WHOLE_INPUT + MAX_READ) first left
 IsStageOf _ _ bundles first left = ⊥
 
 -- how many turns may come yet
