@@ -1,10 +1,9 @@
 -- What reading all of the tokens answers.
-use Rattle.std.specs.Prelude.{◌≡◌, List, [], ◌∷◌, ◌++◌, Result, Ok, Err}
+use Rattle.std.specs.Prelude.{◌≡◌, List, [], ◌∷◌, ◌++◌}
 use Rattle.pattern_tokens.specs.declared.token.Token.{Token}
 use Rattle.pattern_grammar.specs.declared.stop.Stop.{Stop}
 use Rattle.pattern_grammar.specs.declared.stop.Stop.TheVariants.{Memory, Syntax}
-use Rattle.pattern_grammar.specs.declared.pattern.PatternTree.{PatternTree}
-use Rattle.pattern_grammar.specs.Tree.{Tree, shape}
+use Rattle.pattern_grammar.specs.Tree.{Tree}
 use Rattle.pattern_grammar.specs.Grammar.{IsPattern}
 use Rattle.pattern_grammar.specs.inner.Reading.{Front}
 use Rattle.pattern_grammar.specs.Fronts.{FrontOf, line, pattern}
@@ -32,8 +31,3 @@ pub record MisfitAt (ts rest : List Token) : Type 0 where
 abbrev pub Misfit : List Token → Stop → Type 0
 Misfit ts Memory = Unit {0}
 Misfit ts (Syntax rest) = MisfitAt ts rest.now
-
--- the result is this tree, unless memory ran out
-abbrev pub Gives : Tree → Result PatternTree Stop → Type 0
-Gives p (Ok q) = shape q ≡ p
-Gives p (Err e) = e ≡ Memory
