@@ -1,5 +1,5 @@
 ghost use Rattle.std.specs.Prelude.{◌≡◌, ◌<◌, ℕ, length, IfOk};
-ghost use Rattle.pattern_grammar.specs.Place.{place, IsMisread, AnswersTree};
+ghost use Rattle.pattern_grammar.specs.Answer.{place, IsMisread, AnswersTree};
 ghost use Rattle.pattern_grammar.specs.inner.Counting.{IsFirstAt};
 
 use crate::depth::first_too_many;

@@ -1,8 +1,7 @@
 -- The table of tokens (STIX 2.1, section 9): which texts are tokens of a kind.
 use Rattle.std.specs.Prelude.{◌≡◌, ℕ, List, codes}
-use Rattle.pattern_tokens.specs.declared.token.TokenKind.{TokenKind}
+use Rattle.pattern_tokens.specs.{declared.token.TokenKind.TokenKind, Word.IsWord, Word.IsHyphenWord}
 use Rattle.pattern_tokens.specs.declared.token.TokenKind.TheVariants.{SquareOpen, SquareClose, RoundOpen, RoundClose, Dot, Colon, Comma, Star, Equal, Differ, Less, LessEqual, Greater, GreaterEqual, And, Or, Not, FollowedBy, Within, Seconds, Repeats, Times, Start, Stop, Among, Like, Subset, Superset, Exists, TrueWord, FalseWord, Word, HyphenWord, Number, String, Hex, Binary, Timestamp}
-use Rattle.pattern_tokens.specs.Word.{IsWord, IsHyphenWord}
 use Rattle.pattern_tokens.specs.Values.{IsNumberText, IsStringText, IsLetteredText}
 
 -- the text is a token of this kind, whether or not it stands for something

@@ -1,9 +1,7 @@
 -- Steps of `first_too_many`: they serve the functions of its file alone.
 use Rattle.std.specs.Prelude.{◌≡◌, ◌↔◌, IsTrue, ℕ, List, length}
-use Rattle.pattern_tokens.specs.declared.token.Token.{Token}
-use Rattle.pattern_tokens.specs.declared.token.TokenKind.TheVariants.{RoundOpen, RoundClose}
-use Rattle.pattern_grammar.specs.declared.class.TokenClass.TheVariants.{Only, Qualifying}
-use Rattle.pattern_grammar.specs.declared.depth.Counts.{Counts}
+use Rattle.pattern_tokens.specs.declared.token.{Token.Token, TokenKind.TheVariants.RoundOpen, TokenKind.TheVariants.RoundClose}
+use Rattle.pattern_grammar.specs.declared.{class.TokenClass.TheVariants.Only, class.TokenClass.TheVariants.Qualifying, depth.Counts.Counts}
 use Rattle.pattern_grammar.specs.Depth.{how_many, EndsWithIn, FirstTooMany}
 
 -- the counts are those of the tokens

@@ -1,31 +1,17 @@
 -- What may follow the tokens so far: a stack of what is wanted, the nearest first.
 use Rattle.std.specs.Prelude.{Bool, true, false, List, [], ◌∷◌, Option, Some, None, option_and_then, if◌then◌else◌}
-use Rattle.pattern_tokens.specs.declared.token.Token.{Token}
-use Rattle.pattern_tokens.specs.declared.token.TokenKind.{TokenKind}
+use Rattle.pattern_tokens.specs.declared.token.{Token.Token, TokenKind.TokenKind}
 use Rattle.pattern_tokens.specs.declared.token.TokenKind.TheVariants as kind
-use Rattle.pattern_grammar.specs.declared.class.TokenClass.{TokenClass}
+use Rattle.pattern_grammar.specs.{declared.class.TokenClass.TokenClass, TokenClass.is_in}
 use Rattle.pattern_grammar.specs.declared.class.TokenClass.TheVariants.{Only, Root, Name, Index, Equality, Order, Textual, Ordered, Constant, Qualifying, Stepping}
-use Rattle.pattern_grammar.specs.TokenClass.{is_in}
 
 -- a line of the grammar whose first token decides how it goes on
 pub data WantedLine : Type 0 where
-  start : WantedLine
-  qualifier : WantedLine
-  test : WantedLine
-  turn : WantedLine
-  check : WantedLine
-  step : WantedLine
+  start qualifier test turn check step : WantedLine
 
 -- a part that may be repeated
 pub data Tail : Type 0 where
-  qualifiers : Tail
-  ands : Tail
-  ors : Tail
-  thens : Tail
-  cands : Tail
-  cors : Tail
-  steps : Tail
-  commas : Tail
+  qualifiers ands ors thens cands cors steps commas : Tail
 
 pub data Want : Type 0 where
   one : TokenClass → Want
@@ -35,10 +21,8 @@ pub data Want : Type 0 where
 -- lines that begin in one way
 abbrev pub wants_path : List Want → List Want
 wants_path k = one Root ∷ one (Only kind.Colon) ∷ one Name ∷ tail steps ∷ k
-
 abbrev pub wants_cor : List Want → List Want
 wants_cor k = line test ∷ tail cands ∷ tail cors ∷ k
-
 abbrev pub wants_pattern : List Want → List Want
 wants_pattern k = line start ∷ tail qualifiers ∷ tail ands ∷ tail ors ∷ tail thens ∷ k
 
@@ -105,9 +89,8 @@ next (tail t ∷ s) k = if is_in (opening t) k then again t k (tail t ∷ s) els
 -- nothing more is wanted
 abbrev pub ended : List Want → Bool
 ended [] = true
-ended (one class ∷ s) = false
-ended (line l ∷ s) = false
 ended (tail t ∷ s) = ended s
+ended _ = false
 
 -- what is wanted after the tokens
 abbrev pub reach : Option (List Want) → List Token → Option (List Want)
@@ -123,30 +106,21 @@ go (Some w) (t ∷ ts) = next w t.kind
 -- what is wanted before each line, where k is wanted behind it
 abbrev pub wants_step : List Want → List Want
 wants_step k = line step ∷ k
-
 abbrev pub wants_constants : List Want → List Want
 wants_constants k = one Constant ∷ tail commas ∷ k
-
 abbrev pub wants_check : List Want → List Want
 wants_check k = line check ∷ k
-
 abbrev pub wants_test : List Want → List Want
 wants_test k = line test ∷ k
-
 abbrev pub wants_cand : List Want → List Want
 wants_cand k = line test ∷ tail cands ∷ k
-
 abbrev pub wants_qualifier : List Want → List Want
 wants_qualifier k = line qualifier ∷ k
-
 abbrev pub wants_start : List Want → List Want
 wants_start k = line start ∷ k
-
 abbrev pub wants_unit : List Want → List Want
 wants_unit k = line start ∷ tail qualifiers ∷ k
-
 abbrev pub wants_ands : List Want → List Want
 wants_ands k = line start ∷ tail qualifiers ∷ tail ands ∷ k
-
 abbrev pub wants_ors : List Want → List Want
 wants_ors k = line start ∷ tail qualifiers ∷ tail ands ∷ tail ors ∷ k

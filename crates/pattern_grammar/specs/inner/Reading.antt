@@ -2,11 +2,9 @@
 use Rattle.std.specs.Prelude.{◌≡◌, false, List, [], ◌∷◌, ◌++◌, Some, None}
 use Rattle.pattern_tokens.specs.declared.token.Token.{Token}
 use Rattle.pattern_tokens.specs.declared.token.TokenKind.TheVariants as kind
-use Rattle.pattern_grammar.specs.declared.class.TokenClass.{TokenClass}
+use Rattle.pattern_grammar.specs.{declared.class.TokenClass.TokenClass, declared.stop.Stop.Stop, TokenClass.is_in, TokenClass.IsA}
 use Rattle.pattern_grammar.specs.declared.class.TokenClass.TheVariants.{Only, Equality, Order, Textual}
-use Rattle.pattern_grammar.specs.declared.stop.Stop.{Stop}
 use Rattle.pattern_grammar.specs.declared.stop.Stop.TheVariants.{Memory, Syntax}
-use Rattle.pattern_grammar.specs.TokenClass.{is_in, IsA}
 use Rattle.pattern_grammar.specs.inner.Machine.{Want, Tail, tail, reach, go}
 
 -- the first token is of the class, and the rest follows it
