@@ -1,5 +1,5 @@
 -- A token of one kind is of no other.
-use Rattle.std.proofs.Common.{◌≡◌, ◌⊎◌, inl, inr, Bool, true, false, refl, sym, ap, rules}
+use Rattle.std.proofs.Common.{◌≡◌, ◌⊎◌, inl, inr, Bool, true, false, refl, sym, rules}
 use denote.Enum.Bare.{same_true}
 use Rattle.pattern_tokens.specs.contracts.token.TokenKind.{the_type}
 use Rattle.pattern_tokens.specs.declared.token.Token.{Token}

@@ -21,8 +21,10 @@ pub data Want : Type 0 where
 -- lines that begin in one way
 abbrev pub wants_path : List Want → List Want
 wants_path k = one Root ∷ one (Only kind.Colon) ∷ one Name ∷ tail steps ∷ k
+
 abbrev pub wants_cor : List Want → List Want
 wants_cor k = line test ∷ tail cands ∷ tail cors ∷ k
+
 abbrev pub wants_pattern : List Want → List Want
 wants_pattern k = line start ∷ tail qualifiers ∷ tail ands ∷ tail ors ∷ tail thens ∷ k
 
@@ -106,21 +108,30 @@ go (Some w) (t ∷ ts) = next w t.kind
 -- what is wanted before each line, where k is wanted behind it
 abbrev pub wants_step : List Want → List Want
 wants_step k = line step ∷ k
+
 abbrev pub wants_constants : List Want → List Want
 wants_constants k = one Constant ∷ tail commas ∷ k
+
 abbrev pub wants_check : List Want → List Want
 wants_check k = line check ∷ k
+
 abbrev pub wants_test : List Want → List Want
 wants_test k = line test ∷ k
+
 abbrev pub wants_cand : List Want → List Want
 wants_cand k = line test ∷ tail cands ∷ k
+
 abbrev pub wants_qualifier : List Want → List Want
 wants_qualifier k = line qualifier ∷ k
+
 abbrev pub wants_start : List Want → List Want
 wants_start k = line start ∷ k
+
 abbrev pub wants_unit : List Want → List Want
 wants_unit k = line start ∷ tail qualifiers ∷ k
+
 abbrev pub wants_ands : List Want → List Want
 wants_ands k = line start ∷ tail qualifiers ∷ tail ands ∷ k
+
 abbrev pub wants_ors : List Want → List Want
 wants_ors k = line start ∷ tail qualifiers ∷ tail ands ∷ tail ors ∷ k
