@@ -7,7 +7,7 @@ use Rattle.pattern_grammar.specs.declared.stop.Stop.TheVariants.{Memory, Syntax}
 use Rattle.pattern_grammar.specs.Tree.{Tree}
 use Rattle.pattern_grammar.specs.Grammar.{IsPattern}
 use Rattle.pattern_grammar.specs.inner.Machine.{Want, thens, reach, go, wants_pattern}
-use Rattle.pattern_grammar.specs.inner.Reading.{Found, Stuck, Refused, done}
+use Rattle.pattern_grammar.specs.inner.Machine.{Found, Stuck, Refused, done}
 use Rattle.pattern_grammar.specs.Answer.{EndsAt, MisfitAt, Misfit}
 use Rattle.pattern_grammar.proofs.LeadsLemmas.{reach-append, go_is, leads_past}
 use Rattle.pattern_grammar.proofs.CompletionLemmas.{front_whole}

@@ -4,7 +4,7 @@ ghost use Rattle.pattern_grammar.specs.Tree.{Tree, shape};
 ghost use Rattle.pattern_grammar.specs.Answer.{Misfit};
 ghost use Rattle.pattern_grammar.specs.Depth.{IsShallow};
 ghost use Rattle.pattern_grammar.specs.inner.Machine.{wants_pattern, wants_ors, wants_ands, wants_unit, wants_start, wants_qualifier};
-ghost use Rattle.pattern_grammar.specs.inner.Reading.{Found, Refused, Lacks, done};
+ghost use Rattle.pattern_grammar.specs.inner.Machine.{Found, Refused, Lacks, done};
 
 use crate::make::{make_both, make_either, make_qualified, make_then};
 use crate::parse_comparison::cor;
