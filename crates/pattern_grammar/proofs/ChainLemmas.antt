@@ -3,7 +3,7 @@ use Rattle.std.proofs.Common.{◌≡◌, List, [], ◌∷◌, ◌++◌, Some, sy
 use Rattle.pattern_tokens.specs.declared.token.Token.{Token}
 use Rattle.pattern_grammar.specs.TokenClass.{IsA}
 use Rattle.pattern_grammar.specs.inner.Machine.{Want, WantedLine, line, Tail, tail, opening, next}
-use Rattle.pattern_grammar.specs.inner.Reading.{BeginsLine, Lacks, Leads, Found, Stuck, done, open_for}
+use Rattle.pattern_grammar.specs.inner.Machine.{BeginsLine, Lacks, Leads, Found, Stuck, done, open_for}
 use Rattle.pattern_grammar.proofs.LeadsLemmas.{leads_then, halts_then, leads_before, halts_before, leads_token, leads_past}
 use Rattle.pattern_grammar.proofs.CompletionLemmas.{front_behind}
 

@@ -6,7 +6,7 @@ use Rattle.pattern_grammar.specs.declared.class.TokenClass.TheVariants.{Only, Eq
 use Rattle.pattern_grammar.specs.declared.comparison.CheckTree.TheVariants as check_tree
 use Rattle.pattern_grammar.specs.Grammar.{AreConstants, constants_one, constants_more, IsCheck, check_equality, check_order, check_among, check_textual}
 use Rattle.pattern_grammar.specs.inner.Machine.{Want, one, line, tail, check, commas, wants_constants, wants_check, go}
-use Rattle.pattern_grammar.specs.inner.Reading.{BeginsLine, Lacks, LacksOperator, Found, Stuck, done, open_for}
+use Rattle.pattern_grammar.specs.inner.Machine.{BeginsLine, Lacks, LacksOperator, Found, Stuck, done, open_for}
 use Rattle.pattern_grammar.proofs.SameKindLemmas.{only, order_apart, textual_apart, textual_apart_order}
 use Rattle.pattern_grammar.proofs.LeadsLemmas.{halts_one, leads_one, leads_then, halts_then, leads_before}
 use Rattle.pattern_grammar.proofs.CompletionLemmas.{some, front_constants, front_check}

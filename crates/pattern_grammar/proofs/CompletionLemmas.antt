@@ -4,7 +4,7 @@ use Rattle.pattern_tokens.specs.declared.token.Token.{Token}
 use Rattle.pattern_tokens.specs.declared.token.TokenKind.{TokenKind}
 use Rattle.pattern_tokens.specs.declared.token.TokenKind.TheVariants.{Word, Colon, Equal, Number, SquareOpen, SquareClose}
 use Rattle.pattern_grammar.specs.Grammar.{IsPath, path_first, IsCheck, check_equality, AreConstants, constants_one, IsTest, test_compare, cand_one, cor_one, IsStart, start_leaf}
-use Rattle.pattern_grammar.specs.inner.Reading.{Front}
+use Rattle.pattern_grammar.specs.inner.Machine.{Front}
 
 -- a token of the kind
 abbrev pub some : TokenKind → Token

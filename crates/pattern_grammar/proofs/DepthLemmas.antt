@@ -8,8 +8,8 @@ use Rattle.pattern_grammar.specs.Tree.{Tree}
 use Rattle.pattern_grammar.specs.Grammar.{IsPattern}
 use Rattle.pattern_grammar.specs.Answer.{BeginsPattern, MisfitAt, Misfit}
 use Rattle.pattern_grammar.specs.Depth.{IsTooMany, NoneTooMany, FirstTooMany, IsShallow}
-use Rattle.pattern_grammar.specs.Place.{place, SyntaxAt, DeepAt}
-use Rattle.pattern_grammar.specs.inner.Counting.{IsFirstAt}
+use Rattle.pattern_grammar.specs.Answer.{place, SyntaxAt, DeepAt}
+use Rattle.pattern_grammar.specs.inner.Machine.{IsFirstAt}
 use Rattle.pattern_grammar.proofs.CompletionLemmas.{front_whole}
 use Rattle.pattern_grammar.proofs.DerivesLemmas.{completes_front}
 

@@ -12,7 +12,7 @@ use Rattle.pattern_grammar.specs.Tree.{Comparison, test as test_tree, group, Tre
 use Rattle.pattern_grammar.specs.TokenClass.{IsA}
 use Rattle.pattern_grammar.specs.Grammar.{IsStep, step_name, step_index, IsPath, path_first, path_further, AreConstants, constants_one, constants_more, IsCheck, check_equality, check_order, check_among, check_textual, IsTest, test_group, test_exists, test_not_exists, test_compare, test_not_compare, IsCand, cand_one, cand_more, IsCor, cor_one, cor_more, IsQualifier, qualifier_within, qualifier_repeats, qualifier_between, IsStart, start_leaf, start_group, IsUnit, unit_one, unit_more, IsAnds, ands_one, ands_more, IsOrs, ors_one, ors_more, IsPattern, pattern_one, pattern_more}
 use Rattle.pattern_grammar.specs.Fronts.{GrammarLine, pattern, ors, ands, unit, qualifier, cor, cand, test, compare, path, Part, one, line, token, ◌then◌, ◌or◌, many, rule, Derives, is_one, is_line, is_both, is_left, is_right, no_more, one_more, absent, present, FrontOf}
-use Rattle.pattern_grammar.specs.inner.Reading.{Front}
+use Rattle.pattern_grammar.specs.inner.Machine.{Front}
 use Rattle.pattern_grammar.proofs.FrontOfLemmas.{complete, front}
 
 -- one more at the end

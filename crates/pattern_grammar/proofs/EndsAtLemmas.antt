@@ -1,15 +1,14 @@
 -- Where reading ends, for a list of tokens as a whole.
-use Rattle.std.proofs.Common.{◌≡◌, true, false, List, [], ◌∷◌, ◌++◌, Option, Some, None, refl, sym, ap, ◌∙◌, append-nil, append_assoc, Result, Ok, Err, IsErrAnd, length, ◌==◌, arith}
+use Rattle.std.proofs.Common.{◌≡◌, true, false, List, [], ◌∷◌, ◌++◌, Option, Some, None, refl, sym, ap, ◌∙◌, append-nil, append_assoc, length, ◌==◌, arith}
 use Rattle.std.proofs.lemmas.Bool.{eqb-true}
 use Rattle.pattern_tokens.specs.declared.token.Token.{Token}
 use Rattle.pattern_grammar.specs.declared.stop.Stop.{Stop}
 use Rattle.pattern_grammar.specs.declared.stop.Stop.TheVariants.{Memory, Syntax}
-use Rattle.pattern_grammar.specs.declared.pattern.PatternTree.{PatternTree}
 use Rattle.pattern_grammar.specs.Tree.{Tree}
 use Rattle.pattern_grammar.specs.Grammar.{IsPattern}
 use Rattle.pattern_grammar.specs.inner.Machine.{Want, thens, reach, go, wants_pattern}
-use Rattle.pattern_grammar.specs.inner.Reading.{Found, Stuck, Refused, done}
-use Rattle.pattern_grammar.specs.Answer.{EndsAt, MisfitAt, Misfit, Gives}
+use Rattle.pattern_grammar.specs.inner.Machine.{Found, Stuck, Refused, done}
+use Rattle.pattern_grammar.specs.Answer.{EndsAt, MisfitAt, Misfit}
 use Rattle.pattern_grammar.proofs.LeadsLemmas.{reach-append, go_is, leads_past}
 use Rattle.pattern_grammar.proofs.CompletionLemmas.{front_whole}
 use Rattle.pattern_grammar.proofs.MachineLemmas.{run_pattern}
@@ -61,14 +60,3 @@ spells_whole {rest = rest} f h = rw (f.all_are, none_left rest h, append-nil) f.
 pub misfit_unspelled : {ts rest : List Token} → MisfitAt ts rest → (p : Tree) → ¬ IsPattern ts p
 misfit_unspelled {rest = []} m p x = m.ends p (let e = m.all_are ∙ append-nil m.read in rw e at x)
 misfit_unspelled {rest = t ∷ rest} m p x = m.ends (completes_front (record { more = rest; value = p; spells = rw append_assoc (rw m.all_are at x) }))
-
-pub unspelled_rest : {ts : List Token} (rest : List Token) {p : Tree} → Found IsPattern wants_pattern done ts p rest → (length rest == 0) ≡ false → (q : Tree) → ¬ IsPattern ts q
-unspelled_rest rest f h q x = misfit_unspelled (misfit_rest rest f h) q x
-
-pub gives_none : (e : Stop) {ts : List Token} → Refused IsPattern wants_pattern ts e → (p : Tree) → IsPattern ts p → e ≡ Memory
-gives_none Memory h p x = refl
-gives_none (Syntax r) h p x = absurd (misfit_unspelled (misfit h) p x)
-
-pub gives_exit : (r : Result PatternTree Stop) (e : Stop) (p : Tree) → IsErrAnd r (λ y. y ≡ e) → e ≡ Memory → Gives p r
-gives_exit (Ok q) e p h g = absurd h
-gives_exit (Err y) e p h g = h ∙ g

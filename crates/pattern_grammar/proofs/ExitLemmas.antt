@@ -5,7 +5,7 @@ use Rattle.pattern_grammar.specs.declared.class.TokenClass.{TokenClass}
 use Rattle.pattern_grammar.specs.declared.stop.Stop.{Stop}
 use Rattle.pattern_grammar.specs.declared.stop.Stop.TheVariants.{Memory, Syntax}
 use Rattle.pattern_grammar.specs.inner.Machine.{Want}
-use Rattle.pattern_grammar.specs.inner.Reading.{IsAt, Lacks, Stuck, Refused}
+use Rattle.pattern_grammar.specs.inner.Machine.{IsAt, Lacks, Stuck, Refused}
 
 pub passed : {T E : Type 0} (r : Result T E) (e : E) (P : E → Type 0) → IsErrAnd r (λ y. y ≡ e) → P e → IfErr r P
 passed (Ok x) e P h p = tt

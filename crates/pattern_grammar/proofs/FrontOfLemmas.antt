@@ -1,12 +1,13 @@
 -- What is a front goes on to something derived, and what begins something derived is a front.
-use Rattle.std.proofs.Common.{◌≡◌, true, List, [], ◌∷◌, ◌++◌, inl, inr, refl, append_assoc, ℕ, nat_eq, arith}
-use Rattle.std.proofs.lemmas.Bool.Decides.{nat_tests}
+use Rattle.std.proofs.Common.{◌≡◌, true, List, [], ◌∷◌, ◌++◌, inl, inr, refl, append_assoc}
+use denote.Enum.Bare.{true_same}
+use Rattle.pattern_tokens.specs.contracts.token.TokenKind.{the_type}
 use Rattle.pattern_tokens.specs.declared.token.Token.{Token}
 use Rattle.pattern_tokens.specs.declared.token.TokenKind.{TokenKind}
 use Rattle.pattern_tokens.specs.declared.token.TokenKind.TheVariants.{Word, Number, Equal, Less, Like, Within, Dot, Colon, Seconds, SquareOpen, SquareClose}
 use Rattle.pattern_grammar.specs.declared.class.TokenClass.{TokenClass}
 use Rattle.pattern_grammar.specs.declared.class.TokenClass.TheVariants.{Only, Root, Name, Index, Equality, Order, Textual, Ordered, Constant, Qualifying, Stepping}
-use Rattle.pattern_grammar.specs.TokenClass.{is_in, code}
+use Rattle.pattern_grammar.specs.TokenClass.{is_in}
 use Rattle.pattern_grammar.specs.Fronts.{GrammarLine, pattern, ors, ands, unit, qualifier, cor, cand, test, compare, path, Part, one, line, ◌then◌, ◌or◌, many, maybe, rule, Derives, is_one, is_line, is_both, is_left, is_right, no_more, one_more, absent, present, FrontOf, before_one, after_one, of_line, in_first, in_second, of_left, of_right, before_many, in_many, in_more, before_maybe, in_maybe}
 use Rattle.pattern_grammar.proofs.CompletionLemmas.{some}
 use Rattle.pattern_grammar.proofs.CutLemmas.{cut}
@@ -25,11 +26,8 @@ kind_in Constant = Number
 kind_in Qualifying = Within
 kind_in Stepping = Dot
 
-same_self : (n : ℕ) → nat_eq n n ≡ true
-same_self n = grind (arith, nat_tests)
-
 kind_in-is : (class : TokenClass) → is_in class (kind_in class) ≡ true
-kind_in-is (Only kind) = same_self (code kind)
+kind_in-is (Only kind) = true_same the_type kind kind refl
 kind_in-is Root = refl
 kind_in-is Name = refl
 kind_in-is Index = refl

@@ -4,7 +4,7 @@ use Rattle.pattern_tokens.specs.declared.token.Token.{Token}
 use Rattle.pattern_grammar.specs.declared.class.TokenClass.{TokenClass}
 use Rattle.pattern_grammar.specs.TokenClass.{IsA}
 use Rattle.pattern_grammar.specs.inner.Machine.{Want, one, Tail, opening, next, reach, go}
-use Rattle.pattern_grammar.specs.inner.Reading.{Lacks, Leads, Halts, done, open_for}
+use Rattle.pattern_grammar.specs.inner.Machine.{Lacks, Leads, Halts, done, open_for}
 
 pub reach-append : (s : Option (List Want)) (a b : List Token) → reach s (a ++ b) ≡ reach (reach s a) b
 reach-append s [] b = refl

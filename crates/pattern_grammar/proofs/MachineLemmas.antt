@@ -13,7 +13,7 @@ use Rattle.pattern_grammar.specs.TokenClass.{is_in, IsA}
 use Rattle.pattern_grammar.specs.Tree.{Comparison, Tree}
 use Rattle.pattern_grammar.specs.Grammar.{IsStep, step_name, step_index, IsPath, path_first, path_further, AreConstants, constants_one, constants_more, IsCheck, check_equality, check_order, check_among, check_textual, IsTest, test_group, test_exists, test_not_exists, test_compare, test_not_compare, IsCand, cand_one, cand_more, IsCor, cor_one, cor_more, IsQualifier, qualifier_within, qualifier_repeats, qualifier_between, IsStart, start_leaf, start_group, IsUnit, unit_one, unit_more, IsAnds, ands_one, ands_more, IsOrs, ors_one, ors_more, IsPattern, pattern_one, pattern_more}
 use Rattle.pattern_grammar.specs.inner.Machine.{Want, one, line, tail, Tail, turn, step, qualifier, steps, commas, cands, cors, qualifiers, ands, ors, thens, wants_step, wants_path, wants_constants, wants_check, wants_test, wants_cand, wants_cor, wants_qualifier, wants_start, wants_unit, wants_ands, wants_ors, wants_pattern, opening}
-use Rattle.pattern_grammar.specs.inner.Reading.{Lacks, LacksTestWord, Leads, done, open_for}
+use Rattle.pattern_grammar.specs.inner.Machine.{Lacks, LacksTestWord, Leads, done, open_for}
 use Rattle.pattern_grammar.proofs.SameKindLemmas.{only, order_apart, textual_apart, textual_apart_order, root_apart, check_apart}
 use Rattle.pattern_grammar.proofs.LeadsLemmas.{leads_one, leads_then, leads_before, leads_token, leads_past}
 use Rattle.pattern_grammar.proofs.TestLemmas.{as_path, as_check, negated}

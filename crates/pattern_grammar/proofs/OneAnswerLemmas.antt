@@ -6,7 +6,7 @@ use Rattle.pattern_grammar.specs.declared.refusal.SyntaxRefusal.TheVariants.{Syn
 use Rattle.pattern_grammar.specs.Tree.{Tree}
 use Rattle.pattern_grammar.specs.Answer.{BeginsPattern, EndsAt, MisfitAt}
 use Rattle.pattern_grammar.specs.Depth.{FirstTooMany}
-use Rattle.pattern_grammar.specs.Place.{place, SyntaxAt, DeepAt, IsMisread, IsTreeOf}
+use Rattle.pattern_grammar.specs.Answer.{place, SyntaxAt, DeepAt, IsMisread, IsTreeOf}
 use Rattle.pattern_grammar.proofs.CutLemmas.{Longer, cut}
 use Rattle.pattern_grammar.proofs.DerivesLemmas.{front_completes, completes_front}
 use Rattle.pattern_grammar.proofs.DepthLemmas.{split_through}

@@ -11,7 +11,7 @@ use Rattle.pattern_grammar.specs.TokenClass.{is_in}
 use Rattle.pattern_grammar.specs.Tree.{Comparison, Tree, all, any, both, either, followed}
 use Rattle.pattern_grammar.specs.Grammar.{IsStep, step_name, step_index, IsPath, path_first, path_further, AreConstants, constants_one, constants_more, IsCheck, check_equality, check_order, check_among, check_textual, IsTest, test_group, test_exists, test_not_exists, test_compare, test_not_compare, IsCand, cand_one, cand_more, IsCor, cor_one, cor_more, IsQualifier, qualifier_within, qualifier_repeats, qualifier_between, IsStart, start_leaf, start_group, IsUnit, unit_one, unit_more, IsAnds, ands_one, ands_more, IsOrs, ors_one, ors_more, IsPattern, pattern_one, pattern_more}
 use Rattle.pattern_grammar.specs.inner.Machine.{start, turn, test, check, step, qualifier, steps, commas, cands, cors, qualifiers, ands, ors, thens}
-use Rattle.pattern_grammar.specs.inner.Reading.{Lacks, LacksTestWord}
+use Rattle.pattern_grammar.specs.inner.Machine.{Lacks, LacksTestWord}
 use Rattle.pattern_grammar.proofs.SameKindLemmas.{only, order_apart, textual_apart, textual_apart_order}
 use Rattle.pattern_grammar.proofs.MachineLemmas.{apart, path_begins, check_begins}
 use Rattle.pattern_grammar.proofs.TreeBuilderLemmas.{Built, mark, a_step, a_path, a_list, a_check, a_comparison, a_qualifier, a_tree, Job, one, line, tail, act, name_step, index_step, first_path, further_path, first_list, further_list, compare_check, textual_check, among_check, exists_test, not_exists_test, compare_test, not_compare_test, group_test, join_comparison, within, repeats, between, leaf_tree, group_tree, qualify_tree, join_tree, jobs_path, jobs_constants, jobs_cor, jobs_pattern, at, moves, go, Builds, done, open_for, same, adding, builds_then, builds_before, builds_up, builds_past}

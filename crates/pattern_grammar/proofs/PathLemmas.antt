@@ -7,7 +7,7 @@ use Rattle.pattern_grammar.specs.declared.path.StepTree.{StepTree}
 use Rattle.pattern_grammar.specs.declared.path.StepTree.TheVariants as step_tree
 use Rattle.pattern_grammar.specs.Grammar.{IsStep, step_name, step_index, IsPath, path_first, path_further, further}
 use Rattle.pattern_grammar.specs.inner.Machine.{Want, one, line, tail, step, steps, wants_step, wants_path, go}
-use Rattle.pattern_grammar.specs.inner.Reading.{BeginsLine, Lacks, Found, Stuck, done, open_for}
+use Rattle.pattern_grammar.specs.inner.Machine.{BeginsLine, Lacks, Found, Stuck, done, open_for}
 use Rattle.pattern_grammar.proofs.SameKindLemmas.{only}
 use Rattle.pattern_grammar.proofs.LeadsLemmas.{halts_one}
 use Rattle.pattern_grammar.proofs.CompletionLemmas.{some, front_path}

@@ -8,7 +8,7 @@ use Rattle.pattern_grammar.specs.declared.qualifier.Qualifier.TheVariants as qua
 use Rattle.pattern_grammar.specs.Tree.{Tree, leaf, both, either, followed, qualified}
 use Rattle.pattern_grammar.specs.Grammar.{IsCor, IsQualifier, qualifier_within, qualifier_repeats, qualifier_between, IsStart, start_leaf, start_group, IsUnit, unit_one, unit_more, IsAnds, ands_one, ands_more, IsOrs, ors_one, ors_more, IsPattern, pattern_one, pattern_more}
 use Rattle.pattern_grammar.specs.inner.Machine.{Want, one, line, start, qualifier, qualifiers, ands, ors, thens, wants_qualifier, wants_start, wants_unit, wants_ands, wants_ors, wants_cor, wants_pattern, go}
-use Rattle.pattern_grammar.specs.inner.Reading.{BeginsLine, Lacks, Found, Stuck, done, open_for}
+use Rattle.pattern_grammar.specs.inner.Machine.{BeginsLine, Lacks, Found, Stuck, done, open_for}
 use Rattle.pattern_grammar.proofs.SameKindLemmas.{only}
 use Rattle.pattern_grammar.proofs.LeadsLemmas.{halts_one, leads_before, halts_before}
 use Rattle.pattern_grammar.proofs.CompletionLemmas.{some, front_start}

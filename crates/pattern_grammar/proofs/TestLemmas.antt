@@ -12,7 +12,7 @@ use Rattle.pattern_grammar.specs.TokenClass.{IsA}
 use Rattle.pattern_grammar.specs.Tree.{Comparison, test as test_tree, group, all, any}
 use Rattle.pattern_grammar.specs.Grammar.{IsPath, IsCheck, IsTest, test_group, test_exists, test_not_exists, test_compare, test_not_compare, IsCand, cand_one, cand_more, IsCor, cor_one, cor_more}
 use Rattle.pattern_grammar.specs.inner.Machine.{Want, one, line, tail, WantedLine, test, turn, cands, cors, wants_path, wants_check, wants_test, wants_cor, next, go}
-use Rattle.pattern_grammar.specs.inner.Reading.{BeginsLine, Lacks, LacksTestWord, Leads, Found, Stuck, done}
+use Rattle.pattern_grammar.specs.inner.Machine.{BeginsLine, Lacks, LacksTestWord, Leads, Found, Stuck, done}
 use Rattle.pattern_grammar.proofs.SameKindLemmas.{only}
 use Rattle.pattern_grammar.proofs.LeadsLemmas.{halts_one, leads_one, leads_then, halts_then, leads_before, halts_before, leads_token}
 use Rattle.pattern_grammar.proofs.CompletionLemmas.{some, front_path, front_check, front_behind, front_before}

@@ -17,7 +17,7 @@ use Rattle.pattern_grammar.specs.TokenClass.{is_in}
 use Rattle.pattern_grammar.specs.Tree.{Comparison, test as test_of, group, all, any, Tree, leaf, both, either, followed, qualified}
 use Rattle.pattern_grammar.specs.Grammar.{further}
 use Rattle.pattern_grammar.specs.inner.Machine.{WantedLine, start, qualifier, test, turn, check, step, Tail, qualifiers, ands, ors, thens, cands, cors, steps, commas, opening}
-use Rattle.pattern_grammar.specs.inner.Reading.{Lacks}
+use Rattle.pattern_grammar.specs.inner.Machine.{Lacks}
 
 -- what was built
 pub data Built : Type 0 where

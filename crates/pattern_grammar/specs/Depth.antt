@@ -3,8 +3,7 @@
 use Rattle.std.specs.Prelude.{◌≡◌, ℕ, ◌+◌, ◌≤◌, ◌⊎◌, List, [], ◌∷◌, ◌++◌, count_by}
 use Rattle.pattern_tokens.specs.declared.token.Token.{Token}
 use Rattle.pattern_tokens.specs.declared.token.TokenKind.TheVariants.{RoundOpen, RoundClose, Among}
-use Rattle.pattern_grammar.specs.declared.class.TokenClass.{TokenClass}
-use Rattle.pattern_grammar.specs.declared.class.TokenClass.TheVariants.{Only, Qualifying}
+use Rattle.pattern_grammar.specs.declared.class.TokenClass.{TokenClass, TheVariants.Only, TheVariants.Qualifying}
 use Rattle.pattern_grammar.specs.TokenClass.{is_in, IsA}
 
 -- how many of the tokens are of the class

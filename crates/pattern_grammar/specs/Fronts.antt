@@ -1,25 +1,14 @@
 -- The lines of the grammar (STIX 2.1, section 9) as they are written, what is derived from them, and
 -- what begins so: the fronts.
 use Rattle.std.specs.Prelude.{List, [], ◌∷◌, ◌++◌}
-use Rattle.pattern_tokens.specs.declared.token.Token.{Token}
-use Rattle.pattern_tokens.specs.declared.token.TokenKind.{TokenKind}
+use Rattle.pattern_tokens.specs.declared.token.{Token.Token, TokenKind.TokenKind}
 use Rattle.pattern_tokens.specs.declared.token.TokenKind.TheVariants.{SquareOpen, SquareClose, RoundOpen, RoundClose, Dot, Colon, Comma, And, Or, Not, FollowedBy, Within, Seconds, Repeats, Times, Start, Stop, Among, Exists, Number, String, Timestamp}
-use Rattle.pattern_grammar.specs.declared.class.TokenClass.{TokenClass}
+use Rattle.pattern_grammar.specs.{declared.class.TokenClass.TokenClass, TokenClass.IsA}
 use Rattle.pattern_grammar.specs.declared.class.TokenClass.TheVariants.{Only, Root, Name, Index, Equality, Order, Textual, Ordered, Constant}
-use Rattle.pattern_grammar.specs.TokenClass.{IsA}
 
 -- the names of the lines
 pub data GrammarLine : Type 0 where
-  pattern : GrammarLine
-  ors : GrammarLine
-  ands : GrammarLine
-  unit : GrammarLine
-  qualifier : GrammarLine
-  cor : GrammarLine
-  cand : GrammarLine
-  test : GrammarLine
-  compare : GrammarLine
-  path : GrammarLine
+  pattern ors ands unit qualifier cor cand test compare path : GrammarLine
 
 infixr 20 ◌then◌
 infixr 10 ◌or◌
@@ -28,10 +17,8 @@ infixr 10 ◌or◌
 pub data Part : Type 0 where
   one : TokenClass → Part
   line : GrammarLine → Part
-  ◌then◌ : Part → Part → Part
-  ◌or◌ : Part → Part → Part
-  many : Part → Part
-  maybe : Part → Part
+  ◌then◌ ◌or◌ : Part → Part → Part
+  many maybe : Part → Part
 
 -- a token of this kind
 abbrev pub token : TokenKind → Part

@@ -4,14 +4,11 @@ use Rattle.std.specs.Prelude.{List, [], ◌∷◌, ◌++◌, true, false}
 use Rattle.pattern_tokens.specs.declared.token.Token.{Token}
 use Rattle.pattern_tokens.specs.declared.token.TokenKind.TheVariants as kind
 use Rattle.pattern_grammar.specs.declared.class.TokenClass.TheVariants.{Only, Root, Name, Index, Equality, Order, Textual, Ordered, Constant}
-use Rattle.pattern_grammar.specs.declared.path.StepTree.{StepTree}
+use Rattle.pattern_grammar.specs.declared.{path.StepTree.StepTree, path.PathTree.PathTree, comparison.CheckTree.CheckTree}
 use Rattle.pattern_grammar.specs.declared.path.StepTree.TheVariants as step
-use Rattle.pattern_grammar.specs.declared.path.PathTree.{PathTree}
-use Rattle.pattern_grammar.specs.declared.comparison.CheckTree.{CheckTree}
 use Rattle.pattern_grammar.specs.declared.comparison.CheckTree.TheVariants as check
-use Rattle.pattern_grammar.specs.declared.qualifier.Qualifier.{Qualifier}
+use Rattle.pattern_grammar.specs.{declared.qualifier.Qualifier.Qualifier, TokenClass.IsA}
 use Rattle.pattern_grammar.specs.declared.qualifier.Qualifier.TheVariants as qualifier
-use Rattle.pattern_grammar.specs.TokenClass.{IsA}
 use Rattle.pattern_grammar.specs.Tree.{Comparison, test, group, all, any, Tree, leaf, both, either, followed, qualified}
 
 -- step = "." name | "[" ( Number | "*" ) "]"

@@ -4,6 +4,5 @@ pub mod Grammar
 pub mod Fronts
 pub mod Answer
 pub mod Depth
-pub mod Place
 pub mod SyntaxRefusal
 pub mod inner

@@ -1,7 +1,6 @@
 -- What a refusal of tokens is called, and where it stands.
 use Rattle.std.specs.Prelude.{ℕ, List, codes}
-use Rattle.pattern_grammar.specs.declared.refusal.SyntaxRefusal.{SyntaxRefusal}
-use Rattle.pattern_grammar.specs.declared.refusal.SyntaxRefusal.TheVariants.{Syntax, TooDeep}
+use Rattle.pattern_grammar.specs.declared.refusal.SyntaxRefusal.{SyntaxRefusal, TheVariants.Syntax, TheVariants.TooDeep}
 
 -- its name
 abbrev pub name_of : SyntaxRefusal → List ℕ

@@ -1,28 +1,23 @@
 -- Syntax trees without where they lie in memory: chains of an operator go from the left.
 use Rattle.std.specs.Prelude.{List, [], ◌∷◌}
 use Rattle.pattern_tokens.specs.declared.token.Token.{Token}
-use Rattle.pattern_grammar.specs.declared.qualifier.Qualifier.{Qualifier}
-use Rattle.pattern_grammar.specs.declared.comparison.TestTree.{TestTree}
+use Rattle.pattern_grammar.specs.declared.{qualifier.Qualifier.Qualifier, comparison.TestTree.TestTree}
 use Rattle.pattern_grammar.specs.declared.comparison.ComparisonTree.{ComparisonTree, fold-ComparisonTree}
 use Rattle.pattern_grammar.specs.declared.comparison.Operand.TheOpen.{ComparisonTree-F, Conjunction-F, Operand-F}
 use Rattle.pattern_grammar.specs.declared.comparison.Conjunction.{Conjunction, fold-Conjunction}
 use Rattle.pattern_grammar.specs.declared.comparison.Operand.{Operand, fold-Operand}
-use Rattle.pattern_grammar.specs.declared.pattern.PatternTree.{PatternTree, fold-PatternTree}
-use Rattle.pattern_grammar.specs.declared.pattern.PatternTree.TheOpen.{PatternTree-F}
+use Rattle.pattern_grammar.specs.declared.pattern.PatternTree.{PatternTree, fold-PatternTree, TheOpen.PatternTree-F}
 
 -- what stands in the brackets of a pattern
 pub data Comparison : Type 0 where
   test : TestTree → Comparison
   group : Token → Comparison → Comparison
-  all : Comparison → Comparison → Comparison
-  any : Comparison → Comparison → Comparison
+  all any : Comparison → Comparison → Comparison
 
 -- a pattern
 pub data Tree : Type 0 where
   leaf : Comparison → Tree
-  both : Tree → Tree → Tree
-  either : Tree → Tree → Tree
-  followed : Tree → Tree → Tree
+  both either followed : Tree → Tree → Tree
   qualified : Tree → Qualifier → Tree
 
 -- joined from the left, one after another

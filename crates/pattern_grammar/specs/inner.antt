@@ -1,3 +1,1 @@
 pub mod Machine
-pub mod Reading
-pub mod Counting

@@ -1,5 +1,5 @@
 ghost use Rattle.std.specs.Prelude.{◌≡◌};
-ghost use Rattle.pattern_grammar.specs.TokenClass.{is_in};
+ghost use Rattle.pattern_grammar.specs.TokenClass.{is_in, is_ordered};
 
 use pattern_tokens::TokenKind;
 
@@ -54,24 +54,10 @@ impl TokenClass {
                     TokenKind::Like | TokenKind::Subset | TokenKind::Superset
                 )
             }
-            TokenClass::Ordered => matches!(
-                kind,
-                TokenKind::Number
-                    | TokenKind::String
-                    | TokenKind::Hex
-                    | TokenKind::Binary
-                    | TokenKind::Timestamp
-            ),
-            TokenClass::Constant => matches!(
-                kind,
-                TokenKind::Number
-                    | TokenKind::String
-                    | TokenKind::Hex
-                    | TokenKind::Binary
-                    | TokenKind::Timestamp
-                    | TokenKind::TrueWord
-                    | TokenKind::FalseWord
-            ),
+            TokenClass::Ordered => is_ordered(kind),
+            TokenClass::Constant => {
+                is_ordered(kind) || matches!(kind, TokenKind::TrueWord | TokenKind::FalseWord)
+            }
             TokenClass::Qualifying => {
                 matches!(
                     kind,
@@ -81,4 +67,18 @@ impl TokenClass {
             TokenClass::Stepping => matches!(kind, TokenKind::Dot | TokenKind::SquareOpen),
         }
     }
+}
+
+/// Whether a token of the kind is a constant that has an order.
+fn is_ordered(kind: TokenKind) -> bool
+    ensures { result ≡ is_ordered kind }
+{
+    matches!(
+        kind,
+        TokenKind::Number
+            | TokenKind::String
+            | TokenKind::Hex
+            | TokenKind::Binary
+            | TokenKind::Timestamp
+    )
 }

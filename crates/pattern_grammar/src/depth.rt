@@ -1,7 +1,7 @@
 ghost use Rattle.std.specs.Prelude.{◌≡◌, ◌<◌, ◌^◌, ◌↔◌, IsTrue, List, [], ◌∷◌, ◌++◌, length, IfSome, IfNone};
 ghost use Rattle.pattern_tokens.specs.declared.token.Token.{Token};
 ghost use Rattle.pattern_grammar.specs.Depth.{IsDeepOpen, IsDeepQualifier, IsTooMany, NoneTooMany};
-ghost use Rattle.pattern_grammar.specs.inner.Counting.{CountsOf, IsFirstAt};
+ghost use Rattle.pattern_grammar.specs.inner.Machine.{CountsOf, IsFirstAt};
 
 use crate::TokenClass;
 use pattern_tokens::{Token, TokenKind};

@@ -6,7 +6,7 @@ ghost use Rattle.pattern_grammar.specs.declared.refusal.SyntaxRefusal.{SyntaxRef
 ghost use Rattle.pattern_grammar.specs.Answer.{BeginsPattern, Completes};
 ghost use Rattle.pattern_grammar.specs.Fronts.{Derives, line, pattern};
 ghost use Rattle.pattern_grammar.specs.Grammar.{IsPattern};
-ghost use Rattle.pattern_grammar.specs.Place.{IsMisread, IsTreeOf};
+ghost use Rattle.pattern_grammar.specs.Answer.{IsMisread, IsTreeOf};
 ghost use Rattle.pattern_grammar.specs.Tree.{Tree};
 
 /// Tokens begin a pattern exactly where some list that begins with them spells one.

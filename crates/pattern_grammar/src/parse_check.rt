@@ -1,7 +1,7 @@
 ghost use Rattle.std.specs.Prelude.{IfOk, IfErr};
 ghost use Rattle.pattern_grammar.specs.Grammar.{IsCheck, AreConstants};
 ghost use Rattle.pattern_grammar.specs.inner.Machine.{wants_check, wants_constants};
-ghost use Rattle.pattern_grammar.specs.inner.Reading.{LacksOperator, Found, Refused, done};
+ghost use Rattle.pattern_grammar.specs.inner.Machine.{LacksOperator, Found, Refused, done};
 
 use crate::take::{eat, take};
 use crate::{CheckTree, Stop, TokenClass};

@@ -2,7 +2,7 @@ ghost use Rattle.std.specs.Prelude.{IfOk, IfErr};
 ghost use Rattle.pattern_grammar.specs.Grammar.{IsTest, IsCand, IsCor};
 ghost use Rattle.pattern_grammar.specs.Tree.{compared, conjunction, operand, test};
 ghost use Rattle.pattern_grammar.specs.inner.Machine.{wants_test, wants_cand, wants_cor};
-ghost use Rattle.pattern_grammar.specs.inner.Reading.{Found, Refused, Lacks, LacksTestWord, done};
+ghost use Rattle.pattern_grammar.specs.inner.Machine.{Found, Refused, Lacks, LacksTestWord, done};
 
 use crate::make::make_group;
 use crate::parse_check::check;

@@ -1,7 +1,7 @@
 ghost use Rattle.std.specs.Prelude.{IfOk, IfErr};
 ghost use Rattle.pattern_grammar.specs.Grammar.{IsPath, IsStep};
 ghost use Rattle.pattern_grammar.specs.inner.Machine.{wants_path, wants_step};
-ghost use Rattle.pattern_grammar.specs.inner.Reading.{Found, Refused, done};
+ghost use Rattle.pattern_grammar.specs.inner.Machine.{Found, Refused, done};
 
 use crate::take::{eat, take};
 use crate::{PathTree, StepTree, Stop, TokenClass};

@@ -1,10 +1,10 @@
 ghost use Rattle.std.specs.Prelude.{List, IfOk, IfErr};
 ghost use Rattle.pattern_grammar.specs.Grammar.{IsPattern, IsOrs, IsAnds, IsUnit, IsStart, IsQualifier};
 ghost use Rattle.pattern_grammar.specs.Tree.{Tree, shape};
-ghost use Rattle.pattern_grammar.specs.Answer.{Misfit, Gives};
+ghost use Rattle.pattern_grammar.specs.Answer.{Misfit};
 ghost use Rattle.pattern_grammar.specs.Depth.{IsShallow};
 ghost use Rattle.pattern_grammar.specs.inner.Machine.{wants_pattern, wants_ors, wants_ands, wants_unit, wants_start, wants_qualifier};
-ghost use Rattle.pattern_grammar.specs.inner.Reading.{Found, Refused, Lacks, done};
+ghost use Rattle.pattern_grammar.specs.inner.Machine.{Found, Refused, Lacks, done};
 
 use crate::make::{make_both, make_either, make_qualified, make_then};
 use crate::parse_comparison::cor;
@@ -134,7 +134,6 @@ pub fn parse<'a>(alloc: Global, tokens: &'a [Token]) -> Result<PatternTree, Stop
     requires { IsShallow tokens.now }
     ensures ok { IfOk result (λ p. IsPattern tokens.now (shape p)) }
     ensures err { IfErr result (λ e. Misfit tokens.now e) }
-    ensures only { (p : Tree) → IsPattern tokens.now p → Gives p result }
 {
     let (tree, rest) = whole(alloc, tokens)?;
     if !rest.is_empty() {

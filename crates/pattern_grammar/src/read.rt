@@ -1,6 +1,6 @@
 ghost use Rattle.std.specs.Prelude.{◌≡◌, ◌<◌, ℕ, length, IfOk};
-ghost use Rattle.pattern_grammar.specs.Place.{place, IsMisread, AnswersTree};
-ghost use Rattle.pattern_grammar.specs.inner.Counting.{IsFirstAt};
+ghost use Rattle.pattern_grammar.specs.Answer.{place, IsMisread, AnswersTree};
+ghost use Rattle.pattern_grammar.specs.inner.Machine.{IsFirstAt};
 
 use crate::depth::first_too_many;
 use crate::{PatternTree, Stop, SyntaxRefusal, parse};

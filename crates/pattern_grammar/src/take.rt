@@ -1,5 +1,5 @@
 ghost use Rattle.std.specs.Prelude.{◌≡◌, IfSome, IfNone, IfOk, IfErr, MatchBool};
-ghost use Rattle.pattern_grammar.specs.inner.Reading.{BeginsLine, Lacks, IsAt};
+ghost use Rattle.pattern_grammar.specs.inner.Machine.{BeginsLine, Lacks, IsAt};
 
 use crate::{Stop, TokenClass};
 use pattern_tokens::Token;

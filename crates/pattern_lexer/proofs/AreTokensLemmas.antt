@@ -134,15 +134,13 @@ one_token_more at left (t ∷ tokens) rest token after h next = (h.0, h.1, one_t
 pub read_nothing : (text : List ℕ) (at : ℕ) → ArePassed text 0 at → ReadUpTo text [] at
 read_nothing text at p = record {
   within = p.within;
-  rest = text;
   blanks = slice_range text 0 at;
-  stand = refl;
+  stand = passed_spelled text 0 at p;
   blank = p.blank;
-  left = passed_spelled text 0 at p;
   ends = p.ends;
 }
 
-next_of : (text : List ℕ) (tokens : List Token) (at : ℕ) (token : Token) → (read : ReadUpTo text tokens at) → StandsAt text at token → IsNext (end_of 0 tokens) read.rest token (drop token.to text)
+next_of : (text : List ℕ) (tokens : List Token) (at : ℕ) (token : Token) → (read : ReadUpTo text tokens at) → StandsAt text at token → IsNext (end_of 0 tokens) (read.blanks ++ drop at text) token (drop token.to text)
 next_of text tokens at token read stands =
     let part : List ℕ = text_at text token in
     let after : List ℕ = drop token.to text in
@@ -151,14 +149,14 @@ next_of text tokens at token read stands =
     let high = stands.within in
     let from = stands.from in
     let spelled = stands.first.spelled in
-    let total : end_of 0 tokens + length read.rest ≡ 0 + length text = end_is 0 text tokens read.rest read.stand in
-    let rest : length read.rest ≡ length read.blanks + (length text - at) = ap length read.left ∙ length-append read.blanks (drop at text) ∙ ap (λ (n : ℕ). length read.blanks + n) (length-drop at text) in
+    let total : end_of 0 tokens + length (read.blanks ++ drop at text) ≡ 0 + length text = end_is 0 text tokens (read.blanks ++ drop at text) read.stand in
+    let rest : length (read.blanks ++ drop at text) ≡ length read.blanks + (length text - at) = length-append read.blanks (drop at text) ∙ ap (λ (n : ℕ). length read.blanks + n) (length-drop at text) in
     let wide : length part ≡ token.to - token.from = length-take-le (token.to - token.from) (drop token.from text) (let d = length-drop token.from text in omega arith) in
     record {
       blanks = read.blanks;
       text = part;
       blank = read.blank;
-      spelled = read.left ∙ ap (λ (xs : List ℕ). read.blanks ++ xs) spelled ∙ sym (append_assoc read.blanks part after);
+      spelled = ap (λ (xs : List ℕ). read.blanks ++ xs) spelled ∙ sym (append_assoc read.blanks part after);
       first = subst (λ (xs : List ℕ). IsFirst xs token.kind part after) spelled stands.first;
       usable = stands.usable;
       value = stands.value;
@@ -169,19 +167,17 @@ next_of text tokens at token read stands =
 pub read_one : (text : List ℕ) (tokens : List Token) (at next : ℕ) (token : Token) → ReadUpTo text tokens at → StandsAt text at token → ArePassed text token.to next → ReadUpTo text (tokens ++ token ∷ []) next
 read_one text tokens at next token read stands p = record {
   within = p.within;
-  rest = drop token.to text;
   blanks = slice_range text token.to next;
-  stand = one_token_more 0 text tokens read.rest token (drop token.to text) read.stand (next_of text tokens at token read stands);
+  stand = subst (AreTokens 0 text (tokens ++ token ∷ [])) (passed_spelled text token.to next p) (one_token_more 0 text tokens (read.blanks ++ drop at text) token (drop token.to text) read.stand (next_of text tokens at token read stands));
   blank = p.blank;
-  left = passed_spelled text token.to next p;
   ends = p.ends;
 }
 
 pub read_all : (text : List ℕ) (tokens : List Token) (at : ℕ) → length text ≤ at → ReadUpTo text tokens at → TokensOf text tokens
 read_all text tokens at over read =
-    let left : read.rest ≡ read.blanks = read.left ∙ ap (λ (xs : List ℕ). read.blanks ++ xs) (drop_all at text over) ∙ append-nil read.blanks in
+    let left : read.blanks ++ drop at text ≡ read.blanks = ap (λ (xs : List ℕ). read.blanks ++ xs) (drop_all at text over) ∙ append-nil read.blanks in
     record {
-      rest = read.rest;
+      rest = read.blanks ++ drop at text;
       stand = read.stand;
       blank = subst (λ (xs : List ℕ). All IsBlank xs) (sym left) read.blank;
     }
@@ -200,7 +196,7 @@ read_fault text tokens at refusal l read fault =
       tokens = tokens;
       blanks = read.blanks;
       rest = drop at text;
-      stand = subst (λ (xs : List ℕ). AreTokens 0 text tokens xs) read.left read.stand;
+      stand = read.stand;
       blank = read.blank;
       begins = begins_there text at l read.ends;
       refused = subst (λ (n : ℕ). IsRefusalAt n (drop at text) refusal) d fault;

@@ -1,8 +1,8 @@
 ghost use Rattle.std.specs.Prelude.{◌≡◌, ◌≢◌, ◌∷◌, ◌++◌, ℕ, List, IfSome, IfNone, All, flat_map};
 ghost use Rattle.pattern_tokens.specs.Word.{HasAt};
-ghost use Rattle.pattern_tokens.specs.Values.{escaped};
+ghost use Rattle.pattern_tokens.specs.Values.{escaped, IsSpecial};
 ghost use Rattle.pattern_lexer.specs.Reading.{HasNoToken};
-ghost use Rattle.pattern_lexer.specs.inner.Steps.{BeginsToken, HasNoLettered, IsSpecial, letter_kind};
+ghost use Rattle.pattern_lexer.specs.inner.Steps.{BeginsToken, HasNoLettered, letter_kind};
 
 use crate::first::First;
 use crate::runs::{CharacterClass, behind, split_run};

@@ -20,8 +20,8 @@ use Rattle.pattern_meaning.specs.LeafMeaning.{Means, means_group, means_all, mea
 use Rattle.pattern_types.specs.Soundness.{IsSoundLeaf, AreSoundLeaves}
 use Rattle.pattern_meaning.specs.Refusals.{RefusalOfComparison, HasRoot, IsRootless}
 use Rattle.pattern_meaning.specs.inner.Judgement.{IsOutcome, IsLeafOf, IsJudgement}
-use Rattle.pattern_meaning.specs.inner.Outcomes.{IsJoined}
-use Rattle.pattern_meaning.specs.inner.Chains.{AreAll, AreAny}
+use Rattle.pattern_meaning.specs.inner.Judgement.{IsJoined}
+use Rattle.pattern_meaning.specs.inner.Judgement.{AreAll, AreAny}
 use Rattle.pattern_meaning.proofs.LeafRootLemmas.{put_sound, root_of_all, rooted}
 use Rattle.pattern_meaning.proofs.OutcomeLemmas.{outcome_same, joined_outcome, mapped_outcome}
 

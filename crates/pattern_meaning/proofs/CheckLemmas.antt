@@ -22,7 +22,7 @@ use Rattle.pattern_meaning.specs.Meaning.{IsPathOf, IsCheckOf, IsTestOf}
 use Rattle.pattern_types.specs.Soundness.{IsSoundCheck, IsSoundTest}
 use Rattle.pattern_meaning.specs.Refusals.{Lacks, check_refusal, RefusalOfPath, RefusalOfTest}
 use Rattle.pattern_meaning.specs.inner.Judgement.{IsOutcome}
-use Rattle.pattern_meaning.specs.inner.Outcomes.{IsJoined}
+use Rattle.pattern_meaning.specs.inner.Judgement.{IsJoined}
 use Rattle.pattern_meaning.proofs.OutcomeLemmas.{found_outcome, joined_outcome}
 
 -- words that name no block are no address

@@ -9,7 +9,7 @@ use Rattle.pattern_meaning.specs.declared.narrow_pattern.Operator.{Operator}
 use Rattle.pattern_meaning.specs.declared.narrow_pattern.NarrowPattern.{NarrowPattern}
 use Rattle.pattern_meaning.specs.declared.refusal.ValueRefusal.{ValueRefusal}
 use Rattle.pattern_meaning.specs.inner.NarrowPattern.{IsPartOutcome}
-use Rattle.pattern_meaning.specs.inner.Operators.{tree_by}
+use Rattle.pattern_meaning.specs.inner.NarrowPattern.{tree_by}
 use Rattle.pattern_meaning.proofs.ChainLemmas.{joined_more}
 
 -- one part more

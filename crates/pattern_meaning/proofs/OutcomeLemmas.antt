@@ -7,7 +7,7 @@ use Rattle.pattern_meaning.specs.declared.refusal.ValueRefusal.{ValueRefusal}
 use Rattle.pattern_meaning.specs.ValueRefusal.{Precedes, IsEarliest}
 use Rattle.pattern_meaning.specs.Refusals.{Lacks}
 use Rattle.pattern_meaning.specs.inner.Judgement.{IsOutcome}
-use Rattle.pattern_meaning.specs.inner.Outcomes.{IsFirstOfTwo, IsJoined}
+use Rattle.pattern_meaning.specs.inner.Judgement.{IsFirstOfTwo, IsJoined}
 use Rattle.pattern_meaning.proofs.EarliestLemmas.{precedes_itself, first_stays, second_stays}
 
 -- what is refused alone

@@ -18,8 +18,8 @@ use Rattle.pattern_meaning.specs.Refusals.{RefusalOfComparison, RefusalOf, Lacks
 use Rattle.pattern_meaning.specs.Answer.{IsMeant, IsWidelyMeant}
 use Rattle.pattern_meaning.specs.inner.Judgement.{IsOutcome, IsLeafOf}
 use Rattle.pattern_meaning.specs.inner.NarrowPattern.{IsNarrow, UnlessTooWide, IsPartOf, IsPartOutcome}
-use Rattle.pattern_meaning.specs.inner.Operators.{tree_by, meant_by}
-use Rattle.pattern_meaning.specs.inner.Outcomes.{IsJoined}
+use Rattle.pattern_meaning.specs.inner.NarrowPattern.{tree_by, meant_by}
+use Rattle.pattern_meaning.specs.inner.Judgement.{IsJoined}
 use Rattle.flow_values.specs.Answers.{FindsExactly}
 use Rattle.std.specs.Option.{ok_or}
 use Rattle.pattern_meaning.proofs.OutcomeLemmas.{joined_outcome, found_outcome}

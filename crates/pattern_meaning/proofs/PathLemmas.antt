@@ -13,7 +13,7 @@ use Rattle.pattern_meaning.specs.Meaning.{IsStepOf, IsPathOf}
 use Rattle.std.specs.List.{AllZip}
 use Rattle.pattern_meaning.specs.Refusals.{Lacks, IsLongPath, step_refusal, RefusalOfSteps, RefusalOfPath}
 use Rattle.pattern_meaning.specs.inner.Judgement.{IsOutcome}
-use Rattle.pattern_meaning.specs.inner.Outcomes.{IsJoined}
+use Rattle.pattern_meaning.specs.inner.Judgement.{IsJoined}
 use Rattle.std.proofs.lemmas.Slice.Zip.{all_zipped_more, AllZip-long}
 use Rattle.pattern_meaning.proofs.OutcomeLemmas.{found_outcome, outcome_same, joined_outcome}
 

@@ -1,14 +1,9 @@
 -- What working out the meaning of a syntax tree answers.
 use Rattle.std.specs.Prelude.{ℕ, List}
 use Rattle.pattern_grammar.specs.Tree.{Tree}
-use Rattle.pattern_types.specs.PlainPattern.{PlainPattern, plain_pattern}
-use Rattle.pattern_types.specs.Width.{IsTooWide}
-use Rattle.pattern_meaning.specs.declared.meaning.Meaning.{Meaning}
-use Rattle.pattern_meaning.specs.declared.meaning.Meaning.TheVariants.{Sound, TooWide, Refused}
-use Rattle.pattern_meaning.specs.PatternMeaning.{MeansPattern}
-use Rattle.pattern_types.specs.Soundness.{IsSoundPattern}
-use Rattle.pattern_meaning.specs.ValueRefusal.{IsEarliest}
-use Rattle.pattern_meaning.specs.Refusals.{RefusalOf}
+use Rattle.pattern_types.specs.{PlainPattern.PlainPattern, PlainPattern.plain_pattern, Width.IsTooWide, Soundness.IsSoundPattern}
+use Rattle.pattern_meaning.specs.declared.meaning.Meaning.{Meaning, TheVariants.Sound, TheVariants.TooWide, TheVariants.Refused}
+use Rattle.pattern_meaning.specs.{PatternMeaning.MeansPattern, ValueRefusal.IsEarliest, Refusals.RefusalOf}
 
 -- the tree means the pattern, which is sound
 pub record IsMeant (text : List ℕ) (tree : Tree) (pattern : PlainPattern) : Type 0 where

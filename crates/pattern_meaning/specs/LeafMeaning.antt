@@ -1,8 +1,7 @@
 -- What the comparison in the brackets of a pattern means.
 use Rattle.std.specs.Prelude.{ℕ, List}
 use Rattle.pattern_tokens.specs.declared.token.Token.{Token}
-use Rattle.pattern_grammar.specs.declared.comparison.TestTree.{TestTree}
-use Rattle.pattern_grammar.specs.Tree.{Comparison, test, group, all, any}
+use Rattle.pattern_grammar.specs.{declared.comparison.TestTree.TestTree, Tree.Comparison, Tree.test, Tree.group, Tree.all, Tree.any}
 use Rattle.pattern_types.specs.declared.leaf.Test.{Test as OneTest}
 use Rattle.pattern_types.specs.PlainLeaf.{PlainLeaf, one, every, some, PlainLeaves, none, more, put}
 use Rattle.pattern_meaning.specs.Meaning.{IsTestOf}

@@ -2,26 +2,17 @@
 use Rattle.std.specs.Prelude.{◌≡◌, ◌≢◌, ◌⊎◌, ℕ, true, false, List}
 use Rattle.std.specs.List.{AllZip}
 use Rattle.match_cidr.specs.BlockText.{IsBlockText}
-use Rattle.pattern_tokens.specs.declared.token.Token.{Token}
+use Rattle.pattern_tokens.specs.{declared.token.Token.Token, Spans.At, Spans.IsItself, Spans.IsPlace}
 use Rattle.pattern_tokens.specs.declared.token.TokenKind.TheVariants as kind
 use Rattle.pattern_tokens.specs.Values.{IsIntegerText, IsStringText, IsHexText, IsBinaryText, IsTimestampText}
-use Rattle.pattern_grammar.specs.declared.path.StepTree.{StepTree}
-use Rattle.pattern_grammar.specs.declared.path.StepTree.TheVariants.{Name, Index}
-use Rattle.pattern_grammar.specs.declared.path.PathTree.{PathTree}
-use Rattle.pattern_grammar.specs.declared.comparison.CheckTree.{CheckTree}
+use Rattle.pattern_grammar.specs.declared.path.{StepTree.StepTree, StepTree.TheVariants.Name, StepTree.TheVariants.Index, PathTree.PathTree}
+use Rattle.pattern_grammar.specs.declared.comparison.{CheckTree.CheckTree, TestTree.TestTree}
 use Rattle.pattern_grammar.specs.declared.comparison.CheckTree.TheVariants as check_tree
-use Rattle.pattern_grammar.specs.declared.comparison.TestTree.{TestTree}
-use Rattle.pattern_types.specs.declared.path.Step.{Step}
+use Rattle.pattern_types.specs.declared.{path.Step.Step, path.Path.Path, constant.Constant.Constant, check.Check.Check, leaf.Test.Test}
 use Rattle.pattern_types.specs.declared.path.Step.TheVariants as step
-use Rattle.pattern_types.specs.declared.path.Path.{Path}
-use Rattle.pattern_types.specs.declared.constant.Constant.{Constant}
 use Rattle.pattern_types.specs.declared.constant.Constant.TheVariants as constant
-use Rattle.pattern_types.specs.declared.check.Check.{Check}
 use Rattle.pattern_types.specs.declared.check.Check.TheVariants as check
 use Rattle.pattern_types.specs.declared.address_block.AddressBlock.{AddressBlock}
-use Rattle.pattern_types.specs.declared.leaf.Test.{Test}
-use Rattle.pattern_tokens.specs.Spans.{At, IsItself}
-use Rattle.pattern_tokens.specs.Numbers.{IsPlace}
 
 -- a name is a word, or what stands in quotes
 abbrev pub IsNameOf : List ℕ → Token → List ℕ → Type 0

@@ -1,14 +1,11 @@
 -- What the syntax tree of a pattern means.
 use Rattle.std.specs.Prelude.{ℕ, List}
-use Rattle.pattern_tokens.specs.Values.{IsTimestampText}
-use Rattle.pattern_tokens.specs.Spans.{At}
-use Rattle.pattern_tokens.specs.Numbers.{IsCount}
+use Rattle.pattern_tokens.specs.{Values.IsTimestampText, Spans.At, Spans.IsCount}
 use Rattle.pattern_grammar.specs.declared.qualifier.Qualifier.{Qualifier}
 use Rattle.pattern_grammar.specs.declared.qualifier.Qualifier.TheVariants as qualifier
 use Rattle.pattern_grammar.specs.Tree.{Comparison, Tree, leaf, both, either, followed, qualified}
-use Rattle.pattern_types.specs.declared.limit.Limit.{Limit}
+use Rattle.pattern_types.specs.{declared.limit.Limit.Limit, PlainLeaf.PlainLeaf}
 use Rattle.pattern_types.specs.declared.limit.Limit.TheVariants as limit
-use Rattle.pattern_types.specs.PlainLeaf.{PlainLeaf}
 use Rattle.pattern_types.specs.PlainPattern.{PlainPattern, a_leaf, a_both, an_either, a_then, a_limited}
 use Rattle.pattern_meaning.specs.LeafMeaning.{Means}
 

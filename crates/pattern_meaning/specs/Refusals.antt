@@ -1,25 +1,15 @@
 -- What is refused in a syntax tree by the values of its tokens.
 use Rattle.std.specs.Prelude.{◌≡◌, ℕ, ◌<◌, ◌⊎◌, List, [], ◌∷◌, length}
-use Rattle.pattern_tokens.specs.declared.token.Token.{Token}
-use Rattle.pattern_tokens.specs.declared.token.TokenKind.{TokenKind}
+use Rattle.pattern_tokens.specs.{declared.token.Token.Token, declared.token.TokenKind.TokenKind, Spans.At, Spans.IsItself}
 use Rattle.pattern_tokens.specs.declared.token.TokenKind.TheVariants as kind
-use Rattle.pattern_tokens.specs.Spans.{At, IsItself}
-use Rattle.pattern_grammar.specs.declared.path.StepTree.{StepTree}
-use Rattle.pattern_grammar.specs.declared.path.StepTree.TheVariants.{Name, Index}
-use Rattle.pattern_grammar.specs.declared.path.PathTree.{PathTree}
-use Rattle.pattern_grammar.specs.declared.comparison.CheckTree.{CheckTree}
+use Rattle.pattern_grammar.specs.declared.path.{StepTree.StepTree, StepTree.TheVariants.Name, StepTree.TheVariants.Index, PathTree.PathTree}
+use Rattle.pattern_grammar.specs.declared.{comparison.CheckTree.CheckTree, comparison.TestTree.TestTree, qualifier.Qualifier.Qualifier}
 use Rattle.pattern_grammar.specs.declared.comparison.CheckTree.TheVariants as check_tree
-use Rattle.pattern_grammar.specs.declared.comparison.TestTree.{TestTree}
-use Rattle.pattern_grammar.specs.declared.qualifier.Qualifier.{Qualifier}
 use Rattle.pattern_grammar.specs.declared.qualifier.Qualifier.TheVariants.{Within, Repeats, Between}
 use Rattle.pattern_grammar.specs.Tree.{Comparison, test, group, all, any, Tree, leaf, both, either, followed, qualified}
-use Rattle.pattern_types.specs.declared.limit.Limit.{Limit}
-use Rattle.pattern_types.specs.declared.path.TheConstants.{MAX_STEPS}
-use Rattle.pattern_meaning.specs.declared.refusal.ValueRefusal.{ValueRefusal}
+use Rattle.pattern_types.specs.{declared.limit.Limit.Limit, declared.path.TheConstants.MAX_STEPS, Soundness.IsSoundLimit}
+use Rattle.pattern_meaning.specs.{declared.refusal.ValueRefusal.ValueRefusal, Meaning.IsStepOf, Meaning.IsCheckOf, PatternMeaning.IsLimitOf}
 use Rattle.pattern_meaning.specs.declared.refusal.ValueRefusal.TheVariants.{BadCount, LongPath, BadAddress, EmptySpan, NoCommonRoot, NoValue}
-use Rattle.pattern_meaning.specs.Meaning.{IsStepOf, IsCheckOf}
-use Rattle.pattern_meaning.specs.PatternMeaning.{IsLimitOf}
-use Rattle.pattern_types.specs.Soundness.{IsSoundLimit}
 
 -- nothing is such, and so this is refused
 pub record Lacks {T : Type 0} (IsOne : T → Type 0) (refused refusal : ValueRefusal) : Type 0 where

@@ -1,8 +1,6 @@
 -- Sets of names.
 use Rattle.std.specs.Prelude.{◌≡◌, ℕ, true, List}
-use Rattle.std.specs.BTreeSet.{BTreeSet, contains}
-use Rattle.std.specs.Ordering.{nat_cmp}
-use Rattle.std.specs.Cmp.Lexicographic.{slice_cmp}
+use Rattle.std.specs.{BTreeSet.BTreeSet, BTreeSet.contains, Ordering.nat_cmp, Cmp.Lexicographic.slice_cmp}
 use denote.Ref.{Bor}
 
 -- the set has the name

@@ -4,7 +4,7 @@ ghost use Rattle.pattern_meaning.specs.LeafMeaning.{IsNoAll, IsNoAny};
 ghost use Rattle.pattern_meaning.specs.Refusals.{HasRoot, first_of, IsRootless};
 ghost use Rattle.pattern_meaning.specs.Roots.{Has};
 ghost use Rattle.pattern_meaning.specs.inner.Judgement.{IsOutcome, IsJudgement};
-ghost use Rattle.pattern_meaning.specs.inner.Chains.{IsChain, AreAll, AreAny};
+ghost use Rattle.pattern_meaning.specs.inner.Judgement.{IsChain, AreAll, AreAny};
 
 use crate::ValueRefusal;
 use crate::checks::test_of;

@@ -2,7 +2,7 @@ ghost use Rattle.std.specs.Prelude.{◌≡◌, IfOk};
 ghost use Rattle.pattern_types.specs.PlainLeaf.{plain_leaf};
 ghost use Rattle.pattern_types.specs.PlainPattern.{plain_pattern, a_leaf, a_limited};
 ghost use Rattle.pattern_types.specs.Width.{width as width_of, brackets as brackets_of};
-ghost use Rattle.pattern_meaning.specs.inner.Operators.{meant_by};
+ghost use Rattle.pattern_meaning.specs.inner.NarrowPattern.{meant_by};
 ghost use Rattle.pattern_meaning.specs.inner.NarrowPattern.{IsNarrow, UnlessTooWide};
 
 use flow_values::NoMemory;

@@ -1,6 +1,6 @@
 ghost use Rattle.std.specs.Prelude.{◌≡◌, IsTrue, IsFalse};
 ghost use Rattle.pattern_meaning.specs.ValueRefusal.{rank_of, Precedes};
-ghost use Rattle.pattern_meaning.specs.inner.Outcomes.{IsFirstOfTwo};
+ghost use Rattle.pattern_meaning.specs.inner.Judgement.{IsFirstOfTwo};
 
 use crate::ValueRefusal;
 

@@ -1,5 +1,5 @@
 ghost use Rattle.std.specs.Prelude.{[], ◌∷◌, ◌++◌, IfOk};
-ghost use Rattle.pattern_meaning.specs.inner.Outcomes.{IsJoined};
+ghost use Rattle.pattern_meaning.specs.inner.Judgement.{IsJoined};
 
 use crate::ValueRefusal;
 use crate::order::first_of_two;

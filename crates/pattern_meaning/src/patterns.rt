@@ -1,7 +1,7 @@
 ghost use Rattle.std.specs.Prelude.{ℕ, List, map, IfOk, Some, IfSome};
 ghost use Rattle.pattern_grammar.specs.Tree.{Tree, compared, leaf, joined, shape, qualified};
 ghost use Rattle.pattern_meaning.specs.Answer.{Answers};
-ghost use Rattle.pattern_meaning.specs.inner.Operators.{tree_by};
+ghost use Rattle.pattern_meaning.specs.inner.NarrowPattern.{tree_by};
 ghost use Rattle.pattern_meaning.specs.Refusals.{IsSoundLimitOf};
 ghost use Rattle.pattern_grammar.specs.declared.qualifier.Qualifier.{Qualifier};
 ghost use Rattle.pattern_meaning.specs.inner.NarrowPattern.{IsNarrow, IsNarrowPart, IsPartOf, IsPartOutcome};

@@ -5,7 +5,8 @@ use Rattle.pattern_tokens.specs.declared.token.TokenKind.{TokenKind}
 use Rattle.pattern_tokens.specs.declared.token.TokenKind.TheVariants as kind
 use Rattle.pattern_tokens.specs.Values.{IsStringText, HasValue}
 use Rattle.pattern_tokens.specs.Spans.{IsCut, text_at, At}
-use Rattle.pattern_grammar.specs.TokenClass.{same, is_name, is_equality, is_order, is_textual, is_ordered, is_constant}
+use Rattle.pattern_grammar.specs.declared.class.TokenClass.TheVariants as class
+use Rattle.pattern_grammar.specs.TokenClass.{same, is_in}
 use Rattle.pattern_grammar.specs.declared.path.StepTree.{StepTree}
 use Rattle.pattern_grammar.specs.declared.path.StepTree.TheVariants as step_tree
 use Rattle.pattern_grammar.specs.declared.path.PathTree.{PathTree}
@@ -30,13 +31,13 @@ use Rattle.pattern_reader.proofs.TokenValueLemmas.{HasWorth, AllWorth, worth_lef
 
 module _ (whole : List ℕ) (at : ℕ) where
   -- names and constants by their token's kind
-  name_by : (t : Token) (k : TokenKind) → t.kind ≡ k → is_name k ≡ true → IsCut whole t → HasValue k (text_at whole t)
+  name_by : (t : Token) (k : TokenKind) → t.kind ≡ k → is_in class.Name k ≡ true → IsCut whole t → HasValue k (text_at whole t)
       → (name : List ℕ) × IsNameOf whole t name
   name_by t kind.Word e i cut v = (text_at whole t, inr (λ f. cc, record { cut = cut; is = refl }))
   name_by t kind.String e i cut v = (v.0, inl (e, record { cut = cut; is = v.1 }))
   name_by t _ e i cut v = absurd (cc)
 
-  constant_by : (t : Token) (k : TokenKind) → t.kind ≡ k → is_constant k ≡ true → IsCut whole t → HasValue k (text_at whole t)
+  constant_by : (t : Token) (k : TokenKind) → t.kind ≡ k → is_in class.Constant k ≡ true → IsCut whole t → HasValue k (text_at whole t)
       → (c : Constant) × IsConstantOf whole t c
   constant_by t kind.Number e i cut v = (Integer v.0, (e, record { cut = cut; is = v.1 }))
   constant_by t kind.String e i cut v = (String v.0, (e, record { cut = cut; is = v.1 }))
@@ -47,10 +48,10 @@ module _ (whole : List ℕ) (at : ℕ) where
   constant_by t kind.FalseWord e i cut v = (Boolean false, inr (e, refl))
   constant_by t _ e i cut v = absurd (cc)
 
-  constant_at : (t : Token) → is_constant t.kind ≡ true → HasWorth whole t → (c : Constant) × IsConstantOf whole t c
+  constant_at : (t : Token) → is_in class.Constant t.kind ≡ true → HasWorth whole t → (c : Constant) × IsConstantOf whole t c
   constant_at t i w = constant_by t t.kind refl i w.cut w.value
 
-  ordered_constant : (k : TokenKind) → is_ordered k ≡ true → is_constant k ≡ true
+  ordered_constant : (k : TokenKind) → is_in class.Ordered k ≡ true → is_in class.Constant k ≡ true
   ordered_constant kind.Number e = refl
   ordered_constant _ e = cc
 
@@ -66,7 +67,7 @@ module _ (whole : List ℕ) (at : ℕ) where
   steps_split (y ∷ ys) x (inl h) = inl (inl h)
   steps_split (y ∷ ys) x (inr h) = elim (steps_split ys x h) [ inl g ↦ inl (inr g) | inr g ↦ inr g ]
 
-  no_name : (t : Token) → is_name t.kind ≡ true → HasWorth whole t → ¬ RefusalOfSteps whole (step_tree.Name t ∷ []) (NoValue at)
+  no_name : (t : Token) → is_in class.Name t.kind ≡ true → HasWorth whole t → ¬ RefusalOfSteps whole (step_tree.Name t ∷ []) (NoValue at)
   no_name t i w (inl h) = let n = name_by t t.kind refl i w.cut w.value in h.none (step.Name n.0) n.1
   no_name t i w (inr h) = h
 
@@ -92,7 +93,7 @@ module _ (whole : List ℕ) (at : ℕ) where
   no_path ts p i w (inr (inr h)) = no_steps ts p i w h
 
   -- what is asked
-  compared_by : (a b : Token) (k : TokenKind) (v : Constant) → a.kind ≡ k → (is_equality k ≡ true) ⊎ (is_order k ≡ true)
+  compared_by : (a b : Token) (k : TokenKind) (v : Constant) → a.kind ≡ k → (is_in class.Equality k ≡ true) ⊎ (is_in class.Order k ≡ true)
       → IsConstantOf whole b v → (c : Check) × IsCheckOf whole (check_tree.Compare a b) c
   compared_by a b kind.Equal v e i h = (check.Equal v, (e, h))
   compared_by a b kind.Differ v e i h = (check.Differ v, (e, h))
@@ -103,13 +104,13 @@ module _ (whole : List ℕ) (at : ℕ) where
   compared_by a b _ v e (inl i) h = absurd (cc)
   compared_by a b _ v e (inr i) h = absurd (cc)
 
-  no_compared : (a b : Token) → (is_equality a.kind ≡ true) ⊎ (is_order a.kind ≡ true) → is_constant b.kind ≡ true → HasWorth whole b
+  no_compared : (a b : Token) → (is_in class.Equality a.kind ≡ true) ⊎ (is_in class.Order a.kind ≡ true) → is_in class.Constant b.kind ≡ true → HasWorth whole b
       → ¬ Lacks (IsCheckOf whole (check_tree.Compare a b)) (NoValue b.from) (NoValue at)
   no_compared a b i j w h =
       let v = constant_at b j w in
       let c = compared_by a b a.kind v.0 refl i v.1 in h.none c.0 c.1
 
-  no_textual : (a b : Token) (k : TokenKind) → a.kind ≡ k → is_textual k ≡ true → ((words : List ℕ) × At IsStringText whole b words)
+  no_textual : (a b : Token) (k : TokenKind) → a.kind ≡ k → is_in class.Textual k ≡ true → ((words : List ℕ) × At IsStringText whole b words)
       → ¬ Lacks (IsCheckOf whole (check_tree.Textual a b)) (textual_refusal k b.from) (NoValue at)
   no_textual a b kind.Like e i v h = h.none (check.Like v.0) (e, v.1)
   no_textual a b kind.Subset e i v h = let f = h.here in cc

@@ -6,7 +6,7 @@ use Rattle.pattern_lexer.specs.Reading.{TokensOf, HasRefusal, Reads}
 use Rattle.pattern_grammar.specs.declared.refusal.SyntaxRefusal.{SyntaxRefusal}
 use Rattle.pattern_grammar.specs.Tree.{Tree}
 use Rattle.pattern_grammar.specs.Grammar.{IsPattern}
-use Rattle.pattern_grammar.specs.Place.{IsTreeOf, IsMisread}
+use Rattle.pattern_grammar.specs.Answer.{IsTreeOf, IsMisread}
 use Rattle.pattern_types.specs.declared.pattern.Pattern.{Pattern}
 use Rattle.pattern_types.specs.PlainPattern.{PlainPattern, plain_pattern}
 use Rattle.pattern_types.specs.Width.{IsTooWide}

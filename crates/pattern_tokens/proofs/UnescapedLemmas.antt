@@ -6,7 +6,8 @@ use Rattle.std.proofs.lemmas.List.{get_or_default}
 use Rattle.std.proofs.lemmas.List.Concat.{flat_map-append}
 use Rattle.std.proofs.lemmas.Bool.Decides.{nat_tests}
 use Rattle.pattern_tokens.specs.Values.{escaped}
-use Rattle.pattern_tokens.specs.inner.Escapes.{IsEscapedText, IsSpecial, BeginsEscaped, BeginsNone}
+use Rattle.pattern_tokens.specs.Values.{IsSpecial}
+use Rattle.pattern_tokens.specs.inner.Escapes.{IsEscapedText, BeginsEscaped, BeginsNone}
 use Rattle.pattern_tokens.proofs.EscapesLemmas.{special, same_first, nothing_first}
 
 special_is : (c : ℕ) → IsSpecial c → special c ≡ true

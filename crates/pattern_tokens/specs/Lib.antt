@@ -3,5 +3,4 @@ pub mod Word
 pub mod Values
 pub mod Table
 pub mod Spans
-pub mod Numbers
 pub mod inner

@@ -1,7 +1,7 @@
 -- What the tokens of a text stand for.
-use Rattle.std.specs.Prelude.{◌≡◌, ◌≤◌, ℕ, List, slice_range}
+use Rattle.std.specs.Prelude.{◌≡◌, ◌≤◌, ℕ, List, slice_range, pos}
 use Rattle.std.specs.Str.{IsCharBoundary}
-use Rattle.pattern_tokens.specs.declared.token.Token.{Token}
+use Rattle.pattern_tokens.specs.{declared.token.Token.Token, Values.IsIntegerText}
 
 -- the token lies in the text, cut between characters
 pub record IsCut (text : List ℕ) (token : Token) : Type 0 where
@@ -21,3 +21,14 @@ pub record At {V : Type 0} (IsTextOf : List ℕ → V → Type 0) (text : List �
 -- a text stands for itself
 abbrev pub IsItself : List ℕ → List ℕ → Type 0
 IsItself text value = value ≡ text
+
+-- the number in the brackets of a path: 0 to 4294967295
+pub record IsPlace (text : List ℕ) (token : Token) (place : ℕ) : Type 0 where
+  pub whole : At IsIntegerText text token (pos place)
+  pub high : place ≤ 4_294_967_295
+
+-- the number after WITHIN or REPEATS: 1 to 4294967295
+pub record IsCount (text : List ℕ) (token : Token) (count : ℕ) : Type 0 where
+  pub whole : At IsIntegerText text token (pos count)
+  pub low : 1 ≤ count
+  pub high : count ≤ 4_294_967_295

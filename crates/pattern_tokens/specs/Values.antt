@@ -1,10 +1,9 @@
 -- What the text of a constant's token stands for (STIX 2.1, section 9.2). Of the bytes, 39 is `'`,
 -- 48 is `0` and 92 is `\`.
-use Rattle.std.specs.Prelude.{◌≡◌, ◌≢◌, ◌≤◌, ℕ, ◌||◌, ◌==◌, if◌then◌else◌, ℤ, pos, neg_ℤ, ◌≤ℤ◌, List, [], ◌∷◌, ◌++◌, length, slice_get, Some, flat_map, codes, All, Ok}
+use Rattle.std.specs.Prelude.{◌≡◌, ◌≢◌, ◌≤◌, ◌⊎◌, ℕ, ◌||◌, ◌==◌, if◌then◌else◌, ℤ, pos, neg_ℤ, ◌≤ℤ◌, List, [], ◌∷◌, ◌++◌, length, slice_get, Some, flat_map, codes, All, Ok}
 use Rattle.std.specs.Str.Parse.{IsNumeral, without_leading_sign, signed_digits_value}
 use Rattle.hex.specs.Hex.{decode_of}
-use Rattle.base64.specs.Engines.{standard}
-use Rattle.base64.specs.GeneralPurpose.{encode_of, IsBytes}
+use Rattle.base64.specs.{Engines.standard, GeneralPurpose.encode_of, GeneralPurpose.IsBytes}
 use Rattle.stix_times.specs.Reading.{IsTextOf}
 use Rattle.pattern_tokens.specs.declared.token.TokenKind.{TokenKind}
 use Rattle.pattern_tokens.specs.declared.token.TokenKind.TheVariants.{Number, String, Hex, Binary, Timestamp}
@@ -32,7 +31,11 @@ pub record IsIntegerText (text : List ℕ) (whole : ℤ) : Type 0 where
 abbrev pub quoted : List ℕ → List ℕ → List ℕ
 quoted letter inside = letter ++ codes "'" ++ inside ++ codes "'"
 
--- `\` is written before `'` and `\`
+-- `'` or `\`
+abbrev pub IsSpecial : ℕ → Type 0
+IsSpecial c = (c ≡ 39) ⊎ (c ≡ 92)
+
+-- `\` is written before these
 abbrev pub escaped : ℕ → List ℕ
 escaped c = if c == 39 || c == 92 then 92 ∷ c ∷ [] else c ∷ []
 

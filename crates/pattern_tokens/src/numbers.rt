@@ -1,5 +1,5 @@
 ghost use Rattle.std.specs.Prelude.{ℕ, IfSome, IfNone};
-ghost use Rattle.pattern_tokens.specs.Numbers.{IsPlace, IsCount};
+ghost use Rattle.pattern_tokens.specs.Spans.{IsPlace, IsCount};
 
 use crate::{Token, integer_at};
 

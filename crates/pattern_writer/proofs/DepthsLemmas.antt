@@ -1,29 +1,23 @@
 -- How deep tokens nest: how many parentheses are open inside them at once, those of IN aside, and how many qualifiers
 -- there are. So many of the 64 are needed, and no more.
-use Rattle.std.proofs.Common.{◌≡◌, ℕ, ◌+◌, ◌<◌, ◌≤◌, ◌⊎◌, inl, inr, Bool, true, false, not, ◌||◌, ◌&&◌, List, [], ◌∷◌, ◌++◌, get_or, refl, sym, ap, subst, ◌∙◌, arith, append_assoc, append-nil, max}
-use Rattle.std.proofs.lemmas.Bool.{false≢true, eqb-true, not-true, and_parts, cases_lt, cases_Bool}
+use Rattle.std.proofs.Common.{◌≡◌, ℕ, ◌+◌, ◌<◌, ◌≤◌, ◌⊎◌, inl, inr, Bool, true, false, not, ◌||◌, ◌&&◌, List, [], ◌∷◌, ◌++◌, rules, refl, sym, ap, subst, ◌∙◌, arith, append_assoc, append-nil, max}
+use Rattle.std.proofs.lemmas.Bool.{false≢true, not-true, and_parts, cases_lt, cases_Bool}
 use Rattle.std.proofs.lemmas.List.{same_from_push}
 use Rattle.std.proofs.lemmas.List.Sums.{sum_by-cons, sum_by-append, sum_by_push}
 use Rattle.std.specs.Prelude.{cond}
+use denote.Enum.Bare.{same_true}
+use Rattle.pattern_tokens.specs.contracts.token.TokenKind.{the_type}
 use Rattle.pattern_tokens.specs.declared.token.Token.{Token}
 use Rattle.pattern_tokens.specs.declared.token.TokenKind.{TokenKind}
 use Rattle.pattern_tokens.specs.declared.token.TokenKind.TheVariants as kind
 use Rattle.pattern_grammar.specs.declared.class.TokenClass.{TokenClass}
 use Rattle.pattern_grammar.specs.declared.class.TokenClass.TheVariants.{Only, Qualifying}
-use Rattle.pattern_grammar.specs.TokenClass.{code, same, is_qualifying, is_in, IsA}
+use Rattle.pattern_grammar.specs.TokenClass.{same, is_in, IsA}
 use Rattle.pattern_grammar.specs.Depth.{how_many, EndsWithIn, IsDeepOpen, NoneTooMany}
 
 -- tokens of one kind
-table : List TokenKind
-table = kind.SquareOpen ∷ kind.SquareClose ∷ kind.RoundOpen ∷ kind.RoundClose ∷ kind.Dot ∷ kind.Colon ∷ kind.Comma ∷ kind.Star ∷ kind.Equal ∷ kind.Differ ∷ kind.Less ∷ kind.LessEqual ∷ kind.Greater ∷ kind.GreaterEqual ∷ kind.And ∷ kind.Or ∷ kind.Not ∷ kind.FollowedBy ∷ kind.Within ∷ kind.Seconds ∷ kind.Repeats ∷ kind.Times ∷ kind.Start ∷ kind.Stop ∷ kind.Among ∷ kind.Like ∷ kind.Subset ∷ kind.Superset ∷ kind.Exists ∷ kind.TrueWord ∷ kind.FalseWord ∷ kind.Word ∷ kind.HyphenWord ∷ kind.Number ∷ kind.String ∷ kind.Hex ∷ kind.Binary ∷ kind.Timestamp ∷ []
-
-code-read : (k : TokenKind) → get_or table (code k) kind.Dot ≡ k
-unfolding table
-code-read kind.Dot = refl
-code-read _ = refl
-
 pub same_is : (w k : TokenKind) → same w k ≡ true → k ≡ w
-same_is w k h = sym (code-read k) ∙ ap (λ n. get_or table n kind.Dot) (sym (eqb-true (code w) (code k) h)) ∙ code-read w
+same_is w k h = sym (same_true the_type (search rules) w k h)
 
 -- how many of joined tokens are of a class
 many_first : (class : TokenClass) (t : Token) (ts : List Token) (b : Bool) → is_in class t.kind ≡ b → how_many class (t ∷ ts) ≡ cond b 1 0 + how_many class ts
@@ -50,9 +44,9 @@ deep_join before (x ∷ xs) ys h k = (h.0, deep_join (before ++ x ∷ []) xs ys 
 
 -- what holds of the tokens where none is one too many, and the other way round
 one_more : (before ts : List Token) (t : Token) → NoneTooMany (before ++ t ∷ ts) → how_many Qualifying before ≤ 64 → how_many Qualifying (before ++ t ∷ []) ≤ 64
-one_more before ts t none few = by (cases_Bool (is_qualifying t.kind)) (cases_lt (how_many Qualifying before) 64)
+one_more before ts t none few = by (cases_Bool (is_in Qualifying t.kind)) (cases_lt (how_many Qualifying before) 64)
   where
-    by : (is_qualifying t.kind ≡ true) ⊎ (is_qualifying t.kind ≡ false) → (how_many Qualifying before < 64) ⊎ (64 ≤ how_many Qualifying before) → how_many Qualifying (before ++ t ∷ []) ≤ 64
+    by : (is_in Qualifying t.kind ≡ true) ⊎ (is_in Qualifying t.kind ≡ false) → (how_many Qualifying before < 64) ⊎ (64 ≤ how_many Qualifying before) → how_many Qualifying (before ++ t ∷ []) ≤ 64
     by (inr e) h = omega (arith, few, many_last Qualifying before t false e)
     by (inl e) (inl h) = omega (arith, h, many_last Qualifying before t true e)
     by (inl e) (inr h) = absurd (none before t ts refl (inr (record { qualifies = e; deep = h })))
@@ -145,12 +139,12 @@ plain t e =
 
 -- one that doesn't begin a qualifier either
 abbrev pub is_flat : TokenKind → Bool
-is_flat k = is_plain k && not (is_qualifying k)
+is_flat k = is_plain k && not (is_in Qualifying k)
 
 flat : (t : Token) → is_flat t.kind ≡ true → Measured (t ∷ []) 0 0
 flat t e =
-    let p = and_parts (is_plain t.kind) (not (is_qualifying t.kind)) e in
-    measured_is (t ∷ []) 0 (how_many Qualifying (t ∷ [])) 0 0 refl (rw (not-true (is_qualifying t.kind) p.1) refl) (plain t p.0)
+    let p = and_parts (is_plain t.kind) (not (is_in Qualifying t.kind)) e in
+    measured_is (t ∷ []) 0 (how_many Qualifying (t ∷ [])) 0 0 refl (rw (not-true (is_in Qualifying t.kind) p.1) refl) (plain t p.0)
 
 pub only_flat : (w k : TokenKind) → same w k ≡ true → is_flat w ≡ true → is_flat k ≡ true
 only_flat w k e h = ap is_flat (same_is w k e) ∙ h
@@ -187,10 +181,10 @@ flats (t ∷ ts) h = first_flat t ts 0 0 h.0 (flats ts h.1)
 
 flats_deep : (before ts : List Token) → Flat ts → NoneDeep before ts
 flats_deep before [] h = tt
-flats_deep before (t ∷ ts) h = (not_deep before t (none_of (same kind.RoundOpen t.kind) (same kind.RoundClose t.kind) (same kind.Among t.kind) (and_parts (is_plain t.kind) (not (is_qualifying t.kind)) h.0).0).0, flats_deep (before ++ t ∷ []) ts h.1)
+flats_deep before (t ∷ ts) h = (not_deep before t (none_of (same kind.RoundOpen t.kind) (same kind.RoundClose t.kind) (same kind.Among t.kind) (and_parts (is_plain t.kind) (not (is_in Qualifying t.kind)) h.0).0).0, flats_deep (before ++ t ∷ []) ts h.1)
 
 -- the first token of a qualifier, and the rest of it
-pub qualifying : (w : TokenKind) (t : Token) (ts : List Token) → IsA (Only w) t → is_plain w ≡ true → is_qualifying w ≡ true → Flat ts → Measured (t ∷ ts) 0 1
+pub qualifying : (w : TokenKind) (t : Token) (ts : List Token) → IsA (Only w) t → is_plain w ≡ true → is_in Qualifying w ≡ true → Flat ts → Measured (t ∷ ts) 0 1
 qualifying w t ts h p q f =
     let e = same_is w t.kind h in
     measured_is (t ∷ ts) (max 0 0) (how_many Qualifying (t ∷ []) + 0) 0 1 refl (rw (e, q) refl) (joined (t ∷ []) ts 0 (how_many Qualifying (t ∷ [])) 0 0 (plain t (ap is_plain e ∙ p)) (flats ts f))
@@ -223,8 +217,8 @@ module _ (a b : Token) (ts : List Token) (n q : ℕ) (h : IsA (Only kind.RoundOp
       omega (
         arith,
         m.qualifiers,
-        many_first Qualifying a (ts ++ b ∷ []) false (ap is_qualifying (same_is kind.RoundOpen a.kind h)),
-        many_last Qualifying ts b false (ap is_qualifying (same_is kind.RoundClose b.kind k)),
+        many_first Qualifying a (ts ++ b ∷ []) false (ap (is_in Qualifying) (same_is kind.RoundOpen a.kind h)),
+        many_last Qualifying ts b false (ap (is_in Qualifying) (same_is kind.RoundClose b.kind k)),
       )
 
   pub round : Measured (a ∷ ts ++ b ∷ []) (n + 1) q
@@ -249,5 +243,5 @@ among a b c ts h k l f =
         not_deep before a (ap (same kind.RoundOpen) e),
         (λ d. d.groups (record { front = before; last = a; spelled = refl; among = h }), round_deep b c ts 0 0 k l m ((before ++ a ∷ []) ++ b ∷ []) (flats_deep ((before ++ a ∷ []) ++ b ∷ []) ts f)),
       );
-      qualifiers = omega (arith, many_first Qualifying a (b ∷ ts ++ c ∷ []) false (ap is_qualifying e), round_qualifiers b c ts 0 0 k l m);
+      qualifiers = omega (arith, many_first Qualifying a (b ∷ ts ++ c ∷ []) false (ap (is_in Qualifying) e), round_qualifiers b c ts 0 0 k l m);
     }

@@ -9,7 +9,8 @@ use Rattle.pattern_tokens.specs.Word.{IsWord, IsHyphenWord}
 use Rattle.pattern_tokens.specs.Table.{IsToken}
 use Rattle.pattern_tokens.specs.Spans.{text_at}
 use Rattle.pattern_lexer.specs.Reading.{AreTokens}
-use Rattle.pattern_grammar.specs.TokenClass.{is_root}
+use Rattle.pattern_grammar.specs.TokenClass.{is_in}
+use Rattle.pattern_grammar.specs.declared.class.TokenClass.TheVariants.{Root}
 use Rattle.pattern_writer.proofs.CuttingLemmas.{further_drop}
 
 pub record Lexed (whole : List ℕ) (t : Token) : Type 0 where
@@ -44,7 +45,7 @@ all_lexed whole at left (t ∷ ts) rest b e h =
       all_lexed whole t.to h.0 ts rest (subst (λ (i : ℕ). i ≤ length whole) (sym g) k.0) (subst (λ (i : ℕ). drop i whole ≡ h.0) (sym g) k.1) h.2,
     )
 
-pub root_word : (k : TokenKind) (text : List ℕ) → is_root k ≡ true → IsToken k text → IsWord text ⊎ IsHyphenWord text
+pub root_word : (k : TokenKind) (text : List ℕ) → is_in Root k ≡ true → IsToken k text → IsWord text ⊎ IsHyphenWord text
 root_word kind.Word text e h = inl h
 root_word kind.HyphenWord text e h = inr h
 root_word _ text e h = absurd (cc)

@@ -4,7 +4,7 @@ use Rattle.std.specs.Prelude.{codes, decimal, nat_le, if◌then◌else◌}
 use Rattle.pattern_tokens.specs.declared.token.Token.{Token}
 use Rattle.pattern_tokens.specs.declared.token.TokenKind.{TokenKind}
 use Rattle.pattern_tokens.specs.declared.token.TokenKind.TheVariants as kind
-use Rattle.pattern_tokens.specs.Numbers.{IsCount}
+use Rattle.pattern_tokens.specs.Spans.{IsCount}
 use Rattle.pattern_tokens.specs.Values.{IsIntegerText, IsTimestampText}
 use Rattle.pattern_tokens.specs.Spans.{At}
 use Rattle.pattern_grammar.specs.declared.class.TokenClass.TheVariants.{Only}

@@ -1,31 +1,19 @@
--- What may follow the tokens so far: a stack of what is wanted, the nearest first.
-use Rattle.std.specs.Prelude.{Bool, true, false, List, [], ◌∷◌, Option, Some, None, option_and_then, if◌then◌else◌}
-use Rattle.pattern_tokens.specs.declared.token.Token.{Token}
-use Rattle.pattern_tokens.specs.declared.token.TokenKind.{TokenKind}
+-- What private functions answer. What may follow tokens is a stack of what is wanted, the nearest first.
+use Rattle.std.specs.Prelude.{Bool, true, false, List, [], ◌∷◌, Option, Some, None, option_and_then, if◌then◌else◌, ◌≡◌, ◌++◌, ◌↔◌, IsTrue, ℕ, length}
+use Rattle.pattern_tokens.specs.declared.token.{Token.Token, TokenKind.TokenKind, TokenKind.TheVariants.RoundOpen, TokenKind.TheVariants.RoundClose}
 use Rattle.pattern_tokens.specs.declared.token.TokenKind.TheVariants as kind
-use Rattle.pattern_grammar.specs.declared.class.TokenClass.{TokenClass}
+use Rattle.pattern_grammar.specs.{declared.class.TokenClass.TokenClass, TokenClass.is_in, declared.stop.Stop.Stop, TokenClass.IsA}
 use Rattle.pattern_grammar.specs.declared.class.TokenClass.TheVariants.{Only, Root, Name, Index, Equality, Order, Textual, Ordered, Constant, Qualifying, Stepping}
-use Rattle.pattern_grammar.specs.TokenClass.{is_in}
+use Rattle.pattern_grammar.specs.declared.{depth.Counts.Counts, stop.Stop.TheVariants.Memory, stop.Stop.TheVariants.Syntax}
+use Rattle.pattern_grammar.specs.Depth.{how_many, EndsWithIn, FirstTooMany}
 
 -- a line of the grammar whose first token decides how it goes on
 pub data WantedLine : Type 0 where
-  start : WantedLine
-  qualifier : WantedLine
-  test : WantedLine
-  turn : WantedLine
-  check : WantedLine
-  step : WantedLine
+  start qualifier test turn check step : WantedLine
 
 -- a part that may be repeated
 pub data Tail : Type 0 where
-  qualifiers : Tail
-  ands : Tail
-  ors : Tail
-  thens : Tail
-  cands : Tail
-  cors : Tail
-  steps : Tail
-  commas : Tail
+  qualifiers ands ors thens cands cors steps commas : Tail
 
 pub data Want : Type 0 where
   one : TokenClass → Want
@@ -105,9 +93,8 @@ next (tail t ∷ s) k = if is_in (opening t) k then again t k (tail t ∷ s) els
 -- nothing more is wanted
 abbrev pub ended : List Want → Bool
 ended [] = true
-ended (one class ∷ s) = false
-ended (line l ∷ s) = false
 ended (tail t ∷ s) = ended s
+ended _ = false
 
 -- what is wanted after the tokens
 abbrev pub reach : Option (List Want) → List Token → Option (List Want)
@@ -150,3 +137,81 @@ wants_ands k = line start ∷ tail qualifiers ∷ tail ands ∷ k
 
 abbrev pub wants_ors : List Want → List Want
 wants_ors k = line start ∷ tail qualifiers ∷ tail ands ∷ tail ors ∷ k
+
+-- the first token is of the class, and the rest follows it
+pub record BeginsLine (class : TokenClass) (token : Token) (ts rest : List Token) : Type 0 where
+  pub of_class : IsA class token
+  pub all_are : ts ≡ token ∷ rest
+
+-- the first token isn't of the class
+abbrev pub Lacks : TokenClass → List Token → Type 0
+Lacks class [] = Unit {0}
+Lacks class (t ∷ ts) = is_in class t.kind ≡ false
+
+-- the first token is no operator but IN
+pub record LacksOperator (ts : List Token) : Type 0 where
+  pub equality : Lacks Equality ts
+  pub order : Lacks Order ts
+  pub textual : Lacks Textual ts
+
+-- the first token is neither `(` nor EXISTS nor NOT
+pub record LacksTestWord (ts : List Token) : Type 0 where
+  pub round : Lacks (Only kind.RoundOpen) ts
+  pub exists : Lacks (Only kind.Exists) ts
+  pub not : Lacks (Only kind.Not) ts
+
+-- the rest is all of the tokens, and its first isn't of the class
+abbrev pub IsAt : TokenClass → List Token → Stop → Type 0
+IsAt class ts Memory = ⊥
+IsAt class ts (Syntax rest) = (rest.now ≡ ts) × Lacks class ts
+
+-- the tokens lead from what is wanted before them to what is wanted after them, where these come next
+pub record Leads (before after : List Want → List Want) (read rest : List Token) : Type 0 where
+  pub go_on : (k : List Want) → go (reach (Some (before k)) read) rest ≡ go (Some (after k)) rest
+
+-- the tokens lead to where the first of these, or the end, may not stand
+pub record Halts (before : List Want → List Want) (read rest : List Token) : Type 0 where
+  pub stop : (k : List Want) → go (reach (Some (before k)) read) rest ≡ None
+
+-- nothing else is wanted
+abbrev pub done : List Want → List Want
+done k = k
+
+-- another turn of the repeated part may follow
+abbrev pub open_for : Tail → List Want → List Want
+open_for t k = tail t ∷ k
+
+-- the tokens begin a line: some longer list, or they themselves, is one
+pub record Front {V : Type 0} (Spells : List Token → V → Type 0) (ts : List Token) : Type 0 where
+  pub more : List Token
+  pub value : V
+  pub spells : Spells (ts ++ more) value
+
+-- a line was read from the front, and can't be longer
+pub record Found {V : Type 0} (Spells : List Token → V → Type 0) (before after : List Want → List Want) (ts : List Token) (value : V) (rest : List Token) : Type 0 where
+  pub read : List Token
+  pub all_are : ts ≡ read ++ rest
+  pub spells : Spells read value
+  pub leads : Leads before after read rest
+
+-- a line was read up to the rest, whose first doesn't fit
+pub record Stuck {V : Type 0} (Spells : List Token → V → Type 0) (before : List Want → List Want) (ts rest : List Token) : Type 0 where
+  pub read : List Token
+  pub all_are : ts ≡ read ++ rest
+  pub front : Front Spells read
+  pub halts : Halts before read rest
+
+abbrev pub Refused : {V : Type 0} → (List Token → V → Type 0) → (List Want → List Want) → List Token → Stop → Type 0
+Refused Spells before ts Memory = Unit {0}
+Refused Spells before ts (Syntax rest) = Stuck Spells before ts rest.now
+
+-- the counts are those of the tokens
+pub record CountsOf (ts : List Token) (counts : Counts) : Type 0 where
+  pub opened : counts.opened ≡ how_many (Only RoundOpen) ts
+  pub closed : counts.closed ≡ how_many (Only RoundClose) ts
+  pub qualifiers : counts.qualifiers ≡ how_many Qualifying ts
+  pub behind_in : IsTrue counts.behind_in ↔ EndsWithIn ts
+
+-- so many tokens stand before the first that is one too many
+abbrev pub IsFirstAt : List Token → ℕ → Type 0
+IsFirstAt ts count = (first : FirstTooMany ts) × (count ≡ length first.before)

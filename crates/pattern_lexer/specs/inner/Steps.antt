@@ -1,14 +1,10 @@
 -- Steps of the lexer: they serve its private functions alone.
 use Rattle.std.specs.Prelude.{◌≡◌, ◌≢◌, ℕ, ◌<◌, ◌≤◌, ◌⊎◌, ◌==◌, if◌then◌else◌, List, ◌∷◌, ◌++◌, length, drop, slice_range, All, Option, Some, None, IsSome, Result, Ok, Err}
 use Rattle.std.specs.Char.{IsAsciiDigit}
-use Rattle.pattern_tokens.specs.declared.token.Token.{Token}
-use Rattle.pattern_tokens.specs.declared.token.TokenKind.{TokenKind}
+use Rattle.pattern_tokens.specs.declared.{token.Token.Token, token.TokenKind.TokenKind, refusal.TokenRefusal.TokenRefusal}
 use Rattle.pattern_tokens.specs.declared.token.TokenKind.TheVariants.{SquareOpen, SquareClose, RoundOpen, RoundClose, Dot, Colon, Comma, Star, Equal, Differ, Less, LessEqual, Greater, GreaterEqual, Number, Hex, Binary, Timestamp}
-use Rattle.pattern_tokens.specs.declared.refusal.TokenRefusal.{TokenRefusal}
 use Rattle.pattern_tokens.specs.declared.refusal.TokenRefusal.TheVariants.{BadNumber, BadTime, BadBytes}
-use Rattle.pattern_tokens.specs.Word.{IsWordStart, IsHyphenWordPart, HasAt}
-use Rattle.pattern_tokens.specs.Values.{HasValue}
-use Rattle.pattern_tokens.specs.Spans.{text_at}
+use Rattle.pattern_tokens.specs.{Word.IsWordStart, Word.IsHyphenWordPart, Word.HasAt, Values.HasValue, Spans.text_at}
 use Rattle.pattern_lexer.specs.Reading.{IsBlank, IsFirst, IsUsable, AreTokens, IsRefusalAt}
 use Rattle.pattern_lexer.specs.declared.runs.CharacterClass.{CharacterClass}
 use Rattle.pattern_lexer.specs.declared.runs.CharacterClass.TheVariants.{Blank, Digit, NamePart, Unquoted}
@@ -62,11 +58,9 @@ ReadsAt text at (Err refusal) = IsRefusalAt at (drop at text) refusal
 -- the tokens stand in the text up to blanks that end at the place
 pub record ReadUpTo (text : List ℕ) (tokens : List Token) (at : ℕ) : Type 0 where
   pub within : at ≤ length text
-  pub rest : List ℕ
   pub blanks : List ℕ
-  pub stand : AreTokens 0 text tokens rest
+  pub stand : AreTokens 0 text tokens (blanks ++ drop at text)
   pub blank : All IsBlank blanks
-  pub left : rest ≡ blanks ++ drop at text
   pub ends : ¬ HasAt 0 IsBlank (drop at text)
 
 -- the kind of what a quote behind the letter opens: 104 is `h`, 98 is `b` and 116 is `t`
@@ -90,10 +84,6 @@ pub record ArePassed (text : List ℕ) (from to : ℕ) : Type 0 where
   pub within : to ≤ length text
   pub blank : All IsBlank (slice_range text from to)
   pub ends : ¬ HasAt 0 IsBlank (drop to text)
-
--- `'` or `\`
-abbrev pub IsSpecial : ℕ → Type 0
-IsSpecial c = (c ≡ 39) ⊎ (c ≡ 92)
 
 -- the kind of the mark that is this byte
 abbrev pub single_kind : ℕ → Option TokenKind

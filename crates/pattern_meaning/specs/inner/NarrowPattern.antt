@@ -1,14 +1,12 @@
 -- Patterns that aren't too wide: they serve private functions alone.
 use Rattle.std.specs.Prelude.{◌≡◌, ◌≤◌, ℕ, List, Option, Some, None, Result, IfOk, IfSome}
-use Rattle.pattern_grammar.specs.Tree.{Tree}
-use Rattle.pattern_types.specs.PlainPattern.{PlainPattern, plain_pattern}
+use Rattle.pattern_grammar.specs.Tree.{Tree, both, either, followed}
+use Rattle.pattern_types.specs.PlainPattern.{PlainPattern, plain_pattern, a_both, an_either, a_then}
 use Rattle.pattern_types.specs.declared.limit.TheConstants.{MAX_WIDTH, MAX_BRACKETS}
 use Rattle.pattern_types.specs.Width.{width, brackets, IsTooWide}
-use Rattle.pattern_meaning.specs.declared.narrow_pattern.NarrowPattern.{NarrowPattern}
-use Rattle.pattern_meaning.specs.declared.refusal.ValueRefusal.{ValueRefusal}
-use Rattle.pattern_meaning.specs.Refusals.{RefusalOf}
-use Rattle.pattern_meaning.specs.Answer.{IsMeant, IsWidelyMeant}
-use Rattle.pattern_meaning.specs.inner.Judgement.{IsOutcome}
+use Rattle.pattern_meaning.specs.declared.{narrow_pattern.NarrowPattern.NarrowPattern, refusal.ValueRefusal.ValueRefusal}
+use Rattle.pattern_meaning.specs.{Refusals.RefusalOf, Answer.IsMeant, Answer.IsWidelyMeant, inner.Judgement.IsOutcome}
+use Rattle.pattern_meaning.specs.declared.narrow_pattern.Operator.{Operator, TheVariants.Both, TheVariants.Either, TheVariants.Then}
 
 -- the pattern has this width and so many pairs of brackets, and is not too wide
 pub record IsNarrow (narrow : NarrowPattern) : Type 0 where
@@ -34,3 +32,15 @@ IsPartOf text tree None = IsWidelyMeant text tree
 -- or it is its earliest refusal
 abbrev pub IsPartOutcome : List ℕ → Tree → Result (Option NarrowPattern) ValueRefusal → Type 0
 IsPartOutcome text tree outcome = IsOutcome (IsPartOf text tree) (RefusalOf text tree) outcome
+
+-- what an operator joins trees to
+abbrev pub tree_by : Operator → Tree → Tree → Tree
+tree_by Both = both
+tree_by Either = either
+tree_by Then = followed
+
+-- what it joins patterns to
+abbrev pub meant_by : Operator → PlainPattern → PlainPattern → PlainPattern
+meant_by Both = a_both
+meant_by Either = an_either
+meant_by Then = a_then

@@ -1,14 +1,10 @@
 -- Steps of `string_of`: they serve its private functions alone.
-use Rattle.std.specs.Prelude.{◌≡◌, ◌≢◌, ℕ, ◌⊎◌, List, [], ◌∷◌, flat_map}
-use Rattle.pattern_tokens.specs.Values.{escaped}
+use Rattle.std.specs.Prelude.{◌≡◌, ◌≢◌, ℕ, List, [], ◌∷◌, flat_map}
+use Rattle.pattern_tokens.specs.Values.{escaped, IsSpecial}
 
 -- the text is that of the words, without quotes around it
 abbrev pub IsEscapedText : List ℕ → List ℕ → Type 0
 IsEscapedText text words = text ≡ flat_map escaped words
-
--- `'` or `\`
-abbrev pub IsSpecial : ℕ → Type 0
-IsSpecial c = (c ≡ 39) ⊎ (c ≡ 92)
 
 -- one of them begins the text, and more follows
 pub record BeginsEscaped (text first more : List ℕ) : Type 0 where

@@ -1,7 +1,7 @@
 use Rattle.std.proofs.Common.{sym, subst, ◌∙◌}
 use Rattle.std.proofs.lemmas.Bool.{false≢true}
 use Rattle.std.proofs.lemmas.List.{take_more}
-use Rattle.pattern_grammar.specs.inner.Counting.{CountsOf}
+use Rattle.pattern_grammar.specs.inner.Machine.{CountsOf}
 use Rattle.pattern_grammar.proofs.DepthLemmas.{none_nothing, none_through, first_at}
 use Rattle.pattern_grammar.proofs.depth.first_too_many.Goals as goal
 

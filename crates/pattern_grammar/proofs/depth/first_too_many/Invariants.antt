@@ -1,6 +1,6 @@
 use Rattle.std.proofs.Common.{take}
 use Rattle.pattern_grammar.specs.Depth.{NoneTooMany}
-use Rattle.pattern_grammar.specs.inner.Counting.{CountsOf}
+use Rattle.pattern_grammar.specs.inner.Machine.{CountsOf}
 use Rattle.pattern_grammar.proofs.depth.first_too_many.Given as goal
 
 abbrev pub invariant-loop-before : goal.invariant-loop-before

@@ -1,7 +1,7 @@
 use Rattle.std.proofs.Common.{length}
 use Rattle.pattern_grammar.specs.Grammar.{AreConstants}
 use Rattle.pattern_grammar.specs.inner.Machine.{wants_constants, commas}
-use Rattle.pattern_grammar.specs.inner.Reading.{Found, open_for}
+use Rattle.pattern_grammar.specs.inner.Machine.{Found, open_for}
 use Rattle.pattern_grammar.proofs.parse_check.constants.Given as goal
 
 abbrev pub invariant-loop-after : goal.invariant-loop-after

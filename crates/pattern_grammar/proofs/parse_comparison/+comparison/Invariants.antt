@@ -1,7 +1,7 @@
 use Rattle.std.proofs.Common.{◌+◌, ◌*◌, length, map}
 use Rattle.pattern_grammar.specs.Grammar.{IsCand, IsCor}
 use Rattle.pattern_grammar.specs.inner.Machine.{wants_cand, wants_cor, cands, cors}
-use Rattle.pattern_grammar.specs.inner.Reading.{Found, open_for}
+use Rattle.pattern_grammar.specs.inner.Machine.{Found, open_for}
 use Rattle.pattern_grammar.specs.Tree.{joined, conjunction, operand, all, any}
 use Rattle.pattern_grammar.proofs.parse_comparison.+comparison.Given as goal
 

@@ -1,7 +1,7 @@
 use Rattle.std.proofs.Common.{length}
 use Rattle.pattern_grammar.specs.Grammar.{IsPath}
 use Rattle.pattern_grammar.specs.inner.Machine.{wants_path, steps}
-use Rattle.pattern_grammar.specs.inner.Reading.{Found, open_for}
+use Rattle.pattern_grammar.specs.inner.Machine.{Found, open_for}
 use Rattle.pattern_grammar.proofs.parse_path.path.Given as goal
 
 abbrev pub invariant-loop-steps : goal.invariant-loop-steps

@@ -1,7 +1,7 @@
 use Rattle.std.proofs.Common.{◌+◌, ◌*◌, length, map}
 use Rattle.pattern_grammar.specs.Grammar.{IsUnit, IsAnds, IsOrs, IsPattern}
 use Rattle.pattern_grammar.specs.inner.Machine.{wants_unit, wants_ands, wants_ors, wants_pattern, qualifiers, ands, ors, thens}
-use Rattle.pattern_grammar.specs.inner.Reading.{Found, open_for}
+use Rattle.pattern_grammar.specs.inner.Machine.{Found, open_for}
 use Rattle.pattern_grammar.specs.Tree.{joined, shape, both, either, followed}
 use Rattle.pattern_grammar.proofs.parse_pattern.+pattern.Given as goal
 

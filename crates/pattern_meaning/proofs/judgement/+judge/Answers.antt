@@ -2,7 +2,7 @@ use Rattle.std.proofs.lemmas.List.{take_more}
 use Rattle.pattern_grammar.specs.declared.comparison.ComparisonTree.{out-ComparisonTree}
 use Rattle.pattern_grammar.specs.Tree.{all, any, operand, conjunction}
 use Rattle.pattern_meaning.specs.inner.Judgement.{IsJudgement}
-use Rattle.pattern_meaning.specs.inner.Chains.{IsChain, AreAll, AreAny}
+use Rattle.pattern_meaning.specs.inner.Judgement.{IsChain, AreAll, AreAny}
 use Rattle.pattern_meaning.proofs.ChainLemmas.{test_operand, group_operand, grouped, no_all, no_any, part_more, conjunction_alone, conjunction_whole, comparison_alone, comparison_whole, not_so}
 use Rattle.pattern_meaning.proofs.judgement.+judge.Goals as goal
 

@@ -1,7 +1,7 @@
 use Rattle.std.proofs.Common.{map, take}
 use Rattle.pattern_grammar.specs.declared.comparison.ComparisonTree.{out-ComparisonTree}
 use Rattle.pattern_grammar.specs.Tree.{joined, all, any, operand, conjunction}
-use Rattle.pattern_meaning.specs.inner.Chains.{IsChain, AreAll, AreAny}
+use Rattle.pattern_meaning.specs.inner.Judgement.{IsChain, AreAll, AreAny}
 use Rattle.pattern_meaning.proofs.judgement.+judge.Given as goal
 
 abbrev pub invariant-judge_conjunction-loop-other : goal.invariant-judge_conjunction-loop-other

@@ -1,7 +1,7 @@
 use Rattle.std.proofs.Common.{map, take}
 use Rattle.pattern_grammar.specs.Tree.{Tree, joined, shape}
 use Rattle.pattern_meaning.specs.inner.NarrowPattern.{IsNarrowPart, IsPartOutcome}
-use Rattle.pattern_meaning.specs.inner.Operators.{tree_by}
+use Rattle.pattern_meaning.specs.inner.NarrowPattern.{tree_by}
 use Rattle.pattern_meaning.proofs.patterns.+patterns.Given as goal
 
 abbrev pub invariant-chain_of-loop-other : goal.invariant-chain_of-loop-other
