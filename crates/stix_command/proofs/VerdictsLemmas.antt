@@ -7,7 +7,6 @@ use Rattle.stix_json.specs.declared.refusal.JsonRefusal.TheVariants as refused
 use Rattle.stix_json.specs.DataOf.{data_of}
 use Rattle.stix_json.specs.Refusal.{refusal_of}
 use Rattle.stix_json.specs.Reading.{IsValueOf, IsJsonOf, IsJsonRefusedAs}
-use Rattle.stix_bundles.specs.declared.object_break.ObjectBreak.{ObjectBreak}
 use Rattle.stix_bundles.specs.declared.refusal.BundleRefusal.{BundleRefusal}
 use Rattle.stix_bundles.specs.declared.refusal.BundleRefusal.TheVariants.{NotBundle, Breaks, NoMemory}
 use Rattle.stix_bundles.specs.Bundle.{IsBundle, IsBundleRefused}

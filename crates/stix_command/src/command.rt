@@ -59,7 +59,11 @@ pub fn match_request(words: &[String]) -> Option<MatchRequest<'_>>
     let Some(request) = request_in(words) else {
         return None;
     };
-    if is_position(request.pattern) { Some(request) } else { None }
+    if is_position(request.pattern) {
+        Some(request)
+    } else {
+        None
+    }
 }
 
 /// The same, whether its pattern is an option or none.
@@ -74,18 +78,11 @@ fn request_in(words: &[String]) -> Option<MatchRequest<'_>>
         [command, whole, pattern] if is_word(command, "match") && is_word(whole, "--whole") => {
             Some(usual_request(Mode::Whole, pattern))
         }
-        [command, option, cap, pattern]
-            if is_word(command, "match") && is_word(option, "--cap") =>
-        {
-            capped_request(Mode::Lines, cap, pattern)
-        }
+        [command, option, cap, pattern] if is_word(command, "match") && is_word(option, "--cap") =>
+            { capped_request(Mode::Lines, cap, pattern) }
         [command, whole, option, cap, pattern]
-            if is_word(command, "match")
-                && is_word(whole, "--whole")
-                && is_word(option, "--cap") =>
-        {
-            capped_request(Mode::Whole, cap, pattern)
-        }
+            if is_word(command, "match") && is_word(whole, "--whole") && is_word(option, "--cap") =>
+            { capped_request(Mode::Whole, cap, pattern) }
         _ => None,
     }
 }
@@ -133,5 +130,9 @@ fn cap_of(text: &str) -> Option<u64>
     let Ok(cap) = text.parse::<u64>() else {
         return None;
     };
-    if cap >= 1 && cap <= MAX_CAP { Some(cap) } else { None }
+    if cap >= 1 && cap <= MAX_CAP {
+        Some(cap)
+    } else {
+        None
+    }
 }

@@ -46,11 +46,7 @@ pub fn write_crowded<S: Sink>(number: u64, cap: u64, reasons: &mut S) -> Result<
 }
 
 /// The same, of the texts of both numbers.
-fn write_numbers<'a, S: Sink>(
-    number: &'a str,
-    cap: &'a str,
-    reasons: &mut S,
-) -> Result<(), Fault>
+fn write_numbers<'a, S: Sink>(number: &'a str, cap: &'a str, reasons: &mut S) -> Result<(), Fault>
     ensures text { WritesWhole (codes "crowded at observation " ++ (number.now ++ (codes ": cap " ++ (cap.now ++ codes "\n"))))
         (S.written reasons.old) (S.written reasons.new) result }
     ensures causes { Causes (S.faults reasons.old) (S.faults reasons.new) result }

@@ -1,4 +1,4 @@
-use Rattle.std.proofs.Common.{◌≡◌, ℕ, List, refl, sym, subst}
+use Rattle.std.proofs.Common.{ℕ, List, refl, sym, subst}
 use Rattle.stix_command.specs.CommandLine.{IsCapText}
 use Rattle.stix_command.proofs.command.capped_request.Goals as goal
 

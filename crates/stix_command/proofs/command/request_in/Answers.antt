@@ -1,4 +1,4 @@
-use Rattle.std.proofs.Common.{◌≡◌, ◌∙◌, ℕ, List, [], ◌∷◌, Some, ap, sym, arith, length, string_bytes, codes}
+use Rattle.std.proofs.Common.{◌≡◌, ◌∙◌, ℕ, List, [], ◌∷◌, Some, ap, arith, length, string_bytes, codes}
 use Rattle.match_input.specs.declared.mode.Mode.TheVariants.{Lines, Whole}
 use Rattle.stix_command.specs.CommandLine.{texts, match_words}
 use Rattle.stix_command.proofs.CommandLineLemmas.{four_texts, five_texts, capped-some, capped-none, text_at, texts-length, begins, lengths, begins_three, begins_four, begins_five, clash}
@@ -11,9 +11,9 @@ returns-in-len4-clause-some c =
     let first : string_bytes c.command-item-then-words-lt5.result ≡ codes "match" = c.is_word-then-words-lt5.ensures.0 c.if-is_word-4.true in
     let second : string_bytes c.option-item.result ≡ codes "--cap" = c.is_word-then-is_word-4.ensures.0 c.if-is_word-5.true in
     let line : texts c.args.words.now ≡ match_words Lines (Some (string_bytes c.cap-item.result)) (string_bytes c.pattern-item-then-words-lt5.result)
-            = four_texts c.args.words.now _ _ _ _ four c.command-item-then-words-lt5.is c.option-item.is c.cap-item.is c.pattern-item-then-words-lt5.is
-            ∙ ap (λ (w : List ℕ). w ∷ string_bytes c.option-item.result ∷ string_bytes c.cap-item.result ∷ string_bytes c.pattern-item-then-words-lt5.result ∷ []) first
-            ∙ ap (λ (w : List ℕ). codes "match" ∷ w ∷ string_bytes c.cap-item.result ∷ string_bytes c.pattern-item-then-words-lt5.result ∷ []) second in
+    = four_texts c.args.words.now _ _ _ _ four c.command-item-then-words-lt5.is c.option-item.is c.cap-item.is c.pattern-item-then-words-lt5.is
+    ∙ ap (λ (w : List ℕ). w ∷ string_bytes c.option-item.result ∷ string_bytes c.cap-item.result ∷ string_bytes c.pattern-item-then-words-lt5.result ∷ []) first
+    ∙ ap (λ (w : List ℕ). codes "match" ∷ w ∷ string_bytes c.cap-item.result ∷ string_bytes c.pattern-item-then-words-lt5.result ∷ []) second in
     capped-some _ Lines _ _ c.capped_request.result line c.capped_request.ensures.some
 
 pub returns-in-len4-clause-none : goal.returns-in-len4-clause-none
@@ -22,9 +22,9 @@ returns-in-len4-clause-none c =
     let first : string_bytes c.command-item-then-words-lt5.result ≡ codes "match" = c.is_word-then-words-lt5.ensures.0 c.if-is_word-4.true in
     let second : string_bytes c.option-item.result ≡ codes "--cap" = c.is_word-then-is_word-4.ensures.0 c.if-is_word-5.true in
     let line : texts c.args.words.now ≡ match_words Lines (Some (string_bytes c.cap-item.result)) (string_bytes c.pattern-item-then-words-lt5.result)
-            = four_texts c.args.words.now _ _ _ _ four c.command-item-then-words-lt5.is c.option-item.is c.cap-item.is c.pattern-item-then-words-lt5.is
-            ∙ ap (λ (w : List ℕ). w ∷ string_bytes c.option-item.result ∷ string_bytes c.cap-item.result ∷ string_bytes c.pattern-item-then-words-lt5.result ∷ []) first
-            ∙ ap (λ (w : List ℕ). codes "match" ∷ w ∷ string_bytes c.cap-item.result ∷ string_bytes c.pattern-item-then-words-lt5.result ∷ []) second in
+    = four_texts c.args.words.now _ _ _ _ four c.command-item-then-words-lt5.is c.option-item.is c.cap-item.is c.pattern-item-then-words-lt5.is
+    ∙ ap (λ (w : List ℕ). w ∷ string_bytes c.option-item.result ∷ string_bytes c.cap-item.result ∷ string_bytes c.pattern-item-then-words-lt5.result ∷ []) first
+    ∙ ap (λ (w : List ℕ). codes "match" ∷ w ∷ string_bytes c.cap-item.result ∷ string_bytes c.pattern-item-then-words-lt5.result ∷ []) second in
     capped-none _ Lines _ _ c.capped_request.result line c.capped_request.ensures.none
 
 pub returns-in-len5-clause-some : goal.returns-in-len5-clause-some
@@ -35,10 +35,10 @@ returns-in-len5-clause-some c =
     let third : string_bytes c.option-item-then-words-lt6.result ≡ codes "--cap" = c.is_word-then-is_word-7.ensures.0 c.if-is_word-8.true in
     let rest = string_bytes c.cap-item-then-words-lt6.result ∷ string_bytes c.pattern-item-then-words-lt6.result ∷ [] in
     let line : texts c.args.words.now ≡ match_words Whole (Some (string_bytes c.cap-item-then-words-lt6.result)) (string_bytes c.pattern-item-then-words-lt6.result)
-            = five_texts c.args.words.now _ _ _ _ _ five c.command-item-then-words-lt6.is c.whole-item-then-words-lt6.is c.option-item-then-words-lt6.is c.cap-item-then-words-lt6.is c.pattern-item-then-words-lt6.is
-            ∙ ap (λ (w : List ℕ). w ∷ string_bytes c.whole-item-then-words-lt6.result ∷ string_bytes c.option-item-then-words-lt6.result ∷ rest) first
-            ∙ ap (λ (w : List ℕ). codes "match" ∷ w ∷ string_bytes c.option-item-then-words-lt6.result ∷ rest) second
-            ∙ ap (λ (w : List ℕ). codes "match" ∷ codes "--whole" ∷ w ∷ rest) third in
+    = five_texts c.args.words.now _ _ _ _ _ five c.command-item-then-words-lt6.is c.whole-item-then-words-lt6.is c.option-item-then-words-lt6.is c.cap-item-then-words-lt6.is c.pattern-item-then-words-lt6.is
+    ∙ ap (λ (w : List ℕ). w ∷ string_bytes c.whole-item-then-words-lt6.result ∷ string_bytes c.option-item-then-words-lt6.result ∷ rest) first
+    ∙ ap (λ (w : List ℕ). codes "match" ∷ w ∷ string_bytes c.option-item-then-words-lt6.result ∷ rest) second
+    ∙ ap (λ (w : List ℕ). codes "match" ∷ codes "--whole" ∷ w ∷ rest) third in
     capped-some _ Whole _ _ c.capped_request-in-len5.result line c.capped_request-in-len5.ensures.some
 
 pub returns-in-len5-clause-none : goal.returns-in-len5-clause-none
@@ -49,10 +49,10 @@ returns-in-len5-clause-none c =
     let third : string_bytes c.option-item-then-words-lt6.result ≡ codes "--cap" = c.is_word-then-is_word-7.ensures.0 c.if-is_word-8.true in
     let rest = string_bytes c.cap-item-then-words-lt6.result ∷ string_bytes c.pattern-item-then-words-lt6.result ∷ [] in
     let line : texts c.args.words.now ≡ match_words Whole (Some (string_bytes c.cap-item-then-words-lt6.result)) (string_bytes c.pattern-item-then-words-lt6.result)
-            = five_texts c.args.words.now _ _ _ _ _ five c.command-item-then-words-lt6.is c.whole-item-then-words-lt6.is c.option-item-then-words-lt6.is c.cap-item-then-words-lt6.is c.pattern-item-then-words-lt6.is
-            ∙ ap (λ (w : List ℕ). w ∷ string_bytes c.whole-item-then-words-lt6.result ∷ string_bytes c.option-item-then-words-lt6.result ∷ rest) first
-            ∙ ap (λ (w : List ℕ). codes "match" ∷ w ∷ string_bytes c.option-item-then-words-lt6.result ∷ rest) second
-            ∙ ap (λ (w : List ℕ). codes "match" ∷ codes "--whole" ∷ w ∷ rest) third in
+    = five_texts c.args.words.now _ _ _ _ _ five c.command-item-then-words-lt6.is c.whole-item-then-words-lt6.is c.option-item-then-words-lt6.is c.cap-item-then-words-lt6.is c.pattern-item-then-words-lt6.is
+    ∙ ap (λ (w : List ℕ). w ∷ string_bytes c.whole-item-then-words-lt6.result ∷ string_bytes c.option-item-then-words-lt6.result ∷ rest) first
+    ∙ ap (λ (w : List ℕ). codes "match" ∷ w ∷ string_bytes c.option-item-then-words-lt6.result ∷ rest) second
+    ∙ ap (λ (w : List ℕ). codes "match" ∷ codes "--whole" ∷ w ∷ rest) third in
     capped-none _ Whole _ _ c.capped_request-in-len5.result line c.capped_request-in-len5.ensures.none
 
 pub returns-in_default-clause-none : goal.returns-in_default-clause-none

@@ -1,6 +1,6 @@
 use Rattle.std.proofs.Common.{ℕ, subst}
 use Rattle.pattern_types.specs.declared.pattern.Pattern.{Pattern}
-use Rattle.match_live.specs.View.{matcher_state, pattern_of}
+use Rattle.match_live.specs.View.{matcher_state}
 use Rattle.match_log.specs.Matching.{AnswersMatch}
 use Rattle.stix_command.specs.Streams.{streams}
 use Rattle.stix_command.proofs.matching.match_pattern.Goals as goal
