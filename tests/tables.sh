@@ -60,6 +60,76 @@ lay_objects() {
   grep -q '^ ' "$1" && echo 4 > "$to/status"
 }
 
+# observed FIRST LAST REFS OBJECTS: a bundle of an observed-data, which was observed so and refers to these, and of objects.
+observed() {
+  printf '{"type":"bundle","id":"bundle--00000000-0000-4000-8000-000000000001","objects":[%s"first_observed":"%s","last_observed":"%s","number_observed":1,"object_refs":[%s]},%s]}\n' \
+    '{"type":"observed-data","spec_version":"2.1","id":"observed-data--00000000-0000-4000-8000-000000000001","created":"2021-06-10T00:00:00.000Z","modified":"2021-06-10T00:00:00.000Z",' \
+    "$1" "$2" "$3" "$4"
+}
+
+# moment SECONDS: so many seconds, with a fraction, after 2021-06-10T00:00:00Z.
+moment() {
+  local whole=${1%%.*} rest=
+  [[ $1 != *.* ]] || rest=.${1#*.}
+  printf '2021-06-10T%02d:%02d:%02d%sZ' $((whole / 3600)) $((whole / 60 % 60)) $((whole % 60)) "$rest"
+}
+
+# lay_truths TABLE TO: lines 'PATTERN<TAB>OBJECTS<TAB>holds' or '..<TAB>fails': whether the bracket holds for the first
+# object, or for the first of a list; the others are in its bundle.
+lay_truths() {
+  local pattern objects truth id number=0
+  while IFS=$'\t' read -r pattern objects truth; do
+    number=$((number + 1))
+    [ -n "$truth" ] || continue
+    row "$2:$number" match "$pattern"
+    [[ $objects != '['* ]] || objects=${objects:1:-1}
+    [[ $objects =~ \"id\":(\"[^\"]*\") ]] && id=${BASH_REMATCH[1]}
+    observed "$(moment 0)" "$(moment 0)" "$id" "$objects" > "$to/stdin"
+    if [ "$truth" = holds ]; then echo '1: 1' > "$to/stdout"; fi
+  done < "$1"
+}
+
+# login NAME FIRST LAST: a line in which this account is observed, from one second to another.
+login() {
+  observed "$(moment "$2")" "$(moment "$3")" '"user-account--00000000-0000-4000-8000-000000000001"' \
+    '{"type":"user-account","id":"user-account--00000000-0000-4000-8000-000000000001","account_login":"'"$1"'"}'
+}
+
+# lay_logs TABLE TO: lines 'WORDS | LOG => LINES'. WORDS are those after `match`, the last one the pattern, in which A to
+# D are the brackets of the logins a to d; LOG is NAME@SECOND or NAME@FIRST..LAST, a line each; LINES stand between `; `.
+# 'WORDS | LOG => LINES ! STATUS TEXT': the run ends with this status and this text.
+lay_logs() {
+  local line words log wanted letter event name span number=0
+  while IFS= read -r line; do
+    number=$((number + 1))
+    [[ $line == *' | '*' =>'* ]] || continue
+    words=${line%% | *} log=${line#* | } wanted=${line##* =>}
+    log=${log%% =>*}
+    local options=()
+    while [[ $words == --* ]]; do
+      options+=("${words%% *}")
+      words=${words#* }
+      if [ "${options[-1]}" = --cap ]; then options+=("${words%% *}") words=${words#* }; fi
+    done
+    for letter in a b c d; do
+      words=$(sed -E "s/(^|[( ])${letter^^}($|[) ])/\\1[user-account:account_login = '$letter']\\2/g" <<< "$words")
+      words=$(sed -E "s/(^|[( ])${letter^^}($|[) ])/\\1[user-account:account_login = '$letter']\\2/g" <<< "$words")
+    done
+    row "$2:$number" match "${options[@]}" "$words"
+    for event in $log; do
+      name=${event%%@*} span=${event#*@}
+      login "$name" "${span%%..*}" "${span##*..}"
+    done > "$to/stdin"
+    if [[ $wanted == *'! '* ]]; then
+      name=${wanted#*! }
+      refused "${name%% *}" "${name#* }"
+      wanted=${wanted%!*}
+    fi
+    wanted=$(sed 's/^ *//; s/ *$//' <<< "$wanted")
+    [ -z "$wanted" ] || sed 's/; /\n/g' <<< "$wanted" > "$to/stdout"
+  done < "$1"
+}
+
 # lay_tables FROM TO: makes the rows of all tables below FROM folders below TO.
 lay_tables() {
   local table name to
@@ -70,6 +140,8 @@ lay_tables() {
       *.patterns) lay_patterns "$table" "$name" ;;
       *.inputs) lay_inputs "$table" "$name" ;;
       *.objects) lay_objects "$table" "$name" ;;
+      *.truths) lay_truths "$table" "$name" ;;
+      *.logs) lay_logs "$table" "$name" ;;
     esac
   done < <(find "$1" -type f | sort)
 }

@@ -9,8 +9,6 @@ pub mod laws;
 mod leading_bits;
 mod prefix;
 mod prefix_length;
-#[cfg(test)]
-mod tests;
 mod text;
 
 pub use block::Block;

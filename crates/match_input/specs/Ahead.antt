@@ -56,12 +56,13 @@ abbrev pub HoldsLines : Stage → Type 0
 HoldsLines (Lines lines) = HoldsLine lines.held
 HoldsLines _ = ⊥
 
--- a line went by: no byte is lost, and few bytes are taken and not yet given; an input that is read whole is then at its end
-abbrev pub Moves : Stage → Stage → Option (List ℕ) → Option (List ℕ) → Type 0
-Moves (Lines before) (Lines after) left left_after = (after.refusal ≡ None) × (before.given < after.given) × (after.given ≤ MAX_INPUT)
-    × (length after.held ≤ MAX_READ) × GoesOnAccounting before after left left_after
-Moves Whole AtEnd left left_after = TakesAtMost (MAX_WHOLE_INPUT + MAX_READ) left left_after
-Moves _ _ left left_after = ⊥
+-- the line of that number went by: no byte is lost, and few bytes are taken and not yet given; an input that is read whole
+-- is then at its end
+abbrev pub Moves : ℕ → Stage → Stage → Option (List ℕ) → Option (List ℕ) → Type 0
+Moves number (Lines before) (Lines after) left left_after = (after.refusal ≡ None) × (number ≡ after.count) × (before.given < after.given)
+    × (after.given ≤ MAX_INPUT) × (length after.held ≤ MAX_READ) × GoesOnAccounting before after left left_after
+Moves number Whole AtEnd left left_after = (number ≡ 1) × IsAtEnd left_after × TakesAtMost (MAX_WHOLE_INPUT + MAX_READ) left left_after
+Moves number _ _ left left_after = ⊥
 
 -- no more lines went by than up to that one, and little more is taken: of what follows no more bytes than a line may have
 -- and one read gives
@@ -101,7 +102,7 @@ pub record GivesBatch (before after : ReaderState) (left left_after : Option (Li
   pub is : IsBundleLine before.last (next_number before) bytes (data_in batch.bundle) batch.observations
   pub observations : after.observations ≡ before.observations + length batch.observations
   pub last : after.last ≡ last_after before.last batch.observations
-  pub moves : Moves before.stage after.stage left left_after
+  pub moves : Moves batch.line before.stage after.stage left left_after
 
 -- the first of the lines that came yet is refused
 pub record RefusesLine (before : ReaderState) (left left_after : Option (List ℕ)) (line : ℕ) (why : InputRule) : Type 0 where

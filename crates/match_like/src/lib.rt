@@ -9,8 +9,6 @@
 mod attempt;
 mod characters;
 mod matching;
-#[cfg(test)]
-mod tests;
 mod wildcards;
 
 pub use matching::like;

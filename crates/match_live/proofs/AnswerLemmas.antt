@@ -1,6 +1,6 @@
 -- What ends at a row, sorted, is the answer; and how much is live.
-use Rattle.std.proofs.Common.{◌≡◌, ℕ, zero, suc, ◌+◌, ◌*◌, ◌≤◌, ◌<◌, ℤ, ◌≤ℤ◌, List, [], ◌∷◌, ◌++◌, length, refl, sym, ◌∙◌, ap, subst, arith}
-use Rattle.std.specs.Prelude.{Bool, true, false, ◌&&◌, nat_eq, ◌↔◌, cond, map}
+use Rattle.std.proofs.Common.{◌≡◌, ℕ, suc, ◌+◌, ◌≤◌, ◌<◌, List, [], ◌∷◌, ◌++◌, length, refl, sym, ◌∙◌, ap, arith}
+use Rattle.std.specs.Prelude.{Bool, true, false, ◌&&◌, nat_eq, cond}
 use Rattle.std.specs.List.Sorted.{IsSortedBy}
 use Rattle.std.proofs.lemmas.Bool.{eqb-true, eq-eqb, ne_eqb}
 use Rattle.std.proofs.lemmas.List.{length-map}
@@ -9,11 +9,10 @@ use Rattle.match_bindings.specs.Bounds.{no_bounds}
 use Rattle.match_bindings.specs.NumberedPattern.{NumberedPattern}
 use Rattle.match_bindings.specs.BindTree.{BindTree, has, greatest}
 use Rattle.match_bindings.specs.Log.{Observed, observed_in}
-use Rattle.match_bindings.specs.Binding.{IsBinding}
 use Rattle.match_bindings.specs.Test.{is_binding}
 use Rattle.match_bindings.specs.Once.{bit, same, count}
 use Rattle.match_bindings.specs.Flat.{comes_before, Rises}
-use Rattle.match_live.specs.HeldTree.{HeldTree, hold, trees_in}
+use Rattle.match_live.specs.PieceTree.{PieceTree, trees_in}
 use Rattle.match_live.specs.Answer.{EndsAtLast, IsAnswer}
 use Rattle.match_live.proofs.OnceLemmas.{same_is, same_self}
 use Rattle.match_live.proofs.NumberLemmas.{has_greatest, greatest_binding, old_binding}
@@ -52,11 +51,11 @@ bit_and_most true false = omega arith
 bit_and_most false c = omega arith
 
 -- the trees of what is held stand there as often as the test says
-pub held_counts : (o : Observed) (f : BindTree → Bool) (held : List HeldTree) → AreHeld o f held → (x : BindTree) → count x (trees_in held) ≡ bit (f x)
+pub held_counts : (o : Observed) (f : BindTree → Bool) (held : List PieceTree) → AreHeld o f held → (x : BindTree) → count x (trees_in held) ≡ bit (f x)
 held_counts o f held (xs, is, each) x = ap (count x) (ap trees_in is ∙ trees_held o xs) ∙ each x
 
 -- what ends at the last row of a log
-pub answer_law : Rule → Rise → (p : NumberedPattern) (log : List LogEntry) (r : LogEntry) (new : List HeldTree) (xs : List BindTree) →
+pub answer_law : Rule → Rise → (p : NumberedPattern) (log : List LogEntry) (r : LogEntry) (new : List PieceTree) (xs : List BindTree) →
     AreHeld (observed_in (log ++ r ∷ [])) (ends (observed_in (log ++ r ∷ [])) (suc (length log)) r.last no_bounds p) new →
     ((x : BindTree) → count x xs ≡ count x (trees_in new)) → IsSortedBy comes_before xs → IsAnswer p (log ++ r ∷ []) xs
 answer_law rule rise p log r new xs held same sorted = record {
@@ -66,22 +65,28 @@ answer_law rule rise p log r new xs held same sorted = record {
 } where
   o : Observed
   o = observed_in (log ++ r ∷ [])
+
   n : ℕ
   n = suc (length log)
+
   long : length (log ++ r ∷ []) ≡ suc (length log)
   long = length_more log r
+
   counted : (k i : ℕ) → (observed_in (log ++ r ∷ [])).holds k i ≡ true → i ≤ suc (length log)
   counted k i h = let within_log : i ≤ length (log ++ r ∷ []) = holds_inside (log ++ r ∷ []) k i h in omega (arith, long)
+
   each : (x : BindTree) → count x xs ≡ bit (is_binding (observed_in (log ++ r ∷ [])) p x && nat_eq (greatest x) (suc (length log)))
   each x =
       same x ∙ held_counts (observed_in (log ++ r ∷ [])) (ends (observed_in (log ++ r ∷ [])) (suc (length log)) r.last no_bounds p) new held x
       ∙ ap bit (and_true (is_binding (observed_in (log ++ r ∷ [])) p x) (has (suc (length log)) x))
       ∙ ap bit (ends_at (observed_in (log ++ r ∷ [])) (suc (length log)) counted p x)
+
   yes_it_is : (x : BindTree) → EndsAtLast p (log ++ r ∷ []) x → (is_binding (observed_in (log ++ r ∷ [])) p x && nat_eq (greatest x) (suc (length log))) ≡ true
   yes_it_is x h =
       let b : is_binding (observed_in (log ++ r ∷ [])) p x ≡ true = (rule (observed_in (log ++ r ∷ [])) p x).1 h.0 in
       let g : nat_eq (greatest x) (suc (length log)) ≡ true = eq-eqb (greatest x) (suc (length log)) (h.1 ∙ long) in
       rw (b, g) refl
+
   no_it_isnt : (x : BindTree) → (EndsAtLast p (log ++ r ∷ []) x → ⊥) → (b c : Bool) → is_binding (observed_in (log ++ r ∷ [])) p x ≡ b → nat_eq (greatest x) (suc (length log)) ≡ c →
       (is_binding (observed_in (log ++ r ∷ [])) p x && nat_eq (greatest x) (suc (length log))) ≡ false
   no_it_isnt x h false c eb ec = rw eb refl
@@ -129,10 +134,10 @@ same_length (x ∷ xs) ys h =
     let e' : 1 + count x xs ≡ count x ys = rw (same_self x) at e in
     let some : 0 < count x ys = omega arith in
     let rest : length xs ≡ length (drop_one x ys) = same_length xs (drop_one x ys) (λ z.
-      let k : bit (same z x) + count z xs ≡ count z ys = h z in
-      let d : count z ys ≡ bit (same z x) + count z (drop_one x ys) = dropped_count x ys some z in
-      omega arith) in
+    let k : bit (same z x) + count z xs ≡ count z ys = h z in
+    let d : count z ys ≡ bit (same z x) + count z (drop_one x ys) = dropped_count x ys some z in
+    omega arith) in
     ap suc rest ∙ sym (dropped_length x ys some)
 
-pub trees_length : (held : List HeldTree) → length (trees_in held) ≡ length held
+pub trees_length : (held : List PieceTree) → length (trees_in held) ≡ length held
 trees_length held = length-map held (λ h. h.tree)

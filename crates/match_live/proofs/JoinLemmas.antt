@@ -1,10 +1,10 @@
 -- The law that joins share: the new with the old, the old with the new, and never the new with the new.
-use Rattle.std.proofs.Common.{◌≡◌, ℕ, ◌+◌, ◌*◌, ◌≤◌, List, [], ◌∷◌, ◌++◌, refl, sym, ◌∙◌, ap, arith}
-use Rattle.std.specs.Prelude.{Bool, true, false, ◌&&◌, ◌||◌, not, map, filter, cond, nat_eq}
+use Rattle.std.proofs.Common.{◌≡◌, ℕ, ◌+◌, ◌*◌, List, ◌++◌, refl, ◌∙◌, ap, arith}
+use Rattle.std.specs.Prelude.{Bool, true, false, ◌&&◌, ◌||◌, not}
 use Rattle.match_bindings.specs.BindTree.{BindTree, has}
 use Rattle.match_bindings.specs.Once.{bit, count, Exactly}
 use Rattle.match_live.proofs.PairsLemmas.{pairs}
-use Rattle.match_live.proofs.OnceLemmas.{count_append, count_pairs, bit_and, Joins}
+use Rattle.match_live.proofs.OnceLemmas.{count_append, count_pairs, Joins}
 
 left_bits : (c p u q v r : Bool) → (p ≡ true → u ≡ true → c ≡ true → r ≡ (q && not v)) →
     bit c * (bit (p && u) * bit r) ≡ bit c * (bit (p && u) * bit (q && not v))
@@ -39,9 +39,9 @@ pub join_law : (mk : BindTree → BindTree → BindTree) → Joins mk → (n : �
 join_law mk j n p q r s c new_a old_a new_b old_b ha hs hb hr right left apart a b =
     count_append (mk a b) (pairs mk c new_a old_b) (pairs mk c old_a new_b)
     ∙ (let one = count_pairs mk j c a b new_a old_b in
-       let two = count_pairs mk j c a b old_a new_b in
-       let e1 = ha a in let e2 = hr b in let e3 = hs a in let e4 = hb b in
-       rw (one, two, e1, e2, e3, e4) refl)
+    let two = count_pairs mk j c a b old_a new_b in
+    let e1 = ha a in let e2 = hr b in let e3 = hs a in let e4 = hb b in
+    rw (one, two, e1, e2, e3, e4) refl)
     ∙ join_bits (c a b) (p a) (q b) (has n a) (has n b) (r b) (s a) (right a b) (left a b) (apart a b)
 
 level_bits : (d lt p x u q y v : Bool) → (q ≡ true → p ≡ true → v ≡ true → u ≡ false → lt ≡ true) → (q ≡ true → p ≡ true → u ≡ true → lt ≡ false) →

@@ -1,5 +1,5 @@
 -- What was a binding stays one, and what is held for a log is held for the log with one more row.
-use Rattle.std.proofs.Common.{◌≡◌, ℕ, zero, suc, ◌+◌, ◌*◌, ◌<◌, ℤ, ◌≤ℤ◌, List, [], ◌∷◌, refl, sym, ◌∙◌, ap, subst, arith}
+use Rattle.std.proofs.Common.{◌≡◌, ℕ, zero, suc, ◌<◌, ℤ, List, [], ◌∷◌, refl, ◌∙◌, ap, arith}
 use Rattle.std.specs.Prelude.{Bool, true, false, ◌&&◌, ◌||◌, not, map, nat_eq, nat_lt, int_le, int_lt}
 use Rattle.std.specs.Int.{int_min, int_max}
 use Rattle.std.proofs.lemmas.Bool.{and_parts}
@@ -10,12 +10,12 @@ use Rattle.match_bindings.specs.BindTree.{BindTree, One, Pair, First, Second, Em
 use Rattle.match_bindings.specs.Log.{Observed}
 use Rattle.match_bindings.specs.Span.{earliest, latest, later_by}
 use Rattle.match_bindings.specs.Test.{are_repeats, is_binding}
-use Rattle.match_bindings.specs.Once.{bit, same, count, Exactly}
+use Rattle.match_bindings.specs.Once.{same, count}
 use Rattle.match_windows.specs.declared.window.Window.{Window}
 use Rattle.match_windows.specs.Stores.{window_of}
 use Rattle.match_live.specs.declared.join.Join.TheVariants as join
-use Rattle.match_live.specs.HeldTree.{HeldTree, hold}
-use Rattle.match_live.specs.inner.Lives.{alive, lives}
+use Rattle.match_live.specs.PieceTree.{PieceTree, hold}
+use Rattle.match_live.specs.inner.Lives.{lives}
 use Rattle.match_live.specs.inner.Steps.{SideStores, State, a_leaf, a_join, a_choice, a_limit, a_chain}
 use Rattle.match_live.proofs.OnceLemmas.{same_self}
 use Rattle.match_live.proofs.NumberLemmas.{both_parts}
@@ -42,7 +42,7 @@ many_times o o' f h (suc zero) (Single a) k = h a k
 many_times o o' f h (suc (suc j)) (More m a) k =
     let parts = both_parts (are_repeats f (suc j) m) (f a) (nat_lt (greatest m) (greatest a) && disjoint m a) k in
     pair_times (earliest o.first m) (earliest o'.first m) (earliest o.first a) (earliest o'.first a) (latest o.last m) (latest o'.last m) (latest o.last a) (latest o'.last a)
-      (many_times o o' f h (suc j) m parts.0) (h a parts.1)
+    (many_times o o' f h (suc j) m parts.0) (h a parts.1)
 many_times o o' f h j x k = absurd (cc)
 
 -- the times of a binding stay
@@ -51,11 +51,11 @@ same_times o o' n g (Leaf k) (One i) h = (g.first k i h, g.last k i h)
 same_times o o' n g (Both p q) (Pair a b) h =
     let parts = both_parts (is_binding o p a) (is_binding o q b) (disjoint a b) h in
     pair_times (earliest o.first a) (earliest o'.first a) (earliest o.first b) (earliest o'.first b) (latest o.last a) (latest o'.last a) (latest o.last b) (latest o'.last b)
-      (same_times o o' n g p a parts.0) (same_times o o' n g q b parts.1)
+    (same_times o o' n g p a parts.0) (same_times o o' n g q b parts.1)
 same_times o o' n g (Then p q) (Pair a b) h =
     let parts = both_parts (is_binding o p a) (is_binding o q b) (int_le (latest o.last a) (earliest o.first b) && disjoint a b) h in
     pair_times (earliest o.first a) (earliest o'.first a) (earliest o.first b) (earliest o'.first b) (latest o.last a) (latest o'.last a) (latest o.last b) (latest o'.last b)
-      (same_times o o' n g p a parts.0) (same_times o o' n g q b parts.1)
+    (same_times o o' n g p a parts.0) (same_times o o' n g q b parts.1)
 same_times o o' n g (Either p q) (First a) h = same_times o o' n g p a h
 same_times o o' n g (Either p q) (Second a) h = same_times o o' n g q a h
 same_times o o' n g (Within p x) b h = same_times o o' n g p b (and_parts _ _ h).0
@@ -116,9 +116,9 @@ lasting o o' n g (Both p q) (Pair a b) =
     ∙ split_bits (is_binding o' p a) (is_binding o' q b) (disjoint a b) (has n a) (has n b)
 lasting o o' n g (Then p q) (Pair a b) =
     pair_bits (is_binding o p a) (is_binding o q b)
-      (int_le (latest o.last a) (earliest o.first b) && disjoint a b) (int_le (latest o'.last a) (earliest o'.first b) && disjoint a b)
-      (λ ha hb. ap (λ z. int_le z (earliest o.first b) && disjoint a b) (same_times o o' n g p a ha).1
-                ∙ ap (λ z. int_le (latest o'.last a) z && disjoint a b) (same_times o o' n g q b hb).0)
+    (int_le (latest o.last a) (earliest o.first b) && disjoint a b) (int_le (latest o'.last a) (earliest o'.first b) && disjoint a b)
+    (λ ha hb. ap (λ z. int_le z (earliest o.first b) && disjoint a b) (same_times o o' n g p a ha).1
+    ∙ ap (λ z. int_le (latest o'.last a) z && disjoint a b) (same_times o o' n g q b hb).0)
     ∙ ap (λ z. z && is_binding o q b && (int_le (latest o'.last a) (earliest o'.first b) && disjoint a b)) (lasting o o' n g p a)
     ∙ ap (λ z. (is_binding o' p a && not (has n a)) && z && (int_le (latest o'.last a) (earliest o'.first b) && disjoint a b)) (lasting o o' n g q b)
     ∙ split_bits (is_binding o' p a) (is_binding o' q b) (int_le (latest o'.last a) (earliest o'.first b) && disjoint a b) (has n a) (has n b)
@@ -126,14 +126,14 @@ lasting o o' n g (Either p q) (First a) = lasting o o' n g p a
 lasting o o' n g (Either p q) (Second a) = lasting o o' n g q a
 lasting o o' n g (Within p x) b =
     one_bits (is_binding o p b) (int_lt (latest o.last b) (later_by x (earliest o.first b))) (int_lt (latest o'.last b) (later_by x (earliest o'.first b)))
-      (λ h. ap (λ z. int_lt z (later_by x (earliest o.first b))) (same_times o o' n g p b h).1
-            ∙ ap (λ z. int_lt (latest o'.last b) (later_by x z)) (same_times o o' n g p b h).0)
+    (λ h. ap (λ z. int_lt z (later_by x (earliest o.first b))) (same_times o o' n g p b h).1
+    ∙ ap (λ z. int_lt (latest o'.last b) (later_by x z)) (same_times o o' n g p b h).0)
     ∙ ap (λ z. z && int_lt (latest o'.last b) (later_by x (earliest o'.first b))) (lasting o o' n g p b)
     ∙ swap_bits (is_binding o' p b) (has n b) (int_lt (latest o'.last b) (later_by x (earliest o'.first b)))
 lasting o o' n g (Between p x y) b =
     one_bits (is_binding o p b) (int_le x (earliest o.first b) && int_lt (latest o.last b) y) (int_le x (earliest o'.first b) && int_lt (latest o'.last b) y)
-      (λ h. ap (λ z. int_le x z && int_lt (latest o.last b) y) (same_times o o' n g p b h).0
-            ∙ ap (λ z. int_le x (earliest o'.first b) && int_lt z y) (same_times o o' n g p b h).1)
+    (λ h. ap (λ z. int_le x z && int_lt (latest o.last b) y) (same_times o o' n g p b h).0
+    ∙ ap (λ z. int_le x (earliest o'.first b) && int_lt z y) (same_times o o' n g p b h).1)
     ∙ ap (λ z. z && (int_le x (earliest o'.first b) && int_lt (latest o'.last b) y)) (lasting o o' n g p b)
     ∙ swap_bits (is_binding o' p b) (has n b) (int_le x (earliest o'.first b) && int_lt (latest o'.last b) y)
 lasting o o' n g (Repeats p m) b = many_lasting n (is_binding o p) (is_binding o' p) (λ x. lasting o o' n g p x) m b
@@ -141,7 +141,7 @@ lasting o o' n g p x = refl
 
 -- ---- what is held
 
-map_same : (f g : BindTree → HeldTree) (xs : List BindTree) → ((x : BindTree) → 0 < count x xs → f x ≡ g x) → map f xs ≡ map g xs
+map_same : (f g : BindTree → PieceTree) (xs : List BindTree) → ((x : BindTree) → 0 < count x xs → f x ≡ g x) → map f xs ≡ map g xs
 map_same f g [] h = refl
 map_same f g (x ∷ xs) h =
     let me : same x x ≡ true = same_self x in
@@ -152,7 +152,7 @@ map_same f g (x ∷ xs) h =
 same_hold : (o o' : Observed) (x : BindTree) → SameTimes o o' x → hold o x ≡ hold o' x
 same_hold o o' x e = ap (λ z. record { tree = x; earliest = z; latest = latest o.last x }) e.0 ∙ ap (λ z. record { tree = x; earliest = earliest o'.first x; latest = z }) e.1
 
-lasting_store : (o o' : Observed) (n : ℕ) (s : ℤ) (v : Window) (f f' : BindTree → Bool) (held : List HeldTree) →
+lasting_store : (o o' : Observed) (n : ℕ) (s : ℤ) (v : Window) (f f' : BindTree → Bool) (held : List PieceTree) →
     ((x : BindTree) → f x ≡ true → SameTimes o o' x) → ((x : BindTree) → f x ≡ (f' x && not (has n x))) →
     AreHeld o (λ x. f x && lives v (earliest o.first x) s) held →
     AreHeld o' (λ x. (f' x && not (has n x)) && lives v (earliest o'.first x) s) held
@@ -163,21 +163,22 @@ lasting_store o o' n s v f f' held times still (xs, is, each) = (
       same_hold o o' x (times x binding)),
   exactly_same (λ x. f x && lives v (earliest o.first x) s) (λ x. (f' x && not (has n x)) && lives v (earliest o'.first x) s) xs
       (λ x. one_bits (f x) (lives v (earliest o.first x) s) (lives v (earliest o'.first x) s) (λ h. ap (λ z. lives v z s) (times x h).0)
-            ∙ ap (λ z. z && lives v (earliest o'.first x) s) (still x))
+      ∙ ap (λ z. z && lives v (earliest o'.first x) s) (still x))
       each,
 )
 
 lasting_levels : (o o' : Observed) (n : ℕ) (s : ℤ) (w : Bounds) (f f' : ℕ → BindTree → Bool) (count : ℕ) →
     ((j : ℕ) (x : BindTree) → f j x ≡ true → SameTimes o o' x) → ((j : ℕ) (x : BindTree) → f j x ≡ (f' j x && not (has n x))) →
-    (j : ℕ) (levels : List (List HeldTree)) → LevelsStand o f s w count j levels → LevelsStand o' (λ i x. f' i x && not (has n x)) s w count j levels
+    (j : ℕ) (levels : List (List PieceTree)) → LevelsStand o f s w count j levels → LevelsStand o' (λ i x. f' i x && not (has n x)) s w count j levels
 lasting_levels o o' n s w f f' count times still j [] st = st
-lasting_levels o o' n s w f f' count times still j (held ∷ levels) st =
-    ( lasting_store o o' n s (window_of w false) (f j) (f' j) held (times j) (still j) st.0
-    , lasting_levels o o' n s w f f' count times still (suc j) levels st.1 )
+lasting_levels o o' n s w f f' count times still j (held ∷ levels) st = (
+  lasting_store o o' n s (window_of w false) (f j) (f' j) held (times j) (still j) st.0,
+  lasting_levels o o' n s w f f' count times still (suc j) levels st.1,
+)
 
 lasting_all_levels : (o o' : Observed) (n : ℕ) (s : ℤ) (w : Bounds) (f f' : ℕ → BindTree → Bool) (count : ℕ) →
     ((j : ℕ) (x : BindTree) → f j x ≡ true → SameTimes o o' x) → ((j : ℕ) (x : BindTree) → f j x ≡ (f' j x && not (has n x))) →
-    (levels : List (List HeldTree)) → AllLevelsStand o f s w count levels → AllLevelsStand o' (λ i x. f' i x && not (has n x)) s w count levels
+    (levels : List (List PieceTree)) → AllLevelsStand o f s w count levels → AllLevelsStand o' (λ i x. f' i x && not (has n x)) s w count levels
 lasting_all_levels o o' n s w f f' zero times still levels st = st
 lasting_all_levels o o' n s w f f' (suc count) times still levels st = lasting_levels o o' n s w f f' (suc count) times still 1 levels st
 
@@ -195,22 +196,29 @@ lasting_sides o o' n s w v f f' g g' sides tf sf tg sg st = record {
 pub lasting_stands : (o o' : Observed) (n : ℕ) (s : ℤ) → GoesOn o o' n →
     (p : NumberedPattern) (w : Bounds) (z : State) → Stands o (all_of o) s w p z → Stands o' (without n o') s w p z
 lasting_stands o o' n s g (Leaf k) w (a_leaf leaf window) st = st
-lasting_stands o o' n s g (Both p q) w (a_join join.Both l r sides) st =
-    ( lasting_stands o o' n s g p w l st.0, lasting_stands o o' n s g q w r st.1
-    , lasting_sides o o' n s w (window_of w false) (is_binding o p) (is_binding o' p) (is_binding o q) (is_binding o' q) sides
-        (same_times o o' n g p) (lasting o o' n g p) (same_times o o' n g q) (lasting o o' n g q) st.2 )
-lasting_stands o o' n s g (Then p q) w (a_join join.Then l r sides) st =
-    ( lasting_stands o o' n s g p w l st.0, lasting_stands o o' n s g q w r st.1
-    , lasting_sides o o' n s w (window_of w true) (is_binding o p) (is_binding o' p) (is_binding o q) (is_binding o' q) sides
-        (same_times o o' n g p) (lasting o o' n g p) (same_times o o' n g q) (lasting o o' n g q) st.2 )
-lasting_stands o o' n s g (Either p q) w (a_choice l r) st = ( lasting_stands o o' n s g p w l st.0, lasting_stands o o' n s g q w r st.1 )
+lasting_stands o o' n s g (Both p q) w (a_join join.Both l r sides) st = (
+  lasting_stands o o' n s g p w l st.0,
+  lasting_stands o o' n s g q w r st.1,
+  lasting_sides o o' n s w (window_of w false) (is_binding o p) (is_binding o' p) (is_binding o q) (is_binding o' q) sides
+      (same_times o o' n g p) (lasting o o' n g p) (same_times o o' n g q) (lasting o o' n g q) st.2,
+)
+lasting_stands o o' n s g (Then p q) w (a_join join.Then l r sides) st = (
+  lasting_stands o o' n s g p w l st.0,
+  lasting_stands o o' n s g q w r st.1,
+  lasting_sides o o' n s w (window_of w true) (is_binding o p) (is_binding o' p) (is_binding o q) (is_binding o' q) sides
+      (same_times o o' n g p) (lasting o o' n g p) (same_times o o' n g q) (lasting o o' n g q) st.2,
+)
+lasting_stands o o' n s g (Either p q) w (a_choice l r) st = (lasting_stands o o' n s g p w l st.0, lasting_stands o o' n s g q w r st.1)
 lasting_stands o o' n s g (Within p x) w (a_limit part) st = lasting_stands o o' n s g p (within w x) part st
 lasting_stands o o' n s g (Between p x y) w (a_limit part) st = lasting_stands o o' n s g p (between w x y) part st
-lasting_stands o o' n s g (Repeats p m) w (a_chain part count window levels) st =
-    ( lasting_stands o o' n s g p w part st.0, st.1, st.2
-    , lasting_all_levels o o' n s w (are_repeats (is_binding o p)) (are_repeats (is_binding o' p)) m
-        (λ j x h. many_times o o' (is_binding o p) (same_times o o' n g p) j x h)
-        (λ j x. many_lasting n (is_binding o p) (is_binding o' p) (lasting o o' n g p) j x) levels st.3 )
+lasting_stands o o' n s g (Repeats p m) w (a_chain part count window levels) st = (
+  lasting_stands o o' n s g p w part st.0,
+  st.1,
+  st.2,
+  lasting_all_levels o o' n s w (are_repeats (is_binding o p)) (are_repeats (is_binding o' p)) m
+      (λ j x h. many_times o o' (is_binding o p) (same_times o o' n g p) j x h)
+      (λ j x. many_lasting n (is_binding o p) (is_binding o' p) (lasting o o' n g p) j x) levels st.3,
+)
 lasting_stands o o' n s g p w z st = absurd st
 
 -- ---- where nothing is a binding
@@ -221,16 +229,16 @@ no_sets f h (suc zero) (Single a) = h a
 no_sets f h (suc (suc j)) (More m a) = rw (no_sets f h (suc j) m) refl
 no_sets f h j x = refl
 
-any_store : (o : Observed) (f : BindTree → Bool) (v : Window) (s t : ℤ) (held : List HeldTree) → ((x : BindTree) → f x ≡ false) →
+any_store : (o : Observed) (f : BindTree → Bool) (v : Window) (s t : ℤ) (held : List PieceTree) → ((x : BindTree) → f x ≡ false) →
     AreHeld o (λ x. f x && lives v (earliest o.first x) s) held → AreHeld o (λ x. f x && lives v (earliest o.first x) t) held
 any_store o f v s t held h = held_same o (λ x. f x && lives v (earliest o.first x) s) (λ x. f x && lives v (earliest o.first x) t) held (λ x. let no = h x in rw no refl)
 
-any_levels : (o : Observed) (f : ℕ → BindTree → Bool) (w : Bounds) (s t : ℤ) (n j : ℕ) (levels : List (List HeldTree)) → ((j : ℕ) (x : BindTree) → f j x ≡ false) →
+any_levels : (o : Observed) (f : ℕ → BindTree → Bool) (w : Bounds) (s t : ℤ) (n j : ℕ) (levels : List (List PieceTree)) → ((j : ℕ) (x : BindTree) → f j x ≡ false) →
     LevelsStand o f s w n j levels → LevelsStand o f t w n j levels
 any_levels o f w s t n j [] h st = st
-any_levels o f w s t n j (held ∷ levels) h st = ( any_store o (f j) (window_of w false) s t held (h j) st.0, any_levels o f w s t n (suc j) levels h st.1 )
+any_levels o f w s t n j (held ∷ levels) h st = (any_store o (f j) (window_of w false) s t held (h j) st.0, any_levels o f w s t n (suc j) levels h st.1)
 
-any_all_levels : (o : Observed) (f : ℕ → BindTree → Bool) (w : Bounds) (s t : ℤ) (n : ℕ) (levels : List (List HeldTree)) → ((j : ℕ) (x : BindTree) → f j x ≡ false) →
+any_all_levels : (o : Observed) (f : ℕ → BindTree → Bool) (w : Bounds) (s t : ℤ) (n : ℕ) (levels : List (List PieceTree)) → ((j : ℕ) (x : BindTree) → f j x ≡ false) →
     AllLevelsStand o f s w n levels → AllLevelsStand o f t w n levels
 any_all_levels o f w s t zero levels h st = st
 any_all_levels o f w s t (suc n) levels h st = any_levels o f w s t (suc n) 1 levels h st
@@ -249,13 +257,16 @@ pub any_time : (o : Observed) → ((p : NumberedPattern) (x : BindTree) → is_b
     (p : NumberedPattern) (w : Bounds) (z : State) → Stands o (all_of o) s w p z → Stands o (all_of o) t w p z
 any_time o h s t (Leaf k) w (a_leaf leaf window) st = st
 any_time o h s t (Both p q) w (a_join join.Both l r sides) st =
-    ( any_time o h s t p w l st.0, any_time o h s t q w r st.1, any_sides o (is_binding o p) (is_binding o q) w (window_of w false) s t sides (h p) (h q) st.2 )
+    (any_time o h s t p w l st.0, any_time o h s t q w r st.1, any_sides o (is_binding o p) (is_binding o q) w (window_of w false) s t sides (h p) (h q) st.2)
 any_time o h s t (Then p q) w (a_join join.Then l r sides) st =
-    ( any_time o h s t p w l st.0, any_time o h s t q w r st.1, any_sides o (is_binding o p) (is_binding o q) w (window_of w true) s t sides (h p) (h q) st.2 )
-any_time o h s t (Either p q) w (a_choice l r) st = ( any_time o h s t p w l st.0, any_time o h s t q w r st.1 )
+    (any_time o h s t p w l st.0, any_time o h s t q w r st.1, any_sides o (is_binding o p) (is_binding o q) w (window_of w true) s t sides (h p) (h q) st.2)
+any_time o h s t (Either p q) w (a_choice l r) st = (any_time o h s t p w l st.0, any_time o h s t q w r st.1)
 any_time o h s t (Within p x) w (a_limit part) st = any_time o h s t p (within w x) part st
 any_time o h s t (Between p x y) w (a_limit part) st = any_time o h s t p (between w x y) part st
-any_time o h s t (Repeats p m) w (a_chain part count window levels) st =
-    ( any_time o h s t p w part st.0, st.1, st.2
-    , any_all_levels o (are_repeats (is_binding o p)) w s t m levels (no_sets (is_binding o p) (h p)) st.3 )
+any_time o h s t (Repeats p m) w (a_chain part count window levels) st = (
+  any_time o h s t p w part st.0,
+  st.1,
+  st.2,
+  any_all_levels o (are_repeats (is_binding o p)) w s t m levels (no_sets (is_binding o p) (h p)) st.3,
+)
 any_time o h s t p w z st = absurd st

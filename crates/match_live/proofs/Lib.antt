@@ -14,7 +14,9 @@ pub mod ShapeLemmas
 pub mod RoomLemmas
 pub mod AnswerLemmas
 pub mod TakeLemmas
-pub mod KeptLemmas
+pub mod RowNumbersLemmas
 pub mod CountLemmas
 pub mod ListingLemmas
 pub mod PrefixLemmas
+pub mod WithinLemmas
+pub mod OldestLemmas

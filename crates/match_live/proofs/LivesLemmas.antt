@@ -1,6 +1,6 @@
 -- What lives is what hasn't expired.
-use Rattle.std.proofs.Common.{◌≡◌, ℕ, ℤ, ◌<ℤ◌, ◌≤ℤ◌, refl, sym, ap, arith, inl, inr}
-use Rattle.std.specs.Prelude.{Bool, true, false, ◌&&◌, not, ◌⊎◌, ◌↔◌, int_lt, int_le, Option, Some, None, IsTrue}
+use Rattle.std.proofs.Common.{◌≡◌, ℕ, ℤ, ◌<ℤ◌, ◌≤ℤ◌, refl, sym, arith, inl, inr}
+use Rattle.std.specs.Prelude.{Bool, true, false, ◌&&◌, not, ◌↔◌, int_lt, int_le, Option, Some, None, IsTrue}
 use Rattle.std.proofs.lemmas.Int.{ints}
 use Rattle.match_bindings.specs.Span.{later_by}
 use Rattle.match_windows.specs.declared.window.Window.{Window}
@@ -77,19 +77,24 @@ gone_expired w e t h = by (is_ahead w.behind e t) (in_seconds w.seconds e t) (fr
 -- and the other way round
 pub expired_gone : (w : Window) (e t : ℤ) → HasExpired w e t → lives w e t ≡ false
 expired_gone w e t h = elim h [
-    inl k ↦ (let no = not_in w.seconds e t k in rw no (with_s (is_ahead w.behind e t)))
+  | inl k ↦ (let no = not_in w.seconds e t k in rw no (with_s (is_ahead w.behind e t)))
   | inr k ↦ elim k [
-      inl l ↦ (let no = not_from w.start e l in rw no (with_b (is_ahead w.behind e t) (in_seconds w.seconds e t)))
+    | inl l ↦ (let no = not_from w.start e l in rw no (with_b (is_ahead w.behind e t) (in_seconds w.seconds e t)))
     | inr l ↦ elim l [
-        inl m ↦ (let no = not_before w.stop t m in rw no (with_p (is_ahead w.behind e t) (in_seconds w.seconds e t) (from_start w.start e)))
-      | inr m ↦ (let no = not_ahead w.behind e t m.0 m.1 in rw no refl) ] ] ] where
+      | inl m ↦ (let no = not_before w.stop t m in rw no (with_p (is_ahead w.behind e t) (in_seconds w.seconds e t) (from_start w.start e)))
+      | inr m ↦ (let no = not_ahead w.behind e t m.0 m.1 in rw no refl)
+    ]
+  ]
+] where
   with_s : (a : Bool) → (a && false) ≡ false
   with_s true = refl
   with_s false = refl
+
   with_b : (a s : Bool) → (a && (s && false)) ≡ false
   with_b true true = refl
   with_b true false = refl
   with_b false s = refl
+
   with_p : (a s b : Bool) → (a && (s && (b && false))) ≡ false
   with_p true true true = refl
   with_p true true false = refl

@@ -1,25 +1,23 @@
 -- A log with one more row.
-use Rattle.std.proofs.Common.{◌≡◌, ℕ, zero, suc, ◌+◌, ◌-◌, ◌*◌, ◌≤◌, ◌<◌, ℤ, ◌≤ℤ◌, ◌<ℤ◌, List, [], ◌∷◌, ◌++◌, length, refl, sym, ◌∙◌, ap, subst, arith, inl, inr, length-append}
+use Rattle.std.proofs.Common.{◌≡◌, ℕ, zero, suc, ◌+◌, ◌-◌, ◌≤◌, ◌<◌, ℤ, ◌≤ℤ◌, List, [], ◌∷◌, ◌++◌, length, refl, sym, ◌∙◌, ap, subst, arith, inl, inr, length-append}
 use Rattle.std.specs.Prelude.{Bool, true, false, ◌&&◌, not, nat_eq, int_le, ◌⊎◌, Option, Some, None, slice_get}
-use Rattle.std.proofs.lemmas.Bool.{eqb-true, eqb-false, eq-eqb, ne_eqb, cases_order}
+use Rattle.std.proofs.lemmas.Bool.{eq-eqb, ne_eqb, cases_order}
 use Rattle.std.proofs.lemmas.Int.{ints}
 use Rattle.match_bindings.specs.declared.log_entry.LogEntry.{LogEntry}
 use Rattle.match_bindings.specs.declared.bounds.Bounds.{Bounds}
 use Rattle.match_bindings.specs.Bounds.{no_bounds, within, between}
 use Rattle.match_bindings.specs.NumberedPattern.{NumberedPattern, Leaf, Both, Then, Either, Within, Between, Repeats}
-use Rattle.match_bindings.specs.BindTree.{BindTree, One, Pair, First, Second, Empty, Single, More}
-use Rattle.match_bindings.specs.Log.{LastIsBy, IsInOrder, numbered, first_time, last_time, truth, Observed, observed_in}
+use Rattle.match_bindings.specs.BindTree.{BindTree, One, Pair, First, Second}
+use Rattle.match_bindings.specs.Log.{LastIsBy, IsInOrder, numbered, first_time, last_time, truth, observed_in}
 use Rattle.match_bindings.specs.Span.{earliest}
 use Rattle.match_bindings.specs.Test.{are_repeats, is_binding}
 use Rattle.match_windows.specs.declared.window.Window.{Window}
 use Rattle.match_windows.specs.Stores.{window_of}
 use Rattle.match_live.specs.declared.row.Row.{Row}
-use Rattle.match_live.specs.declared.join.Join.TheVariants as join
-use Rattle.match_live.specs.HeldTree.{HeldTree, hold}
 use Rattle.match_live.specs.LivePart.{time_of}
 use Rattle.match_live.specs.MatcherState.{last_of, Falls}
 use Rattle.match_live.specs.inner.Lives.{lives}
-use Rattle.match_live.specs.inner.Steps.{SideStores, State, a_leaf, a_join, a_choice, a_limit, a_chain, truth_at, step_new, step_state, no_levels, empty_sides, empty_state}
+use Rattle.match_live.specs.inner.Steps.{State, step_new, step_state, no_levels, empty_sides, empty_state}
 use Rattle.match_live.proofs.LivesLemmas.{le_true, le_false}
 use Rattle.match_live.proofs.StoreLemmas.{AreHeld}
 use Rattle.match_live.proofs.StepLemmas.{SidesStand, LevelsStand, AllLevelsStand, Stands, all_of, ends, Given, step_law}
@@ -78,14 +76,18 @@ goes_on log r = record { holds = holds; first = first; last = last } where
       let past = get_past log i (omega arith) in
       let past' = get_past (log ++ r ∷ []) i (omega (arith, length-append log (r ∷ []))) in
       rw (past, past') refl
+
   which : (i : ℕ) → (i < length log) ⊎ ((i ≡ length log) ⊎ (length log < i))
   which i = elim (cases_order i (length log)) [ inl same ↦ inr (inl same) | inr other ↦ elim other [ inl below ↦ inl below | inr above ↦ inr (inr above) ] ]
+
   holds : (k i : ℕ) → (observed_in log).holds k i ≡ ((observed_in (log ++ r ∷ [])).holds k i && not (nat_eq (suc (length log)) i))
   holds k zero = refl
   holds k (suc i) = at k i (which i)
+
   first : (k i : ℕ) → (observed_in log).holds k i ≡ true → (observed_in log).first i ≡ (observed_in (log ++ r ∷ [])).first i
   first k zero h = refl
   first k (suc i) h = ap first_time (sym (get_left log r i (inside log k i h)))
+
   last : (k i : ℕ) → (observed_in log).holds k i ≡ true → (observed_in log).last i ≡ (observed_in (log ++ r ∷ [])).last i
   last k zero h = refl
   last k (suc i) h = ap last_time (sym (get_left log r i (inside log k i h)))
@@ -120,6 +122,12 @@ not_falls (r ∷ []) t h = by (int_le r.last t) refl where
   by false e = absurd (h (le_false r.last t e))
 not_falls (r ∷ q ∷ log) t h = not_falls (q ∷ log) t h
 
+-- a row goes at the end of a log whose last time it doesn't precede
+pub in_order_more : (log : List LogEntry) (r : LogEntry) → IsInOrder log → r.first ≤ℤ r.last → LastIsBy log r.last → IsInOrder (log ++ r ∷ [])
+in_order_more [] r order span after = span
+in_order_more (q ∷ []) r order span after = (order, after, span)
+in_order_more (q ∷ s ∷ log) r order span after = (order.0, order.1, in_order_more (s ∷ log) r order.2 span after)
+
 pub time_new : (log : List LogEntry) (r : LogEntry) → time_of (log ++ r ∷ []) ≡ r.last
 time_new log r = ap (λ n. last_time (numbered (log ++ r ∷ []) n)) (length_more log r) ∙ ap last_time (get_seam log r)
 
@@ -147,6 +155,7 @@ given_row log r s order after early = record {
   at : (i : ℕ) → (i < length log) ⊎ (i ≡ length log) → last_time (slice_get (log ++ r ∷ []) i) ≤ℤ r.last
   at i (inl below) = subst (λ (z : Option LogEntry). last_time z ≤ℤ r.last) (sym (get_left log r i below)) (all_by log r.last order after i below)
   at i (inr here) = subst (λ (z : Option LogEntry). last_time z ≤ℤ r.last) (sym (ap (slice_get (log ++ r ∷ [])) here ∙ get_seam log r)) (le_self r.last)
+
   past : (k i : ℕ) → (observed_in (log ++ r ∷ [])).holds k i ≡ true → (observed_in (log ++ r ∷ [])).last i ≤ℤ r.last
   past k zero h = absurd (cc)
   past k (suc i) h =
@@ -181,9 +190,10 @@ pub take_law : (p : NumberedPattern) (log : List LogEntry) (r : LogEntry) (z : S
 take_law p log r z order after st =
     let early = early_stands log r.last p no_bounds z after st in
     let old = lasting_stands (observed_in log) (observed_in (log ++ r ∷ [])) (suc (length log)) early.0 (goes_on log r) p no_bounds z early.2 in
-    let law = step_law (observed_in (log ++ r ∷ [])) (row_after log r) r.truths early.0 (given_row log r early.0 order after early.1) p no_bounds z old in
-    ( law.0
-    , subst (λ (u : ℤ). Stands (observed_in (log ++ r ∷ [])) (all_of (observed_in (log ++ r ∷ []))) u no_bounds p (step_state (row_after log r) r.truths z)) (sym (time_new log r)) law.1 )
+    let law = step_law (observed_in (log ++ r ∷ [])) (row_after log r) r.truths early.0 (given_row log r early.0 order after early.1) p no_bounds z old in (
+      law.0,
+      subst (λ (u : ℤ). Stands (observed_in (log ++ r ∷ [])) (all_of (observed_in (log ++ r ∷ []))) u no_bounds p (step_state (row_after log r) r.truths z)) (sym (time_new log r)) law.1,
+    )
 
 -- ---- no rows
 
@@ -192,7 +202,7 @@ none_held f h s v = ([], refl, λ x. let no_one = h x in rw no_one refl)
 
 no_levels_stand : (f : ℕ → BindTree → Bool) → ((j : ℕ) (x : BindTree) → f j x ≡ false) → (s : ℤ) (w : Bounds) (n k j : ℕ) → n ≡ k + j → LevelsStand (observed_in []) f s w n j (no_levels k)
 no_levels_stand f h s w n zero j e = omega arith
-no_levels_stand f h s w n (suc k) j e = ( none_held (f j) (h j) s (window_of w false), no_levels_stand f h s w n k (suc j) (omega arith) )
+no_levels_stand f h s w n (suc k) j e = (none_held (f j) (h j) s (window_of w false), no_levels_stand f h s w n k (suc j) (omega arith))
 
 no_all_levels_stand : (f : ℕ → BindTree → Bool) → ((j : ℕ) (x : BindTree) → f j x ≡ false) → (s : ℤ) (w : Bounds) (n : ℕ) → AllLevelsStand (observed_in []) f s w n (no_levels (n - 1))
 no_all_levels_stand f h s w zero = refl
@@ -211,11 +221,14 @@ no_sides_stand p q s w v = record {
 -- a new matcher stands for the empty log
 pub empty_stands : (p : NumberedPattern) (w : Bounds) (s : ℤ) → Stands (observed_in []) (all_of (observed_in [])) s w p (empty_state w p)
 empty_stands (Leaf k) w s = (refl, refl)
-empty_stands (Both p q) w s = ( empty_stands p w s, empty_stands q w s, no_sides_stand p q s w (window_of w false) )
-empty_stands (Then p q) w s = ( empty_stands p w s, empty_stands q w s, no_sides_stand p q s w (window_of w true) )
-empty_stands (Either p q) w s = ( empty_stands p w s, empty_stands q w s )
+empty_stands (Both p q) w s = (empty_stands p w s, empty_stands q w s, no_sides_stand p q s w (window_of w false))
+empty_stands (Then p q) w s = (empty_stands p w s, empty_stands q w s, no_sides_stand p q s w (window_of w true))
+empty_stands (Either p q) w s = (empty_stands p w s, empty_stands q w s)
 empty_stands (Within p x) w s = empty_stands p (within w x) s
 empty_stands (Between p x y) w s = empty_stands p (between w x y) s
-empty_stands (Repeats p n) w s =
-    ( empty_stands p w s, refl, refl
-    , no_all_levels_stand (are_repeats (is_binding (observed_in []) p)) (no_sets (is_binding (observed_in []) p) (nothing p)) s w n )
+empty_stands (Repeats p n) w s = (
+  empty_stands p w s,
+  refl,
+  refl,
+  no_all_levels_stand (are_repeats (is_binding (observed_in []) p)) (no_sets (is_binding (observed_in []) p) (nothing p)) s w n,
+)

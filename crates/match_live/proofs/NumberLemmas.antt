@@ -1,13 +1,13 @@
 -- The times and numbers of bindings: what bounds those of each row bounds them, and what has the last row's number is late.
-use Rattle.std.proofs.Common.{◌≡◌, ℕ, zero, suc, ◌+◌, ◌*◌, ◌≤◌, ◌<◌, ℤ, ◌≤ℤ◌, refl, sym, ◌∙◌, ap, arith, inl, inr}
-use Rattle.std.specs.Prelude.{Bool, true, false, ◌&&◌, ◌||◌, not, nat_eq, nat_lt, int_le, int_lt, max}
-use Rattle.std.specs.Int.{int_min, int_max}
-use Rattle.std.proofs.lemmas.Bool.{and_parts, and_from, eqb-true, or_cases, or_parts, eqb-false, cases_order}
+use Rattle.std.proofs.Common.{◌≡◌, ℕ, zero, suc, ◌≤◌, ◌<◌, ℤ, ◌≤ℤ◌, refl, sym, arith, inl, inr}
+use Rattle.std.specs.Prelude.{Bool, true, false, ◌&&◌, ◌||◌, not, nat_eq, nat_lt, int_le}
+use Rattle.std.specs.Int.{int_max}
+use Rattle.std.proofs.lemmas.Bool.{and_parts, eqb-true, or_cases, or_parts, eqb-false, cases_order}
 use Rattle.std.proofs.lemmas.Int.{ints, clamps}
 use Rattle.match_bindings.specs.NumberedPattern.{NumberedPattern, Leaf, Both, Then, Either, Within, Between, Repeats}
 use Rattle.match_bindings.specs.BindTree.{BindTree, One, Pair, First, Second, Empty, Single, More, has, disjoint, greatest}
 use Rattle.match_bindings.specs.Log.{Observed}
-use Rattle.match_bindings.specs.Span.{earliest, latest, later_by}
+use Rattle.match_bindings.specs.Span.{earliest, latest}
 use Rattle.match_bindings.specs.Test.{are_repeats, is_binding}
 
 le_max_left : (t a b : ℤ) → t ≤ℤ a → t ≤ℤ int_max a b
@@ -26,28 +26,32 @@ le_self t = omega (arith, ints)
 pub latest_new : (time : ℕ → ℤ) (n : ℕ) (x : BindTree) → has n x ≡ true → time n ≤ℤ latest time x
 latest_new time n (One m) h = let same : n ≡ m = eqb-true n m h in rw same (le_self (time m))
 latest_new time n (Pair a b) h = elim (or_cases (has n a) (has n b) h) [
-    inl l ↦ le_max_left (time n) (latest time a) (latest time b) (latest_new time n a l)
-  | inr r ↦ le_max_right (time n) (latest time a) (latest time b) (latest_new time n b r) ]
+  | inl l ↦ le_max_left (time n) (latest time a) (latest time b) (latest_new time n a l)
+  | inr r ↦ le_max_right (time n) (latest time a) (latest time b) (latest_new time n b r)
+]
 latest_new time n (First a) h = latest_new time n a h
 latest_new time n (Second a) h = latest_new time n a h
 latest_new time n Empty h = absurd (cc)
 latest_new time n (Single a) h = latest_new time n a h
 latest_new time n (More a b) h = elim (or_cases (has n a) (has n b) h) [
-    inl l ↦ le_max_left (time n) (latest time a) (latest time b) (latest_new time n a l)
-  | inr r ↦ le_max_right (time n) (latest time a) (latest time b) (latest_new time n b r) ]
+  | inl l ↦ le_max_left (time n) (latest time a) (latest time b) (latest_new time n a l)
+  | inr r ↦ le_max_right (time n) (latest time a) (latest time b) (latest_new time n b r)
+]
 
 pub has_greatest : (n : ℕ) (x : BindTree) → has n x ≡ true → n ≤ greatest x
 has_greatest n (One m) h = let same : n ≡ m = eqb-true n m h in rw same (omega arith)
 has_greatest n (Pair a b) h = elim (or_cases (has n a) (has n b) h) [
-    inl l ↦ omega (arith, has_greatest n a l)
-  | inr r ↦ omega (arith, has_greatest n b r) ]
+  | inl l ↦ omega (arith, has_greatest n a l)
+  | inr r ↦ omega (arith, has_greatest n b r)
+]
 has_greatest n (First a) h = has_greatest n a h
 has_greatest n (Second a) h = has_greatest n a h
 has_greatest n Empty h = absurd (cc)
 has_greatest n (Single a) h = has_greatest n a h
 has_greatest n (More a b) h = elim (or_cases (has n a) (has n b) h) [
-    inl l ↦ omega (arith, has_greatest n a l)
-  | inr r ↦ omega (arith, has_greatest n b r) ]
+  | inl l ↦ omega (arith, has_greatest n a l)
+  | inr r ↦ omega (arith, has_greatest n b r)
+]
 
 -- the three parts of a joined binding
 pub both_parts : (p q c : Bool) → ((p && q) && c) ≡ true → (p ≡ true) × (q ≡ true) × (c ≡ true)
@@ -125,8 +129,8 @@ old_binding o n counted (Leaf k) (One i) h u =
     let other : n ≡ i → ⊥ = eqb-false n i u in
     let most : i ≤ n = counted k i h in
     below other most where
-  below : (n ≡ i → ⊥) → i ≤ n → i < n
-  below o m = elim (cases_order i n) [ inl e ↦ absurd (o (sym e)) | inr z ↦ elim z [ inl lt ↦ lt | inr gt ↦ absurd (omega arith) ] ]
+      below : (n ≡ i → ⊥) → i ≤ n → i < n
+      below o m = elim (cases_order i n) [ inl e ↦ absurd (o (sym e)) | inr z ↦ elim z [ inl lt ↦ lt | inr gt ↦ absurd (omega arith) ] ]
 old_binding o n counted (Both p q) (Pair a b) h u =
     let parts = both_parts (is_binding o p a) (is_binding o q b) (disjoint a b) h in
     let no = or_parts (has n a) (has n b) u in

@@ -1,7 +1,7 @@
 -- What is made for a pattern, its stores one after another, is its live part where node by node the stores stand, and the other
 -- way round.
-use Rattle.std.proofs.Common.{◌≡◌, ℕ, zero, suc, ◌+◌, ◌-◌, ◌*◌, ◌≤◌, ◌<◌, ℤ, ◌≤ℤ◌, List, [], ◌∷◌, ◌++◌, length, refl, sym, ◌∙◌, ap, subst, arith, inl, inr, length-append}
-use Rattle.std.specs.Prelude.{Bool, true, false, ◌&&◌, not, nat_eq, ◌⊎◌, ◌↔◌, int_le, Option, Some, None, map}
+use Rattle.std.proofs.Common.{◌≡◌, ℕ, zero, suc, ◌+◌, ◌-◌, ℤ, ◌≤ℤ◌, List, [], ◌∷◌, ◌++◌, length, refl, sym, ◌∙◌, ap, subst, arith, length-append}
+use Rattle.std.specs.Prelude.{Bool, true, false, ◌&&◌, nat_eq, ◌↔◌, int_le, Option, Some, None, map}
 use Rattle.std.proofs.lemmas.Bool.{eqb-true, eq-eqb, and_parts, and_from}
 use Rattle.std.proofs.lemmas.Int.{ints}
 use Rattle.match_bindings.specs.declared.bounds.Bounds.{Bounds}
@@ -10,17 +10,16 @@ use Rattle.match_bindings.specs.NumberedPattern.{NumberedPattern, Leaf, Both, Th
 use Rattle.match_bindings.specs.BindTree.{BindTree, Single}
 use Rattle.match_bindings.specs.Log.{Observed}
 use Rattle.match_bindings.specs.Span.{earliest}
-use Rattle.match_bindings.specs.Binding.{AreRepeats, IsBinding}
+use Rattle.match_bindings.specs.Binding.{IsBinding}
 use Rattle.match_bindings.specs.Test.{are_repeats, is_binding}
-use Rattle.match_bindings.specs.Once.{bit, count, Exactly}
+use Rattle.match_bindings.specs.Once.{bit, count}
 use Rattle.match_windows.specs.declared.window.Window.{Window}
-use Rattle.match_windows.specs.Stores.{Part, a_side, a_level, Store, window_of, side, level, levels, stores_under}
-use Rattle.match_windows.specs.Expiry.{HasExpired}
+use Rattle.match_windows.specs.Stores.{Part, a_side, Store, window_of, side, level, levels, stores_under}
 use Rattle.match_live.specs.declared.row.Row.{Row}
 use Rattle.match_live.specs.declared.join.Join.TheVariants as join
-use Rattle.match_live.specs.HeldTree.{HeldTree, hold, trees_in}
+use Rattle.match_live.specs.PieceTree.{PieceTree, hold, trees_in}
 use Rattle.match_live.specs.LivePart.{MayHold, IsLive, HoldsLive, AreLive}
-use Rattle.match_live.specs.inner.Lives.{alive, lives}
+use Rattle.match_live.specs.inner.Lives.{lives}
 use Rattle.match_live.specs.inner.Steps.{held_with, SideStores, State, a_leaf, a_join, a_choice, a_limit, a_chain, step_new, step_state, levels_after, no_levels, empty_state, contents_of}
 use Rattle.match_live.specs.inner.Shape.{same_bool, same_count, same_time, same_window, have_windows, fits}
 use Rattle.match_live.proofs.LivesLemmas.{le_true, true_le, gone_expired, expired_gone}
@@ -42,9 +41,11 @@ trees_held o (x ∷ xs) = ap (λ ys. x ∷ ys) (trees_held o xs)
 is_live : (o : Observed) (now : ℤ) (store : Store) (f : BindTree → Bool) → ((x : BindTree) → (f x ≡ true) ↔ MayHold o store.part x) → (x : BindTree) →
     (f x && lives store.window (earliest o.first x) now) ≡ true → IsLive o now store x
 is_live o now store f h x k =
-    let parts = and_parts (f x) (lives store.window (earliest o.first x) now) k in
-    ( (h x).0 parts.0, λ z. let no : lives store.window (earliest o.first x) now ≡ false = expired_gone store.window (earliest o.first x) now z in
-        let e : true ≡ false = sym parts.1 ∙ no in cc )
+    let parts = and_parts (f x) (lives store.window (earliest o.first x) now) k in (
+      (h x).0 parts.0,
+      λ z. let no : lives store.window (earliest o.first x) now ≡ false = expired_gone store.window (earliest o.first x) now z in
+          let e : true ≡ false = sym parts.1 ∙ no in cc,
+    )
 
 -- what doesn't pass isn't
 not_live : (o : Observed) (now : ℤ) (store : Store) (f : BindTree → Bool) → ((x : BindTree) → (f x ≡ true) ↔ MayHold o store.part x) → (x : BindTree) →
@@ -55,16 +56,17 @@ not_live o now store f h x k z = by (f x) (lives store.window (earliest o.first 
   by true false ea eb e = z.1 (gone_expired store.window (earliest o.first x) now eb)
   by true true ea eb e = cc
 
-pub to_held : (o : Observed) (now : ℤ) (store : Store) (f : BindTree → Bool) → ((x : BindTree) → (f x ≡ true) ↔ MayHold o store.part x) → (held : List HeldTree) →
+pub to_held : (o : Observed) (now : ℤ) (store : Store) (f : BindTree → Bool) → ((x : BindTree) → (f x ≡ true) ↔ MayHold o store.part x) → (held : List PieceTree) →
     HoldsLive o now store held → AreHeld o (λ x. f x && lives store.window (earliest o.first x) now) held
-to_held o now store f h held live = ( trees_in held, live.times, each ) where
+to_held o now store f h held live = (trees_in held, live.times, each) where
   by : (x : BindTree) (t : Bool) → (f x && lives store.window (earliest o.first x) now) ≡ t → count x (trees_in held) ≡ bit (f x && lives store.window (earliest o.first x) now)
   by x true e = rw e (live.each_once x (is_live o now store f h x e))
   by x false e = rw e (live.no_other x (not_live o now store f h x e))
+
   each : (x : BindTree) → count x (trees_in held) ≡ bit (f x && lives store.window (earliest o.first x) now)
   each x = by x (f x && lives store.window (earliest o.first x) now) refl
 
-pub from_held : (o : Observed) (now : ℤ) (store : Store) (f : BindTree → Bool) → ((x : BindTree) → (f x ≡ true) ↔ MayHold o store.part x) → (held : List HeldTree) →
+pub from_held : (o : Observed) (now : ℤ) (store : Store) (f : BindTree → Bool) → ((x : BindTree) → (f x ≡ true) ↔ MayHold o store.part x) → (held : List PieceTree) →
     AreHeld o (λ x. f x && lives store.window (earliest o.first x) now) held → HoldsLive o now store held
 from_held o now store f h held (xs, is, each) = record {
   times = is ∙ sym (ap (map (hold o)) same);
@@ -73,27 +75,29 @@ from_held o now store f h held (xs, is, each) = record {
 } where
   same : trees_in held ≡ xs
   same = ap trees_in is ∙ trees_held o xs
+
   yes_it_is : (x : BindTree) → IsLive o now store x → (b : Bool) → (f x && lives store.window (earliest o.first x) now) ≡ b → (f x && lives store.window (earliest o.first x) now) ≡ true
   yes_it_is x k true e = e
   yes_it_is x k false e = absurd (not_live o now store f h x e k)
+
   no_it_isnt : (x : BindTree) → (IsLive o now store x → ⊥) → (b : Bool) → (f x && lives store.window (earliest o.first x) now) ≡ b → (f x && lives store.window (earliest o.first x) now) ≡ false
   no_it_isnt x k true e = absurd (k (is_live o now store f h x e))
   no_it_isnt x k false e = e
 
 -- ---- lists of stores
 
-live_append : (o : Observed) (now : ℤ) (xs ys : List Store) (us vs : List (List HeldTree)) → AreLive o now xs us → AreLive o now ys vs → AreLive o now (xs ++ ys) (us ++ vs)
+live_append : (o : Observed) (now : ℤ) (xs ys : List Store) (us vs : List (List PieceTree)) → AreLive o now xs us → AreLive o now ys vs → AreLive o now (xs ++ ys) (us ++ vs)
 live_append o now [] ys [] vs h k = k
-live_append o now (x ∷ xs) ys (u ∷ us) vs h k = ( h.0, live_append o now xs ys us vs h.1 k )
+live_append o now (x ∷ xs) ys (u ∷ us) vs h k = (h.0, live_append o now xs ys us vs h.1 k)
 live_append o now xs ys us vs h k = absurd h
 
-live_split : (o : Observed) (now : ℤ) (xs ys : List Store) (us vs : List (List HeldTree)) → length xs ≡ length us → AreLive o now (xs ++ ys) (us ++ vs) →
+live_split : (o : Observed) (now : ℤ) (xs ys : List Store) (us vs : List (List PieceTree)) → length xs ≡ length us → AreLive o now (xs ++ ys) (us ++ vs) →
     AreLive o now xs us × AreLive o now ys vs
-live_split o now [] ys [] vs e h = ( tt, h )
+live_split o now [] ys [] vs e h = (tt, h)
 live_split o now [] ys (u ∷ us) vs e h = absurd (omega arith)
 live_split o now (x ∷ xs) ys [] vs e h = absurd (omega arith)
 live_split o now (x ∷ xs) ys (u ∷ us) vs e h =
-    let rest = live_split o now xs ys us vs (omega arith) h.1 in ( ( h.0, rest.0 ), rest.1 )
+    let rest = live_split o now xs ys us vs (omega arith) h.1 in ((h.0, rest.0), rest.1)
 
 -- ---- windows
 
@@ -165,34 +169,34 @@ levels_are (suc n) w p =
     ∙ ap (λ m. levels_from 1 n w p ++ level w p m ∷ []) (let e : suc n ≡ 1 + n = omega arith in e)
     ∙ sym (levels_from_more 1 n w p)
 
-to_levels : Rule → (o : Observed) (s : ℤ) (w : Bounds) (p : NumberedPattern) (n k j : ℕ) (held : List (List HeldTree)) → n ≡ k + j →
+to_levels : Rule → (o : Observed) (s : ℤ) (w : Bounds) (p : NumberedPattern) (n k j : ℕ) (held : List (List PieceTree)) → n ≡ k + j →
     AreLive o s (levels_from j k w p) held → LevelsStand o (are_repeats (is_binding o p)) s w n j held
 to_levels rule o s w p n zero j [] e h = omega arith
 to_levels rule o s w p n zero j (u ∷ us) e h = absurd h
 to_levels rule o s w p n (suc k) j [] e h = absurd h
 to_levels rule o s w p n (suc k) j (u ∷ us) e h =
-    ( to_held o s (level w p j) (are_repeats (is_binding o p) j) (λ x. rule o (Repeats p j) x) u h.0, to_levels rule o s w p n k (suc j) us (omega arith) h.1 )
+    (to_held o s (level w p j) (are_repeats (is_binding o p) j) (λ x. rule o (Repeats p j) x) u h.0, to_levels rule o s w p n k (suc j) us (omega arith) h.1)
 
-levels_length : (o : Observed) (f : ℕ → BindTree → Bool) (s : ℤ) (w : Bounds) (n j : ℕ) (held : List (List HeldTree)) → LevelsStand o f s w n j held → n ≡ length held + j
+levels_length : (o : Observed) (f : ℕ → BindTree → Bool) (s : ℤ) (w : Bounds) (n j : ℕ) (held : List (List PieceTree)) → LevelsStand o f s w n j held → n ≡ length held + j
 levels_length o f s w n j [] st = omega (arith, st)
 levels_length o f s w n j (u ∷ us) st = omega (arith, levels_length o f s w n (suc j) us st.1)
 
-from_levels : Rule → (o : Observed) (s : ℤ) (w : Bounds) (p : NumberedPattern) (n k j : ℕ) (held : List (List HeldTree)) → n ≡ k + j →
+from_levels : Rule → (o : Observed) (s : ℤ) (w : Bounds) (p : NumberedPattern) (n k j : ℕ) (held : List (List PieceTree)) → n ≡ k + j →
     LevelsStand o (are_repeats (is_binding o p)) s w n j held → AreLive o s (levels_from j k w p) held
 from_levels rule o s w p n zero j [] e st = tt
 from_levels rule o s w p n (suc k) j [] e st = absurd (omega (arith, st))
 from_levels rule o s w p n zero j (u ∷ us) e st = absurd (omega (arith, levels_length o (are_repeats (is_binding o p)) s w n (suc j) us st.1))
 from_levels rule o s w p n (suc k) j (u ∷ us) e st =
-    ( from_held o s (level w p j) (are_repeats (is_binding o p) j) (λ x. rule o (Repeats p j) x) u st.0, from_levels rule o s w p n k (suc j) us (omega arith) st.1 )
+    (from_held o s (level w p j) (are_repeats (is_binding o p) j) (λ x. rule o (Repeats p j) x) u st.0, from_levels rule o s w p n k (suc j) us (omega arith) st.1)
 
-to_all_levels : Rule → (o : Observed) (s : ℤ) (w : Bounds) (p : NumberedPattern) (n : ℕ) (held : List (List HeldTree)) →
+to_all_levels : Rule → (o : Observed) (s : ℤ) (w : Bounds) (p : NumberedPattern) (n : ℕ) (held : List (List PieceTree)) →
     AreLive o s (levels w p n) held → AllLevelsStand o (are_repeats (is_binding o p)) s w n held
 to_all_levels rule o s w p zero [] h = refl
 to_all_levels rule o s w p zero (u ∷ us) h = absurd h
 to_all_levels rule o s w p (suc n) held h =
     to_levels rule o s w p (suc n) n 1 held (omega arith) (subst (λ (z : List Store). AreLive o s z held) (levels_are n w p) h)
 
-from_all_levels : Rule → (o : Observed) (s : ℤ) (w : Bounds) (p : NumberedPattern) (n : ℕ) (held : List (List HeldTree)) →
+from_all_levels : Rule → (o : Observed) (s : ℤ) (w : Bounds) (p : NumberedPattern) (n : ℕ) (held : List (List PieceTree)) →
     AllLevelsStand o (are_repeats (is_binding o p)) s w n held → AreLive o s (levels w p n) held
 from_all_levels rule o s w p zero [] st = tt
 from_all_levels rule o s w p zero (u ∷ us) st = absurd (cc)
@@ -248,23 +252,27 @@ sides_from rule o s p q w v right part window sides h left_live right_live =
 pub stands_from : Rule → (o : Observed) (s : ℤ) (p : NumberedPattern) (w : Bounds) (z : State) → fits w p z ≡ true → AreLive o s (stores_under w p) (contents_of z) →
     Stands o (all_of o) s w p z
 stands_from rule o s (Leaf k) w (a_leaf leaf window) h live =
-    let parts = and_parts (nat_eq leaf k) (same_window window (window_of w false)) h in ( eqb-true leaf k parts.0, same_window_is window (window_of w false) parts.1 )
+    let parts = and_parts (nat_eq leaf k) (same_window window (window_of w false)) h in (eqb-true leaf k parts.0, same_window_is window (window_of w false) parts.1)
 stands_from rule o s (Both p q) w (a_join join.Both l r sides) h live =
     let parts = and_parts (fits w p l && fits w q r) (have_windows sides (window_of w false) (window_of w false)) h in
     let both = and_parts (fits w p l) (fits w q r) parts.0 in
-    let rest = live_split o s (stores_under w p) (stores_under w q) (contents_of l) (contents_of r) (stores_length p w l both.0) live.1.1 in
-    ( stands_from rule o s p w l both.0 rest.0, stands_from rule o s q w r both.1 rest.1
-    , sides_from rule o s p q w (window_of w false) (side w false q) refl refl sides parts.1 live.0 live.1.0 )
+    let rest = live_split o s (stores_under w p) (stores_under w q) (contents_of l) (contents_of r) (stores_length p w l both.0) live.1.1 in (
+      stands_from rule o s p w l both.0 rest.0,
+      stands_from rule o s q w r both.1 rest.1,
+      sides_from rule o s p q w (window_of w false) (side w false q) refl refl sides parts.1 live.0 live.1.0,
+    )
 stands_from rule o s (Then p q) w (a_join join.Then l r sides) h live =
     let parts = and_parts (fits w p l && fits w q r) (have_windows sides (window_of w false) (window_of w true)) h in
     let both = and_parts (fits w p l) (fits w q r) parts.0 in
-    let rest = live_split o s (stores_under w p) (stores_under w q) (contents_of l) (contents_of r) (stores_length p w l both.0) live.1.1 in
-    ( stands_from rule o s p w l both.0 rest.0, stands_from rule o s q w r both.1 rest.1
-    , sides_from rule o s p q w (window_of w true) (side w true q) refl refl sides parts.1 live.0 live.1.0 )
+    let rest = live_split o s (stores_under w p) (stores_under w q) (contents_of l) (contents_of r) (stores_length p w l both.0) live.1.1 in (
+      stands_from rule o s p w l both.0 rest.0,
+      stands_from rule o s q w r both.1 rest.1,
+      sides_from rule o s p q w (window_of w true) (side w true q) refl refl sides parts.1 live.0 live.1.0,
+    )
 stands_from rule o s (Either p q) w (a_choice l r) h live =
     let both = and_parts (fits w p l) (fits w q r) h in
     let rest = live_split o s (stores_under w p) (stores_under w q) (contents_of l) (contents_of r) (stores_length p w l both.0) live in
-    ( stands_from rule o s p w l both.0 rest.0, stands_from rule o s q w r both.1 rest.1 )
+    (stands_from rule o s p w l both.0 rest.0, stands_from rule o s q w r both.1 rest.1)
 stands_from rule o s (Within p x) w (a_limit part) h live = stands_from rule o s p (within w x) part h live
 stands_from rule o s (Between p x y) w (a_limit part) h live = stands_from rule o s p (between w x y) part h live
 stands_from rule o s (Repeats p n) w (a_chain part count window held) h live =
@@ -272,21 +280,30 @@ stands_from rule o s (Repeats p n) w (a_chain part count window held) h live =
     let two = and_parts (fits w p part) (same_window window (window_of w false)) parts.0 in
     let last = and_parts (nat_eq count n) (nat_eq (length held) (n - 1)) parts.1 in
     let many : length held ≡ n - 1 = eqb-true (length held) (n - 1) last.1 in
-    let rest = live_split o s (levels w p n) (stores_under w p) held (contents_of part) (levels_count w p n ∙ sym many) live in
-    ( stands_from rule o s p w part two.0 rest.1, eqb-true count n last.0, same_window_is window (window_of w false) two.1
-    , to_all_levels rule o s w p n held rest.0 )
+    let rest = live_split o s (levels w p n) (stores_under w p) held (contents_of part) (levels_count w p n ∙ sym many) live in (
+      stands_from rule o s p w part two.0 rest.1,
+      eqb-true count n last.0,
+      same_window_is window (window_of w false) two.1,
+      to_all_levels rule o s w p n held rest.0,
+    )
 stands_from rule o s p w z h live = absurd (cc)
 
 pub live_from : Rule → (o : Observed) (s : ℤ) (p : NumberedPattern) (w : Bounds) (z : State) → Stands o (all_of o) s w p z → AreLive o s (stores_under w p) (contents_of z)
 live_from rule o s (Leaf k) w (a_leaf leaf window) st = tt
-live_from rule o s (Both p q) w (a_join join.Both l r sides) st =
-    ( from_held o s (side w false p) (is_binding o p) (λ x. rule o p x) sides.left st.2.left
-    , ( from_held o s (side w false q) (is_binding o q) (λ x. rule o q x) sides.right st.2.right
-      , live_append o s (stores_under w p) (stores_under w q) (contents_of l) (contents_of r) (live_from rule o s p w l st.0) (live_from rule o s q w r st.1) ) )
-live_from rule o s (Then p q) w (a_join join.Then l r sides) st =
-    ( from_held o s (side w false p) (is_binding o p) (λ x. rule o p x) sides.left st.2.left
-    , ( from_held o s (side w true q) (is_binding o q) (λ x. rule o q x) sides.right st.2.right
-      , live_append o s (stores_under w p) (stores_under w q) (contents_of l) (contents_of r) (live_from rule o s p w l st.0) (live_from rule o s q w r st.1) ) )
+live_from rule o s (Both p q) w (a_join join.Both l r sides) st = (
+  from_held o s (side w false p) (is_binding o p) (λ x. rule o p x) sides.left st.2.left,
+  (
+    from_held o s (side w false q) (is_binding o q) (λ x. rule o q x) sides.right st.2.right,
+    live_append o s (stores_under w p) (stores_under w q) (contents_of l) (contents_of r) (live_from rule o s p w l st.0) (live_from rule o s q w r st.1),
+  ),
+)
+live_from rule o s (Then p q) w (a_join join.Then l r sides) st = (
+  from_held o s (side w false p) (is_binding o p) (λ x. rule o p x) sides.left st.2.left,
+  (
+    from_held o s (side w true q) (is_binding o q) (λ x. rule o q x) sides.right st.2.right,
+    live_append o s (stores_under w p) (stores_under w q) (contents_of l) (contents_of r) (live_from rule o s p w l st.0) (live_from rule o s q w r st.1),
+  ),
+)
 live_from rule o s (Either p q) w (a_choice l r) st =
     live_append o s (stores_under w p) (stores_under w q) (contents_of l) (contents_of r) (live_from rule o s p w l st.0) (live_from rule o s q w r st.1)
 live_from rule o s (Within p x) w (a_limit part) st = live_from rule o s p (within w x) part st
@@ -303,10 +320,10 @@ pub fits_step : (row : Row) (truths : List Bool) (p : NumberedPattern) (w : Boun
 fits_step row truths (Leaf k) w (a_leaf leaf window) = refl
 fits_step row truths (Both p q) w (a_join join.Both l r sides) =
     ap (λ b. b && have_windows sides (window_of w false) (window_of w false))
-      (both_same (fits w p (step_state row truths l)) (fits w q (step_state row truths r)) (fits w p l) (fits w q r) (fits_step row truths p w l) (fits_step row truths q w r))
+    (both_same (fits w p (step_state row truths l)) (fits w q (step_state row truths r)) (fits w p l) (fits w q r) (fits_step row truths p w l) (fits_step row truths q w r))
 fits_step row truths (Then p q) w (a_join join.Then l r sides) =
     ap (λ b. b && have_windows sides (window_of w false) (window_of w true))
-      (both_same (fits w p (step_state row truths l)) (fits w q (step_state row truths r)) (fits w p l) (fits w q r) (fits_step row truths p w l) (fits_step row truths q w r))
+    (both_same (fits w p (step_state row truths l)) (fits w q (step_state row truths r)) (fits w p l) (fits w q r) (fits_step row truths p w l) (fits_step row truths q w r))
 fits_step row truths (Either p q) w (a_choice l r) =
     both_same (fits w p (step_state row truths l)) (fits w q (step_state row truths r)) (fits w p l) (fits w q r) (fits_step row truths p w l) (fits_step row truths q w r)
 fits_step row truths (Within p x) w (a_limit part) = fits_step row truths p (within w x) part
@@ -329,4 +346,4 @@ fits_empty (Within p x) w = fits_empty p (within w x)
 fits_empty (Between p x y) w = fits_empty p (between w x y)
 fits_empty (Repeats p n) w =
     and_from _ _ (and_from _ _ (fits_empty p w) (window_self (window_of w false)))
-      (and_from _ _ (eq-eqb n n refl) (eq-eqb (length (no_levels (n - 1))) (n - 1) (no_levels_length (n - 1))))
+    (and_from _ _ (eq-eqb n n refl) (eq-eqb (length (no_levels (n - 1))) (n - 1) (no_levels_length (n - 1))))

@@ -1,9 +1,8 @@
 -- What a store holds after a row, and the joins of things with their times.
 use Rattle.std.proofs.Common.{◌≡◌, ℕ, zero, suc, ◌+◌, ◌*◌, ◌<◌, ℤ, ◌≤ℤ◌, List, [], ◌∷◌, ◌++◌, refl, sym, ◌∙◌, ap, arith}
-use Rattle.std.specs.Prelude.{Bool, true, false, ◌&&◌, ◌||◌, not, map, filter, cond}
+use Rattle.std.specs.Prelude.{Bool, true, false, ◌&&◌, not, map, filter}
 use Rattle.std.specs.Int.{int_min, int_max}
-use Rattle.std.proofs.lemmas.Bool.{and_parts}
-use Rattle.match_bindings.specs.BindTree.{BindTree, One, Pair, First, Second, Empty, Single, More, add_part, has}
+use Rattle.match_bindings.specs.BindTree.{BindTree, Single, More, add_part, has}
 use Rattle.match_bindings.specs.Log.{Observed}
 use Rattle.match_bindings.specs.Span.{earliest, latest}
 use Rattle.match_bindings.specs.Test.{are_repeats}
@@ -12,22 +11,22 @@ use Rattle.match_bindings.specs.declared.bounds.Bounds.{Bounds}
 use Rattle.match_windows.specs.declared.window.Window.{Window}
 use Rattle.match_live.specs.declared.join.Join.{Join}
 use Rattle.match_live.specs.declared.join.Join.TheVariants as join
-use Rattle.match_live.specs.HeldTree.{HeldTree, hold, trees_in}
+use Rattle.match_live.specs.PieceTree.{PieceTree, hold}
 use Rattle.match_live.specs.inner.Lives.{alive, lives}
-use Rattle.match_live.specs.inner.Steps.{held_with, joined_tree, joined, may_join, join_row, joins, kept, stored}
+use Rattle.match_live.specs.inner.Steps.{held_with, joined_tree, joined, may_join, join_row, joins, kept}
 use Rattle.match_live.proofs.ListLemmas.{map_append, map_map, map_agree, filter_map}
 use Rattle.match_live.proofs.PairsLemmas.{pairs}
 use Rattle.match_live.proofs.OnceLemmas.{same_self, count_append, count_filter}
 use Rattle.match_live.proofs.AliveLemmas.{lives_before}
 
 -- the things are the trees that pass, each once, with their times
-abbrev pub AreHeld : Observed → (BindTree → Bool) → List HeldTree → Type 0
+abbrev pub AreHeld : Observed → (BindTree → Bool) → List PieceTree → Type 0
 AreHeld o f held = (xs : List BindTree) × (held ≡ map (hold o) xs) × Exactly f xs
 
 pub exactly_same : (f g : BindTree → Bool) (xs : List BindTree) → ((x : BindTree) → f x ≡ g x) → Exactly f xs → Exactly g xs
 exactly_same f g xs h e x = e x ∙ ap bit (h x)
 
-pub held_same : (o : Observed) (f g : BindTree → Bool) (held : List HeldTree) → ((x : BindTree) → f x ≡ g x) → AreHeld o f held → AreHeld o g held
+pub held_same : (o : Observed) (f g : BindTree → Bool) (held : List PieceTree) → ((x : BindTree) → f x ≡ g x) → AreHeld o f held → AreHeld o g held
 held_same o f g held h (xs, is, each) = (xs, is, exactly_same f g xs h each)
 
 -- ---- joins
@@ -118,7 +117,7 @@ sum_bits true false = refl
 sum_bits false h = refl
 
 -- the older part of a store that lives at t
-pub kept_law : (o : Observed) (v : Window) (s t : ℤ) (n : ℕ) (b : BindTree → Bool) (held : List HeldTree) → s ≤ℤ t →
+pub kept_law : (o : Observed) (v : Window) (s t : ℤ) (n : ℕ) (b : BindTree → Bool) (held : List PieceTree) → s ≤ℤ t →
     AreHeld o (λ x. (b x && not (has n x)) && lives v (earliest o.first x) s) held →
     AreHeld o (λ x. (b x && lives v (earliest o.first x) t) && not (has n x)) (kept v t held)
 kept_law o v s t n b held h (xs, is, each) = (
@@ -130,7 +129,7 @@ kept_law o v s t n b held h (xs, is, each) = (
 )
 
 -- the new part
-pub added_law : (o : Observed) (v : Window) (w : Bounds) (t : ℤ) (n : ℕ) (b : BindTree → Bool) (held : List HeldTree) →
+pub added_law : (o : Observed) (v : Window) (w : Bounds) (t : ℤ) (n : ℕ) (b : BindTree → Bool) (held : List PieceTree) →
     ((e : ℤ) → lives v e t ≡ true → alive w e t ≡ true) →
     AreHeld o (λ x. (b x && alive w (earliest o.first x) t) && has n x) held →
     AreHeld o (λ x. (b x && lives v (earliest o.first x) t) && has n x) (kept v t held)
@@ -143,7 +142,7 @@ added_law o v w t n b held h (xs, is, each) = (
 )
 
 -- the old and the new
-pub stored_law : (o : Observed) (n : ℕ) (p : BindTree → Bool) (old new : List HeldTree) →
+pub stored_law : (o : Observed) (n : ℕ) (p : BindTree → Bool) (old new : List PieceTree) →
     AreHeld o (λ x. p x && not (has n x)) old → AreHeld o (λ x. p x && has n x) new → AreHeld o p (old ++ new)
 stored_law o n p old new (xs, is, each) (ys, is', each') = (
   xs ++ ys,

@@ -1,6 +1,6 @@
 -- A row of a matcher that stands for a log.
-use Rattle.std.proofs.Common.{◌≡◌, ℕ, suc, ◌+◌, ◌≤◌, ◌<◌, ℤ, List, [], ◌∷◌, ◌++◌, length, refl, sym, ◌∙◌, ap, subst, arith}
-use Rattle.std.specs.Prelude.{Bool, true, false, ◌||◌, Option, Some, None, is_some, Result, Ok, Err}
+use Rattle.std.proofs.Common.{◌≡◌, ℕ, suc, ◌+◌, ℤ, List, length, sym, ◌∙◌, ap, subst, arith}
+use Rattle.std.specs.Prelude.{Bool, true, ◌||◌, Option, None, is_some, Result, Err}
 use Rattle.match_bindings.specs.declared.log_entry.LogEntry.{LogEntry}
 use Rattle.match_bindings.specs.Bounds.{no_bounds}
 use Rattle.match_bindings.specs.NumberedPattern.{NumberedPattern}
@@ -11,10 +11,10 @@ use Rattle.match_live.specs.declared.ending.MatchRefusal.{MatchRefusal}
 use Rattle.match_live.specs.declared.ending.MatchRefusal.TheVariants as refusal
 use Rattle.match_live.specs.declared.row.Row.{Row}
 use Rattle.match_live.specs.declared.run.Run.{Run}
-use Rattle.match_live.specs.HeldTree.{HeldTree, trees_in}
+use Rattle.match_live.specs.PieceTree.{trees_in}
 use Rattle.match_live.specs.LivePart.{IsLivePart, held_count, time_of}
 use Rattle.match_live.specs.Answer.{IsAnswer, IsLiveCount}
-use Rattle.match_live.specs.MatcherState.{MatcherState, StandsFor, with_row, Falls, last_of}
+use Rattle.match_live.specs.MatcherState.{with_row, Falls, last_of}
 use Rattle.match_live.specs.inner.Steps.{State, step_new, step_state, contents_of}
 use Rattle.match_live.specs.inner.Nodes.{state_of}
 use Rattle.match_live.specs.inner.Shape.{fits}
@@ -50,24 +50,24 @@ both_laws rule p z rows before log first last truths g =
     let after = not_falls log last (λ k. g.after (subst (λ (t : Option ℤ). Falls t last) (sym g.time) k)) in
     let st = stands_from rule (observed_in log) (time_of log) p no_bounds z g.made g.live in
     subst (λ (row : Row).
-      AreHeld (observed_in (with_row log first last truths)) (ends (observed_in (with_row log first last truths)) (suc (length log)) last no_bounds p) (step_new row truths z)
-      × Stands (observed_in (with_row log first last truths)) (all_of (observed_in (with_row log first last truths))) (time_of (with_row log first last truths)) no_bounds p (step_state row truths z))
-      (sym (next_is rows log first last truths g.count))
-      (take_law p log (entry first last truths) z g.order after st)
+    AreHeld (observed_in (with_row log first last truths)) (ends (observed_in (with_row log first last truths)) (suc (length log)) last no_bounds p) (step_new row truths z)
+    × Stands (observed_in (with_row log first last truths)) (all_of (observed_in (with_row log first last truths))) (time_of (with_row log first last truths)) no_bounds p (step_state row truths z))
+    (sym (next_is rows log first last truths g.count))
+    (take_law p log (entry first last truths) z g.order after st)
 
 -- the stores then hold the live part of the longer log
 pub live_then : Rule → (p : NumberedPattern) (z : State) (rows : ℕ) (before : Option ℤ) (log : List LogEntry) (first last : ℤ) (truths : List Bool) → Goes p z rows before log last →
     IsLivePart p (with_row log first last truths) (contents_of (step_state (next_row rows first last) truths z))
 live_then rule p z rows before log first last truths g =
     live_from rule (observed_in (with_row log first last truths)) (time_of (with_row log first last truths)) p no_bounds (step_state (next_row rows first last) truths z)
-      (both_laws rule p z rows before log first last truths g).1
+    (both_laws rule p z rows before log first last truths g).1
 
 -- and what ends at the row is its answer
 pub answer_then : Rule → Rise → (run : Run) (p : NumberedPattern) (before : Option ℤ) (log : List LogEntry) (first last : ℤ) (truths : List Bool) → Goes p (state_of run.node) run.rows before log last →
     (xs : List BindTree) → AreSteps run (next_row run.rows first last) truths xs → IsAnswer p (with_row log first last truths) xs
 answer_then rule rise run p before log first last truths g xs steps =
     answer_law rule rise p log (entry first last truths) (step_new (next_row run.rows first last) truths (state_of run.node)) xs
-      (both_laws rule p (state_of run.node) run.rows before log first last truths g).0 steps.counts steps.sorted
+    (both_laws rule p (state_of run.node) run.rows before log first last truths g).0 steps.counts steps.sorted
 
 -- so much is live then
 pub count_then : Rule → Rise → (run : Run) (p : NumberedPattern) (before : Option ℤ) (log : List LogEntry) (first last : ℤ) (truths : List Bool) → Goes p (state_of run.node) run.rows before log last →

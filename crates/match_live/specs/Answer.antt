@@ -7,7 +7,7 @@ use Rattle.match_bindings.specs.Log.{observed_in}
 use Rattle.match_bindings.specs.Binding.{IsBinding}
 use Rattle.match_bindings.specs.Once.{count}
 use Rattle.match_bindings.specs.Flat.{Rises}
-use Rattle.match_live.specs.HeldTree.{HeldTree}
+use Rattle.match_live.specs.PieceTree.{PieceTree}
 use Rattle.match_live.specs.LivePart.{IsLivePart, held_count}
 
 -- a binding whose greatest number is that of the last row
@@ -22,7 +22,7 @@ pub record IsAnswer (p : NumberedPattern) (log : List LogEntry) (xs : List BindT
 
 -- the live count: so many things are in the live part, and so many bindings end at the last row
 pub record IsLiveCount (p : NumberedPattern) (log : List LogEntry) (n : ℕ) : Type 0 where
-  pub contents : List (List HeldTree)
+  pub contents : List (List PieceTree)
   pub answer : List BindTree
   pub live : IsLivePart p log contents
   pub ending : IsAnswer p log answer

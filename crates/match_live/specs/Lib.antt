@@ -1,7 +1,7 @@
-pub mod HeldTree
+pub mod PieceTree
 pub mod LivePart
 pub mod Answer
 pub mod MatcherState
-pub mod Kept
+pub mod RowNumbers
 pub mod View
 pub mod inner

@@ -10,7 +10,7 @@ use Rattle.match_bindings.specs.Binding.{AreRepeats, IsBinding}
 use Rattle.match_bindings.specs.Once.{count}
 use Rattle.match_windows.specs.Stores.{Part, a_side, a_level, Store, stores_of}
 use Rattle.match_windows.specs.Expiry.{HasExpired}
-use Rattle.match_live.specs.HeldTree.{HeldTree, hold, trees_in}
+use Rattle.match_live.specs.PieceTree.{PieceTree, hold, trees_in}
 
 -- a store of a side holds bindings of that side; one of a level sets of so many bindings, as they stand in a REPEATS
 abbrev pub MayHold : Observed → Part → BindTree → Type 0
@@ -22,13 +22,13 @@ abbrev pub IsLive : Observed → ℤ → Store → BindTree → Type 0
 IsLive o now store x = MayHold o store.part x × ¬ (HasExpired store.window (earliest o.first x) now)
 
 -- a store holds each live thing once and nothing else, with its times
-pub record HoldsLive (o : Observed) (now : ℤ) (store : Store) (held : List HeldTree) : Type 0 where
+pub record HoldsLive (o : Observed) (now : ℤ) (store : Store) (held : List PieceTree) : Type 0 where
   pub times : held ≡ map (hold o) (trees_in held)
   pub each_once : (x : BindTree) → IsLive o now store x → count x (trees_in held) ≡ 1
   pub no_other : (x : BindTree) → ¬ (IsLive o now store x) → count x (trees_in held) ≡ 0
 
 -- store by store
-abbrev pub AreLive : Observed → ℤ → List Store → List (List HeldTree) → Type 0
+abbrev pub AreLive : Observed → ℤ → List Store → List (List PieceTree) → Type 0
 AreLive o now [] [] = ⊤
 AreLive o now (store ∷ stores) (held ∷ contents) = HoldsLive o now store held × AreLive o now stores contents
 AreLive o now _ _ = ⊥
@@ -37,10 +37,10 @@ AreLive o now _ _ = ⊥
 abbrev pub time_of : List LogEntry → ℤ
 time_of log = last_time (numbered log (length log))
 
-abbrev pub IsLivePart : NumberedPattern → List LogEntry → List (List HeldTree) → Type 0
+abbrev pub IsLivePart : NumberedPattern → List LogEntry → List (List PieceTree) → Type 0
 IsLivePart p log contents = AreLive (observed_in log) (time_of log) (stores_of p) contents
 
 -- how many things are held
-abbrev pub held_count : List (List HeldTree) → ℕ
+abbrev pub held_count : List (List PieceTree) → ℕ
 held_count [] = 0
 held_count (held ∷ contents) = length held + held_count contents

@@ -3,7 +3,7 @@ use Rattle.std.specs.Prelude.{◌≡◌, ℕ, ℤ, ◌<ℤ◌, Bool, Option, Som
 use Rattle.match_bindings.specs.declared.log_entry.LogEntry.{LogEntry}
 use Rattle.match_bindings.specs.NumberedPattern.{NumberedPattern}
 use Rattle.match_live.specs.declared.ending.Ending.{Ending}
-use Rattle.match_live.specs.HeldTree.{HeldTree}
+use Rattle.match_live.specs.PieceTree.{PieceTree}
 use Rattle.match_live.specs.LivePart.{IsLivePart}
 
 pub record MatcherState : Type 0 where
@@ -17,7 +17,7 @@ pub record MatcherState : Type 0 where
   -- the last time of the last one
   pub last : Option ℤ
   -- what its stores hold, in the order of stores_of
-  pub contents : List (List HeldTree)
+  pub contents : List (List PieceTree)
 
 -- the last time of the last row
 abbrev pub last_of : List LogEntry → Option ℤ

@@ -1,5 +1,5 @@
 pub mod Lives
-pub mod Helds
+pub mod Pieces
 pub mod Nodes
 pub mod Steps
 pub mod Shape

@@ -1,10 +1,10 @@
 ghost use Rattle.std.specs.Prelude.{◌≡◌, ◌++◌, IfOk, OnOk};
 ghost use Rattle.std.specs.Int.{int_min, int_max};
 ghost use Rattle.match_bindings.specs.BindTree.{tree_of};
-ghost use Rattle.match_live.specs.inner.Helds.{held_tree, held_trees};
+ghost use Rattle.match_live.specs.inner.Pieces.{piece_tree, piece_trees};
 ghost use Rattle.match_live.specs.inner.Steps.{joined_tree, joined, may_join, join_row, joins};
 
-use crate::held::Held;
+use crate::piece::Piece;
 use flow_values::NoMemory;
 use match_bindings::{Bind, are_disjoint, copy_bind, with_part};
 use std::alloc::Global;
@@ -37,8 +37,8 @@ impl Join {
     }
 
     /// Whether two things are joined.
-    fn may_join(self, first: &Held, second: &Held) -> bool
-        ensures { result ≡ may_join self (held_tree first.now) (held_tree second.now) }
+    fn may_join(self, first: &Piece, second: &Piece) -> bool
+        ensures { result ≡ may_join self (piece_tree first.now) (piece_tree second.now) }
     {
         match self {
             Join::Both | Join::Repeats => are_disjoint(&first.bind, &second.bind),
@@ -49,11 +49,11 @@ impl Join {
     }
 
     /// Two things as one.
-    fn joined(self, alloc: Global, first: &Held, second: &Held) -> Result<Held, NoMemory>
-        ensures { IfOk result (λ held. held_tree held ≡ joined self (held_tree first.now) (held_tree second.now)) }
+    fn joined(self, alloc: Global, first: &Piece, second: &Piece) -> Result<Piece, NoMemory>
+        ensures { IfOk result (λ held. piece_tree held ≡ joined self (piece_tree first.now) (piece_tree second.now)) }
     {
         let bind = self.bind(alloc, &first.bind, &second.bind)?;
-        Ok(Held {
+        Ok(Piece {
             bind,
             earliest: earlier(first.earliest, second.earliest),
             latest: later(first.latest, second.latest),
@@ -64,11 +64,11 @@ impl Join {
     fn join_row(
         self,
         alloc: Global,
-        first: &Held,
-        seconds: &[Held],
-        out: &mut Vec<Held>,
+        first: &Piece,
+        seconds: &[Piece],
+        out: &mut Vec<Piece>,
     ) -> Result<(), NoMemory>
-        ensures { OnOk result (held_trees out.new.items ≡ held_trees out.old.items ++ join_row self (held_tree first.now) (held_trees seconds.now)) }
+        ensures { OnOk result (piece_trees out.new.items ≡ piece_trees out.old.items ++ join_row self (piece_tree first.now) (piece_trees seconds.now)) }
     {
         for second in seconds {
             if self.may_join(first, second) {
@@ -83,11 +83,11 @@ impl Join {
     pub fn join(
         self,
         alloc: Global,
-        firsts: &[Held],
-        seconds: &[Held],
-        out: &mut Vec<Held>,
+        firsts: &[Piece],
+        seconds: &[Piece],
+        out: &mut Vec<Piece>,
     ) -> Result<(), NoMemory>
-        ensures { OnOk result (held_trees out.new.items ≡ held_trees out.old.items ++ joins self (held_trees firsts.now) (held_trees seconds.now)) }
+        ensures { OnOk result (piece_trees out.new.items ≡ piece_trees out.old.items ++ joins self (piece_trees firsts.now) (piece_trees seconds.now)) }
     {
         if seconds.is_empty() {
             return Ok(());

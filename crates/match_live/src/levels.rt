@@ -1,12 +1,12 @@
 ghost use Rattle.std.specs.Prelude.{◌≡◌, ◌++◌, [], map, IfOk, OnOk};
 ghost use Rattle.match_bindings.specs.BindTree.{Single};
 ghost use Rattle.match_live.specs.declared.join.Join.TheVariants as join;
-ghost use Rattle.match_live.specs.inner.Helds.{held_tree, held_trees};
+ghost use Rattle.match_live.specs.inner.Pieces.{piece_tree, piece_trees};
 ghost use Rattle.match_live.specs.inner.Steps.{held_with, kept, stored, joins, levels_new, levels_after, levels_above, all_levels, risen, raised, counted};
 ghost use Rattle.match_live.specs.inner.Nodes.{store_list, store_lists};
 
-use crate::held::Held;
 use crate::join::Join;
+use crate::piece::Piece;
 use crate::store::Store;
 use flow_values::{Items, NoMemory};
 use match_bindings::{Bind, copy_bind};
@@ -39,13 +39,18 @@ impl Levels {
     }
 
     /// One row, given what is new at what is repeated: what is new at the last level.
-    pub fn step(&mut self, alloc: Global, now: Instant, new: &[Held]) -> Result<Vec<Held>, NoMemory>
-        ensures new { IfOk result (λ sets. held_trees sets.items ≡ counted self.old.count
-            (levels_new self.old.window now (map (held_with Single) (held_trees new.now)) (held_trees new.now)
-                (all_levels self.old.count (store_lists self.old.stores.items)))) }
+    pub fn step(
+        &mut self,
+        alloc: Global,
+        now: Instant,
+        new: &[Piece],
+    ) -> Result<Vec<Piece>, NoMemory>
+        ensures new { IfOk result (λ sets. piece_trees sets.items ≡ counted self.old.count
+            (levels_new self.old.window now (map (held_with Single) (piece_trees new.now)) (piece_trees new.now)
+            (all_levels self.old.count (store_lists self.old.stores.items)))) }
         ensures kept { OnOk result (all_levels self.new.count (store_lists self.new.stores.items)
-            ≡ levels_after self.old.window now (map (held_with Single) (held_trees new.now)) (held_trees new.now)
-                (all_levels self.old.count (store_lists self.old.stores.items))) }
+            ≡ levels_after self.old.window now (map (held_with Single) (piece_trees new.now)) (piece_trees new.now)
+            (all_levels self.old.count (store_lists self.old.stores.items))) }
         ensures count { OnOk result (self.new.count ≡ self.old.count) }
         ensures window { OnOk result (self.new.window ≡ self.old.window) }
     {
@@ -59,12 +64,17 @@ impl Levels {
 
     /// What is new above the levels that are made: it is the answer where there is no level above, and is
     /// held in the next one else.
-    fn raise(&mut self, alloc: Global, sets: Vec<Held>, now: Instant) -> Result<Vec<Held>, NoMemory>
-        ensures new { IfOk result (λ answer. held_trees answer.items
-            ≡ counted self.old.count (risen (levels_above self.old.count (store_lists self.old.stores.items)) (held_trees sets.items))) }
+    fn raise(
+        &mut self,
+        alloc: Global,
+        sets: Vec<Piece>,
+        now: Instant,
+    ) -> Result<Vec<Piece>, NoMemory>
+        ensures new { IfOk result (λ answer. piece_trees answer.items
+            ≡ counted self.old.count (risen (levels_above self.old.count (store_lists self.old.stores.items)) (piece_trees sets.items))) }
         ensures kept { OnOk result (all_levels self.new.count (store_lists self.new.stores.items)
             ≡ store_lists self.old.stores.items
-                ++ raised self.old.window now (levels_above self.old.count (store_lists self.old.stores.items)) (held_trees sets.items)) }
+            ++ raised self.old.window now (levels_above self.old.count (store_lists self.old.stores.items)) (piece_trees sets.items)) }
         ensures count { OnOk result (self.new.count ≡ self.old.count) }
         ensures window { OnOk result (self.new.window ≡ self.old.window) }
     {
@@ -89,13 +99,13 @@ fn step_made(
     stores: Vec<Store>,
     window: &Window,
     now: Instant,
-    first: Vec<Held>,
-    new: &[Held],
-) -> Result<(Vec<Store>, Vec<Held>), NoMemory>
+    first: Vec<Piece>,
+    new: &[Piece],
+) -> Result<(Vec<Store>, Vec<Piece>), NoMemory>
     ensures kept { IfOk result (λ after. store_lists after.0.items
-        ≡ levels_after window.now now (held_trees first.items) (held_trees new.now) (store_lists stores.items)) }
-    ensures new { IfOk result (λ after. held_trees after.1.items
-        ≡ levels_new window.now now (held_trees first.items) (held_trees new.now) (store_lists stores.items)) }
+        ≡ levels_after window.now now (piece_trees first.items) (piece_trees new.now) (store_lists stores.items)) }
+    ensures new { IfOk result (λ after. piece_trees after.1.items
+        ≡ levels_new window.now now (piece_trees first.items) (piece_trees new.now) (store_lists stores.items)) }
 {
     let mut made = Vec::new(alloc);
     let mut sets = first;
@@ -114,12 +124,12 @@ fn step_level(
     level: &mut Store,
     window: &Window,
     now: Instant,
-    sets: Vec<Held>,
-    new: &[Held],
-) -> Result<Vec<Held>, NoMemory>
-    ensures new { IfOk result (λ above. held_trees above.items
-        ≡ joins join.Repeats (kept window.now now (store_list level.old)) (held_trees new.now)) }
-    ensures kept { OnOk result (store_list level.new ≡ stored window.now now (store_list level.old) (held_trees sets.items)) }
+    sets: Vec<Piece>,
+    new: &[Piece],
+) -> Result<Vec<Piece>, NoMemory>
+    ensures new { IfOk result (λ above. piece_trees above.items
+        ≡ joins join.Repeats (kept window.now now (store_list level.old)) (piece_trees new.now)) }
+    ensures kept { OnOk result (store_list level.new ≡ stored window.now now (store_list level.old) (piece_trees sets.items)) }
 {
     level.expire(window, now);
     let mut above = Vec::new(alloc);
@@ -129,8 +139,8 @@ fn step_level(
 }
 
 /// Each thing alone in a set.
-fn singles(alloc: Global, new: &[Held]) -> Result<Vec<Held>, NoMemory>
-    ensures { IfOk result (λ sets. held_trees sets.items ≡ map (held_with Single) (held_trees new.now)) }
+fn singles(alloc: Global, new: &[Piece]) -> Result<Vec<Piece>, NoMemory>
+    ensures { IfOk result (λ sets. piece_trees sets.items ≡ map (held_with Single) (piece_trees new.now)) }
 {
     let mut sets = Vec::new(alloc);
     for part in new {
@@ -141,12 +151,12 @@ fn singles(alloc: Global, new: &[Held]) -> Result<Vec<Held>, NoMemory>
 }
 
 /// A thing alone in a set.
-fn single(alloc: Global, part: &Held) -> Result<Held, NoMemory>
-    ensures { IfOk result (λ set. held_tree set ≡ held_with Single (held_tree part.now)) }
+fn single(alloc: Global, part: &Piece) -> Result<Piece, NoMemory>
+    ensures { IfOk result (λ set. piece_tree set ≡ held_with Single (piece_tree part.now)) }
 {
     let mut parts = Items::new(alloc);
     parts.push(copy_bind(alloc, &part.bind)?)?;
-    Ok(Held {
+    Ok(Piece {
         bind: Bind::Many(parts),
         earliest: part.earliest,
         latest: part.latest,

@@ -8,15 +8,15 @@
 #![tactic(auto)]
 
 mod ending;
-mod held;
 mod join;
-mod kept;
 pub mod laws;
 mod levels;
 mod matcher;
 mod node;
+mod piece;
 mod room;
 mod row;
+mod row_numbers;
 mod run;
 mod sides;
 mod store;

@@ -8,14 +8,14 @@ ghost use Rattle.match_live.specs.declared.ending.Ending.TheVariants as ending;
 ghost use Rattle.match_live.specs.declared.ending.MatchRefusal.TheVariants as refusal;
 ghost use Rattle.match_live.specs.MatcherState.{StandsFor, with_row, Falls};
 ghost use Rattle.match_live.specs.Answer.{IsAnswer, IsCrowded, IsRoomy};
-ghost use Rattle.match_live.specs.Kept.{AreKept};
+ghost use Rattle.match_live.specs.RowNumbers.{AreKept};
 ghost use Rattle.match_bindings.specs.Bounds.{no_bounds};
 ghost use Rattle.match_bindings.specs.NumberedPattern.{numbered_pattern};
 ghost use Rattle.match_live.specs.inner.Nodes.{state_of};
 ghost use Rattle.match_live.specs.inner.Shape.{fits};
 
-use crate::kept::kept_numbers;
 use crate::node::empty_node;
+use crate::row_numbers::kept_numbers;
 use crate::run::Run;
 use crate::{Ending, MatchRefusal};
 use flow_values::{Items, NoMemory};
@@ -73,6 +73,8 @@ impl<'p> Matcher<'p> {
         requires room { (matcher_state self.old).ended ≡ None → (matcher_state self.old).rows + 1 < 2 ^ 64 }
         ensures stands { (log : List LogEntry) → StandsFor (matcher_state self.old) log → IsInOrder log →
             OnOk result (StandsFor (matcher_state self.new) (with_row log first last truths.now)) }
+        ensures order { (log : List LogEntry) → StandsFor (matcher_state self.old) log → IsInOrder log →
+            OnOk result (IsInOrder (with_row log first last truths.now)) }
         ensures answers { (log : List LogEntry) → StandsFor (matcher_state self.old) log → IsInOrder log →
             IfOk result (λ binds. IsAnswer (matcher_state self.old).pattern (with_row log first last truths.now) (map tree_of binds)) }
         ensures roomy { (log : List LogEntry) → StandsFor (matcher_state self.old) log → IsInOrder log →
@@ -80,7 +82,7 @@ impl<'p> Matcher<'p> {
         ensures crowded { (log : List LogEntry) → StandsFor (matcher_state self.old) log → IsInOrder log → (number cap : ℕ) →
             result ≡ Err (refusal.Stopped (ending.Crowded number cap)) →
             (number ≡ suc (length log)) × (cap ≡ (matcher_state self.old).cap) × (¬ (Falls (matcher_state self.old).last last))
-                × IsCrowded (matcher_state self.old).pattern (with_row log first last truths.now) cap }
+            × IsCrowded (matcher_state self.old).pattern (with_row log first last truths.now) cap }
         ensures out_of_order { (before now : ℤ) → (result ≡ Err (refusal.Stopped (ending.OutOfOrder before now)))
             ↔ (((matcher_state self.old).ended ≡ None) × ((matcher_state self.old).last ≡ Some before) × (now ≡ last) × (now <ℤ before)) }
         ensures stopped { (ending : Ending) → result ≡ Err (refusal.Stopped ending) →

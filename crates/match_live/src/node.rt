@@ -2,17 +2,16 @@ ghost use Rattle.std.specs.Prelude.{◌≡◌, ◌+◌, ◌<◌, ◌^◌, ◌++�
 ghost use Rattle.pattern_types.specs.Leaves.{leaves};
 ghost use Rattle.match_bindings.specs.NumberedPattern.{numbered_from};
 ghost use Rattle.match_bindings.specs.BindTree.{One, First, Second};
-ghost use Rattle.match_windows.specs.Stores.{window_of};
-ghost use Rattle.match_live.specs.inner.Helds.{held_tree, held_trees};
+ghost use Rattle.match_live.specs.inner.Pieces.{piece_tree, piece_trees};
 ghost use Rattle.match_live.specs.inner.Steps.{held_with, a_join, step_new, step_state, new_at_leaf, empty_state};
 ghost use Rattle.match_live.specs.inner.Nodes.{side_stores, state_of};
 
-use crate::held::Held;
 use crate::join::Join;
 use crate::levels::Levels;
+use crate::piece::Piece;
 use crate::row::Row;
 use crate::sides::Sides;
-use crate::store::is_live;
+use crate::store::{is_live, store_window};
 use flow_values::NoMemory;
 use match_bindings::{Bind, Bounds};
 use match_windows::Window;
@@ -50,13 +49,13 @@ pub(crate) fn empty_node(
         Pattern::Both(left, right) => {
             let left_node = empty_node(alloc, left, leaf, above)?;
             let right_node = empty_node(alloc, right, leaf + leaf_count(left), above)?;
-            let sides = Sides::new(alloc, store_window(&above, false), store_window(&above, false));
+            let sides = Sides::new(alloc, &above, false);
             sides_node(alloc, Join::Both, left_node, right_node, sides)
         }
         Pattern::Then(left, right) => {
             let left_node = empty_node(alloc, left, leaf, above)?;
             let right_node = empty_node(alloc, right, leaf + leaf_count(left), above)?;
-            let sides = Sides::new(alloc, store_window(&above, false), store_window(&above, true));
+            let sides = Sides::new(alloc, &above, true);
             sides_node(alloc, Join::Then, left_node, right_node, sides)
         }
         Pattern::Either(left, right) => {
@@ -80,18 +79,6 @@ pub(crate) fn empty_node(
     }
 }
 
-/// The window of a store under these bounds.
-fn store_window(above: &Bounds, behind: bool) -> Window
-    ensures { result ≡ window_of above.now behind }
-{
-    Window {
-        seconds: above.seconds,
-        start: above.start,
-        stop: above.stop,
-        behind,
-    }
-}
-
 /// A node that joins two sides.
 fn sides_node(
     alloc: Global,
@@ -112,8 +99,8 @@ pub(crate) fn step(
     node: &mut Node,
     row: &Row,
     truths: &[bool],
-) -> Result<Vec<Held>, NoMemory>
-    ensures new { IfOk result (λ new. held_trees new.items ≡ step_new row.now truths.now (state_of node.old)) }
+) -> Result<Vec<Piece>, NoMemory>
+    ensures new { IfOk result (λ new. piece_trees new.items ≡ step_new row.now truths.now (state_of node.old)) }
     ensures kept { OnOk result (state_of node.new ≡ step_state row.now truths.now (state_of node.old)) }
 {
     match node {
@@ -143,8 +130,8 @@ fn new_at_leaf(
     window: &Window,
     row: &Row,
     truths: &[bool],
-) -> Result<Vec<Held>, NoMemory>
-    ensures { IfOk result (λ new. held_trees new.items ≡ new_at_leaf row.now truths.now leaf window.now) }
+) -> Result<Vec<Piece>, NoMemory>
+    ensures { IfOk result (λ new. piece_trees new.items ≡ new_at_leaf row.now truths.now leaf window.now) }
 {
     let mut new = Vec::new(alloc);
     if truths.get(leaf as usize).copied().unwrap_or(false) && is_live(window, row.first, row.last) {
@@ -154,10 +141,10 @@ fn new_at_leaf(
 }
 
 /// A row alone.
-fn alone(row: &Row) -> Held
-    ensures { held_tree result ≡ record { tree = One row.now.number; earliest = row.now.first; latest = row.now.last } }
+fn alone(row: &Row) -> Piece
+    ensures { piece_tree result ≡ record { tree = One row.now.number; earliest = row.now.first; latest = row.now.last } }
 {
-    Held {
+    Piece {
         bind: Bind::One(row.number),
         earliest: row.first,
         latest: row.last,
@@ -165,9 +152,9 @@ fn alone(row: &Row) -> Held
 }
 
 /// The things of both sides of an `OR`.
-fn either_of(alloc: Global, left: Vec<Held>, right: Vec<Held>) -> Result<Vec<Held>, NoMemory>
-    ensures { IfOk result (λ new. held_trees new.items
-        ≡ map (held_with First) (held_trees left.items) ++ map (held_with Second) (held_trees right.items)) }
+fn either_of(alloc: Global, left: Vec<Piece>, right: Vec<Piece>) -> Result<Vec<Piece>, NoMemory>
+    ensures { IfOk result (λ new. piece_trees new.items
+        ≡ map (held_with First) (piece_trees left.items) ++ map (held_with Second) (piece_trees right.items)) }
 {
     let mut new = Vec::new(alloc);
     push_firsts(alloc, left, &mut new)?;
@@ -176,25 +163,41 @@ fn either_of(alloc: Global, left: Vec<Held>, right: Vec<Held>) -> Result<Vec<Hel
 }
 
 /// Adds the things of the left side of an `OR`.
-fn push_firsts(alloc: Global, left: Vec<Held>, out: &mut Vec<Held>) -> Result<(), NoMemory>
-    ensures { OnOk result (held_trees out.new.items ≡ held_trees out.old.items ++ map (held_with First) (held_trees left.items)) }
+fn push_firsts(alloc: Global, left: Vec<Piece>, out: &mut Vec<Piece>) -> Result<(), NoMemory>
+    ensures { OnOk result (piece_trees out.new.items ≡ piece_trees out.old.items ++ map (held_with First) (piece_trees left.items)) }
 {
     for held in left {
-        let Held { bind, earliest, latest } = held;
+        let Piece {
+            bind,
+            earliest,
+            latest,
+        } = held;
         let bind = Bind::First(Box::new(alloc, bind)?);
-        out.push(Held { bind, earliest, latest })?;
+        out.push(Piece {
+            bind,
+            earliest,
+            latest,
+        })?;
     }
     Ok(())
 }
 
 /// Adds the things of the right side of an `OR`.
-fn push_seconds(alloc: Global, right: Vec<Held>, out: &mut Vec<Held>) -> Result<(), NoMemory>
-    ensures { OnOk result (held_trees out.new.items ≡ held_trees out.old.items ++ map (held_with Second) (held_trees right.items)) }
+fn push_seconds(alloc: Global, right: Vec<Piece>, out: &mut Vec<Piece>) -> Result<(), NoMemory>
+    ensures { OnOk result (piece_trees out.new.items ≡ piece_trees out.old.items ++ map (held_with Second) (piece_trees right.items)) }
 {
     for held in right {
-        let Held { bind, earliest, latest } = held;
+        let Piece {
+            bind,
+            earliest,
+            latest,
+        } = held;
         let bind = Bind::Second(Box::new(alloc, bind)?);
-        out.push(Held { bind, earliest, latest })?;
+        out.push(Piece {
+            bind,
+            earliest,
+            latest,
+        })?;
     }
     Ok(())
 }

@@ -1,16 +1,16 @@
 ghost use Rattle.std.specs.Prelude.{◌≡◌, ◌<◌, ◌+◌, ◌^◌, ◌↔◌, ℕ, ℤ, ◌<ℤ◌, Err, Some, map, IfOk, OnOk, IfSome, IfNone};
 ghost use Rattle.match_bindings.specs.BindTree.{tree_of};
 ghost use Rattle.match_live.specs.declared.ending.Ending.TheVariants as ending;
-ghost use Rattle.match_live.specs.HeldTree.{trees_in};
+ghost use Rattle.match_live.specs.PieceTree.{trees_in};
 ghost use Rattle.match_live.specs.LivePart.{held_count};
 ghost use Rattle.match_live.specs.MatcherState.{Falls};
-ghost use Rattle.match_live.specs.inner.Helds.{held_trees};
+ghost use Rattle.match_live.specs.inner.Pieces.{piece_trees};
 ghost use Rattle.match_live.specs.inner.Steps.{contents_of};
 ghost use Rattle.match_live.specs.inner.Nodes.{state_of};
 
 use crate::Ending;
-use crate::held::Held;
 use crate::node::{Node, step};
+use crate::piece::Piece;
 use crate::room::room_after;
 use crate::row::Row;
 use flow_values::{Items, NoMemory};
@@ -43,7 +43,7 @@ impl Run {
             ↔ ((self.old.last ≡ Some before) × (now ≡ last) × (now <ℤ before)) }
         ensures crowded { (number cap : ℕ) → result ≡ Err (ending.Crowded number cap)
             → (number ≡ self.old.rows + 1) × (cap ≡ self.old.cap) × (¬ (Falls self.old.last last))
-                × IsOver self.old (next_row self.old.rows first last) truths.now }
+            × IsOver self.old (next_row self.old.rows first last) truths.now }
         ensures order { OnOk result (¬ (Falls self.old.last last)) }
         ensures took { OnOk result (TookRow self.old self.new (next_row self.old.rows first last) truths.now) }
         ensures binds { IfOk result (λ binds. AreSteps self.old (next_row self.old.rows first last) truths.now (map tree_of binds)) }
@@ -103,8 +103,8 @@ impl Run {
 }
 
 /// The binds alone.
-fn binds_of(alloc: Global, held: Vec<Held>) -> Result<Vec<Bind>, NoMemory>
-    ensures { IfOk result (λ binds. map tree_of binds.items ≡ trees_in (held_trees held.items)) }
+fn binds_of(alloc: Global, held: Vec<Piece>) -> Result<Vec<Bind>, NoMemory>
+    ensures { IfOk result (λ binds. map tree_of binds.items ≡ trees_in (piece_trees held.items)) }
 {
     let mut binds = Vec::new(alloc);
     for one in held {

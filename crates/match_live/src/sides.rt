@@ -1,12 +1,14 @@
-ghost use Rattle.std.specs.Prelude.{◌≡◌, IfOk, OnOk};
-ghost use Rattle.match_live.specs.inner.Helds.{held_trees};
+ghost use Rattle.std.specs.Prelude.{◌≡◌, false, IfOk, OnOk};
+ghost use Rattle.match_windows.specs.Stores.{window_of};
+ghost use Rattle.match_live.specs.inner.Pieces.{piece_trees};
 ghost use Rattle.match_live.specs.inner.Steps.{joins_new, sides_after, empty_sides};
 ghost use Rattle.match_live.specs.inner.Nodes.{side_stores};
 
-use crate::held::Held;
 use crate::join::Join;
-use crate::store::Store;
+use crate::piece::Piece;
+use crate::store::{Store, store_window};
 use flow_values::NoMemory;
+use match_bindings::Bounds;
 use match_windows::Window;
 use std::alloc::Global;
 use stix_times::Instant;
@@ -21,15 +23,16 @@ pub(crate) struct Sides {
 }
 
 impl Sides {
-    /// Stores that hold nothing. Takes no memory.
-    pub fn new(alloc: Global, left_window: Window, right_window: Window) -> Sides
-        ensures { side_stores result ≡ empty_sides left_window right_window }
+    /// Stores under these bounds that hold nothing, the right one behind the left where this is asked.
+    /// Takes no memory.
+    pub fn new(alloc: Global, above: &Bounds, behind: bool) -> Sides
+        ensures { side_stores result ≡ empty_sides (window_of above.now false) (window_of above.now behind) }
     {
         Sides {
             left: Store::new(alloc),
             right: Store::new(alloc),
-            left_window,
-            right_window,
+            left_window: store_window(above, false),
+            right_window: store_window(above, behind),
         }
     }
 
@@ -39,13 +42,13 @@ impl Sides {
         alloc: Global,
         join: Join,
         now: Instant,
-        new_left: Vec<Held>,
-        new_right: Vec<Held>,
-    ) -> Result<Vec<Held>, NoMemory>
-        ensures new { IfOk result (λ new. held_trees new.items
-            ≡ joins_new join now (side_stores self.old) (held_trees new_left.items) (held_trees new_right.items)) }
+        new_left: Vec<Piece>,
+        new_right: Vec<Piece>,
+    ) -> Result<Vec<Piece>, NoMemory>
+        ensures new { IfOk result (λ new. piece_trees new.items
+            ≡ joins_new join now (side_stores self.old) (piece_trees new_left.items) (piece_trees new_right.items)) }
         ensures kept { OnOk result (side_stores self.new
-            ≡ sides_after now (side_stores self.old) (held_trees new_left.items) (held_trees new_right.items)) }
+            ≡ sides_after now (side_stores self.old) (piece_trees new_left.items) (piece_trees new_right.items)) }
     {
         self.left.expire(&self.left_window, now);
         self.right.expire(&self.right_window, now);

@@ -31,5 +31,3 @@ pub use read::read_tree;
 pub use refusal::SyntaxRefusal;
 pub use stop::Stop;
 
-#[cfg(test)]
-mod tests;

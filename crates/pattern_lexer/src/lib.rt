@@ -14,5 +14,3 @@ mod runs;
 
 pub use lexer::tokens;
 
-#[cfg(test)]
-mod tests;

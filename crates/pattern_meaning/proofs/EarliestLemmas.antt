@@ -8,10 +8,7 @@ pub precedes_itself : (a : ValueRefusal) → Precedes a a
 precedes_itself a = inr (refl, omega arith)
 
 precedes_over : (a b c : ValueRefusal) → Precedes a b → Precedes b c → Precedes a c
-precedes_over a b c (inl h) (inl g) = inl (omega arith)
-precedes_over a b c (inl h) (inr g) = inl (omega (arith, g.0))
-precedes_over a b c (inr h) (inl g) = inl (omega (arith, h.0))
-precedes_over a b c (inr h) (inr g) = inr (omega (arith, h.0, g.0), omega (arith, h.1, g.1))
+precedes_over a b c h g = grind arith
 
 -- the first of the first ones of two kinds
 pub first_stays : (P Q : ValueRefusal → Type 0) (a b : ValueRefusal) → Precedes a b → IsEarliest P a → IsEarliest Q b → IsEarliest (λ r. P r ⊎ Q r) a

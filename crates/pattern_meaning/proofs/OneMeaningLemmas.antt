@@ -1,5 +1,5 @@
 -- A syntax tree over a text means one pattern at most, by one value at most of each token's text.
-use Rattle.std.proofs.Common.{◌≡◌, inl, inr, ℕ, pos, List, [], ◌∷◌, refl, sym, ap, ◌∙◌, subst}
+use Rattle.std.proofs.Common.{◌≡◌, inl, inr, ℕ, pos, List, [], ◌∷◌, refl, sym, ap, ◌∙◌, subst, arith}
 use Rattle.match_cidr.specs.BlockText.{IsBlockText}
 use Rattle.pattern_tokens.specs.declared.token.Token.{Token}
 use Rattle.pattern_tokens.specs.declared.token.TokenKind.{TokenKind}
@@ -73,11 +73,8 @@ module _ (one_whole : IsOne IsIntegerText) (one_words : IsOne IsStringText) (one
   one_step text (Name t) (step.Name a) b x y = absurd y
   one_step text (Name t) a b x y = absurd x
   one_step text (Index t) (step.Place a) (step.Place b) x y = let e = at_one IsIntegerText one_whole text t (pos a) (pos b) x.1.whole y.1.whole in cc
-  one_step text (Index t) (step.Place a) step.Each x y = let g = sym x.0 ∙ y in absurd (cc)
-  one_step text (Index t) step.Each (step.Place b) x y = let g = sym x ∙ y.0 in absurd (cc)
   one_step text (Index t) step.Each step.Each x y = refl
-  one_step text (Index t) (step.Name a) b x y = absurd x
-  one_step text (Index t) a b x y = absurd y
+  one_step text (Index t) a b x y = absurd (grind arith)
 
   one_path : (text : List ℕ) (tree : PathTree) (a b : Path) → IsPathOf text tree a → IsPathOf text tree b → a ≡ b
   one_path text tree a b x y =
@@ -95,11 +92,7 @@ module _ (one_whole : IsOne IsIntegerText) (one_words : IsOne IsStringText) (one
   one_constant text token (constant.Boolean a) (constant.Boolean b) (inr x) (inr y) = ap constant.Boolean (x.1 ∙ sym y.1)
   one_constant text token (constant.Boolean a) (constant.Boolean b) (inl x) (inr y) = let g = sym x.0 ∙ y.0 in absurd (cc)
   one_constant text token (constant.Boolean a) (constant.Boolean b) (inr x) (inl y) = let g = sym x.0 ∙ y.0 in absurd (cc)
-  one_constant text token (constant.Boolean a) b (inl x) y = let g = sym x.0 ∙ y.0 in absurd (cc)
-  one_constant text token (constant.Boolean a) b (inr x) y = let g = sym x.0 ∙ y.0 in absurd (cc)
-  one_constant text token a (constant.Boolean b) x (inl y) = let g = sym x.0 ∙ y.0 in absurd (cc)
-  one_constant text token a (constant.Boolean b) x (inr y) = let g = sym x.0 ∙ y.0 in absurd (cc)
-  one_constant text token a b x y = let g = sym x.0 ∙ y.0 in absurd (cc)
+  one_constant text token a b x y = absurd (grind arith)
 
   compare_is : (text : List ℕ) (operator token : Token) (c : Check) → IsCheckOf text (check_tree.Compare operator token) c → (v : Constant) × IsConstantOf text token v × (c ≡ compared_with operator.kind v)
   compare_is text operator token (check.Equal v) x = (v, x.1, sym (ap (λ k. compared_with k v) x.0))
@@ -120,16 +113,7 @@ module _ (one_whole : IsOne IsIntegerText) (one_words : IsOne IsStringText) (one
   one_textual text operator token (check.Like a) (check.Like b) x y = ap check.Like (at_one IsStringText one_words text token a b x.1 y.1)
   one_textual text operator token (check.Subset a) (check.Subset b) x y = ap check.Subset (one_address text token a b x.1 y.1)
   one_textual text operator token (check.Superset a) (check.Superset b) x y = ap check.Superset (one_address text token a b x.1 y.1)
-  one_textual text operator token (check.Like a) (check.Subset b) x y = let g = sym x.0 ∙ y.0 in absurd (cc)
-  one_textual text operator token (check.Like a) (check.Superset b) x y = let g = sym x.0 ∙ y.0 in absurd (cc)
-  one_textual text operator token (check.Subset a) (check.Like b) x y = let g = sym x.0 ∙ y.0 in absurd (cc)
-  one_textual text operator token (check.Subset a) (check.Superset b) x y = let g = sym x.0 ∙ y.0 in absurd (cc)
-  one_textual text operator token (check.Superset a) (check.Like b) x y = let g = sym x.0 ∙ y.0 in absurd (cc)
-  one_textual text operator token (check.Superset a) (check.Subset b) x y = let g = sym x.0 ∙ y.0 in absurd (cc)
-  one_textual text operator token (check.Like a) b x y = absurd y
-  one_textual text operator token (check.Subset a) b x y = absurd y
-  one_textual text operator token (check.Superset a) b x y = absurd y
-  one_textual text operator token a b x y = absurd x
+  one_textual text operator token a b x y = absurd (grind arith)
 
   among_is : (text : List ℕ) (tokens : List Token) (c : Check) → IsCheckOf text (check_tree.Among tokens) c → (vs : List Constant) × AllZip (IsConstantOf text) tokens vs × (c ≡ check.Among vs)
   among_is text tokens (check.Among vs) x = (vs, x, refl)

@@ -32,13 +32,10 @@ first_earliest P Q a b r (inr h) x y = subst (IsEarliest (λ s. P s ⊎ Q s)) (s
 pub joined_outcome : {A B C : Type 0} (join : A → B → C) (IsA : A → Type 0) (IsB : B → Type 0) (IsC : C → Type 0) (P Q : ValueRefusal → Type 0) (a : Result A ValueRefusal) (b : Result B ValueRefusal) (c : Result C ValueRefusal)
     → ((x : A) (y : B) → IsA x → IsB y → IsC (join x y)) → IsJoined join a b c → IsOutcome IsA P a → IsOutcome IsB Q b → IsOutcome IsC (λ r. P r ⊎ Q r) c
 joined_outcome join IsA IsB IsC P Q (Ok x) (Ok y) (Ok z) f j o u = record { this = subst IsC (sym j) (f x y o.this u.this); earliest = λ r h. elim h [ inl p ↦ o.earliest r p | inr q ↦ u.earliest r q ] }
-joined_outcome join IsA IsB IsC P Q (Ok x) (Ok y) (Err r) f j o u = absurd j
-joined_outcome join IsA IsB IsC P Q (Ok x) (Err q) (Ok z) f j o u = absurd j
 joined_outcome join IsA IsB IsC P Q (Ok x) (Err q) (Err r) f j o u = record { this = tt; earliest = subst (IsEarliest (λ s. P s ⊎ Q s)) (sym j) (record { one = inr u.earliest.one; first = λ s h. elim h [ inl p ↦ absurd (o.earliest s p) | inr v ↦ u.earliest.first s v ] }) }
-joined_outcome join IsA IsB IsC P Q (Err p) (Ok y) (Ok z) f j o u = absurd j
 joined_outcome join IsA IsB IsC P Q (Err p) (Ok y) (Err r) f j o u = record { this = tt; earliest = subst (IsEarliest (λ s. P s ⊎ Q s)) (sym j) (record { one = inl o.earliest.one; first = λ s h. elim h [ inl v ↦ o.earliest.first s v | inr q ↦ absurd (u.earliest s q) ] }) }
-joined_outcome join IsA IsB IsC P Q (Err p) (Err q) (Ok z) f j o u = absurd j
 joined_outcome join IsA IsB IsC P Q (Err p) (Err q) (Err r) f j o u = record { this = tt; earliest = first_earliest P Q p q r j o.earliest u.earliest }
+joined_outcome join IsA IsB IsC P Q _ _ _ f j o u = absurd j
 
 -- what is made of a value, and the same refusal
 pub of_ok : {A B : Type 0} {IsA : A → Type 0} {IsB : B → Type 0} {P : ValueRefusal → Type 0} {x : A} {y : B} → (IsA x → IsB y) → IsOutcome IsA P (Ok x) → IsOutcome IsB P (Ok y)

@@ -35,16 +35,12 @@ joined_meant text Either p q m n x y = record { means = means_either x.means y.m
 joined_meant text Then p q m n x y = record { means = means_then x.means y.means; sound = (x.sound, y.sound) }
 
 wide_left : (o : Operator) (m n : PlainPattern) → IsTooWide m → IsTooWide (meant_by o m n)
-wide_left Both m n (inl h) = inl (omega (arith, h))
-wide_left Both m n (inr h) = inr (omega (arith, h))
-wide_left _ m n (inl h) = inl (omega (arith, h))
-wide_left _ m n (inr h) = inr (omega (arith, h))
+wide_left Both m n h = grind arith
+wide_left _ m n h = grind arith
 
 wide_right : (o : Operator) (m n : PlainPattern) → IsTooWide n → IsTooWide (meant_by o m n)
-wide_right Both m n (inl h) = inl (omega (arith, h))
-wide_right Both m n (inr h) = inr (omega (arith, h))
-wide_right _ m n (inl h) = inl (omega (arith, h))
-wide_right _ m n (inr h) = inr (omega (arith, h))
+wide_right Both m n h = grind arith
+wide_right _ m n h = grind arith
 
 meant : (text : List ℕ) (p : Tree) (a : Option NarrowPattern) → IsPartOf text p a → (m : PlainPattern) × IsMeant text p m
 meant text p (Some a) h = (plain_pattern a.pattern, h.0)

@@ -1,5 +1,5 @@
 -- Sets of names: a name alone, of either, of both, none.
-use Rattle.std.proofs.Common.{◌≡◌, ◌↔◌, ◌⊎◌, inl, inr, ℕ, Bool, true, false, ◌&&◌, ◌||◌, List, [], ◌∷◌, length, refl, sym, ap, ◌∙◌, arith, rules, Bor}
+use Rattle.std.proofs.Common.{◌≡◌, ◌↔◌, ◌⊎◌, inl, inr, ℕ, Bool, true, false, ◌&&◌, ◌||◌, List, [], ◌∷◌, length, refl, ap, ◌∙◌, arith, rules, Bor}
 use Rattle.std.specs.BTreeSet.{BTreeSet, contains}
 use Rattle.std.specs.BTreeMap.{is_at}
 use Rattle.std.specs.Ordering.{nat_cmp, is_eq, eq_by_cmp}
@@ -12,12 +12,10 @@ use Rattle.std.proofs.lemmas.Slice.Eq.{bytes_eq-Decides}
 use Rattle.pattern_meaning.specs.Roots.{Has}
 
 or_is : (a b c : Bool) → c ≡ (a || b) → (c ≡ true) ↔ ((a ≡ true) ⊎ (b ≡ true))
-or_is true b c e = (λ h. inl refl, λ h. e)
-or_is false b c e = (λ h. inr (sym e ∙ h), λ h. elim h [ inl x ↦ absurd (cc) | inr x ↦ e ∙ x ])
+or_is a b c e = grind arith
 
 and_is : (a b c : Bool) → c ≡ (a && b) → (c ≡ true) ↔ ((a ≡ true) × (b ≡ true))
-and_is true b c e = (λ h. (refl, sym e ∙ h), λ h. e ∙ h.1)
-and_is false b c e = (λ h. absurd (cc), λ h. absurd (cc))
+and_is a b c e = grind arith
 
 same_text : (xs ys : List ℕ) → (is_eq (slice_cmp nat_cmp xs ys) ≡ true) ↔ (xs ≡ ys)
 same_text xs ys = rw is_eq-slice_cmp (search (rules, bytes_eq-Decides))
@@ -29,8 +27,7 @@ pub joined_names : (l r n : BTreeSet (Bor (List ℕ))) → ((q : Bor (List ℕ))
 joined_names l r n h name = or_is _ _ _ (h (record { ref_ptr = (0, 0); now = name }))
 
 alone_is : (b : Bool) (c : Bool) (xs ys : List ℕ) → (b ≡ true) ↔ (xs ≡ ys) → c ≡ cond b true false → (c ≡ true) ↔ (ys ≡ xs)
-alone_is true c xs ys h e = (λ g. sym (h.0 refl), λ g. e)
-alone_is false c xs ys h e = (λ g. absurd (cc), λ g. let k = h.1 (sym g) in absurd (cc))
+alone_is b c xs ys h e = grind arith
 
 none_in : (ks : List (Bor (List ℕ))) (q : List ℕ) → ks ≡ [] → list_any (λ k. is_eq (slice_cmp nat_cmp q k.now)) ks ≡ false
 none_in ks q e = rw e refl

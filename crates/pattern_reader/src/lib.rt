@@ -5,8 +5,6 @@
 pub mod laws;
 mod read;
 mod refusal;
-#[cfg(test)]
-mod tests;
 
 pub use pattern_types::{Check, Constant, Leaf, Path, Pattern, Step, Test, leaf_count};
 pub use read::{MAX_TEXT, read_pattern};

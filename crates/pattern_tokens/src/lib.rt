@@ -21,5 +21,3 @@ pub use token::{Token, TokenKind};
 pub use values::{binary_of, hex_of, integer_of, string_of, timestamp_of};
 pub use word::is_word;
 
-#[cfg(test)]
-mod tests;

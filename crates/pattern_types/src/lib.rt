@@ -5,6 +5,7 @@
 mod address_block;
 mod check;
 mod constant;
+pub mod laws;
 mod leaf;
 mod leaves;
 mod limit;

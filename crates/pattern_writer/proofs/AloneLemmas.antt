@@ -1,17 +1,16 @@
 -- Tokens that end by themselves: brackets, dots and colons, words in quotes, and what stands in quotes
 -- behind a letter.
-use Rattle.std.proofs.Common.{◌≡◌, ◌≢◌, ◌⊎◌, inl, inr, ℕ, suc, ◌<◌, ◌≤◌, Bool, true, false, not, ◌&&◌, ◌||◌, ◌==◌, List, [], ◌∷◌, ◌++◌, length, get_or, refl, sym, ◌∙◌, subst, arith, append_assoc}
+use Rattle.std.proofs.Common.{◌≡◌, ◌≢◌, ◌⊎◌, inl, inr, ℕ, suc, ◌≤◌, Bool, true, not, ◌&&◌, ◌||◌, ◌==◌, List, [], ◌∷◌, ◌++◌, length, get_or, refl, sym, ◌∙◌, subst, arith, append_assoc}
 use Rattle.std.specs.Prelude.{All, nat_le, flat_map}
 use Rattle.std.specs.Str.Parse.{IsNumeral, AllDigits}
-use Rattle.std.proofs.lemmas.Bool.{and_parts}
-use Rattle.std.proofs.lemmas.Bool.Decides.{eqb_tells, nat_tests}
+use Rattle.std.proofs.lemmas.Bool.Decides.{nat_tests}
 use Rattle.std.proofs.lemmas.Str.Parse.{digit_at}
 use Rattle.pattern_tokens.specs.declared.token.TokenKind.{TokenKind}
 use Rattle.pattern_tokens.specs.declared.token.TokenKind.TheVariants.{Word, HyphenWord, Number, String, Hex, Binary, Timestamp}
 use Rattle.pattern_tokens.specs.Word.{IsWordStart, IsHyphenWordPart, HasAt}
 use Rattle.pattern_tokens.specs.Values.{IsNumberText, quoted, escaped, string_text}
 use Rattle.pattern_tokens.specs.Table.{IsToken}
-use Rattle.pattern_writer.proofs.LongestLemmas.{IsSigned, signed, first_bytes, rests}
+use Rattle.pattern_writer.proofs.LongestLemmas.{IsSigned, signed, rests}
 
 -- the marks that any token may follow: `(`, `.`, `:` and `[`
 abbrev pub IsAlone : ℕ → Type 0
@@ -26,44 +25,22 @@ pub data Opens : List ℕ → Type 0 where
   words : (w : List ℕ) → Opens (string_text w)
   lettered : (l : ℕ) (inside : List ℕ) → (l ≡ 104) ⊎ ((l ≡ 98) ⊎ (l ≡ 116)) → All (λ c. c ≢ 39) inside → Opens (quoted (l ∷ []) inside)
 
-letter_alone : (b : ℕ) → 58 < b → b ≢ 91 → ¬ IsAlone b
-letter_alone b h k x = grind arith
-
-low_alone : (b : ℕ) → b < 58 → b ≢ 40 → b ≢ 46 → ¬ IsAlone b
-low_alone b h k l x = grind arith
-
 -- letters, `!`, `<` and `>`
 abbrev begins_literal : ℕ → Bool
 begins_literal b = (nat_le 60 b && nat_le b 90) || ((nat_le 97 b && nat_le b 122) || (b == 33))
-
-literal_quote : (b : ℕ) → begins_literal b ≡ true → b ≢ 39
-literal_quote b h e = grind (arith, nat_tests)
-
-literal_alone : (b : ℕ) → begins_literal b ≡ true → ¬ IsAlone b
-literal_alone b h x = grind (arith, nat_tests)
 
 abbrev opens_test : List ℕ → Bool
 opens_test [] = true
 opens_test (b ∷ []) = not (b == 39)
 opens_test (b ∷ c ∷ r) = begins_literal b && not (c == 39)
 
-no_quote : (c : ℕ) → not (c == 39) ≡ true → c ≢ 39
-no_quote c h e = let g : not (39 == 39) ≡ true = rw e at h in cc
-
 opens_literal : (literal : List ℕ) → opens_test literal ≡ true → Opens literal
 opens_literal [] h = nothing
-opens_literal (b ∷ []) h = mark b (no_quote b h)
-opens_literal (b ∷ c ∷ r) h =
-    let parts = and_parts (begins_literal b) (not (c == 39)) h in letters b (c ∷ r) (literal_quote b parts.0) (literal_alone b parts.0) (no_quote c parts.1)
+opens_literal (b ∷ []) h = mark b (λ e. grind (arith, nat_tests))
+opens_literal (b ∷ c ∷ r) h = letters b (c ∷ r) (λ e. grind (arith, nat_tests)) (λ a. grind (arith, nat_tests)) (λ e. grind (arith, nat_tests))
 
 opens_as : (literal text : List ℕ) → opens_test literal ≡ true → text ≡ literal → Opens text
 opens_as literal text h e = subst Opens (sym e) (opens_literal literal h)
-
-start_quote : (c : ℕ) → IsWordStart c → c ≢ 39
-start_quote c h e = grind arith
-
-start_alone : (c : ℕ) → IsWordStart c → ¬ IsAlone c
-start_alone c h x = grind arith
 
 pub part_quote : (c : ℕ) → IsHyphenWordPart c → c ≢ 39
 part_quote c h e = grind arith
@@ -74,7 +51,7 @@ second_quote (c ∷ text) h e = part_quote c (h 0 0 (omega arith)) e
 
 opens_word : (text : List ℕ) → HasAt 0 IsWordStart text → All IsHyphenWordPart text → Opens text
 opens_word [] h all = absurd h
-opens_word (c ∷ text) h all = letters c text (start_quote c h) (start_alone c h) (second_quote text (λ k d b. all (suc k) d (omega arith)))
+opens_word (c ∷ text) h all = letters c text (λ e. grind arith) (λ a. grind arith) (second_quote text (λ k d b. all (suc k) d (omega arith)))
 
 digits_quote : (digits : List ℕ) → AllDigits 10 digits → get_or digits 0 0 ≢ 39
 digits_quote [] h e = omega arith
@@ -119,41 +96,11 @@ longest_alone m after a other whole more e h = alone_front m after whole more a 
 closed : (u v a b : List ℕ) → (u ++ 39 ∷ []) ++ a ≡ (v ++ 39 ∷ []) ++ b → u ++ 39 ∷ a ≡ v ++ 39 ∷ b
 closed u v a b e = sym (append_assoc u (39 ∷ []) a) ∙ e ∙ append_assoc v (39 ∷ []) b
 
--- with a backslash, or as it is
-abbrev IsEscaped : ℕ → Type 0
-IsEscaped c = ((c ≡ 39) ⊎ (c ≡ 92)) × (escaped c ≡ 92 ∷ c ∷ [])
-
-abbrev IsBareByte : ℕ → Type 0
-IsBareByte c = (c ≢ 39) × (c ≢ 92) × (escaped c ≡ c ∷ [])
-
-escape_view : (c : ℕ) → IsEscaped c ⊎ IsBareByte c
-escape_view c = quote (eqb_tells c 39)
-  where
-    slash : (c == 39) ≡ false → c ≢ 39 → (((c == 92) ≡ true) × (c ≡ 92)) ⊎ (((c == 92) ≡ false) × (c ≢ 92)) → IsEscaped c ⊎ IsBareByte c
-    slash p n (inl x) = let q = x.0 in inl (inr x.1, rw (p, q) refl)
-    slash p n (inr x) = let q = x.0 in inr (n, x.1, rw (p, q) refl)
-
-    quote : (((c == 39) ≡ true) × (c ≡ 39)) ⊎ (((c == 39) ≡ false) × (c ≢ 39)) → IsEscaped c ⊎ IsBareByte c
-    quote (inl x) = let p = x.0 in inl (inl x.1, rw p refl)
-    quote (inr x) = slash x.0 x.1 (eqb_tells c 92)
-
 end_differs : (d : ℕ) (a rest : List ℕ) → 39 ∷ a ≡ escaped d ++ rest → ⊥
-end_differs d a rest e = case (escape_view d)
-  where
-    case : IsEscaped d ⊎ IsBareByte d → ⊥
-    case (inl x) = let q = x.1 in let h : 39 ∷ a ≡ 92 ∷ d ∷ rest = rw q at e in let f : 39 ≡ 92 = first_bytes 39 92 a (d ∷ rest) h in omega (arith, f)
-    case (inr x) = let q = x.2 in let h : 39 ∷ a ≡ d ∷ rest = rw q at e in x.0 (sym (first_bytes 39 d a rest h))
+end_differs d a rest e = grind (arith, nat_tests)
 
 same_step : (c d : ℕ) (x y : List ℕ) → escaped c ++ x ≡ escaped d ++ y → (c ≡ d) × (x ≡ y)
-same_step c d x y e = case (escape_view c) (escape_view d)
-  where
-    case : IsEscaped c ⊎ IsBareByte c → IsEscaped d ⊎ IsBareByte d → (c ≡ d) × (x ≡ y)
-    case (inl p) (inl q) =
-        let f = p.1 in let g = q.1 in let h : 92 ∷ c ∷ x ≡ 92 ∷ d ∷ y = rw (f, g) at e in
-        let k = rests 92 92 (c ∷ x) (d ∷ y) h in (first_bytes c d x y k, rests c d x y k)
-    case (inl p) (inr q) = let f = p.1 in let g = q.2 in let h : 92 ∷ c ∷ x ≡ d ∷ y = rw (f, g) at e in absurd (q.1 (sym (first_bytes 92 d (c ∷ x) y h)))
-    case (inr p) (inl q) = let f = p.2 in let g = q.1 in let h : c ∷ x ≡ 92 ∷ d ∷ y = rw (f, g) at e in absurd (p.1 (first_bytes c 92 x (d ∷ y) h))
-    case (inr p) (inr q) = let f = p.2 in let g = q.2 in let h : c ∷ x ≡ d ∷ y = rw (f, g) at e in (first_bytes c d x y h, rests c d x y h)
+same_step c d x y e = grind (arith, nat_tests)
 
 pub same_words : (v w a b : List ℕ) → flat_map escaped v ++ 39 ∷ a ≡ flat_map escaped w ++ 39 ∷ b → v ≡ w
 same_words [] [] a b e = refl

@@ -131,10 +131,7 @@ abbrev pub is_plain : TokenKind → Bool
 is_plain k = not (same kind.RoundOpen k || same kind.RoundClose k || same kind.Among k)
 
 none_of : (a b c : Bool) → not (a || b || c) ≡ true → (a ≡ false) × (b ≡ false) × (c ≡ false)
-none_of false false false e = (refl, refl, refl)
-none_of true b c e = absurd (cc)
-none_of false true c e = absurd (cc)
-none_of false false true e = absurd (cc)
+none_of a b c e = grind arith
 
 plain : (t : Token) → is_plain t.kind ≡ true → Measured (t ∷ []) 0 (how_many Qualifying (t ∷ []))
 plain t e =

@@ -10,8 +10,6 @@ mod limits;
 mod parts;
 mod paths;
 mod patterns;
-#[cfg(test)]
-mod tests;
 mod words;
 
 pub use patterns::write_pattern;

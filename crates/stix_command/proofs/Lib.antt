@@ -1,5 +1,4 @@
 pub mod VerdictsLemmas
 pub mod WritesWholeLemmas
 pub mod CommandLineLemmas
-pub mod MatchEndingsLemmas
 pub mod RunEndingsLemmas

@@ -15,8 +15,8 @@ use Rattle.stix_versions.specs.declared.version_break.VersionBreak.{VersionBreak
 use Rattle.stix_versions.specs.declared.marking_break.MarkingBreak.{MarkingBreak}
 use Rattle.stix_versions.specs.Versions.{AreVersionBreaks}
 use Rattle.stix_versions.specs.Markings.{AreMarkingBreaks}
-use Rattle.match_log.specs.declared.end.InputRule.{InputRule}
-use Rattle.match_log.specs.declared.end.InputRule.TheVariants.{NotYet, InputTooLong, Json as NoJson, Bundle as NoBundle}
+use Rattle.match_input.specs.declared.rule.InputRule.{InputRule}
+use Rattle.match_input.specs.declared.rule.InputRule.TheVariants.{LineTooLong, InputTooLong, Embedded, OutOfOrder, Json as NoJson, Bundle as NoBundle}
 use Rattle.stix_command.specs.declared.verdict.Verdict.{Verdict}
 use Rattle.stix_command.specs.declared.verdict.Verdict.TheVariants.{Sound, Broken, Unfit, Refused}
 use Rattle.stix_command.specs.Verdicts.{IsNotBundleFor, AreJudged, IsBundleJudged, HasJson, IsJudged}
@@ -61,8 +61,10 @@ two_fit versions markings one d a b x y =
 
 -- why a value is no bundle: for a condition that fails
 not_bundle : (d : Data) (rule : InputRule) → IsNotBundleFor d rule → (path : List ℕ) × (rule ≡ NoBundle (NotBundle path)) × IsBundleRefused d (NotBundle path)
-not_bundle d NotYet why = elim why [ ]
+not_bundle d LineTooLong why = elim why [ ]
 not_bundle d InputTooLong why = elim why [ ]
+not_bundle d (Embedded object) why = elim why [ ]
+not_bundle d (OutOfOrder last now) why = elim why [ ]
 not_bundle d (NoJson refusal) why = elim why [ ]
 not_bundle d (NoBundle (NotBundle path)) why = (path, refl, why)
 not_bundle d (NoBundle (Breaks breaks)) why = elim why [ ]
@@ -143,8 +145,10 @@ by_json : (bytes : List ℕ) (a : Verdict) → IsJudged bytes a → HasJson byte
 by_json bytes (Sound n) judged = inl judged
 by_json bytes (Broken breaks) judged = inl judged
 by_json bytes (Unfit versions markings) judged = inl judged
-by_json bytes (Refused NotYet) judged = elim judged [ ]
+by_json bytes (Refused LineTooLong) judged = elim judged [ ]
 by_json bytes (Refused InputTooLong) judged = elim judged [ ]
+by_json bytes (Refused (Embedded object)) judged = elim judged [ ]
+by_json bytes (Refused (OutOfOrder last now)) judged = elim judged [ ]
 by_json bytes (Refused (NoJson refusal)) judged = inr (record { refusal = refusal; is = refl; why = refusal_of_bytes bytes refusal judged.0 judged.1 })
 by_json bytes (Refused (NoBundle refusal)) judged = inl judged
 

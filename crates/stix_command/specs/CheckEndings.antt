@@ -8,8 +8,8 @@ use Rattle.stix_bundles.specs.declared.object_break.ObjectBreak.{ObjectBreak}
 use Rattle.stix_versions.specs.declared.version_break.VersionBreak.{VersionBreak}
 use Rattle.stix_versions.specs.declared.marking_break.MarkingBreak.{MarkingBreak}
 use Rattle.stix_versions.specs.Names.{version_rule_name, marking_rule_name}
-use Rattle.match_log.specs.declared.end.InputRule.TheVariants.{InputTooLong}
-use Rattle.match_log.specs.Texts.{break_text, input_refusal_text}
+use Rattle.match_input.specs.declared.rule.InputRule.TheVariants.{InputTooLong}
+use Rattle.match_input.specs.Texts.{break_text, IsInputRefusalText}
 use Rattle.stix_command.specs.declared.verdict.Verdict.{Verdict}
 use Rattle.stix_command.specs.declared.verdict.Verdict.TheVariants as verdict
 use Rattle.stix_command.specs.declared.checking.CheckEnding.{CheckEnding}
@@ -61,15 +61,15 @@ check_status ReadFault = 5
 check_status WriteFault = 6
 
 -- an input that is refused is line 1
-abbrev pub check_reason : CheckEnding → List ℕ
-check_reason (Judged (verdict.Sound count)) = []
-check_reason NoMemory = codes "out of memory\n"
-check_reason (Judged (verdict.Broken breaks)) = []
-check_reason (Judged (verdict.Unfit versions markings)) = []
-check_reason (Judged (verdict.Refused rule)) = input_refusal_text 1 rule
-check_reason TooLong = input_refusal_text 1 InputTooLong
-check_reason ReadFault = codes "read fault\n"
-check_reason WriteFault = codes "write fault\n"
+abbrev pub IsCheckReason : CheckEnding → List ℕ → Type 0
+IsCheckReason (Judged (verdict.Sound count)) text = text ≡ []
+IsCheckReason NoMemory text = text ≡ codes "out of memory\n"
+IsCheckReason (Judged (verdict.Broken breaks)) text = text ≡ []
+IsCheckReason (Judged (verdict.Unfit versions markings)) text = text ≡ []
+IsCheckReason (Judged (verdict.Refused rule)) text = IsInputRefusalText 1 rule text
+IsCheckReason TooLong text = IsInputRefusalText 1 InputTooLong text
+IsCheckReason ReadFault text = text ≡ codes "read fault\n"
+IsCheckReason WriteFault text = text ≡ codes "write fault\n"
 
 -- For private clauses: what an ending says of bytes that were read.
 abbrev pub EndsJudging : List ℕ → Option (List ℕ) → Option (List ℕ) → CheckEnding → Type 0

@@ -2,6 +2,15 @@
 use Rattle.std.specs.Prelude.{◌≡◌, ◌⊎◌, ℕ, List, [], ◌++◌, Option, codes}
 use Rattle.flow_edges.specs.Faults.{Rose}
 use Rattle.flow_edges.specs.Flow.{written_with, WritesPrefix}
+use Rattle.pattern_types.specs.declared.pattern.Pattern.{Pattern}
+use Rattle.pattern_types.specs.PlainPattern.{plain_pattern}
+use Rattle.pattern_reader.specs.Read.{IsReadAs}
+use Rattle.match_input.specs.Reading.{BundleOf, Whole}
+use Rattle.match_bindings.specs.declared.log_entry.LogEntry.{LogEntry}
+use Rattle.match_bindings.specs.BindTree.{BindTree}
+use Rattle.match_log.specs.Entries.{AreEntries}
+use Rattle.match_log.specs.Listing.{AreBindings, listing_text}
+use Rattle.match_log.specs.Matching.{ReadsInput}
 use Rattle.match_log.specs.declared.end.MatchEnd.TheVariants as match_end
 use Rattle.stix_command.specs.declared.matching.MatchEnding.{MatchEnding}
 use Rattle.stix_command.specs.declared.matching.MatchEnding.TheVariants as matching
@@ -11,23 +20,23 @@ use Rattle.stix_command.specs.declared.showing.ShowEnding.{ShowEnding}
 use Rattle.stix_command.specs.declared.showing.ShowEnding.TheVariants as showing
 use Rattle.stix_command.specs.declared.ending.Ending.{Ending}
 use Rattle.stix_command.specs.declared.ending.Ending.TheVariants.{Match, Check, Show, Usage}
-use Rattle.stix_command.specs.CommandLine.{IsMatchLine, IsShowLine, IsCheckLine}
+use Rattle.stix_command.specs.CommandLine.{Request, IsMatchLine, IsShowLine, IsCheckLine}
 use Rattle.stix_command.specs.Streams.{Streams, AreUntouched}
-use Rattle.stix_command.specs.MatchEndings.{HasForm, IsUnread, EndsMatch, match_status, match_reason}
-use Rattle.stix_command.specs.CheckEndings.{EndsCheck, check_status, check_reason}
-use Rattle.stix_command.specs.ShowEndings.{EndsShow, show_status, show_reason}
+use Rattle.stix_command.specs.MatchEndings.{IsUnread, EndsMatch, match_status, IsMatchReason}
+use Rattle.stix_command.specs.CheckEndings.{EndsCheck, check_status, IsCheckReason}
+use Rattle.stix_command.specs.ShowEndings.{EndsShow, show_status, IsShowReason}
 
 -- the words are no command line
 pub record IsNoCommand (words : List (List ℕ)) : Type 0 where
-  pub no_match : (pattern : List ℕ) → ¬ IsMatchLine words pattern
+  pub no_match : (request : Request) → ¬ IsMatchLine words request
   pub no_check : ¬ IsCheckLine words
   pub no_show : (pattern : List ℕ) → ¬ IsShowLine words pattern
 
--- the words are `match` with a pattern, which ended so
+-- the words are `match` with that request, which ended so
 pub record RunsMatch (words : List (List ℕ)) (before after : Streams) (ending : MatchEnding) : Type 0 where
-  pub pattern : List ℕ
-  pub command : IsMatchLine words pattern
-  pub match_ends : EndsMatch pattern before after ending
+  pub request : Request
+  pub command : IsMatchLine words request
+  pub match_ends : EndsMatch request before after ending
 
 -- the words are `check`, which ended so
 pub record RunsCheck (words : List (List ℕ)) (before after : Streams) (ending : CheckEnding) : Type 0 where
@@ -55,11 +64,11 @@ status_of (Show ending) = show_status ending
 status_of Usage = 2
 
 -- what is written on the sink for reasons
-abbrev pub reason_of : Ending → List ℕ
-reason_of (Match ending) = match_reason ending
-reason_of (Check ending) = check_reason ending
-reason_of (Show ending) = show_reason ending
-reason_of Usage = codes "usage: stix_command (match | check | show) WORDS\n"
+abbrev pub IsReasonOf : Ending → List ℕ → Type 0
+IsReasonOf (Match ending) text = IsMatchReason ending text
+IsReasonOf (Check ending) text = IsCheckReason ending text
+IsReasonOf (Show ending) text = IsShowReason ending text
+IsReasonOf Usage text = text ≡ codes "usage: stix_command (match | check | show) WORDS\n"
 
 -- the run ended by a fault of the input, and of the output
 abbrev pub IsReadFault : Ending → Type 0
@@ -68,11 +77,11 @@ IsReadFault ending = (ending ≡ Match (matching.Ended match_end.ReadFault)) ⊎
 abbrev pub IsWriteFault : Ending → Type 0
 IsWriteFault ending = (ending ≡ Match (matching.Ended match_end.WriteFault)) ⊎ (ending ≡ Check checking.WriteFault) ⊎ (ending ≡ Show showing.WriteFault)
 
--- the words are `match` with a text that is read as no pattern, or as none that is matched so far
+-- the words are `match` with a text that is read as no pattern
 pub record RefusesMatch (words : List (List ℕ)) : Type 0 where
-  pub pattern : List ℕ
-  pub command : IsMatchLine words pattern
-  pub none : ¬ HasForm pattern
+  pub request : Request
+  pub command : IsMatchLine words request
+  pub none : IsUnread request.pattern
 
 -- the words are `show` with a text that is read as no pattern
 pub record RefusesShow (words : List (List ℕ)) : Type 0 where
@@ -94,4 +103,19 @@ pub record Ends (words : List (List ℕ)) (before after : Streams) (status : ℕ
   pub ending : Ending
   pub status_is : status ≡ status_of ending
   pub stands : EndsRun words before after ending
-  pub reason : Writes (reason_of ending)
+  pub text : List ℕ
+  pub reason_is : IsReasonOf ending text
+  pub reason : Writes text
+
+-- the text is read as a pattern, the whole input as bundles, and these make a log for it: all bindings of the pattern over
+-- that log are written, and nothing else
+pub record ListsBindings (request : Request) (before after : Streams) : Type 0 where
+  pub pattern : Pattern
+  pub read : IsReadAs request.pattern pattern
+  pub bundles : List BundleOf
+  pub reading : ReadsInput request.mode before.left bundles Whole
+  pub log : List LogEntry
+  pub entries : AreEntries (plain_pattern pattern) bundles log
+  pub trees : List BindTree
+  pub bindings : AreBindings pattern log trees
+  pub text : after.written ≡ written_with (listing_text trees) before.written

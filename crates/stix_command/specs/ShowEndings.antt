@@ -30,8 +30,8 @@ show_status NoMemory = 1
 show_status (PatternRefused refusal) = 3
 show_status WriteFault = 6
 
-abbrev pub show_reason : ShowEnding → List ℕ
-show_reason Shown = []
-show_reason NoMemory = codes "out of memory\n"
-show_reason (PatternRefused refusal) = pattern_reason refusal
-show_reason WriteFault = codes "write fault\n"
+abbrev pub IsShowReason : ShowEnding → List ℕ → Type 0
+IsShowReason Shown text = text ≡ []
+IsShowReason NoMemory text = text ≡ codes "out of memory\n"
+IsShowReason (PatternRefused refusal) text = text ≡ pattern_reason refusal
+IsShowReason WriteFault text = text ≡ codes "write fault\n"

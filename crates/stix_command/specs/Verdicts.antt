@@ -9,15 +9,17 @@ use Rattle.stix_bundles.specs.declared.refusal.BundleRefusal.TheVariants.{NotBun
 use Rattle.stix_bundles.specs.Bundle.{IsBundle, IsBundleRefused}
 use Rattle.stix_versions.specs.Versions.{AreVersionBreaks}
 use Rattle.stix_versions.specs.Markings.{AreMarkingBreaks}
-use Rattle.match_log.specs.declared.end.InputRule.{InputRule}
-use Rattle.match_log.specs.declared.end.InputRule.TheVariants.{NotYet, InputTooLong, Json as NoJson, Bundle as NoBundle}
+use Rattle.match_input.specs.declared.rule.InputRule.{InputRule}
+use Rattle.match_input.specs.declared.rule.InputRule.TheVariants.{LineTooLong, InputTooLong, Json as NoJson, Bundle as NoBundle, Embedded, OutOfOrder}
 use Rattle.stix_command.specs.declared.verdict.Verdict.{Verdict}
 use Rattle.stix_command.specs.declared.verdict.Verdict.TheVariants.{Sound, Broken, Unfit, Refused}
 
 -- a value that is no bundle is refused for the first condition that fails
 abbrev pub IsNotBundleFor : Data → InputRule → Type 0
-IsNotBundleFor d NotYet = ⊥
+IsNotBundleFor d LineTooLong = ⊥
 IsNotBundleFor d InputTooLong = ⊥
+IsNotBundleFor d (Embedded object) = ⊥
+IsNotBundleFor d (OutOfOrder last now) = ⊥
 IsNotBundleFor d (NoJson refusal) = ⊥
 IsNotBundleFor d (NoBundle (NotBundle path)) = IsBundleRefused d (NotBundle path)
 IsNotBundleFor d (NoBundle (Breaks breaks)) = ⊥
@@ -43,8 +45,10 @@ HasJson bytes P = (value : Json) × IsJsonOf bytes value × P (data_of value)
 
 -- why bytes are refused, of which there aren't too many: they are no JSON value, or it is no bundle
 abbrev pub IsRefusedFor : List ℕ → InputRule → Type 0
-IsRefusedFor bytes NotYet = ⊥
+IsRefusedFor bytes LineTooLong = ⊥
 IsRefusedFor bytes InputTooLong = ⊥
+IsRefusedFor bytes (Embedded object) = ⊥
+IsRefusedFor bytes (OutOfOrder last now) = ⊥
 IsRefusedFor bytes (NoJson refusal) = (refusal ≢ json_refusal.NoMemory) × IsJsonRefusedAs bytes refusal
 IsRefusedFor bytes (NoBundle refusal) = HasJson bytes (λ d. IsNotBundleFor d (NoBundle refusal))
 

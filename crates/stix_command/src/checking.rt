@@ -1,4 +1,4 @@
-ghost use Rattle.std.specs.Prelude.{◌≡◌, ◌≢◌};
+ghost use Rattle.std.specs.Prelude.{◌≡◌, ◌≢◌, List, ℕ};
 ghost use Rattle.flow_edges.specs.Faults.{Rose, Causes};
 ghost use Rattle.flow_edges.specs.Flow.{WritesWhole};
 ghost use Rattle.stix_command.specs.Streams.{streams};
@@ -11,7 +11,7 @@ use crate::verdict_text::verdict_text;
 use flow_edges::{Sink, Source, write_whole};
 use flow_lines::{InputRefusal, read_whole};
 use flow_values::Fault;
-use match_log::{InputRule, write_input_refusal};
+use match_input::{InputRule, write_input_refusal};
 use std::alloc::Global;
 
 /// How `check` ends.
@@ -30,7 +30,7 @@ pub enum CheckEnding {
 }
 
 impl CheckEnding {
-    ghost use Rattle.stix_command.specs.CheckEndings.{check_status, check_reason};
+    ghost use Rattle.stix_command.specs.CheckEndings.{check_status, IsCheckReason};
 
     /// The status of the program.
     pub fn status(&self) -> u8
@@ -48,7 +48,7 @@ impl CheckEnding {
 
     /// Writes why it ends so; an input that is refused is line 1. Takes no memory.
     pub fn write_reason<S: Sink>(&self, reasons: &mut S) -> Result<(), Fault>
-        ensures text { WritesWhole (check_reason self.now) (S.written reasons.old) (S.written reasons.new) result }
+        ensures text { (text : List ℕ) × IsCheckReason self.now text × WritesWhole text (S.written reasons.old) (S.written reasons.new) result }
         ensures causes { Causes (S.faults reasons.old) (S.faults reasons.new) result }
     {
         match self {

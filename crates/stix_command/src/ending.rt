@@ -18,8 +18,8 @@ pub enum Ending {
 }
 
 impl Ending {
-    ghost use Rattle.std.specs.Prelude.{◌≡◌};
-    ghost use Rattle.stix_command.specs.RunEndings.{status_of, reason_of};
+    ghost use Rattle.std.specs.Prelude.{◌≡◌, List, ℕ};
+    ghost use Rattle.stix_command.specs.RunEndings.{status_of, IsReasonOf};
 
     /// The status that the program ends with.
     pub fn status(&self) -> u8
@@ -35,7 +35,7 @@ impl Ending {
 
     /// Writes why the program ends so, in one line, or nothing where all was done. Takes no memory.
     pub fn write_reason<S: Sink>(&self, reasons: &mut S) -> Result<(), Fault>
-        ensures text { WritesWhole (reason_of self.now) (S.written reasons.old) (S.written reasons.new) result }
+        ensures text { (text : List ℕ) × IsReasonOf self.now text × WritesWhole text (S.written reasons.old) (S.written reasons.new) result }
         ensures causes { Causes (S.faults reasons.old) (S.faults reasons.new) result }
     {
         match self {

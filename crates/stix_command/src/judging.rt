@@ -8,7 +8,7 @@ ghost use Rattle.stix_command.specs.Verdicts.{IsJudged, IsBundleJudged, AreJudge
 
 use crate::verdict::Verdict;
 use flow_values::NoMemory;
-use match_log::InputRule;
+use match_input::InputRule;
 use std::alloc::Global;
 use stix_bundles::{Bundle, BundleRefusal, read_bundle};
 use stix_json::{Json, JsonRefusal, read_json};

@@ -1,64 +1,69 @@
-ghost use Rattle.std.specs.Prelude.{◌≡◌, ◌≢◌};
+ghost use Rattle.std.specs.Prelude.{◌≡◌, ◌≢◌, List, ℕ};
 ghost use Rattle.flow_edges.specs.Faults.{Rose, Causes};
 ghost use Rattle.flow_edges.specs.Flow.{WritesWhole};
+ghost use Rattle.pattern_reader.specs.Read.{IsReadAs};
 ghost use Rattle.stix_command.specs.Streams.{streams};
-ghost use Rattle.stix_command.specs.MatchEndings.{EndsMatch, EndsPattern, IsPatternRefusal};
+ghost use Rattle.stix_command.specs.MatchRequest.{request_of};
+ghost use Rattle.stix_command.specs.MatchEndings.{EndsMatch, IsPatternRefusal};
 
-use crate::reasons::{write_no_memory, write_pattern_reason, write_read_fault, write_write_fault};
+use crate::command::MatchRequest;
+use crate::reasons::{
+    write_crowded, write_no_memory, write_pattern_reason, write_read_fault, write_write_fault,
+};
 use flow_edges::{Sink, Source, write_whole};
-use flow_values::Fault;
-use match_log::{MatchEnd, Mode, is_built, match_stream, write_input_refusal};
-use pattern_reader::laws::{none_refused, one_pattern};
+use flow_values::{Fault, NoMemory};
+use match_input::write_input_refusal;
+use match_log::{MatchEnd, Matcher, match_stream};
+use pattern_reader::laws::none_refused;
 use pattern_reader::{Pattern, PatternRefusal, read_pattern};
+use pattern_types::laws::leaves_are_brackets;
 use std::alloc::Global;
-
-/// The greatest number of things that a match may hold, where the words name none.
-const CAP: u64 = 200_000;
 
 /// How `match` ends.
 #[derive(Debug, Drop)]
 pub enum MatchEnding {
     /// The pattern is refused.
     PatternRefused(PatternRefusal),
-    /// The pattern is one that isn't matched yet.
-    NotBuilt,
-    /// The log was matched, and that ended so.
+    /// The input was matched, and that ended so.
     Ended(MatchEnd),
-    /// Memory ran out before the log was read.
+    /// Memory ran out before the input was read.
     NoMemory,
 }
 
 impl MatchEnding {
-    ghost use Rattle.stix_command.specs.MatchEndings.{match_status, match_reason};
+    ghost use Rattle.stix_command.specs.MatchEndings.{match_status, IsMatchReason};
 
     /// The status of the program.
     pub fn status(&self) -> u8
         ensures { result ≡ match_status self.now }
     {
         match self {
-            MatchEnding::PatternRefused(_) | MatchEnding::NotBuilt => 3,
+            MatchEnding::PatternRefused(_) => 3,
             MatchEnding::Ended(MatchEnd::Done { .. }) => 0,
             MatchEnding::Ended(MatchEnd::Input { .. }) => 4,
             MatchEnding::Ended(MatchEnd::ReadFault) => 5,
             MatchEnding::Ended(MatchEnd::WriteFault) => 6,
+            MatchEnding::Ended(MatchEnd::Crowded { .. }) => 7,
             MatchEnding::Ended(MatchEnd::NoMemory) | MatchEnding::NoMemory => 1,
         }
     }
 
     /// Writes why it ends so. Takes no memory.
     pub fn write_reason<S: Sink>(&self, reasons: &mut S) -> Result<(), Fault>
-        ensures text { WritesWhole (match_reason self.now) (S.written reasons.old) (S.written reasons.new) result }
+        ensures text { (text : List ℕ) × IsMatchReason self.now text × WritesWhole text (S.written reasons.old) (S.written reasons.new) result }
         ensures causes { Causes (S.faults reasons.old) (S.faults reasons.new) result }
     {
         match self {
             MatchEnding::PatternRefused(refusal) => write_pattern_reason(refusal, reasons),
-            MatchEnding::NotBuilt => write_whole(reasons, b"pattern refused: NotYet\n"),
             MatchEnding::Ended(MatchEnd::Done { .. }) => write_whole(reasons, b""),
             MatchEnding::Ended(MatchEnd::Input { line, rule }) => {
                 write_input_refusal(*line, rule, reasons)
             }
             MatchEnding::Ended(MatchEnd::ReadFault) => write_read_fault(reasons),
             MatchEnding::Ended(MatchEnd::WriteFault) => write_write_fault(reasons),
+            MatchEnding::Ended(MatchEnd::Crowded { number, cap }) => {
+                write_crowded(*number, *cap, reasons)
+            }
             MatchEnding::Ended(MatchEnd::NoMemory) | MatchEnding::NoMemory => {
                 write_no_memory(reasons)
             }
@@ -66,36 +71,40 @@ impl MatchEnding {
     }
 }
 
-/// Lists the bindings of a pattern over a log, unless the pattern is one that isn't matched yet.
-fn match_built<I: Source, O: Sink>(
+/// Writes the bindings of a pattern over an input.
+fn match_pattern<I: Source, O: Sink>(
     alloc: Global,
     pattern: &Pattern,
+    request: MatchRequest<'_>,
     input: &mut I,
     output: &mut O,
 ) -> MatchEnding
-    ensures end { EndsPattern pattern.now (streams (I.left input.old) (O.written output.old))
+    requires { IsReadAs request.pattern.now pattern.now }
+    ensures end { EndsMatch (request_of request.entry) (streams (I.left input.old) (O.written output.old))
         (streams (I.left input.new) (O.written output.new)) result }
-    ensures untouched { result ≡ MatchEnding.NotBuilt → (input.new ≡ input.old) × (output.new ≡ output.old) }
+    ensures read { ¬ IsPatternRefusal result }
     ensures read_failed { result ≡ MatchEnding.Ended MatchEnd.ReadFault → Rose (I.faults input.old) (I.faults input.new) }
     ensures read_quiet { result ≢ MatchEnding.Ended MatchEnd.ReadFault → I.faults input.new ≡ I.faults input.old }
     ensures write_failed { result ≡ MatchEnding.Ended MatchEnd.WriteFault → Rose (O.faults output.old) (O.faults output.new) }
     ensures write_quiet { result ≢ MatchEnding.Ended MatchEnd.WriteFault → O.faults output.new ≡ O.faults output.old }
 {
-    if !is_built(pattern) {
-        return MatchEnding::NotBuilt;
-    }
-    let end = match_stream(alloc, pattern, input, output, CAP, Mode::Lines);
+    leaves_are_brackets();
+    let mut matcher = match Matcher::new(alloc, pattern, request.cap) {
+        Ok(matcher) => matcher,
+        Err(NoMemory) => return MatchEnding::NoMemory,
+    };
+    let end = match_stream(alloc, &mut matcher, input, output, request.mode);
     MatchEnding::Ended(end)
 }
 
-/// The command `match`: lists the bindings of a pattern over a log, one bundle a line.
-pub fn match_lines<I: Source, O: Sink>(
+/// The command `match`: writes the bindings of a pattern over an input.
+pub fn match_bindings<I: Source, O: Sink>(
     alloc: Global,
-    pattern: &str,
+    request: MatchRequest<'_>,
     input: &mut I,
     output: &mut O,
 ) -> MatchEnding
-    ensures end { EndsMatch pattern.now (streams (I.left input.old) (O.written output.old))
+    ensures end { EndsMatch (request_of request.entry) (streams (I.left input.old) (O.written output.old))
         (streams (I.left input.new) (O.written output.new)) result }
     ensures untouched { IsPatternRefusal result → (input.new ≡ input.old) × (output.new ≡ output.old) }
     ensures read_failed { result ≡ MatchEnding.Ended MatchEnd.ReadFault → Rose (I.faults input.old) (I.faults input.new) }
@@ -103,10 +112,9 @@ pub fn match_lines<I: Source, O: Sink>(
     ensures write_failed { result ≡ MatchEnding.Ended MatchEnd.WriteFault → Rose (O.faults output.old) (O.faults output.new) }
     ensures write_quiet { result ≢ MatchEnding.Ended MatchEnd.WriteFault → O.faults output.new ≡ O.faults output.old }
 {
-    one_pattern();
     none_refused();
-    match read_pattern(alloc, pattern) {
-        Ok(read) => match_built(alloc, &read, input, output),
+    match read_pattern(alloc, request.pattern) {
+        Ok(read) => match_pattern(alloc, &read, request, input, output),
         Err(PatternRefusal::NoMemory) => MatchEnding::NoMemory,
         Err(refusal) => MatchEnding::PatternRefused(refusal),
     }

@@ -1,13 +1,13 @@
 ghost use Rattle.std.specs.Prelude.{◌≡◌, ◌≢◌, ◌⊎◌, ◌↔◌, ℕ, List};
 ghost use Rattle.flow_edges.specs.Faults.{Rose};
-ghost use Rattle.stix_command.specs.CommandLine.{texts, IsShowLine};
+ghost use Rattle.stix_command.specs.CommandLine.{texts, Request, IsMatchLine, IsShowLine};
 ghost use Rattle.stix_command.specs.Streams.{streams};
-ghost use Rattle.stix_command.specs.RunEndings.{status_of, reason_of, IsNoCommand, RefusesPattern, EndsRun, IsReadFault, IsWriteFault, WritesReason, Ends};
+ghost use Rattle.stix_command.specs.RunEndings.{status_of, IsReasonOf, IsNoCommand, RefusesPattern, EndsRun, IsReadFault, IsWriteFault, WritesReason, Ends, ListsBindings};
 
 use crate::checking::check;
-use crate::command::{is_check, pattern_after};
+use crate::command::{is_check, match_request, show_pattern};
 use crate::ending::Ending;
-use crate::matching::match_lines;
+use crate::matching::match_bindings;
 use crate::showing::show;
 use flow_edges::{Sink, Source};
 use std::alloc::Global;
@@ -31,11 +31,11 @@ fn obey<I: Source, O: Sink>(
     if is_check(words) {
         return Ending::Check(check(alloc, input, output));
     }
-    if let Some(pattern) = pattern_after(words, "show") {
+    if let Some(pattern) = show_pattern(words) {
         return Ending::Show(show(alloc, pattern, output));
     }
-    match pattern_after(words, "match") {
-        Some(pattern) => Ending::Match(match_lines(alloc, pattern, input, output)),
+    match match_request(words) {
+        Some(request) => Ending::Match(match_bindings(alloc, request, input, output)),
         None => Ending::Usage,
     }
 }
@@ -47,9 +47,10 @@ fn obey<I: Source, O: Sink>(
 /// | 0 | the input that is asked for was read to its end, and all output was written |
 /// | 1 | memory ran out |
 /// | 2 | exactly where the words are no command line |
-/// | 3 | exactly where the pattern is refused, or `match` is given one that isn't matched yet |
+/// | 3 | exactly where the pattern is refused |
 /// | 4 | where a line is refused, the first such one; and where a bundle that is checked has breaks |
 /// | 5, 6 | only where the input, the output counted a fault, and at each fault of theirs |
+/// | 7 | where more is live than the cap allows, at the first such observation |
 ///
 /// On `reasons` the reason is told in one line. A failing write there changes nothing else.
 pub fn run<I: Source, O: Sink, E: Sink>(
@@ -62,6 +63,8 @@ pub fn run<I: Source, O: Sink, E: Sink>(
     ensures ends { Ends (texts words.now) (streams (I.left input.old) (O.written output.old))
         (streams (I.left input.new) (O.written output.new)) result
         (λ reason. WritesReason reason (E.written reasons.old) (E.written reasons.new) (E.faults reasons.old) (E.faults reasons.new)) }
+    ensures listing { result ≡ 0 → (request : Request) → IsMatchLine (texts words.now) request
+        → ListsBindings request (streams (I.left input.old) (O.written output.old)) (streams (I.left input.new) (O.written output.new)) }
     ensures usage { (result ≡ 2) ↔ IsNoCommand (texts words.now) }
     ensures pattern { result ≡ 3 → RefusesPattern (texts words.now) }
     ensures refused { RefusesPattern (texts words.now) → (result ≡ 3) ⊎ (result ≡ 1) }
@@ -79,7 +82,7 @@ pub fn run<I: Source, O: Sink, E: Sink>(
 /// Tells why the program ends so, and answers its status.
 fn finish<E: Sink>(ending: &Ending, reasons: &mut E) -> u8
     ensures status { result ≡ status_of ending.now }
-    ensures reason { WritesReason (reason_of ending.now) (E.written reasons.old) (E.written reasons.new) (E.faults reasons.old) (E.faults reasons.new) }
+    ensures reason { (text : List ℕ) × IsReasonOf ending.now text × WritesReason text (E.written reasons.old) (E.written reasons.new) (E.faults reasons.old) (E.faults reasons.new) }
 {
     let _ = ending.write_reason(reasons);
     ending.status()

@@ -28,7 +28,7 @@ pub enum ShowEnding {
 }
 
 impl ShowEnding {
-    ghost use Rattle.stix_command.specs.ShowEndings.{show_status, show_reason};
+    ghost use Rattle.stix_command.specs.ShowEndings.{show_status, IsShowReason};
 
     /// The status of the program.
     pub fn status(&self) -> u8
@@ -44,7 +44,7 @@ impl ShowEnding {
 
     /// Writes why it ends so. Takes no memory.
     pub fn write_reason<S: Sink>(&self, reasons: &mut S) -> Result<(), Fault>
-        ensures text { WritesWhole (show_reason self.now) (S.written reasons.old) (S.written reasons.new) result }
+        ensures text { (text : List ℕ) × IsShowReason self.now text × WritesWhole text (S.written reasons.old) (S.written reasons.new) result }
         ensures causes { Causes (S.faults reasons.old) (S.faults reasons.new) result }
     {
         match self {

@@ -7,7 +7,7 @@ use std::test::Fail;
 
 /// A line in which the account `a` is observed.
 const LOGIN: &str =
-    "{\"type\":\"bundle\",\"id\":\"bundle--00000000-0000-4000-8000-000000000001\",\"objects\":[{\"type\":\"observed-data\",\"first_observed\":\"2021-06-10T00:00:00Z\",\"object_refs\":[\"user-account--00000000-0000-4000-8000-000000000001\"]},{\"type\":\"user-account\",\"id\":\"user-account--00000000-0000-4000-8000-000000000001\",\"account_login\":\"a\"}]}\n";
+    "{\"type\":\"bundle\",\"id\":\"bundle--00000000-0000-4000-8000-000000000001\",\"objects\":[{\"type\":\"observed-data\",\"spec_version\":\"2.1\",\"id\":\"observed-data--00000000-0000-4000-8000-000000000001\",\"created\":\"2021-06-10T00:00:00.000Z\",\"modified\":\"2021-06-10T00:00:00.000Z\",\"first_observed\":\"2021-06-10T00:00:00Z\",\"last_observed\":\"2021-06-10T00:00:00Z\",\"number_observed\":1,\"object_refs\":[\"user-account--00000000-0000-4000-8000-000000000001\"]},{\"type\":\"user-account\",\"id\":\"user-account--00000000-0000-4000-8000-000000000001\",\"account_login\":\"a\"}]}\n";
 
 /// A pattern that holds for it.
 const PATTERN: &str = "[user-account:account_login = 'a']";
@@ -46,7 +46,7 @@ fn a_fault_in_mid_stream(rt: HostRuntime) -> Result<(), Fail> {
     let rows: [(&[&str], u64, u64, u8, &str, &str); 8] = [
         (&["match", PATTERN], 0, 0, 0, "1: 1\n2: 2\n", ""),
         (&["match", PATTERN], 1, 0, 5, "", "read fault\n"),
-        (&["match", PATTERN], 5, 0, 5, "1: 1\n", "read fault\n"),
+        (&["match", PATTERN], 8, 0, 5, "1: 1\n", "read fault\n"),
         (&["match", PATTERN], 0, 1, 6, "", "write fault\n"),
         (&["match", PATTERN], 0, 2, 6, "1: 1\n", "write fault\n"),
         (&["check"], 2, 0, 5, "", "read fault\n"),

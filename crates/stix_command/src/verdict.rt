@@ -1,5 +1,5 @@
 use flow_values::Items;
-use match_log::InputRule;
+use match_input::InputRule;
 use stix_bundles::ObjectBreak;
 use stix_versions::{MarkingBreak, VersionBreak};
 

@@ -1,6 +1,6 @@
 -- For private clauses: the plain program as lists. What doesn't fit the bounds above a part is left
 -- out at once. The lemmas of proofs/ say that what is candidates for a pattern is its bindings, each once.
-use Rattle.std.specs.Prelude.{ℕ, zero, suc, nat_lt, min, max, ℤ, int_le, int_lt, Bool, true, ◌&&◌, cond, List, [], ◌∷◌, ◌++◌, map, filter, Option, Some, None}
+use Rattle.std.specs.Prelude.{ℕ, zero, suc, nat_lt, max, ℤ, int_le, int_lt, Bool, true, ◌&&◌, cond, List, [], ◌∷◌, ◌++◌, map, filter, Option, Some, None}
 use Rattle.std.specs.Int.{int_min, int_max}
 use Rattle.std.specs.List.{flat_map}
 use Rattle.match_bindings.specs.declared.span.Span.{Span}
@@ -10,7 +10,7 @@ use Rattle.match_bindings.specs.declared.join.Join.{Join}
 use Rattle.match_bindings.specs.declared.join.Join.TheVariants as join
 use Rattle.match_bindings.specs.Bounds.{within, between}
 use Rattle.match_bindings.specs.NumberedPattern.{NumberedPattern, Leaf, Both, Then, Either, Within, Between, Repeats}
-use Rattle.match_bindings.specs.BindTree.{BindTree, One, Pair, First, Second, Single, More, tree_of, add_part, disjoint, greatest}
+use Rattle.match_bindings.specs.BindTree.{BindTree, One, Pair, First, Second, Single, tree_of, add_part, disjoint, greatest}
 use Rattle.match_bindings.specs.Log.{Observed}
 use Rattle.match_bindings.specs.Span.{earliest, latest, later_by}
 use Rattle.match_bindings.specs.Test.{is_binding}

@@ -32,7 +32,7 @@ end_of_whole whole.NoMemory = NoMemory
 -- the first of the lines that came yet is given, and the others come yet
 pub record GivesBytes (before after : Stage) (left left_after : Option (List ℕ)) (number : ℕ) (bytes : List ℕ) : Type 0 where
   pub line : ahead before left ≡ option_map (λ later. line_then number bytes later) (ahead after left_after)
-  pub moves : Moves before after left left_after
+  pub moves : Moves number before after left left_after
   -- where the line is refused yet
   pub little : TakesLittle before number left left_after
 

@@ -4,14 +4,14 @@ use Rattle.match_live.specs.declared.store.Store.{Store}
 use Rattle.match_live.specs.declared.sides.Sides.{Sides}
 use Rattle.match_live.specs.declared.node.Node.{Node}
 use Rattle.match_live.specs.declared.node.Node.TheVariants as node
-use Rattle.match_live.specs.HeldTree.{HeldTree}
-use Rattle.match_live.specs.inner.Helds.{held_trees}
+use Rattle.match_live.specs.PieceTree.{PieceTree}
+use Rattle.match_live.specs.inner.Pieces.{piece_trees}
 use Rattle.match_live.specs.inner.Steps.{SideStores, State, a_leaf, a_join, a_choice, a_limit, a_chain, all_levels}
 
-abbrev pub store_list : Store → List HeldTree
-store_list store = held_trees store.held.items
+abbrev pub store_list : Store → List PieceTree
+store_list store = piece_trees store.held.items
 
-abbrev pub store_lists : List Store → List (List HeldTree)
+abbrev pub store_lists : List Store → List (List PieceTree)
 store_lists stores = map store_list stores
 
 abbrev pub side_stores : Sides → SideStores

@@ -1,15 +1,13 @@
 -- For private clauses: what a run is after a row.
-use Rattle.std.specs.Prelude.{◌≡◌, ◌≤◌, ◌<◌, ◌+◌, ℕ, ℤ, Bool, Some, List, map, length}
+use Rattle.std.specs.Prelude.{◌≡◌, ◌≤◌, ◌<◌, ◌+◌, ℕ, ℤ, Bool, Some, List, length}
 use Rattle.std.specs.List.Sorted.{IsSortedBy}
-use Rattle.match_bindings.specs.declared.bind.Bind.{Bind}
-use Rattle.match_bindings.specs.BindTree.{BindTree, tree_of}
+use Rattle.match_bindings.specs.BindTree.{BindTree}
 use Rattle.match_bindings.specs.Once.{count}
 use Rattle.match_bindings.specs.Flat.{comes_before}
 use Rattle.match_live.specs.declared.row.Row.{Row}
 use Rattle.match_live.specs.declared.run.Run.{Run}
-use Rattle.match_live.specs.HeldTree.{trees_in}
+use Rattle.match_live.specs.PieceTree.{trees_in}
 use Rattle.match_live.specs.LivePart.{held_count}
-use Rattle.match_live.specs.MatcherState.{Falls}
 use Rattle.match_live.specs.inner.Steps.{step_new, step_state, contents_of}
 use Rattle.match_live.specs.inner.Nodes.{state_of}
 

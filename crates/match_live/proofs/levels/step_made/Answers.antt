@@ -1,6 +1,6 @@
 use Rattle.std.proofs.Common.{◌≡◌, ◌++◌, ◌∷◌, [], sym, ◌∙◌, ap}
-use Rattle.match_live.specs.inner.Helds.{held_trees}
-use Rattle.match_live.specs.inner.Steps.{levels_new, levels_after, stored}
+use Rattle.match_live.specs.inner.Pieces.{piece_trees}
+use Rattle.match_live.specs.inner.Steps.{levels_new, levels_after}
 use Rattle.match_live.specs.inner.Nodes.{store_list, store_lists}
 use Rattle.match_live.proofs.ListLemmas.{map_append}
 use Rattle.match_live.proofs.LevelLemmas.{after_more, new_more}
@@ -9,8 +9,8 @@ use Rattle.match_live.proofs.levels.step_made.Goals as goal
 pub loop-store-preserved : goal.loop-store-preserved
 loop-store-preserved c =
     let w = c.args.window.now in let t = c.args.now in
-    let first = held_trees c.args.first.items in let new = held_trees c.args.new.now in
-    let made = store_lists c.loop-store.made.items in let sets = held_trees c.loop-store.sets.items in
+    let first = piece_trees c.args.first.items in let new = piece_trees c.args.new.now in
+    let made = store_lists c.loop-store.made.items in let sets = piece_trees c.loop-store.sets.items in
     let xs = store_lists c.loop-store.yielded in let x = store_list c.in-Some.store in
     let split : store_lists (c.loop-store.yielded ++ c.in-Some.store ∷ []) ≡ xs ++ x ∷ [] = map_append store_list c.loop-store.yielded (c.in-Some.store ∷ []) in
     record {

@@ -1,7 +1,7 @@
 use Rattle.std.proofs.Common.{◌≡◌, ◌⊎◌, ◌↔◌, ℕ, subst, sym, ◌∙◌}
 use Rattle.stix_command.specs.CommandLine.{texts}
 use Rattle.stix_command.specs.RunEndings.{IsNoCommand}
-use Rattle.stix_command.proofs.RunEndingsLemmas.{usage-run, pattern-run, refused-run, read_fault-status, write_fault-status}
+use Rattle.stix_command.proofs.RunEndingsLemmas.{usage-run, pattern-run, refused-run, listing-run, read_fault-status, write_fault-status}
 use Rattle.stix_command.proofs.run.run.Goals as goal
 
 pub returns-clause-ends : goal.returns-clause-ends
@@ -9,8 +9,13 @@ returns-clause-ends g c = record {
   ending = c.obey-ending.result;
   status_is = c.finish.ensures.status;
   stands = c.obey-ending.ensures.end;
-  reason = c.finish.ensures.reason;
+  text = c.finish.ensures.reason.0;
+  reason_is = c.finish.ensures.reason.1;
+  reason = c.finish.ensures.reason.2;
 }
+
+pub returns-clause-listing : goal.returns-clause-listing
+returns-clause-listing g c = λ is. listing-run _ _ _ _ c.obey-ending.ensures.end (sym c.finish.ensures.status ∙ is)
 
 pub returns-clause-usage : goal.returns-clause-usage
 returns-clause-usage g c =

@@ -1,6 +1,6 @@
 -- The law of a row at the log that the matcher stands for.
-use Rattle.std.proofs.Common.{◌≡◌, ◌+◌, List, length, suc, refl, sym, ◌∙◌, ap, subst, arith, rules}
-use Rattle.std.specs.Prelude.{map, ◌||◌, is_some, Option, None, Some, Err}
+use Rattle.std.proofs.Common.{ℤ, ◌≡◌, ◌+◌, List, length, suc, sym, ◌∙◌, ap, subst, arith, rules}
+use Rattle.std.specs.Prelude.{Option, map, ◌||◌, is_some}
 use Rattle.match_bindings.specs.declared.bind.Bind.{Bind}
 use Rattle.match_bindings.specs.declared.log_entry.LogEntry.{LogEntry}
 use Rattle.match_bindings.specs.Bounds.{no_bounds}
@@ -16,7 +16,7 @@ use Rattle.match_live.specs.inner.Steps.{State, contents_of}
 use Rattle.match_live.specs.inner.Nodes.{state_of}
 use Rattle.match_live.specs.inner.Shape.{fits}
 use Rattle.match_live.specs.inner.Runs.{next_row, live_after}
-use Rattle.match_live.proofs.LogLemmas.{length_more, last_of_more}
+use Rattle.match_live.proofs.LogLemmas.{not_falls, in_order_more, length_more, last_of_more}
 use Rattle.match_live.proofs.ShapeLemmas.{fits_step}
 use Rattle.match_live.proofs.TakeLemmas.{entry, runs_fits, Goes, live_then, answer_then, count_then, stopped_same, same_stopped, same_err}
 use Rattle.match_live.proofs.matcher.Matcher.take.Goals as goal
@@ -54,19 +54,25 @@ returns-in-Ok-clause-stands c log st order =
           (live_then c.test_is_the_rule.ensures p (state_of m.run.node) m.run.rows m.run.last log first last truths g);
     }
 
+pub returns-in-Ok-clause-order : goal.returns-in-Ok-clause-order
+returns-in-Ok-clause-order c log st order =
+    in_order_more log (entry c.args.first c.args.last c.args.truths.now) order c.requires.span
+    (not_falls log c.args.last (λ k. c.in-Ok.ensures.order (subst (λ (t : Option ℤ). Falls t c.args.last) (sym st.last) k)))
+
 pub returns-in-Ok-clause-answers : goal.returns-in-Ok-clause-answers
 returns-in-Ok-clause-answers c log st order =
     let m = c.args.self.now in
     answer_then c.test_is_the_rule.ensures c.sorted_bindings_rise.ensures m.run (numbered_pattern m.pattern.now) m.run.last log c.args.first c.args.last c.args.truths.now
-      (goes m log c.args.last st order c.in-Ok.ensures.order) (map tree_of c.in-Ok.binds) c.in-Ok.ensures.binds
+    (goes m log c.args.last st order c.in-Ok.ensures.order) (map tree_of c.in-Ok.binds) c.in-Ok.ensures.binds
 
 pub returns-in-Ok-clause-roomy : goal.returns-in-Ok-clause-roomy
 returns-in-Ok-clause-roomy c log st order =
-    let m = c.args.self.now in
-    ( live_after m.run (next_row m.run.rows c.args.first c.args.last) c.args.truths.now
-    , count_then c.test_is_the_rule.ensures c.sorted_bindings_rise.ensures m.run (numbered_pattern m.pattern.now) m.run.last log c.args.first c.args.last c.args.truths.now
-        (goes m log c.args.last st order c.in-Ok.ensures.order) (map tree_of c.in-Ok.binds) c.in-Ok.ensures.binds
-    , c.in-Ok.ensures.took.room )
+    let m = c.args.self.now in (
+      live_after m.run (next_row m.run.rows c.args.first c.args.last) c.args.truths.now,
+      count_then c.test_is_the_rule.ensures c.sorted_bindings_rise.ensures m.run (numbered_pattern m.pattern.now) m.run.last log c.args.first c.args.last c.args.truths.now
+          (goes m log c.args.last st order c.in-Ok.ensures.order) (map tree_of c.in-Ok.binds) c.in-Ok.ensures.binds,
+      c.in-Ok.ensures.took.room,
+    )
 
 pub returns-in-Err-clause-crowded : goal.returns-in-Err-clause-crowded
 returns-in-Err-clause-crowded c log st order number cap e =
@@ -76,16 +82,22 @@ returns-in-Err-clause-crowded c log st order number cap e =
     let rows : m.run.rows ≡ length log = st.rows in
     let n : number ≡ m.run.rows + 1 = over.0 in
     let same : cap ≡ m.run.cap = over.1 in
-    let count = live_after m.run (next_row m.run.rows c.args.first c.args.last) c.args.truths.now in
-    ( (let f : number ≡ suc (length log) = omega arith in f), same, over.2
-    , ( count
-      , count_then c.test_is_the_rule.ensures c.sorted_bindings_rise.ensures m.run (numbered_pattern m.pattern.now) m.run.last log c.args.first c.args.last c.args.truths.now
-          (goes m log c.args.last st order over.2) over.3.0 over.3.1
-      , omega (arith, over.3.2) ) )
+    let count = live_after m.run (next_row m.run.rows c.args.first c.args.last) c.args.truths.now in (
+      (let f : number ≡ suc (length log) = omega arith in f),
+      same,
+      over.2,
+      (
+        count,
+        count_then c.test_is_the_rule.ensures c.sorted_bindings_rise.ensures m.run (numbered_pattern m.pattern.now) m.run.last log c.args.first c.args.last c.args.truths.now
+            (goes m log c.args.last st order over.2) over.3.0 over.3.1,
+        omega (arith, over.3.2),
+      ),
+    )
 
 pub returns-in-Err-clause-out_of_order : goal.returns-in-Err-clause-out_of_order
-returns-in-Err-clause-out_of_order c before now =
-    ( λ e.
-        let k = (c.in-Err.ensures.out_of_order before now).0 (same_err (List Bind) c.in-Err.ending (ending.OutOfOrder before now) (stopped_same (List Bind) c.in-Err.ending (ending.OutOfOrder before now) e)) in
-        ( search rules, k.0, k.1, k.2 )
-    , λ h. same_stopped (List Bind) c.in-Err.ending (ending.OutOfOrder before now) ((c.in-Err.ensures.out_of_order before now).1 ( h.1, h.2, h.3 )) )
+returns-in-Err-clause-out_of_order c before now = (
+  λ e.
+      let k = (c.in-Err.ensures.out_of_order before now).0 (same_err (List Bind) c.in-Err.ending (ending.OutOfOrder before now) (stopped_same (List Bind) c.in-Err.ending (ending.OutOfOrder before now) e)) in
+      (search rules, k.0, k.1, k.2),
+  λ h. same_stopped (List Bind) c.in-Err.ending (ending.OutOfOrder before now) ((c.in-Err.ensures.out_of_order before now).1 (h.1, h.2, h.3)),
+)

@@ -1,0 +1,20 @@
+use Rattle.std.proofs.Common.{ℕ, subst}
+use Rattle.pattern_types.specs.declared.pattern.Pattern.{Pattern}
+use Rattle.match_live.specs.View.{matcher_state, pattern_of}
+use Rattle.match_log.specs.Matching.{AnswersMatch}
+use Rattle.stix_command.specs.Streams.{streams}
+use Rattle.stix_command.proofs.matching.match_pattern.Goals as goal
+
+pub returns-clause-end : goal.returns-clause-end
+returns-clause-end g c =
+    let mode = c.args.request.mode in
+    let before = streams (g.I.Source.left c.args.input.now) (g.O.Sink.written c.args.output.now) in
+    let after = streams (g.I.Source.left c.match_stream-end.new.input) (g.O.Sink.written c.match_stream-end.new.output) in
+    let state = matcher_state c.match_stream-end.new.matcher in
+    let of_pattern = subst (λ (p : Pattern). AnswersMatch mode p (matcher_state c.in-Ok.matcher).cap before after state c.match_stream-end.result) c.in-Ok.ensures.made c.match_stream-end.ensures.end in
+    record {
+      pattern = c.args.pattern.now;
+      read = c.requires;
+      matcher = state;
+      answers = subst (λ (n : ℕ). AnswersMatch mode c.args.pattern.now n before after state c.match_stream-end.result) c.in-Ok.ensures.cap of_pattern;
+    }
