@@ -200,7 +200,7 @@ one_reads laws last next (line_then n bytes later) bundles others end other (one
     let objects = one_text laws bytes ds es p.text q.text in
     let observations = same_list laws bytes next ds es xs ys p.text q.text p.are q.are in
     let tail = one_reads laws (last_after last ys) (next + length ys) later more rest end other
-      (subst (λ (os : List Observation). Reads (last_after last os) (next + length os) later more end) observations first) second in
+    (subst (λ (os : List Observation). Reads (last_after last os) (next + length os) later more end) observations first) second in
     let same : more ≡ rest = tail.0 in
     (cc, tail.1)
 
@@ -208,7 +208,7 @@ one_reads laws last next (line_then n bytes later) bundles others end other (one
 pub goes_on : Laws → (last : Option ℤ) (next number : ℕ) (bytes : List ℕ) (later : Lined) (objects : List Data) (observations : List Observation)
     (all : List BundleOf) (end : InputEnd) → IsBundleLine last next bytes objects observations → Reads last next (line_then number bytes later) all end
     → (rest : List BundleOf) × (all ≡ record { line = number; objects = objects; observations = observations } ∷ rest)
-      × Reads (last_after last observations) (next + length observations) later rest end
+    × Reads (last_after last observations) (next + length observations) later rest end
 goes_on laws last next number bytes later objects observations all (Refused line why) is (at_refusal p) = absurd (no_line laws last next bytes objects observations why p.1 is)
 goes_on laws last next number bytes later objects observations all end is (one_bundle {objects = ds} {observations = xs} {bundles = more} p reads) =
     let same = one_text laws bytes ds objects p.text is.text in

@@ -1,9 +1,10 @@
--- Which token is one too many: a `(` while 64 parentheses are open, or the first of a qualifier behind 64
--- qualifiers.
+-- Which token is one too many: a `(` while MAX_DEPTH parentheses are open, or the first of a qualifier behind as
+-- many qualifiers.
 use Rattle.std.specs.Prelude.{◌≡◌, ℕ, ◌+◌, ◌≤◌, ◌⊎◌, List, [], ◌∷◌, ◌++◌, count_by}
 use Rattle.pattern_tokens.specs.declared.token.Token.{Token}
 use Rattle.pattern_tokens.specs.declared.token.TokenKind.TheVariants.{RoundOpen, RoundClose, Among}
 use Rattle.pattern_grammar.specs.declared.class.TokenClass.{TokenClass, TheVariants.Only, TheVariants.Qualifying}
+use Rattle.pattern_grammar.specs.declared.depth.TheConstants.{MAX_DEPTH}
 use Rattle.pattern_grammar.specs.TokenClass.{is_in, IsA}
 
 -- how many of the tokens are of the class
@@ -17,16 +18,16 @@ pub record EndsWithIn (ts : List Token) : Type 0 where
   pub spelled : ts ≡ front ++ last ∷ []
   pub among : IsA (Only Among) last
 
--- a `(` while 64 more `(` than `)` stand before it, but not the one directly behind IN
+-- a `(` while so many more `(` than `)` stand before it, but not the one directly behind IN
 pub record IsDeepOpen (before : List Token) (token : Token) : Type 0 where
   pub opens : IsA (Only RoundOpen) token
   pub groups : ¬ EndsWithIn before
-  pub deep : how_many (Only RoundClose) before + 64 ≤ how_many (Only RoundOpen) before
+  pub deep : how_many (Only RoundClose) before + MAX_DEPTH ≤ how_many (Only RoundOpen) before
 
--- the first token of a qualifier, behind 64 such
+-- the first token of a qualifier, behind so many
 pub record IsDeepQualifier (before : List Token) (token : Token) : Type 0 where
   pub qualifies : IsA Qualifying token
-  pub deep : 64 ≤ how_many Qualifying before
+  pub deep : MAX_DEPTH ≤ how_many Qualifying before
 
 -- the token is one too many behind those
 abbrev pub IsTooMany : List Token → Token → Type 0

@@ -7,7 +7,7 @@ use crate::TokenClass;
 use pattern_tokens::{Token, TokenKind};
 
 /// How many parentheses may be open, and how many qualifiers a pattern may have.
-const MOST: usize = 64;
+pub const MAX_DEPTH: usize = 64;
 
 /// What stands before a token.
 #[derive(Clone, Copy)]
@@ -41,14 +41,14 @@ impl Counts {
     {
         TokenClass::Only(TokenKind::RoundOpen).holds(token.kind)
             && !self.behind_in
-            && self.opened.saturating_sub(self.closed) >= MOST
+            && self.opened.saturating_sub(self.closed) >= MAX_DEPTH
     }
 
     /// Whether the token begins a qualifier too many.
     fn is_deep_qualifier(self, token: Token) -> bool
         ensures { (before : List Token) → CountsOf before self → IsTrue result ↔ IsDeepQualifier before token }
     {
-        TokenClass::Qualifying.holds(token.kind) && self.qualifiers >= MOST
+        TokenClass::Qualifying.holds(token.kind) && self.qualifiers >= MAX_DEPTH
     }
 
     /// Whether the token is one too many.

@@ -22,6 +22,7 @@ mod take;
 
 pub use class::TokenClass;
 pub use comparison::{CheckTree, ComparisonTree, Conjunction, Operand, TestTree};
+pub use depth::MAX_DEPTH;
 pub use laws::{fronts, one_answer, one_language, one_pattern};
 pub use parse_pattern::parse;
 pub use path::{PathTree, StepTree};
@@ -30,4 +31,3 @@ pub use qualifier::Qualifier;
 pub use read::read_tree;
 pub use refusal::SyntaxRefusal;
 pub use stop::Stop;
-

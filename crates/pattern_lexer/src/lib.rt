@@ -13,4 +13,3 @@ mod refusals;
 mod runs;
 
 pub use lexer::tokens;
-

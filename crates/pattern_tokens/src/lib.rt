@@ -20,4 +20,3 @@ pub use spans::{binary_at, hex_at, integer_at, string_at, text_of, timestamp_at}
 pub use token::{Token, TokenKind};
 pub use values::{binary_of, hex_of, integer_of, string_of, timestamp_of};
 pub use word::is_word;
-
