@@ -1,5 +1,4 @@
--- Which token is one too many: a `(` while MAX_DEPTH parentheses are open, or the first of a qualifier behind as
--- many qualifiers.
+-- Which token is one too many: a `(` while MAX_DEPTH parentheses are open, or the first of a qualifier behind MAX_DEPTH of them.
 use Rattle.std.specs.Prelude.{◌≡◌, ℕ, ◌+◌, ◌≤◌, ◌⊎◌, List, [], ◌∷◌, ◌++◌, count_by}
 use Rattle.pattern_tokens.specs.declared.token.Token.{Token}
 use Rattle.pattern_tokens.specs.declared.token.TokenKind.TheVariants.{RoundOpen, RoundClose, Among}
