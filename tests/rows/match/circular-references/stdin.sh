@@ -1,3 +1,3 @@
-# an object that lists itself 1,000 times: 1,000 ^ 8 ways
+# an object that lists itself 1,000 times: 1,000 ^ 7 ways
 awk 'BEGIN { id = "\"x-ring--00000000-0000-4000-8000-000000000001\""; for (n = 1; n < 1000; n++) refs = refs id ","
   print "{\"type\":\"bundle\",\"id\":\"bundle--00000000-0000-4000-8000-000000000001\",\"objects\":[{\"type\":\"observed-data\",\"spec_version\":\"2.1\",\"id\":\"observed-data--00000000-0000-4000-8000-000000000001\",\"created\":\"2021-06-10T00:00:00.000Z\",\"modified\":\"2021-06-10T00:00:00.000Z\",\"first_observed\":\"2021-06-10T00:00:00Z\",\"last_observed\":\"2021-06-10T00:00:00Z\",\"number_observed\":1,\"object_refs\":[" id "]},{\"type\":\"x-ring\",\"id\":" id ",\"r_refs\":[" refs id "],\"v\":2}]}" }'
