@@ -46,7 +46,8 @@ impl<'p> Matcher<'p> {
         ensures made { IfOk result (λ matcher. pattern_of matcher ≡ pattern.now) }
     {
         laws::test_is_the_rule();
-        let node = empty_node(alloc, pattern, 0, Bounds::open())?;
+        let boxed = empty_node(alloc, pattern, 0, &Bounds::open())?;
+        let node = Box::into_inner(boxed);
         let run = Run {
             alloc,
             cap,

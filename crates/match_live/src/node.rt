@@ -1,10 +1,12 @@
-ghost use Rattle.std.specs.Prelude.{◌≡◌, ◌+◌, ◌<◌, ◌^◌, ◌++◌, IfOk, OnOk, map};
+ghost use Rattle.std.specs.Prelude.{◌≡◌, ◌+◌, ◌<◌, ◌^◌, ◌++◌, [], false, IfOk, OnOk, map};
+ghost use Rattle.std.specs.Box.{box_value};
 ghost use Rattle.pattern_types.specs.Leaves.{leaves};
 ghost use Rattle.match_bindings.specs.NumberedPattern.{numbered_from};
 ghost use Rattle.match_bindings.specs.BindTree.{One, First, Second};
 ghost use Rattle.match_live.specs.inner.Pieces.{piece_tree, piece_trees};
-ghost use Rattle.match_live.specs.inner.Steps.{held_with, a_join, step_new, step_state, new_at_leaf, empty_state};
-ghost use Rattle.match_live.specs.inner.Nodes.{side_stores, state_of};
+ghost use Rattle.match_windows.specs.Stores.{window_of};
+ghost use Rattle.match_live.specs.inner.Steps.{held_with, a_leaf, a_join, a_chain, all_levels, empty_sides, step_new, step_state, new_at_leaf, empty_state};
+ghost use Rattle.match_live.specs.inner.Nodes.{state_of};
 
 use crate::join::Join;
 use crate::levels::Levels;
@@ -34,63 +36,84 @@ pub(crate) enum Node {
 }
 
 /// What is kept for a pattern under these bounds before any row, where its leftmost leaf has the number
-/// `leaf`.
+/// `leaf`. A pattern may have 1,024 leaves in a chain: so what is made on the way lies in boxes, and
+/// each kind of node is made in a function of its own, that little of the stack is taken for a leaf.
 pub(crate) fn empty_node(
     alloc: Global,
     pattern: &Pattern,
     leaf: u32,
-    above: Bounds,
-) -> Result<Node, NoMemory>
+    above: &Bounds,
+) -> Result<Box<Node>, NoMemory>
     requires { leaf + leaves pattern.now < 2 ^ 32 }
-    ensures { IfOk result (λ node. state_of node ≡ empty_state above (numbered_from leaf pattern.now)) }
+    ensures { IfOk result (λ node. state_of (box_value node) ≡ empty_state above.now (numbered_from leaf pattern.now)) }
 {
     match pattern {
-        Pattern::Leaf(_) => Ok(Node::Leaf(leaf, store_window(&above, false))),
+        Pattern::Leaf(_) => leaf_node(alloc, leaf, above),
         Pattern::Both(left, right) => {
             let left_node = empty_node(alloc, left, leaf, above)?;
             let right_node = empty_node(alloc, right, leaf + leaf_count(left), above)?;
-            let sides = Sides::new(alloc, &above, false);
-            sides_node(alloc, Join::Both, left_node, right_node, sides)
+            sides_node(alloc, Join::Both, left_node, right_node, above, false)
         }
         Pattern::Then(left, right) => {
             let left_node = empty_node(alloc, left, leaf, above)?;
             let right_node = empty_node(alloc, right, leaf + leaf_count(left), above)?;
-            let sides = Sides::new(alloc, &above, true);
-            sides_node(alloc, Join::Then, left_node, right_node, sides)
+            sides_node(alloc, Join::Then, left_node, right_node, above, true)
         }
         Pattern::Either(left, right) => {
             let left_node = empty_node(alloc, left, leaf, above)?;
             let right_node = empty_node(alloc, right, leaf + leaf_count(left), above)?;
-            Ok(Node::Either(Box::new(alloc, left_node)?, Box::new(alloc, right_node)?))
+            Ok(Box::new(alloc, Node::Either(left_node, right_node))?)
         }
         Pattern::Within(part, seconds) => {
-            let node = empty_node(alloc, part, leaf, above.within(*seconds))?;
-            Ok(Node::Under(Box::new(alloc, node)?))
+            let node = empty_node(alloc, part, leaf, &above.within(*seconds))?;
+            Ok(Box::new(alloc, Node::Under(node))?)
         }
         Pattern::Between(part, start, stop) => {
-            let node = empty_node(alloc, part, leaf, above.between(*start, *stop))?;
-            Ok(Node::Under(Box::new(alloc, node)?))
+            let node = empty_node(alloc, part, leaf, &above.between(*start, *stop))?;
+            Ok(Box::new(alloc, Node::Under(node))?)
         }
         Pattern::Repeats(part, count) => {
             let node = empty_node(alloc, part, leaf, above)?;
-            let levels = Levels::new(alloc, *count, store_window(&above, false));
-            Ok(Node::Repeats(Box::new(alloc, node)?, levels))
+            repeats_node(alloc, node, *count, above)
         }
     }
 }
 
-/// A node that joins two sides.
+/// A leaf under these bounds.
+fn leaf_node(alloc: Global, leaf: u32, above: &Bounds) -> Result<Box<Node>, NoMemory>
+    ensures { IfOk result (λ node. state_of (box_value node) ≡ a_leaf leaf (window_of above.now false)) }
+{
+    Ok(Box::new(alloc, Node::Leaf(leaf, store_window(above, false)))?)
+}
+
+/// A node that joins two sides, the right one behind the left where this is asked.
 fn sides_node(
     alloc: Global,
     join: Join,
-    left: Node,
-    right: Node,
-    sides: Sides,
-) -> Result<Node, NoMemory>
-    ensures { IfOk result (λ node. state_of node ≡ a_join join (state_of left) (state_of right) (side_stores sides)) }
+    left: Box<Node>,
+    right: Box<Node>,
+    above: &Bounds,
+    behind: bool,
+) -> Result<Box<Node>, NoMemory>
+    ensures { IfOk result (λ node. state_of (box_value node) ≡ a_join join (state_of (box_value left)) (state_of (box_value right))
+        (empty_sides (window_of above.now false) (window_of above.now behind))) }
 {
-    let left = Box::new(alloc, left)?;
-    Ok(Node::Sides(join, left, Box::new(alloc, right)?, sides))
+    let sides = Sides::new(alloc, above, behind);
+    Ok(Box::new(alloc, Node::Sides(join, left, right, sides))?)
+}
+
+/// So many repeats of a node.
+fn repeats_node(
+    alloc: Global,
+    part: Box<Node>,
+    count: u32,
+    above: &Bounds,
+) -> Result<Box<Node>, NoMemory>
+    ensures { IfOk result (λ node. state_of (box_value node)
+        ≡ a_chain (state_of (box_value part)) count (window_of above.now false) (all_levels count [])) }
+{
+    let levels = Levels::new(alloc, count, store_window(above, false));
+    Ok(Box::new(alloc, Node::Repeats(part, levels))?)
 }
 
 /// One row: what ends at it, and what is kept after it.
