@@ -12,8 +12,6 @@ mod quiet;
 mod sink;
 mod source;
 mod system;
-#[cfg(test)]
-mod tests;
 
 pub use memory::{MemorySink, MemorySource};
 pub use pieces::write_pieces;

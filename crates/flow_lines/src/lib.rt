@@ -11,8 +11,6 @@ mod line;
 mod lines;
 mod raw_line;
 mod refusal;
-#[cfg(test)]
-mod tests;
 mod whole_input;
 
 pub use line::Line;

@@ -8,9 +8,6 @@ use crate::chunk::Chunk;
 use crate::refusal::{LineRefusal, MAX_INPUT, MAX_LINE};
 use flow_edges::Source;
 
-#[cfg(test)]
-mod tests;
-
 /// Where a line begins: its number, and how many bytes of the input stand before it.
 #[derive(Clone, Copy)]
 pub struct LineStart {

@@ -7,8 +7,6 @@
 mod fault;
 mod items;
 mod no_memory;
-#[cfg(test)]
-mod tests;
 mod text;
 
 pub use fault::Fault;

@@ -21,8 +21,6 @@ mod order;
 mod ranked;
 mod span;
 mod spanned_bind;
-#[cfg(test)]
-mod tests;
 
 pub use bind::Bind;
 pub use bindings::listing;

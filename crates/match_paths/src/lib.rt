@@ -12,8 +12,6 @@ mod object;
 mod path_values;
 mod root;
 mod step;
-#[cfg(test)]
-mod tests;
 mod walk;
 
 pub use name::{ends_in, name_behind};

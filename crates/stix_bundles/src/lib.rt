@@ -18,8 +18,6 @@ mod outline;
 mod property;
 mod read;
 mod refusal;
-#[cfg(test)]
-mod tests;
 
 pub use bundle::{Bundle, object};
 pub use lookup::find;

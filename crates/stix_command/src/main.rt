@@ -11,8 +11,6 @@ mod reasons;
 mod refusal_text;
 mod run;
 mod showing;
-#[cfg(test)]
-mod tests;
 mod verdict;
 mod verdict_text;
 

@@ -11,8 +11,6 @@ mod parts;
 mod pick;
 mod reading;
 mod refusal;
-#[cfg(test)]
-mod tests;
 mod writing;
 
 pub use id::Id;

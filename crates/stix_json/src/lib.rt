@@ -18,8 +18,6 @@ mod place;
 mod property;
 mod read;
 mod refusal;
-#[cfg(test)]
-mod tests;
 mod value;
 mod write;
 

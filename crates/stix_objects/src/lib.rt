@@ -23,8 +23,6 @@ mod rule;
 mod rule_break;
 mod single;
 mod tables;
-#[cfg(test)]
-mod tests;
 mod timestamp;
 
 pub use form::Precision;

@@ -12,8 +12,6 @@ mod parts;
 mod places;
 mod reading;
 mod refusal;
-#[cfg(test)]
-mod tests;
 mod writing;
 
 pub use instant::{Instant, from_micros, from_nanos, nanos};

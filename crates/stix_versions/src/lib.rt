@@ -12,8 +12,6 @@ mod part;
 mod revoked;
 mod same;
 mod selector;
-#[cfg(test)]
-mod tests;
 mod twins;
 mod version;
 mod version_break;

@@ -1,4 +1,4 @@
-use crate::*;
+use stix_times::{TimeRefusal, from_micros, from_nanos, laws, nanos, read, read_millis, write, write_micros, write_millis};
 use std::test::Fail;
 
 /// Reads `text`, as its nanoseconds.

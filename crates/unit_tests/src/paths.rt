@@ -1,4 +1,4 @@
-use crate::values;
+use match_paths::values;
 use flow_values::{Items, NoMemory, Text};
 use pattern_types::{MAX_STEPS, Path, Step};
 use std::alloc::Global;

@@ -1,11 +1,8 @@
-mod sinks;
-mod sources;
-
 use flow_values::{Items, NoMemory};
 use std::alloc::Global;
 
 /// These items as a list.
-fn listed<T: Copy + Drop>(alloc: Global, items: &[T]) -> Result<Items<T>, NoMemory> {
+pub fn listed<T: Copy + Drop>(alloc: Global, items: &[T]) -> Result<Items<T>, NoMemory> {
     let mut list = Items::new(alloc);
     for item in items {
         list.push(*item)?;

@@ -3,7 +3,7 @@
 ghost use Rattle.std.specs.Prelude.{◌≡◌, IfOk};
 ghost use Rattle.pattern_types.specs.Leaves.{leaves};
 
-use crate::{Bind, Log, check_binding, copy_bind, flat, listing};
+use match_bindings::{Bind, Log, check_binding, copy_bind, flat, listing};
 use flow_values::{Items, NoMemory};
 use pattern_types::{Leaf, Pattern};
 use std::alloc::Global;

@@ -1,4 +1,4 @@
-use crate::*;
+use stix_ids::{IdRefusal, is_of_kind, is_text_of, read_id, read_kind, write_id};
 use flow_values::Text;
 use std::alloc::Global;
 use std::process::Abort;

@@ -1,6 +1,6 @@
 //! Rows of JSON texts and what RFC 8259 and the bounds of a value say of them.
 
-use crate::{
+use stix_json::{
     Entry, Field, Json, JsonRefusal, get, get_ordered, is_ordered, read_entries, read_json,
     write_json,
 };

@@ -1,5 +1,7 @@
-use super::listed;
-use crate::{MemorySource, QuietSource, Source};
+//! Sources in memory: the pieces that they give, and the reads of them that fail.
+
+use crate::lists::listed;
+use flow_edges::{MemorySource, QuietSource, Source};
 use flow_values::Fault;
 use std::test::Fail;
 

@@ -1,0 +1,26 @@
+//! The unit tests of the crates: public calls that no command of the program reaches, each once, and streams that fail
+//! in turn. They stand in a crate of their own, since a crate with tests is proved twice.
+#![tactic(auto)]
+
+#[cfg(test)]
+mod bindings;
+#[cfg(test)]
+mod failing_streams;
+#[cfg(test)]
+mod identifiers;
+#[cfg(test)]
+mod json;
+#[cfg(test)]
+mod lines;
+#[cfg(test)]
+mod lists;
+#[cfg(test)]
+mod object_groups;
+#[cfg(test)]
+mod paths;
+#[cfg(test)]
+mod sinks;
+#[cfg(test)]
+mod sources;
+#[cfg(test)]
+mod times;
