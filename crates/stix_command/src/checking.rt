@@ -10,7 +10,7 @@ use crate::verdict::Verdict;
 use crate::verdict_text::verdict_text;
 use flow_edges::{Sink, Source, write_whole};
 use flow_lines::{InputRefusal, read_whole};
-use flow_values::Fault;
+use flow_values::{Fault, Items};
 use match_input::{InputRule, write_input_refusal};
 use std::alloc::Global;
 
@@ -74,7 +74,7 @@ pub fn check<I: Source, O: Sink>(alloc: Global, input: &mut I, output: &mut O) -
     ensures write_quiet { result ≢ CheckEnding.WriteFault → O.faults output.new ≡ O.faults output.old }
 {
     match read_whole(alloc, input) {
-        Ok(bytes) => check_bytes(alloc, bytes.as_slice(), output),
+        Ok(bytes) => check_bytes(alloc, bytes, output),
         Err(InputRefusal::Fault) => CheckEnding::ReadFault,
         Err(InputRefusal::TooLong) => CheckEnding::TooLong,
         Err(InputRefusal::NoMemory) => CheckEnding::NoMemory,
@@ -82,8 +82,8 @@ pub fn check<I: Source, O: Sink>(alloc: Global, input: &mut I, output: &mut O) -
 }
 
 /// Judges bytes, and writes the verdict.
-fn check_bytes<O: Sink>(alloc: Global, bytes: &[u8], output: &mut O) -> CheckEnding
-    ensures end { EndsJudging bytes.now (O.written output.old) (O.written output.new) result }
+fn check_bytes<O: Sink>(alloc: Global, bytes: Items<u8>, output: &mut O) -> CheckEnding
+    ensures end { EndsJudging bytes.entry (O.written output.old) (O.written output.new) result }
     ensures write_failed { result ≡ CheckEnding.WriteFault → Rose (O.faults output.old) (O.faults output.new) }
     ensures write_quiet { result ≢ CheckEnding.WriteFault → O.faults output.new ≡ O.faults output.old }
 {

@@ -1,27 +1,35 @@
-ghost use Rattle.std.specs.Prelude.{◌≡◌, ◌≢◌, IfOk};
+ghost use Rattle.std.specs.Prelude.{◌≡◌, ◌≢◌, IfOk, IfErr};
 ghost use Rattle.stix_json.specs.declared.refusal.JsonRefusal.TheVariants as json_refusal;
 ghost use Rattle.stix_bundles.specs.Objects.{data_in};
 ghost use Rattle.stix_json.specs.DataOf.{data_of};
 ghost use Rattle.stix_json.specs.Ordered.{IsOrdered};
-ghost use Rattle.stix_json.specs.Reading.{IsJsonRefusedAs};
+ghost use Rattle.stix_json.specs.Reading.{IsJsonOf, IsJsonRefusedAs};
 ghost use Rattle.stix_command.specs.Verdicts.{IsJudged, IsBundleJudged, AreJudged};
 
 use crate::verdict::Verdict;
-use flow_values::NoMemory;
+use flow_values::{Items, NoMemory};
 use match_input::InputRule;
 use std::alloc::Global;
 use stix_bundles::{Bundle, BundleRefusal, read_bundle};
 use stix_json::{Json, JsonRefusal, read_json};
 use stix_versions::{marking_breaks, version_breaks};
 
-/// What bytes are, as a bundle.
-pub fn judge(alloc: Global, bytes: &[u8]) -> Result<Verdict, NoMemory>
-    ensures { IfOk result (IsJudged bytes.now) }
+/// What bytes are, as a bundle. They are let go once they are read, before the objects are judged.
+pub fn judge(alloc: Global, bytes: Items<u8>) -> Result<Verdict, NoMemory>
+    ensures { IfOk result (IsJudged bytes.entry) }
 {
-    match read_json(alloc, bytes) {
+    match value_of(alloc, bytes) {
         Ok(value) => judge_value(alloc, value),
         Err(refusal) => refuse(refusal),
     }
+}
+
+/// The value of bytes, which are let go.
+fn value_of(alloc: Global, bytes: Items<u8>) -> Result<Json, JsonRefusal>
+    ensures ok { IfOk result (λ json. IsJsonOf bytes.entry json) }
+    ensures err { IfErr result (λ refusal. IsJsonRefusedAs bytes.entry refusal) }
+{
+    read_json(alloc, bytes.as_slice())
 }
 
 /// The verdict on bytes that are refused as JSON.
