@@ -1,0 +1,20 @@
+ghost use Rattle.std.specs.Prelude.{◌≡◌};
+ghost use Rattle.match_generator.specs.GeneratedLog.{next_state, drawn_number};
+
+/// A generator of numbers, each of which comes from its state.
+#[derive(Clone, Copy)]
+pub(crate) struct Generator {
+    pub(crate) state: u32,
+}
+
+impl Generator {
+    /// Draws the next number.
+    pub(crate) fn draw(&mut self) -> u32
+        ensures state { self.new.state ≡ next_state self.old.state }
+        ensures number { result ≡ drawn_number self.new.state }
+    {
+        let state = (1_103_515_245 * u64::from(self.state) + 12_345) % (1 << 31);
+        self.state = state as u32;
+        self.state / 65_536
+    }
+}
