@@ -1,2 +1,2 @@
-pub mod LogLemmas
-pub mod TimeLemmas
+pub mod LinesTextLemmas
+pub mod TimeTextLemmas

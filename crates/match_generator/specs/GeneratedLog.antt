@@ -28,7 +28,7 @@ events state (suc count) =
     let second = next_state first in
     event_of first second ∷ events second count
 
--- the text of the time so many seconds after the log begins, within January
+-- the text of the time so many seconds after the log begins, in January: of 100,000 events none comes as late as February
 unfoldable pub time_text : ℕ → List ℕ
 time_text seconds =
     codes "2021-01-" ++ two_digits (1 + seconds / 86_400) ++ codes "T" ++ two_digits (seconds / 3600 % 24)

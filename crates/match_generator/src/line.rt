@@ -1,4 +1,4 @@
-ghost use Rattle.std.specs.Prelude.{◌≡◌, ◌+◌, ◌<◌, ◌≤◌, [], ◌++◌, length};
+ghost use Rattle.std.specs.Prelude.{◌≡◌, ◌+◌, ◌*◌, ◌<◌, ◌≤◌, [], ◌++◌, length};
 ghost use Rattle.stix_times.specs.Timestamp.{two_digits};
 ghost use Rattle.match_generator.specs.GeneratedLog.{time_text, line_text};
 
@@ -27,13 +27,13 @@ pub(crate) struct Line {
 }
 
 impl Model for Line {
-    ghost use Rattle.std.specs.Prelude.{ℕ, List, take, ◌≤◌};
+    ghost use Rattle.std.specs.Prelude.{ℕ, ◌≤◌, List, length, take};
 
     ghost Value = { List ℕ };
 
     ghost view = { λ line. take line.end line.bytes };
 
-    ghost invariant = { λ line. line.end ≤ 533 };
+    ghost invariant = { λ line. line.end ≤ length line.bytes };
 }
 
 impl Line {
@@ -62,9 +62,9 @@ impl Line {
     }
 
     /// Writes the line of an observation so many seconds after the start of the log, over what was there.
-    #[tactic(auto, using(crate::proofs::LogLemmas::lengths))]
+    #[tactic(auto, using(crate::proofs::LinesTextLemmas::lengths))]
     pub(crate) fn write(&mut self, seconds: u32, digit: u8)
-        requires early { seconds < 2_678_400 }
+        requires early { seconds < 31 * 86_400 }
         requires digit { digit < 10 }
         ensures { self.new ≡ line_text seconds digit }
     {
@@ -78,9 +78,9 @@ impl Line {
         self.push(LINE_END);
     }
 
-    /// Adds the time so many seconds after the start of the log, which lies in the same month.
+    /// Adds the time so many seconds after the start of the log, which lies in January.
     fn push_time(&mut self, seconds: u32)
-        requires early { seconds < 2_678_400 }
+        requires early { seconds < 31 * 86_400 }
         requires room { length self.old + 20 ≤ LINE_LENGTH }
         ensures { self.new ≡ self.old ++ time_text seconds }
     {

@@ -20,14 +20,17 @@ pub const MAX_COUNT: u32 = 100_000;
 #[derive(Drop)]
 pub struct GeneratedLog {
     line: Line,
+    /// How many bytes of the line are taken.
     at: usize,
     generator: Generator,
+    /// How long after the start of the log the line's observation stands.
     seconds: u32,
     lines_to_come: u32,
 }
 
 impl Model for GeneratedLog {
     ghost use Rattle.std.specs.Prelude.{ℕ, List, ◌+◌, ◌*◌, ◌≤◌, ◌++◌, length, drop};
+    ghost use Rattle.match_generator.specs.declared.log.TheConstants.{MAX_COUNT};
     ghost use Rattle.match_generator.specs.GeneratedLog.{events, lines_text};
 
     ghost Value = { List ℕ };
@@ -36,7 +39,7 @@ impl Model for GeneratedLog {
         ++ lines_text log.seconds (events log.generator.state log.lines_to_come) };
 
     ghost invariant = { λ log. (log.at ≤ length log.line)
-        × (log.seconds + 9 * log.lines_to_come ≤ 900_000) };
+        × (log.seconds + 9 * log.lines_to_come ≤ 9 * MAX_COUNT) };
 }
 
 impl GeneratedLog {

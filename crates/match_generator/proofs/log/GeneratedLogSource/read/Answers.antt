@@ -1,7 +1,7 @@
 use Rattle.std.proofs.Common.{◌≡◌, ◌≤◌, Some, length, take, drop, rules, ap, arith}
 use Rattle.std.proofs.lemmas.Grind.{common_steps}
 use Rattle.match_generator.specs.GeneratedLog.{events, lines_text}
-use Rattle.match_generator.proofs.LogLemmas.{StandsIn, in_next, in_last, in_same, given, rest, end}
+use Rattle.match_generator.proofs.LinesTextLemmas.{StandsIn, in_next, in_last, in_same, given, rest, end}
 use Rattle.match_generator.proofs.log.GeneratedLogSource.read.Goals as goal
 use Rattle.match_generator.proofs.log.GeneratedLogSource.read.Goals.{then-self-len+then-self-gt0, else-self-len, else-self-len-via-then-self-len+else-self-gt0, else-self-len-via-else-self-len}
 

@@ -1,9 +1,8 @@
 -- The days of the years up to 2021, and the time's text as the text of its parts.
-use Rattle.std.proofs.Common.{◌≡◌, ◌≢◌, ℕ, zero, suc, ◌+◌, ◌-◌, ◌*◌, ◌/◌, ◌%◌, ◌<◌, List, [], ◌∷◌, ◌++◌, length, refl, ap, ◌∙◌, arith, ℤ, pos, ◌+ℤ◌, ◌-ℤ◌, ◌*ℤ◌}
+use Rattle.std.proofs.Common.{◌≡◌, ◌≢◌, ℕ, zero, suc, ◌+◌, ◌*◌, ◌/◌, ◌%◌, ◌<◌, List, [], ◌∷◌, ◌++◌, refl, arith, pos, ◌-ℤ◌}
 use Rattle.std.proofs.lemmas.Int.{ints}
 use Rattle.jiff_core.specs.Calendar.{days_in_year, days_of_years, days_of_months, day_count, days_from_civil}
-use Rattle.stix_times.specs.Timestamp.{Timestamp, IsShaped, Spells, HasDay, nanos_of, text_of}
-use Rattle.stix_times.specs.Reading.{IsExact}
+use Rattle.stix_times.specs.Timestamp.{Timestamp, IsShaped, HasDay, nanos_of, text_of}
 use Rattle.stix_times.specs.Writing.{IsCanonicalTextOf}
 use Rattle.stix_times.specs.Digits.{EndsInZero}
 use Rattle.match_generator.specs.GeneratedLog.{time_text, instant_after}
@@ -48,7 +47,7 @@ spelling : (seconds : ℕ) → time_text seconds ≡ text_of (parts_at seconds)
 unfolding time_text text_of
 spelling seconds = refl
 
-shaped : (seconds : ℕ) → seconds < 2_678_400 → IsShaped (parts_at seconds)
+shaped : (seconds : ℕ) → seconds < 31 * 86_400 → IsShaped (parts_at seconds)
 shaped seconds early = record {
   year = omega arith;
   month = (omega arith, omega arith);
@@ -59,7 +58,7 @@ shaped seconds early = record {
   fraction = λ k v l. absurd (omega arith);
 }
 
-has_day : (seconds : ℕ) → seconds < 2_678_400 → HasDay (parts_at seconds)
+has_day : (seconds : ℕ) → seconds < 31 * 86_400 → HasDay (parts_at seconds)
 has_day seconds early = omega arith
 
 nanos_at : (seconds : ℕ) → nanos_of (parts_at seconds) ≡ instant_after seconds
@@ -72,7 +71,7 @@ not_last (x ∷ front) e = cc
 no_zero : ¬ EndsInZero []
 no_zero p = not_last p.0 p.1
 
-pub canonical : (seconds : ℕ) → seconds < 2_678_400 → IsCanonicalTextOf (time_text seconds) (instant_after seconds)
+pub canonical : (seconds : ℕ) → seconds < 31 * 86_400 → IsCanonicalTextOf (time_text seconds) (instant_after seconds)
 canonical seconds early = (
   parts_at seconds,
   record { shaped = shaped seconds early; spelling = spelling seconds },

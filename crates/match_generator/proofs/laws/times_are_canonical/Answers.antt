@@ -1,5 +1,5 @@
-use Rattle.match_generator.proofs.TimeLemmas.{canonical}
-use Rattle.match_generator.proofs.laws.times_are_texts.Goals as goal
+use Rattle.match_generator.proofs.TimeTextLemmas.{canonical}
+use Rattle.match_generator.proofs.laws.times_are_canonical.Goals as goal
 
 pub returns-clause-canonical : goal.returns-clause-canonical
 returns-clause-canonical c = canonical

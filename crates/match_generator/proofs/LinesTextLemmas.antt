@@ -1,6 +1,6 @@
--- How long a line is, and how the bytes that are left of a log split into those of its line and the lines behind it.
-use Rattle.std.proofs.Common.{◌≡◌, ◌≢◌, ℕ, zero, suc, ◌+◌, ◌-◌, ◌%◌, ◌<◌, ◌≤◌, List, [], ◌∷◌, ◌++◌, length, take, drop, min, refl, sym, ap, ◌∙◌, arith}
-use Rattle.std.proofs.lemmas.List.{length-append, length-take-le, length-drop, take_at, take-append-le, drop-drop, drop-append-le, append_assoc}
+-- How long a line is, and how what is left of a log lies in a line and in the lines behind it.
+use Rattle.std.proofs.Common.{◌≡◌, ℕ, zero, suc, ◌+◌, ◌-◌, ◌%◌, ◌<◌, ◌≤◌, List, [], ◌∷◌, ◌++◌, length, take, drop, min, refl, sym, ap, ◌∙◌, arith}
+use Rattle.std.proofs.lemmas.List.{length-append, length-take-le, length-drop, take_at, take-append-le, drop-drop, drop-append-le}
 use Rattle.match_generator.specs.GeneratedLog.{next_state, drawn_number, events, time_text, line_text, lines_text}
 
 pub length-time_text : (seconds : ℕ) → length (time_text seconds) ≡ 20
