@@ -9,7 +9,5 @@ mod generator;
 pub mod laws;
 mod line;
 mod log;
-#[cfg(test)]
-mod tests;
 
 pub use log::{GeneratedLog, MAX_COUNT, MAX_SEED};

@@ -7,6 +7,8 @@ mod bindings;
 #[cfg(test)]
 mod failing_streams;
 #[cfg(test)]
+mod generated_log;
+#[cfg(test)]
 mod identifiers;
 #[cfg(test)]
 mod json;

@@ -1,4 +1,6 @@
-use crate::GeneratedLog;
+//! The generated log, of which `make` writes numbers alone.
+
+use match_generator::GeneratedLog;
 use flow_edges::Source;
 use std::test::Fail;
 
