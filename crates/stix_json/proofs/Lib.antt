@@ -7,3 +7,4 @@ pub mod ReadingLemmas
 pub mod DataOfLemmas
 pub mod EntriesLemmas
 pub mod FieldsLemmas
+mod SomeJsonLemmas
