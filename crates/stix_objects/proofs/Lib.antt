@@ -3,5 +3,6 @@ mod IdentifierLemmas
 mod ListLemmas
 mod JudgingLemmas
 mod BreaksLemmas
+mod SomeBreaksLemmas
 mod SoundLemmas
 mod AddingLemmas

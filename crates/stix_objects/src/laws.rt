@@ -19,6 +19,11 @@ pub fn one_list()
         → AreBreaksOf value second → first ≡ second }
 {}
 
+/// No value is without its list of breaks.
+pub fn some_list()
+    ensures { (value : Data) → ¬ ((breaks : List Break) → ¬ AreBreaksOf value breaks) }
+{}
+
 /// An object has at most one identifier.
 pub fn one_id()
     ensures { (object : Data) (first second : Id) → HasId object first → HasId object second → first ≡ second }
