@@ -3,3 +3,4 @@ pub mod LinesAheadLemmas
 pub mod HoldsLineLemmas
 pub mod AccountsForLemmas
 pub mod TakesAtMostLemmas
+pub mod WholeLinesLemmas

@@ -31,7 +31,7 @@ bytes_ahead-fed taken line chunk (Some bytes) = ap Some (ap (λ tail. line ++ ta
 
 -- ---- lines of whole bytes
 
-split-first : (bytes : List ℕ) → (first : List ℕ) × (later : List (List ℕ)) × (slice_split is_line_feed bytes ≡ first ∷ later)
+pub split-first : (bytes : List ℕ) → (first : List ℕ) × (later : List (List ℕ)) × (slice_split is_line_feed bytes ≡ first ∷ later)
 split-first [] = ([], [], refl)
 split-first (byte ∷ bytes) = go (is_line_feed byte) refl (split-first bytes)
   where

@@ -37,6 +37,10 @@ raw_lines_of (part ∷ next ∷ parts) = record { bytes = part; closed = true } 
 abbrev pub raw_lines : List ℕ → List RawLine
 raw_lines bytes = raw_lines_of (slice_split is_line_feed bytes)
 
+-- the bytes are whole lines: there are none, or a line feed stands last
+abbrev pub AreWholeLines : List ℕ → Type 0
+AreWholeLines bytes = (bytes ≡ []) ⊎ ((front : List ℕ) × (bytes ≡ front ++ 10 ∷ []))
+
 -- how many bytes a line takes in the input
 abbrev pub width : RawLine → ℕ
 width line = length line.bytes + (if line.closed then 1 else 0)

@@ -7,6 +7,7 @@
 
 mod chunk;
 mod cursor;
+pub mod laws;
 mod line;
 mod lines;
 mod raw_line;
