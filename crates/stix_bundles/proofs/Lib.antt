@@ -18,3 +18,7 @@ pub mod LastTimeLemmas
 pub mod OneObservationsLemmas
 pub mod OneBundleLemmas
 pub mod SpansLemmas
+pub mod SomeMeaningLemmas
+pub mod FirstOfLemmas
+pub mod SomeObservationsLemmas
+pub mod SomeBundleLemmas

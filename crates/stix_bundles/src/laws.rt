@@ -1,17 +1,17 @@
 //! What follows from the definitions: the contracts are the laws, and the functions do nothing.
 
-ghost use Rattle.std.specs.Prelude.{◌≡◌, ℕ, ℤ, List, [], Option, None, slice_get, Some, All, ◌≤ℤ◌};
+ghost use Rattle.std.specs.Prelude.{◌≡◌, ◌⊎◌, ℕ, ℤ, List, [], Option, None, slice_get, Some, All, ◌≤ℤ◌};
 ghost use Rattle.serde_json.specs.Data.{Data};
 ghost use Rattle.stix_ids.specs.declared.id.Id.{Id};
 ghost use Rattle.stix_ids.specs.Identifier.{IsTextOf};
 ghost use Rattle.stix_bundles.specs.declared.refusal.BundleRefusal.{BundleRefusal};
 ghost use Rattle.stix_bundles.specs.Bundle.{AreAllBreaks, IsBundle, IsBundleRefused};
 ghost use Rattle.stix_bundles.specs.declared.observation.Observation.{Observation};
-ghost use Rattle.stix_bundles.specs.Observations.{AreObservations};
+ghost use Rattle.stix_bundles.specs.Observations.{AreObservations, NoneEmbeds, IsFirstEmbedding};
 ghost use Rattle.stix_bundles.specs.Lookup.{IsModified, IsOf, Means};
 
 use stix_ids::laws::one_identifier;
-use stix_objects::laws::{no_breaks, one_id, one_list, one_timestamp};
+use stix_objects::laws::{no_breaks, one_id, one_list, one_timestamp, some_list};
 
 /// An object was modified at one time or at none.
 pub fn one_modified()
@@ -33,6 +33,28 @@ pub fn one_meaning()
 {
     one_identifier();
     one_modified();
+}
+
+/// No text is without a place that it means, or none.
+pub fn some_meaning()
+    ensures { (objects : List Data) (text : List ℕ) → ¬ ((meant : Option ℕ) → ¬ Means objects text meant) }
+{
+    one_identifier();
+    one_modified();
+}
+
+/// Objects have a first that is an observed-data which holds its objects itself, or none.
+pub fn first_embedding_or_none()
+    ensures { (objects : List Data) → NoneEmbeds objects ⊎ ((at : ℕ) × IsFirstEmbedding objects at) }
+{}
+
+/// Where no object breaks a rule, the objects aren't without observations, from any first number on.
+pub fn some_observations()
+    ensures { (objects : List Data) (number : ℕ) → AreAllBreaks 0 objects []
+        → ¬ ((observations : List Observation) → ¬ AreObservations objects number observations) }
+{
+    no_breaks();
+    some_meaning();
 }
 
 /// Objects have one list of observations from a first number on.
@@ -62,4 +84,12 @@ pub fn one_reading()
     ensures either { (value : Data) (objects : List Data) (refusal : BundleRefusal) → IsBundle value objects → ¬ IsBundleRefused value refusal }
 {
     one_list();
+}
+
+/// No value is neither a bundle nor refused.
+pub fn bundle_or_refusal()
+    ensures { (value : Data) → ¬ (((objects : List Data) → ¬ IsBundle value objects)
+        × ((refusal : BundleRefusal) → ¬ IsBundleRefused value refusal)) }
+{
+    some_list();
 }
