@@ -81,9 +81,12 @@ embeds_told d = elim (observed_told d) [
 -- objects have a first that embeds, or none
 pub first_embedding : (objects : List Data) → NoneEmbeds objects ⊎ ((at : ℕ) × IsFirstEmbedding objects at)
 first_embedding objects = elim (first_or_none Embeds embeds_told objects) [
-  | inl (at, first) ↦ inr (at, record {
-    embeds = record { object = first.object; there = first.there; embeds = first.holds };
-    before = λ n less is. first.before n is.object less is.there is.embeds;
-  })
+  | inl (at, first) ↦ inr (
+    at,
+    record {
+      embeds = record { object = first.object; there = first.there; embeds = first.holds };
+      before = λ n less is. first.before n is.object less is.there is.embeds;
+    },
+  )
   | inr none ↦ inl (λ at is. none at is.object is.there is.embeds)
 ]

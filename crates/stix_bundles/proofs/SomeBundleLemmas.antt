@@ -1,6 +1,5 @@
 -- No value is neither a bundle nor refused: each condition in turn holds, or the path to it is the refusal.
-use Rattle.std.proofs.Common.{◌≡◌, ◌≢◌, ◌⊎◌, inl, inr, ℕ, ◌+◌, List, [], ◌∷◌, ◌++◌, map, All, codes, refl}
-use Rattle.std.proofs.lemmas.List.Elements.{All-nil, All-cons}
+use Rattle.std.proofs.Common.{◌⊎◌, inl, inr, ℕ, ◌+◌, List, [], ◌∷◌, ◌++◌, map, All, codes, refl}
 use Rattle.serde_json.specs.Data.{Data}
 use Rattle.stix_json.specs.Walk.{path_text, place_part}
 use Rattle.stix_objects.specs.declared.rule_break.Break.{Break}
@@ -9,8 +8,8 @@ use Rattle.stix_bundles.specs.declared.object_break.ObjectBreak.{ObjectBreak}
 use Rattle.stix_bundles.specs.declared.refusal.BundleRefusal.{BundleRefusal}
 use Rattle.stix_bundles.specs.declared.refusal.BundleRefusal.TheVariants.{NotBundle, Breaks}
 use Rattle.stix_bundles.specs.Bundle.{IsObject, IsTyped, IsIdentified, HasObjects, IsOutlined, IsFirstNoObject, FailsAt, break_of_object, AreAllBreaks, IsBundle, IsBundleRefused}
-use Rattle.stix_bundles.proofs.ObjectsLemmas.{HoldsBefore, holds_all}
-use Rattle.stix_bundles.proofs.FirstOfLemmas.{IsFirstOf, first_or_none, object_told, no_object_told}
+use Rattle.stix_bundles.proofs.ObjectsLemmas.{holds_all}
+use Rattle.stix_bundles.proofs.FirstOfLemmas.{first_or_none, object_told, no_object_told}
 
 -- no value is without its list of breaks
 abbrev pub SomeList : Type 0
@@ -28,12 +27,15 @@ an_object d is = elim (object_told d) [ inl object ↦ object | inr not ↦ absu
 -- all are objects, or there is a first that is none
 all_objects : (ds : List Data) → All IsObject ds ⊎ ((at : ℕ) × IsFirstNoObject ds at)
 all_objects ds = elim (first_or_none (λ (d : Data). ¬ IsObject d) no_object_told ds) [
-  | inl (at, first) ↦ inr (at, record {
-    member = first.object;
-    there = first.there;
-    no_object = first.holds;
-    before = λ n other less there. an_object other (first.before n other less there);
-  })
+  | inl (at, first) ↦ inr (
+    at,
+    record {
+      member = first.object;
+      there = first.there;
+      no_object = first.holds;
+      before = λ n other less there. an_object other (first.before n other less there);
+    },
+  )
   | inr none ↦ inl (holds_all IsObject ds (λ n other less there. an_object other (none n other there)))
 ]
 
@@ -62,8 +64,15 @@ by_members some d neither object typed identified objects has (inr (at, first)) 
 
 not_identified : SomeList → (d : Data) → IsNeither d → IsObject d → IsTyped d → ¬ IsIdentified d
 not_identified some d neither object typed identified =
-    fails_nowhere d neither (codes "objects" ∷ []) (object, inr (inr (refl, typed, identified,
-    (λ objects has. by_members some d neither object typed identified objects has (all_objects objects)))))
+    fails_nowhere d neither (codes "objects" ∷ []) (
+      object,
+      inr (inr (
+        refl,
+        typed,
+        identified,
+        (λ objects has. by_members some d neither object typed identified objects has (all_objects objects)),
+      )),
+    )
 
 not_typed : SomeList → (d : Data) → IsNeither d → IsObject d → ¬ IsTyped d
 not_typed some d neither object typed =

@@ -1,10 +1,9 @@
 -- No text is without a place that it means, or none: an object more at a time, the latest version stays or is the new one.
-use Rattle.std.proofs.Common.{arith, ◌≡◌, ℕ, zero, suc, ◌+◌, ◌<◌, ◌≤◌, ℤ, List, [], length, take, get_or, slice_get, Option, Some, None, refl, subst}
+use Rattle.std.proofs.Common.{arith, ◌≡◌, ℕ, zero, suc, ◌+◌, ◌<◌, ◌≤◌, ℤ, List, length, take, get_or, slice_get, Option, Some, None, subst}
 use Rattle.std.proofs.Math.Seq.{take-length}
 use Rattle.std.proofs.lemmas.Option.{slice_get-get_or}
 use Rattle.serde_json.specs.Data.{Data, null}
 use Rattle.stix_ids.specs.declared.id.Id.{Id}
-use Rattle.stix_ids.specs.Identifier.{IsTextOf}
 use Rattle.stix_objects.specs.Properties.{HasId}
 use Rattle.stix_bundles.specs.Lookup.{IsModified, Means}
 use Rattle.stix_bundles.specs.inner.Index.{Overtakes, IsPositionOf}

@@ -1,4 +1,5 @@
 //! What follows from the definitions: the contracts are the laws, and the functions do nothing.
+//! That there is one is said as: not every one fails.
 
 ghost use Rattle.std.specs.Prelude.{◌≡◌, ◌⊎◌, ℕ, ℤ, List, [], Option, None, slice_get, Some, All, ◌≤ℤ◌};
 ghost use Rattle.serde_json.specs.Data.{Data};
@@ -35,7 +36,7 @@ pub fn one_meaning()
     one_modified();
 }
 
-/// No text is without a place that it means, or none.
+/// No text is without a meaning: a place, or none.
 pub fn some_meaning()
     ensures { (objects : List Data) (text : List ℕ) → ¬ ((meant : Option ℕ) → ¬ Means objects text meant) }
 {
@@ -43,12 +44,12 @@ pub fn some_meaning()
     one_modified();
 }
 
-/// Objects have a first that is an observed-data which holds its objects itself, or none.
+/// Of any objects there is a first observed-data that holds its objects itself, or none does.
 pub fn first_embedding_or_none()
     ensures { (objects : List Data) → NoneEmbeds objects ⊎ ((at : ℕ) × IsFirstEmbedding objects at) }
 {}
 
-/// Where no object breaks a rule, the objects aren't without observations, from any first number on.
+/// Objects of which none breaks a rule aren't without a list of observations, from any first number on.
 pub fn some_observations()
     ensures { (objects : List Data) (number : ℕ) → AreAllBreaks 0 objects []
         → ¬ ((observations : List Observation) → ¬ AreObservations objects number observations) }

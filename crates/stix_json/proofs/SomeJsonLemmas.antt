@@ -183,8 +183,7 @@ mutual
   some_members (member k d ms) signed good =
       let parts = option_or_none (option_map (flaw_under k) (first_flaw d)) (members_flaw ms) good in
       let first = some_json d signed.0 (option_map_none (flaw_under k) (first_flaw d) parts.0) in
-      let rest = some_members ms signed.1 parts.1 in
-      (
+      let rest = some_members ms signed.1 parts.1 in (
         roll-Field (record { name = k; value = first.0 }) ∷ rest.0,
         ap (λ (m : Member). member m.name m.value (members_of (map field_data rest.0))) (same_member {name = k} {bytes = k} first.0 refl first.1) ∙ ap (member k d) rest.1,
       )

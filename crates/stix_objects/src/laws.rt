@@ -1,4 +1,5 @@
 //! What follows from the definitions: the contracts are the laws, and the functions do nothing.
+//! That there is one is said as: not every one fails.
 
 ghost use Rattle.std.specs.Prelude.{◌≡◌, ℕ, ℤ, List, [], Some, codes};
 ghost use Rattle.serde_json.specs.Data.{Data};
