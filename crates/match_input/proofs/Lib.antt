@@ -1,2 +1,4 @@
 pub mod InputRefusalTextLemmas
 pub mod OneReadingLemmas
+pub mod GoesOnLemmas
+pub mod SomeReadingLemmas

@@ -1,14 +1,32 @@
 //! What follows from the definitions: the contracts are the laws, and the functions do nothing.
+//! That there is one is said as: not every one fails.
 
-ghost use Rattle.std.specs.Prelude.{◌≡◌, ℕ, ◌+◌, ℤ, List, ◌∷◌, length, Option};
+ghost use Rattle.std.specs.Prelude.{◌≡◌, ℕ, ◌+◌, ℤ, List, ◌∷◌, ◌++◌, length, Option};
 ghost use Rattle.serde_json.specs.Data.{Data};
-ghost use Rattle.flow_lines.specs.Lines.{Lined, line_then};
+ghost use Rattle.flow_lines.specs.Lines.{Lined, line_then, AreWholeLines};
 ghost use Rattle.stix_bundles.specs.declared.observation.Observation.{Observation};
 ghost use Rattle.match_input.specs.declared.mode.Mode.{Mode};
+ghost use Rattle.match_input.specs.declared.mode.Mode.TheVariants.{Lines};
+ghost use Rattle.match_input.specs.declared.rule.InputRule.{InputRule};
 ghost use Rattle.match_input.specs.Line.{IsBundleLine, last_after};
-ghost use Rattle.match_input.specs.Reading.{BundleOf, InputEnd, Reads, Reading};
+ghost use Rattle.match_input.specs.Reading.{BundleOf, InputEnd, Whole, Refused, Reads, Reading};
 
-use stix_bundles::laws::{one_list_of_observations, one_reading as one_bundle};
+use flow_lines::laws::lines_go_on;
+use stix_bundles::laws::{
+    bundle_or_refusal, first_embedding_or_none, one_list_of_observations,
+    one_reading as one_bundle, some_observations,
+};
+use stix_json::laws::value_or_refusal;
+
+/// No input is without a reading.
+pub fn some_reading()
+    ensures { (mode : Mode) (bytes : List ℕ) → ¬ ((bundles : List BundleOf) (end : InputEnd) → ¬ Reading mode bytes bundles end) }
+{
+    value_or_refusal();
+    bundle_or_refusal();
+    first_embedding_or_none();
+    some_observations();
+}
 
 /// An input is read in one way: its bytes have one list of bundles with their observations, and one end. So a
 /// line is refused exactly where it is said to be, for one cause.
@@ -29,4 +47,16 @@ pub fn goes_on()
 {
     one_bundle();
     one_list_of_observations();
+}
+
+/// The reading of a beginning that ends at a line feed begins the reading of the whole: its bundles stand first, and the
+/// refusal of one of its lines is the refusal of the whole.
+pub fn readings_go_on()
+    ensures whole { (bytes more : List ℕ) (bundles all : List BundleOf) (end : InputEnd) → AreWholeLines bytes → Reading Lines bytes bundles Whole
+        → Reading Lines (bytes ++ more) all end → (rest : List BundleOf) × (all ≡ bundles ++ rest) }
+    ensures refused { (bytes more : List ℕ) (bundles : List BundleOf) (line : ℕ) (why : InputRule) → AreWholeLines bytes
+        → Reading Lines bytes bundles (Refused line why) → Reading Lines (bytes ++ more) bundles (Refused line why) }
+{
+    lines_go_on();
+    goes_on();
 }
