@@ -1,8 +1,7 @@
 -- An input is read in one way.
-use Rattle.std.proofs.Common.{◌≡◌, ◌≢◌, ◌⊎◌, inl, inr, ℕ, zero, suc, ◌+◌, ◌<◌, ℤ, ◌≤ℤ◌, ◌<ℤ◌, List, [], ◌∷◌, length, Option, Some, None, refl, sym, ap, subst, ◌∙◌, arith}
+use Rattle.std.proofs.Common.{◌≡◌, ◌≢◌, ◌⊎◌, inl, inr, ℕ, zero, suc, ◌+◌, ◌<◌, ℤ, List, [], ◌∷◌, length, Option, Some, None, refl, sym, ap, subst, ◌∙◌, arith}
 use Rattle.std.proofs.lemmas.Int.{ints}
 use Rattle.serde_json.specs.Data.{Data}
-use Rattle.serde_json.specs.Read.{read}
 use Rattle.flow_lines.specs.Lines.{Lined, ended, refused, line_then}
 use Rattle.flow_lines.specs.declared.refusal.LineRefusal.{LineRefusal}
 use Rattle.flow_lines.specs.declared.refusal.LineRefusal.TheVariants as length_refusal
@@ -19,7 +18,7 @@ use Rattle.stix_bundles.specs.Observations.{NoneEmbeds, IsFirstEmbedding, AreObs
 use Rattle.match_input.specs.declared.rule.InputRule.{InputRule}
 use Rattle.match_input.specs.declared.rule.InputRule.TheVariants as rule
 use Rattle.match_input.specs.Line.{IsTextOf, IsInOrder, IsBehind, last_after, IsBundleLine, IsNoBundle, IsEmbedded, IsOutOfOrder, IsRefusedFor}
-use Rattle.match_input.specs.Reading.{BundleOf, InputEnd, Whole, Refused, IsTooLong, IsRefusedAt, Reads, at_end, at_refusal, one_bundle}
+use Rattle.match_input.specs.Reading.{BundleOf, InputEnd, Refused, IsTooLong, IsRefusedAt, Reads, at_end, at_refusal, one_bundle}
 
 -- the laws of bundles and of their observations
 pub record Laws : Type 0 where

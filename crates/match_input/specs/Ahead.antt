@@ -1,11 +1,9 @@
 -- Where a reader of bundles stands, and what its answers say of the lines that come yet.
-use Rattle.std.specs.Prelude.{◌≡◌, ⊤, ℕ, ◌+◌, ◌*◌, ◌<◌, ◌≤◌, ℤ, List, length, Result, Ok, Err, Option, Some, None, option_map, IfSome}
+use Rattle.std.specs.Prelude.{◌≡◌, ⊤, ℕ, ◌+◌, ◌<◌, ◌≤◌, ℤ, List, length, Result, Ok, Err, Option, Some, None, option_map, IfSome}
 use Rattle.flow_edges.specs.declared.source.TheConstants.{MAX_READ}
 use Rattle.flow_edges.specs.Flow.{IsAtEnd, TakesAtMost}
-use Rattle.flow_lines.specs.Lines.{Lined, ended, refused, line_then, LinesState, lines_start, lines_ahead, GoesOnAccounting, KeepsLines, HoldsLine}
-use Rattle.flow_lines.specs.declared.line.Line.{Line}
+use Rattle.flow_lines.specs.Lines.{Lined, ended, line_then, LinesState, lines_start, lines_ahead, GoesOnAccounting, KeepsLines, HoldsLine}
 use Rattle.flow_lines.specs.declared.refusal.TheConstants.{MAX_LINE, MAX_INPUT}
-use Rattle.flow_lines.specs.declared.refusal.LineRefusal.{LineRefusal}
 use Rattle.flow_lines.specs.declared.whole_input.TheConstants.{MAX_WHOLE_INPUT}
 use Rattle.stix_bundles.specs.Objects.{data_in}
 use Rattle.match_input.specs.declared.mode.Mode.{Mode}
@@ -17,7 +15,7 @@ use Rattle.match_input.specs.declared.read_end.ReadEnd.TheVariants.{Input, ReadF
 use Rattle.match_input.specs.declared.stage.Stage.{Stage}
 use Rattle.match_input.specs.declared.stage.Stage.TheVariants.{Lines, Whole, AtEnd, Ended}
 use Rattle.match_input.specs.Line.{IsBundleLine, last_after}
-use Rattle.match_input.specs.Reading.{one_line, IsTooLong, IsRefusedAt}
+use Rattle.match_input.specs.Reading.{one_line, IsRefusedAt}
 
 -- how far the input is read, how many observations were given, and when the last of them was last observed
 pub record ReaderState : Type 0 where

@@ -1,5 +1,5 @@
 -- What an input is read as, whole: its bundles with their observations up to the first line that is refused, and why that is.
-use Rattle.std.specs.Prelude.{◌≡◌, ⊤, ℕ, ◌+◌, ℤ, List, [], ◌∷◌, length, nat_lt, if◌then◌else◌, Option, None, IfSome}
+use Rattle.std.specs.Prelude.{◌≡◌, ℕ, ◌+◌, ℤ, List, [], ◌∷◌, length, nat_lt, if◌then◌else◌, Option, None}
 use Rattle.serde_json.specs.Data.{Data}
 use Rattle.flow_lines.specs.Lines.{Lined, ended, refused, line_then, lines_of}
 use Rattle.flow_lines.specs.declared.refusal.LineRefusal.{LineRefusal}

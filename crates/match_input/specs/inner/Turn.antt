@@ -1,6 +1,6 @@
 -- For private clauses: what taking the next line says of the lines that come yet, before the line is judged.
 use Rattle.std.specs.Prelude.{◌≡◌, ⊤, ℕ, ◌*◌, ◌≤◌, List, Result, Ok, Err, Option, Some, None, option_map, IfSome}
-use Rattle.flow_lines.specs.Lines.{Lined, refused, line_then}
+use Rattle.flow_lines.specs.Lines.{refused, line_then}
 use Rattle.flow_lines.specs.declared.line.Line.{Line}
 use Rattle.flow_lines.specs.declared.refusal.LineRefusal.{LineRefusal}
 use Rattle.flow_lines.specs.declared.refusal.LineRefusal.TheVariants as refusal

@@ -1,4 +1,4 @@
-use Rattle.match_input.proofs.OneReadingLemmas.{Laws, goes_on}
+use Rattle.match_input.proofs.OneReadingLemmas.{goes_on}
 use Rattle.match_input.proofs.laws.goes_on.Goals as goal
 
 pub returns : goal.returns

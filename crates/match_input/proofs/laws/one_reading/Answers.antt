@@ -1,6 +1,6 @@
 use Rattle.std.proofs.Common.{None}
 use Rattle.match_input.specs.Reading.{lines_in}
-use Rattle.match_input.proofs.OneReadingLemmas.{Laws, one_reads}
+use Rattle.match_input.proofs.OneReadingLemmas.{one_reads}
 use Rattle.match_input.proofs.laws.one_reading.Goals as goal
 
 pub returns : goal.returns
