@@ -1,7 +1,7 @@
 ghost use Rattle.std.specs.Prelude.{◌≡◌, ◌+◌, ◌++◌, ◌≤ℤ◌, List, map, OnOk, IfErr};
-ghost use Rattle.stix_bundles.specs.Objects.{data_in};
+ghost use Rattle.serde_json.specs.Data.{Data};
 ghost use Rattle.pattern_types.specs.PlainPattern.{plain_pattern};
-ghost use Rattle.pattern_types.specs.Soundness.{IsSoundPattern};
+ghost use Rattle.match_tests.specs.Truths.{AreTruths};
 ghost use Rattle.match_bindings.specs.declared.log_entry.LogEntry.{LogEntry};
 ghost use Rattle.match_bindings.specs.BindTree.{BindTree, tree_of};
 ghost use Rattle.match_live.specs.MatcherState.{Falls};
@@ -15,38 +15,38 @@ use crate::tally::Tally;
 use flow_values::{NoMemory, Text};
 use match_bindings::{Bind, line_of};
 use match_live::{Ending, MatchRefusal, Matcher};
-use match_tests::leaf_truths;
 use std::alloc::Global;
-use stix_bundles::{Bundle, Observation};
+use stix_bundles::Observation;
 
-/// Gives an observation to the matcher, and adds the lines of the bindings that end there.
+/// Gives an observation to the matcher, for which these truths of the brackets were found, and adds the lines of the
+/// bindings that end there.
 pub(crate) fn answer(
     alloc: Global,
     matcher: &mut Matcher<'_>,
-    bundle: &Bundle,
     observation: &Observation,
+    truths: &[bool],
     tally: &mut Tally,
     text: &mut Text,
 ) -> Result<(), MatchEnd>
-    requires sound { IsSoundPattern (plain_pattern (pattern_of matcher.old)) }
     requires behind { IsBehindSome (pattern_of matcher.old) (matcher_state matcher.old).cap (matcher_state matcher.old) tally.old }
     requires span { observation.now.first ≤ℤ observation.now.last }
     requires number { observation.now.number ≡ (matcher_state matcher.old).rows + 1 }
     requires order { ¬ (Falls (matcher_state matcher.old).last observation.now.last) }
-    ensures row { (log : List LogEntry) (answers : List (List BindTree))
+    ensures row { (objects : List Data) (log : List LogEntry) (answers : List (List BindTree))
+        → AreTruths objects observation.now.roots (plain_pattern (pattern_of matcher.old)) truths.now
         → IsBehind (pattern_of matcher.old) (matcher_state matcher.old).cap (matcher_state matcher.old) tally.old log answers
-        → OnOk result (AddsRow (pattern_of matcher.old) (matcher_state matcher.old).cap (data_in bundle.now) observation.now log answers
+        → OnOk result (AddsRow (pattern_of matcher.old) (matcher_state matcher.old).cap objects observation.now log answers
         (matcher_state matcher.new) tally.new text.old text.new) }
-    ensures end { (log : List LogEntry) (answers : List (List BindTree))
+    ensures end { (objects : List Data) (log : List LogEntry) (answers : List (List BindTree))
+        → AreTruths objects observation.now.roots (plain_pattern (pattern_of matcher.old)) truths.now
         → IsBehind (pattern_of matcher.old) (matcher_state matcher.old).cap (matcher_state matcher.old) tally.old log answers
-        → IfErr result (EndsAtRow (pattern_of matcher.old) (matcher_state matcher.old).cap (data_in bundle.now) observation.now log
+        → IfErr result (EndsAtRow (pattern_of matcher.old) (matcher_state matcher.old).cap objects observation.now log
         (matcher_state matcher.new) text.old text.new) }
     ensures pattern { pattern_of matcher.new ≡ pattern_of matcher.old }
     ensures cap { (matcher_state matcher.new).cap ≡ (matcher_state matcher.old).cap }
 {
     let number = observation.number;
-    let truths = leaf_truths(alloc, matcher.pattern(), observation, bundle)?;
-    match matcher.take(observation.first, observation.last, truths.as_slice()) {
+    match matcher.take(observation.first, observation.last, truths) {
         Ok(binds) => {
             add_lines(alloc, binds.as_slice(), text)?;
             tally.count(number, binds.len());

@@ -15,6 +15,7 @@ use flow_edges::{Sink, write_whole};
 use flow_values::Text;
 use match_input::Batch;
 use match_live::Matcher;
+use match_tests::leaf_truths;
 use std::alloc::Global;
 
 /// Gives the observations of a bundle to the matcher, and writes the lines of the bindings that end there, all
@@ -84,8 +85,11 @@ fn answer_all(
     ensures pattern { pattern_of matcher.new ≡ pattern_of matcher.old }
     ensures cap { (matcher_state matcher.new).cap ≡ (matcher_state matcher.old).cap }
 {
-    for observation in batch.observations.as_slice() {
-        match answer(alloc, matcher, &batch.bundle, observation, tally, text) {
+    let observations = batch.observations.as_slice();
+    let truths = leaf_truths(alloc, matcher.pattern(), observations, &batch.bundle)?;
+    let rows = truths.as_slice();
+    for at in 0..observations.len() {
+        match answer(alloc, matcher, &observations[at], rows[at].as_slice(), tally, text) {
             Ok(()) => {}
             Err(end) => return Err(end),
         }

@@ -4,4 +4,8 @@ pub mod BlockLemmas
 pub mod MetLemmas
 pub mod LeavesLemmas
 pub mod SearchLemmas
-pub mod DeadEndsLemmas
+pub mod PlacesLemmas
+pub mod ContainsLemmas
+pub mod SplitsLemmas
+pub mod ColumnsLemmas
+pub mod RootsLemmas

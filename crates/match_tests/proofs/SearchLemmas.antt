@@ -1,6 +1,7 @@
--- What the steps of a path reach that a fact holds of, step by step, and the objects from which they reach nothing.
-use Rattle.std.proofs.Common.{arith, lit<, ◌≡◌, ◌↔◌, ◌⊎◌, inl, inr, ℕ, zero, suc, ◌<◌, ◌-◌, ◌+◌, List, [], ◌∷◌, ◌++◌, length, drop, get_or, All, Bool, IsTrue, Option, Some, None, Result, Ok, Err, IfOk, slice_get, append_assoc, sym, ap, subst, ◌∙◌, refl}
+-- What the steps of a path reach that a fact holds of, step by step, and what is found out of the objects on the way.
+use Rattle.std.proofs.Common.{arith, lit<, ◌≡◌, ◌↔◌, ◌⊎◌, inl, inr, ℕ, zero, suc, ◌<◌, ◌-◌, ◌+◌, List, [], ◌∷◌, ◌++◌, length, drop, get_or, All, Bool, true, false, IsTrue, Option, Some, None, Result, Ok, Err, IfOk, slice_get, append_assoc, sym, ap, subst, ◌∙◌, refl}
 use Rattle.std.specs.Prelude.{Contains}
+use Rattle.std.proofs.lemmas.Bool.{false≢true}
 use Rattle.std.proofs.lemmas.Option.{same_Some}
 use Rattle.std.proofs.lemmas.List.{length-append, drop_at}
 use Rattle.std.proofs.lemmas.List.Elements.{Contains-append_left, Contains-append_right, Contains-append_cases, All-contains}
@@ -12,9 +13,9 @@ use Rattle.stix_bundles.specs.Objects.{data_in}
 use Rattle.pattern_types.specs.declared.path.Step.{Step}
 use Rattle.match_paths.specs.Selection.{StepReaches, last_name, Reaches}
 use Rattle.match_tests.specs.declared.search.Search.{Search}
-use Rattle.match_tests.specs.declared.dead_ends.DeadEnds.{DeadEnds}
-use Rattle.match_tests.specs.inner.DeadEnds.{Has}
-use Rattle.match_tests.specs.inner.Search.{IsWanted, Finds, SomeFinds, FindsAt, AreLast, AreDeadEnds}
+use Rattle.match_tests.specs.declared.findings.Findings.{Findings}
+use Rattle.match_tests.specs.inner.Places.{Has}
+use Rattle.match_tests.specs.inner.Search.{IsWanted, Finds, SomeFinds, FindsAt, AreLast, AreRight}
 
 -- the steps reach a value that the fact holds of
 abbrev pub From : List Data → (Data → Type 0) → Option (List ℕ) → List Step → Data → Type 0
@@ -56,17 +57,36 @@ same_last : (search : Search) (steps others : List Step) → AreLast search step
 same_last search steps others last also count =
     sym (same_end search.steps.now last.0 steps (length others) last.1 count) ∙ same_end search.steps.now also.0 others (length others) also.1 refl
 
--- one more dead end
-pub one_more_end : (search : Search) (old new : DeadEnds) (step : Step) (rest : List Step) (at : ℕ) → AreDeadEnds search old → AreLast search (step ∷ rest)
-    → ¬ FindsAt search (step ∷ rest) at → ((count place : ℕ) → Has new count place ↔ (Has old count place ⊎ ((count ≡ length rest) × (place ≡ at))))
-    → AreDeadEnds search new
-one_more_end search old new step rest at dead last without added = λ other others place also has finds.
-    elim ((added (length others) place).0 has) [
-      | inl before ↦ dead other others place also before finds
-      | inr now ↦
-          let same = same_last search (other ∷ others) (step ∷ rest) also last (ap suc now.0) in
-          without (subst (FindsAt search (step ∷ rest)) now.1 (subst (λ (steps : List Step). FindsAt search steps place) same finds))
-    ]
+-- one finding more
+pub one_more : (search : Search) (old new : Findings) (step : Step) (rest : List Step) (at : ℕ) (found : Bool) → AreRight search old
+    → AreLast search (step ∷ rest) → IsTrue found ↔ FindsAt search (step ∷ rest) at
+    → ((count place : ℕ) → Has new.live count place → (Has old.live count place ⊎ ((found ≡ true) × (count ≡ length rest) × (place ≡ at))))
+    → ((count place : ℕ) → Has new.dead count place → (Has old.dead count place ⊎ ((found ≡ false) × (count ≡ length rest) × (place ≡ at))))
+    → AreRight search new
+one_more search old new step rest at found right last exact lives dies =
+    let here = λ (other : Step) (others : List Step) (also : AreLast search (other ∷ others)) (count : length others ≡ length rest).
+    same_last search (other ∷ others) (step ∷ rest) also last (ap suc count) in record {
+      dead = λ other others place also has finds. elim (dies (length others) place has) [
+        | inl before ↦ right.dead other others place also before finds
+        | inr now ↦
+            let there = subst (FindsAt search (step ∷ rest)) now.2 (subst (λ (steps : List Step). FindsAt search steps place) (here other others also now.1) finds) in
+            absurd (false≢true (sym now.0 ∙ exact.1 there))
+      ];
+      live = λ other others place also has. elim (lives (length others) place has) [
+        | inl before ↦ right.live other others place also before
+        | inr now ↦
+            subst (λ (steps : List Step). FindsAt search steps place) (sym (here other others also now.1))
+            (subst (FindsAt search (step ∷ rest)) (sym now.2) (exact.0 now.0))
+      ];
+    }
+
+-- an answer that is known is right
+pub known_right : (search : Search) (findings : Findings) (step : Step) (rest : List Step) (at : ℕ) (found : Bool) → AreRight search findings
+    → AreLast search (step ∷ rest) → (found ≡ true → Has findings.live (length rest) at) → (found ≡ false → Has findings.dead (length rest) at)
+    → IsTrue found ↔ FindsAt search (step ∷ rest) at
+known_right search findings step rest at true right last live dead = (λ yes. right.live step rest at last (live refl), λ finds. refl)
+known_right search findings step rest at false right last live dead =
+    (λ yes. absurd (false≢true yes), λ finds. absurd (right.dead step rest at last (dead refl) finds))
 
 one_item : {A : Type 0} (x y : A) (k : ℕ) → k < 1 → get_or (x ∷ []) k y ≡ y → x ≡ y
 one_item x y zero below is = is

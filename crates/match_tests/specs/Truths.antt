@@ -1,12 +1,14 @@
 -- The truths of a pattern's brackets for an observation (STIX 2.1, section 9.5).
 use Rattle.std.specs.Prelude.{◌≡◌, ◌↔◌, ℕ, Bool, IsTrue, List, [], ◌∷◌, ◌++◌}
+use Rattle.std.specs.List.{AllZip}
 use Rattle.serde_json.specs.Data.{Data}
+use Rattle.stix_bundles.specs.declared.observation.Observation.{Observation}
 use Rattle.pattern_types.specs.PlainPattern.{PlainPattern, a_leaf, a_both, an_either, a_then, a_limited}
 use Rattle.match_tests.specs.Tests.{LeafHolds}
 
 -- those of the left side, and then those of the right
-abbrev pub AreOfBoth : (List Bool → Type 0) → (List Bool → Type 0) → List Bool → Type 0
-AreOfBoth AreLeft AreRight truths = (lefts rights : List Bool) × AreLeft lefts × AreRight rights × (truths ≡ lefts ++ rights)
+abbrev pub AreOfBoth : {A : Type 0} → (List A → Type 0) → (List A → Type 0) → List A → Type 0
+AreOfBoth {A} AreLeft AreRight truths = (lefts rights : List A) × AreLeft lefts × AreRight rights × (truths ≡ lefts ++ rights)
 
 -- one truth for each leaf of a pattern, from left to right
 abbrev pub AreTruths : List Data → List ℕ → PlainPattern → List Bool → Type 0
@@ -16,6 +18,7 @@ AreTruths objects roots (an_either left right) truths = AreOfBoth (AreTruths obj
 AreTruths objects roots (a_then left right) truths = AreOfBoth (AreTruths objects roots left) (AreTruths objects roots right) truths
 AreTruths objects roots (a_limited part limit) truths = AreTruths objects roots part truths
 
--- truths of which the fact holds are added at the end
-abbrev pub Adds : (List Bool → Type 0) → List Bool → List Bool → Type 0
-Adds Fact old new = (own : List Bool) × Fact own × (new ≡ old ++ own)
+-- for each observation, in turn, the truths of the pattern
+abbrev pub AreTruthsOfEach : List Data → List Observation → PlainPattern → List (List Bool) → Type 0
+AreTruthsOfEach objects observations pattern truths =
+    AllZip (λ (observation : Observation) (own : List Bool). AreTruths objects observation.roots pattern own) observations truths

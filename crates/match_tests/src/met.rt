@@ -1,18 +1,18 @@
-ghost use Rattle.std.specs.Prelude.{◌↔◌, None, IfOk, IsTrue};
+ghost use Rattle.std.specs.Prelude.{◌↔◌, None, IfOk, OnOk, IsTrue};
 ghost use Rattle.serde_json.specs.Data.{Data};
 ghost use Rattle.stix_json.specs.DataOf.{data_of};
 ghost use Rattle.stix_json.specs.Ordered.{IsOrdered};
 ghost use Rattle.stix_bundles.specs.Objects.{data_in};
 ghost use Rattle.pattern_types.specs.Soundness.{IsSoundTest};
 ghost use Rattle.match_paths.specs.Selection.{Reaches};
-ghost use Rattle.match_tests.specs.Tests.{TestHolds, IsAbsence, Turned, Meets, last_of};
+ghost use Rattle.match_tests.specs.Tests.{TestHolds, Turned, Meets, last_of};
+ghost use Rattle.match_tests.specs.inner.Search.{AreRight, IsSearchOf};
 
-use crate::dead_ends::DeadEnds;
-use crate::last::last_name;
-use crate::search::{Search, finds};
+use crate::findings::Findings;
+use crate::search::{Search, finds, is_absence};
 use flow_values::NoMemory;
 use match_paths::root_of;
-use pattern_types::{Check, Step, Test};
+use pattern_types::Test;
 use std::alloc::Global;
 use stix_bundles::Bundle;
 use stix_json::Json;
@@ -25,49 +25,50 @@ pub fn holds(alloc: Global, test: &Test, bundle: &Bundle, root: u32) -> Result<b
     requires { IsSoundTest test.now }
     ensures { IfOk result (λ holds. IsTrue holds ↔ TestHolds (data_in bundle.now) root test.now) }
 {
-    let Some(object) = root_of(bundle, root, test.path.kind.as_str()) else {
+    let search = Search::new(alloc, bundle, test);
+    let mut findings = Findings::new(alloc);
+    meets_test(&search, &mut findings, test, root)
+}
+
+/// The same, by the search that the test asks for, which knows what it found out from other positions.
+pub(crate) fn meets_test(
+    search: &Search<'_>,
+    findings: &mut Findings,
+    test: &Test,
+    root: u32,
+) -> Result<bool, NoMemory>
+    requires sound { IsSoundTest test.now }
+    requires is { IsSearchOf test.now search.now }
+    requires right { AreRight search.now findings.old }
+    ensures holds { IfOk result (λ holds. IsTrue holds ↔ TestHolds (data_in search.now.bundle.now) root test.now) }
+    ensures right { OnOk result (AreRight search.now findings.new) }
+{
+    let Some(object) = root_of(search.bundle, root, test.path.kind.as_str()) else {
         return Ok(false);
     };
+    let found = is_reached(search, findings, test, object)?;
     if is_absence(test) {
-        let found = is_reached(alloc, test, false, bundle, object)?;
         Ok(!found)
     } else {
-        is_reached(alloc, test, test.negated, bundle, object)
+        Ok(found)
     }
 }
 
-/// Whether a test is NOT EXISTS.
-fn is_absence(test: &Test) -> bool
-    ensures { IsTrue result ↔ IsAbsence test.now }
-{
-    test.negated && matches!(&test.check, Check::Exists)
-}
-
-/// Whether the steps of a test's path reach, from an object, a value that meets its check, or where it
-/// is negated one that doesn't.
+/// Whether the steps of a test's path reach, from an object, a value that is searched for.
 fn is_reached(
-    alloc: Global,
+    search: &Search<'_>,
+    findings: &mut Findings,
     test: &Test,
-    negated: bool,
-    bundle: &Bundle,
     object: &Json,
 ) -> Result<bool, NoMemory>
     requires sound { IsSoundTest test.now }
+    requires is { IsSearchOf test.now search.now }
+    requires right { AreRight search.now findings.old }
     requires ordered { IsOrdered (data_of object.now) }
-    ensures { IfOk result (λ found. IsTrue found
-        ↔ ((value : Data) × Reaches (data_in bundle.now) None test.now.path.steps (data_of object.now) value
-        × Turned negated (Meets (last_of test.now.path) value test.now.check))) }
+    ensures found { IfOk result (λ found. IsTrue found
+        ↔ ((value : Data) × Reaches (data_in search.now.bundle.now) None test.now.path.steps (data_of object.now) value
+        × Turned search.now.negated (Meets (last_of test.now.path) value test.now.check))) }
+    ensures right { OnOk result (AreRight search.now findings.new) }
 {
-    let steps = test.path.steps.as_slice();
-    let search = Search {
-        alloc,
-        bundle,
-        steps,
-        last: last_name(&test.path),
-        check: &test.check,
-        negated,
-        branches: steps.iter().any(|step| matches!(step, Step::Each)),
-    };
-    let mut ends = DeadEnds::new(alloc);
-    finds(&search, &mut ends, None, steps, object)
+    finds(search, findings, None, search.steps, object)
 }

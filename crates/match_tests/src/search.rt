@@ -1,16 +1,18 @@
-ghost use Rattle.std.specs.Prelude.{◌↔◌, ◌∷◌, List, IfOk, OnOk, IfSome, IsTrue, All};
+ghost use Rattle.std.specs.Prelude.{◌≡◌, ◌↔◌, ◌∷◌, List, IfOk, OnOk, IfSome, IsTrue, All};
 ghost use Rattle.stix_json.specs.DataOf.{data_of};
 ghost use Rattle.stix_json.specs.Ordered.{IsOrdered};
 ghost use Rattle.stix_bundles.specs.Objects.{data_in};
 ghost use Rattle.pattern_types.specs.declared.path.Step.{Step};
-ghost use Rattle.match_tests.specs.inner.Search.{name_of, Finds, SomeFinds, FindsAt, AreDeadEnds, StandsBefore};
+ghost use Rattle.match_tests.specs.Tests.{IsAbsence};
+ghost use Rattle.match_tests.specs.inner.Search.{name_of, Finds, SomeFinds, FindsAt, AreRight, StandsBefore, IsSearchOf};
 
 use crate::check::meets_turned;
-use crate::dead_ends::DeadEnds;
+use crate::findings::Findings;
+use crate::last::last_name;
 use flow_values::NoMemory;
 use match_paths::laws::same_lead;
 use match_paths::{name_behind, object_at, reference, selected};
-use pattern_types::{Check, Step};
+use pattern_types::{Check, Step, Test};
 use std::alloc::Global;
 use stix_bundles::Bundle;
 use stix_json::Json;
@@ -26,23 +28,49 @@ pub(crate) struct Search<'a> {
     pub(crate) last: Option<&'a str>,
     pub(crate) check: &'a Check,
     pub(crate) negated: bool,
-    /// Whether the path has a `[*]`: else there is one way at most, and dead ends are of no use.
+    /// Whether the path has a `[*]`: else there is one way at most, and what was found out is of no use.
     pub(crate) branches: bool,
+}
+
+impl<'a> Search<'a> {
+    /// The search that a test asks for.
+    pub(crate) fn new(alloc: Global, bundle: &'a Bundle, test: &'a Test) -> Search<'a>
+        ensures is { IsSearchOf test.entry.now result }
+        ensures bundle { result.bundle ≡ bundle.entry }
+    {
+        let steps = test.path.steps.as_slice();
+        Search {
+            alloc,
+            bundle,
+            steps,
+            last: last_name(&test.path),
+            check: &test.check,
+            negated: test.negated && !is_absence(test),
+            branches: steps.iter().any(|step| matches!(step, Step::Each)),
+        }
+    }
+}
+
+/// Whether a test is NOT EXISTS.
+pub(crate) fn is_absence(test: &Test) -> bool
+    ensures { IsTrue result ↔ IsAbsence test.now }
+{
+    test.negated && matches!(&test.check, Check::Exists)
 }
 
 /// Whether the steps reach such a value from that one, behind that last name.
 #[cycle(search)]
 pub(crate) fn finds(
     search: &Search<'_>,
-    ends: &mut DeadEnds,
+    findings: &mut Findings,
     last: Option<&str>,
     steps: &[Step],
     value: &Json,
 ) -> Result<bool, NoMemory>
-    requires before { StandsBefore search.now steps.now ends.old }
+    requires before { StandsBefore search.now steps.now findings.old }
     requires ordered { IsOrdered (data_of value.now) }
     ensures found { IfOk result (λ found. IsTrue found ↔ Finds search.now (name_of last.entry) steps.now (data_of value.now)) }
-    ensures dead { OnOk result (AreDeadEnds search.now ends.new) }
+    ensures right { OnOk result (AreRight search.now findings.new) }
 {
     let Some((step, rest)) = steps.split_first() else {
         return meets_turned(
@@ -54,10 +82,10 @@ pub(crate) fn finds(
         );
     };
     if let Some(at) = referred(search, last, step, value) {
-        return finds_at(search, ends, step, rest, at);
+        return finds_at(search, findings, step, rest, at);
     }
     let values = selected(search.bundle, last, step, value);
-    some_finds(search, ends, name_behind(last, step), rest, values)
+    some_finds(search, findings, name_behind(last, step), rest, values)
 }
 
 /// The position of the object from which a step goes on, where it leads through a reference.
@@ -76,48 +104,48 @@ fn referred(search: &Search<'_>, last: Option<&str>, step: &Step, value: &Json) 
 #[cycle(search)]
 fn some_finds(
     search: &Search<'_>,
-    ends: &mut DeadEnds,
+    findings: &mut Findings,
     last: Option<&str>,
     steps: &[Step],
     values: &[Json],
 ) -> Result<bool, NoMemory>
-    requires before { StandsBefore search.now steps.now ends.old }
+    requires before { StandsBefore search.now steps.now findings.old }
     requires ordered { All IsOrdered (data_in values.now) }
     ensures found { IfOk result (λ found. IsTrue found ↔ SomeFinds search.now (name_of last.entry) steps.now (data_in values.now)) }
-    ensures dead { OnOk result (AreDeadEnds search.now ends.new) }
+    ensures right { OnOk result (AreRight search.now findings.new) }
 {
     for value in values {
-        if finds(search, ends, last, steps, value)? {
+        if finds(search, findings, last, steps, value)? {
             return Ok(true);
         }
     }
     Ok(false)
 }
 
-/// Whether they reach one from the object at a position. From a dead end it isn't searched again: so
-/// each object is searched once for each step, and not once for each way there.
+/// Whether they reach one from the object at a position. What is found out is kept: so each object is
+/// searched once for each step, and not once for each way there.
 #[cycle(search)]
 fn finds_at(
     search: &Search<'_>,
-    ends: &mut DeadEnds,
+    findings: &mut Findings,
     step: &Step,
     rest: &[Step],
     at: u32,
 ) -> Result<bool, NoMemory>
-    requires { StandsBefore search.now (step.now ∷ rest.now) ends.old }
+    requires { StandsBefore search.now (step.now ∷ rest.now) findings.old }
     ensures found { IfOk result (λ found. IsTrue found ↔ FindsAt search.now (step.now ∷ rest.now) at) }
-    ensures dead { OnOk result (AreDeadEnds search.now ends.new) }
+    ensures right { OnOk result (AreRight search.now findings.new) }
 {
-    if ends.has(rest.len(), at) {
-        return Ok(false);
+    if let Some(found) = findings.known(rest.len(), at) {
+        return Ok(found);
     }
     let Some(object) = object_at(search.bundle, at) else {
         return Ok(false);
     };
     let values = selected(search.bundle, None, step, object);
-    let found = some_finds(search, ends, name_behind(None, step), rest, values)?;
-    if search.branches && !found {
-        ends.add(rest.len(), at)?;
+    let found = some_finds(search, findings, name_behind(None, step), rest, values)?;
+    if search.branches {
+        findings.add(rest.len(), at, found)?;
     }
     Ok(found)
 }

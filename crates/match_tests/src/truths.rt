@@ -1,52 +1,62 @@
-ghost use Rattle.std.specs.Prelude.{IfOk, OnOk};
+ghost use Rattle.std.specs.Prelude.{◌≡◌, ◌<◌, List, Bool, length, map, All, IfOk, Some, slice_get};
 ghost use Rattle.stix_bundles.specs.Objects.{data_in};
+ghost use Rattle.stix_bundles.specs.declared.observation.Observation.{Observation};
 ghost use Rattle.pattern_types.specs.PlainPattern.{plain_pattern};
 ghost use Rattle.pattern_types.specs.Soundness.{IsSoundPattern};
-ghost use Rattle.match_tests.specs.Truths.{AreTruths, Adds};
+ghost use Rattle.match_tests.specs.Truths.{AreTruths, AreTruthsOfEach};
+ghost use Rattle.match_tests.specs.inner.Rows.{truth_at};
 
-use crate::leaf::leaf_holds;
+use crate::columns::{Seen, add_columns};
+use crate::roots::roots_of;
 use flow_values::{Items, NoMemory};
 use pattern_types::Pattern;
 use std::alloc::Global;
 use stix_bundles::{Bundle, Observation};
 
-/// Whether each bracket of a pattern holds for an observation, from left to right.
+/// For each observation of a bundle whether each bracket of a pattern holds, from left to right. What is found
+/// out of an object serves all observations: a test costs at most the size of the bundle for each of its steps.
 pub fn leaf_truths(
     alloc: Global,
     pattern: &Pattern,
-    observation: &Observation,
+    observations: &[Observation],
     bundle: &Bundle,
-) -> Result<Items<bool>, NoMemory>
+) -> Result<Items<Items<bool>>, NoMemory>
     requires { IsSoundPattern (plain_pattern pattern.now) }
-    ensures { IfOk result (AreTruths (data_in bundle.now) observation.now.roots (plain_pattern pattern.now)) }
+    ensures { IfOk result (AreTruthsOfEach (data_in bundle.now) observations.now (plain_pattern pattern.now)) }
 {
-    let mut truths = Items::new(alloc);
-    add_truths(alloc, pattern, observation, bundle, &mut truths)?;
+    let roots = roots_of(alloc, observations)?;
+    let seen = Seen {
+        bundle,
+        observations,
+        roots: roots.as_slice(),
+    };
+    let mut columns = Items::new(alloc);
+    add_columns(alloc, pattern, &seen, &mut columns)?;
+    let mut truths = Items::with_capacity(alloc, observations.len())?;
+    for at in 0..observations.len() {
+        let own = row(alloc, columns.as_slice(), at)?;
+        truths.push(own)?;
+    }
     Ok(truths)
 }
 
-/// Adds the truths of a pattern's brackets.
-fn add_truths(
-    alloc: Global,
-    pattern: &Pattern,
-    observation: &Observation,
-    bundle: &Bundle,
-    out: &mut Items<bool>,
-) -> Result<(), NoMemory>
-    requires { IsSoundPattern (plain_pattern pattern.now) }
-    ensures { OnOk result (Adds (AreTruths (data_in bundle.now) observation.now.roots (plain_pattern pattern.now)) out.old out.new) }
+/// What stands at a place in each column.
+fn row(alloc: Global, columns: &[Items<bool>], at: usize) -> Result<Items<bool>, NoMemory>
+    ensures { IfOk result (λ row. row ≡ map (truth_at at) columns.now) }
 {
-    match pattern {
-        Pattern::Leaf(leaf) => {
-            let truth = leaf_holds(alloc, leaf, observation, bundle)?;
-            out.push(truth)
-        }
-        Pattern::Both(left, right) | Pattern::Either(left, right) | Pattern::Then(left, right) => {
-            add_truths(alloc, left, observation, bundle, out)?;
-            add_truths(alloc, right, observation, bundle, out)
-        }
-        Pattern::Within(part, _) | Pattern::Between(part, _, _) | Pattern::Repeats(part, _) => {
-            add_truths(alloc, part, observation, bundle, out)
-        }
+    let mut row = Items::with_capacity(alloc, columns.len())?;
+    for column in columns {
+        row.push(truth_in(column.as_slice(), at))?;
+    }
+    Ok(row)
+}
+
+/// What stands at a place in a column; false where nothing does.
+fn truth_in(column: &[bool], at: usize) -> bool
+    ensures { result ≡ truth_at at column.now }
+{
+    match column.get(at) {
+        Some(truth) => *truth,
+        None => false,
     }
 }

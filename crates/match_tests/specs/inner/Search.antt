@@ -1,15 +1,16 @@
--- For private clauses: a search for a value that a path reaches and that meets a check, and that its dead ends are such.
-use Rattle.std.specs.Prelude.{◌≡◌, ℕ, List, ◌∷◌, ◌++◌, length, Contains, Option, Some, None, slice_get, option_map}
+-- For private clauses: a search for a value that a path reaches and that meets a check, and that its findings are right.
+use Rattle.std.specs.Prelude.{◌≡◌, false, ℕ, List, ◌∷◌, ◌++◌, length, Contains, Option, Some, None, slice_get, option_map}
 use Rattle.std.specs.Borrow.{Bor}
 use Rattle.serde_json.specs.Data.{Data}
 use Rattle.stix_bundles.specs.Objects.{data_in}
 use Rattle.pattern_types.specs.declared.path.Step.{Step}
 use Rattle.pattern_types.specs.Soundness.{IsSoundCheck}
 use Rattle.match_paths.specs.Selection.{Reaches}
-use Rattle.match_tests.specs.Tests.{Turned, Meets}
+use Rattle.pattern_types.specs.declared.leaf.Test.{Test}
+use Rattle.match_tests.specs.Tests.{Turned, Meets, IsAbsence, last_of}
 use Rattle.match_tests.specs.declared.search.Search.{Search}
-use Rattle.match_tests.specs.declared.dead_ends.DeadEnds.{DeadEnds}
-use Rattle.match_tests.specs.inner.DeadEnds.{Has}
+use Rattle.match_tests.specs.declared.findings.Findings.{Findings}
+use Rattle.match_tests.specs.inner.Places.{Has}
 
 -- the name that a lent text is
 abbrev pub name_of : Option (Bor (List ℕ)) → Option (List ℕ)
@@ -35,13 +36,25 @@ FindsAt search steps at = (object : Data) × (slice_get (data_in search.bundle.n
 abbrev pub AreLast : Search → List Step → Type 0
 AreLast search steps = (front : List Step) × (search.steps.now ≡ front ++ steps)
 
--- from the object of each dead end, a step and those that are left behind it reach no value that is searched for
-abbrev pub AreDeadEnds : Search → DeadEnds → Type 0
-AreDeadEnds search ends = (step : Step) (rest : List Step) (at : ℕ) → AreLast search (step ∷ rest)
-    → Has ends (length rest) at → ¬ FindsAt search (step ∷ rest) at
+-- from the object of each dead end, a step and those that are left behind it reach no value that is searched for, and from
+-- that of each live one they do
+pub record AreRight (search : Search) (findings : Findings) : Type 0 where
+  pub dead : (step : Step) (rest : List Step) (at : ℕ) → AreLast search (step ∷ rest)
+      → Has findings.dead (length rest) at → ¬ FindsAt search (step ∷ rest) at
+  pub live : (step : Step) (rest : List Step) (at : ℕ) → AreLast search (step ∷ rest)
+      → Has findings.live (length rest) at → FindsAt search (step ∷ rest) at
 
--- the search stands before these last steps of its path, and its dead ends are such
-pub record StandsBefore (search : Search) (steps : List Step) (ends : DeadEnds) : Type 0 where
+-- the search stands before these last steps of its path, and its findings are right
+pub record StandsBefore (search : Search) (steps : List Step) (findings : Findings) : Type 0 where
   pub sound : IsSoundCheck search.check.now
   pub last : AreLast search steps
-  pub dead : AreDeadEnds search ends
+  pub right : AreRight search findings
+
+-- it is the search that a test asks for: NOT EXISTS searches for any value, and another test with NOT for one that doesn't meet
+-- its check
+pub record IsSearchOf (test : Test) (search : Search) : Type 0 where
+  pub steps : search.steps.now ≡ test.path.steps
+  pub last : name_of search.last ≡ last_of test.path
+  pub check : search.check.now ≡ test.check
+  pub absence : IsAbsence test → search.negated ≡ false
+  pub negated : (¬ IsAbsence test) → search.negated ≡ test.negated

@@ -1,12 +1,12 @@
--- One more dead end.
+-- One more place.
 use Rattle.std.proofs.Common.{◌≡◌, ◌↔◌, ◌⊎◌, inl, inr, ℕ, Bool, true, false, cond, sym, ap, subst, ◌∙◌, refl, Ordering}
 use Rattle.std.proofs.lemmas.Map.Lookups.{exact_pairs, exact_unsigned}
 use Rattle.std.proofs.lemmas.Map.Views.{tells_apart}
 use Rattle.std.specs.BTreeSet.{contains}
 use Rattle.std.specs.BTreeMap.{is_at}
 use Rattle.std.specs.Ordering.{nat_cmp, ordering_then}
-use Rattle.match_tests.specs.declared.dead_ends.DeadEnds.{DeadEnds}
-use Rattle.match_tests.specs.inner.DeadEnds.{Has}
+use Rattle.match_tests.specs.declared.places.Places.{Places}
+use Rattle.match_tests.specs.inner.Places.{Has}
 
 -- the order of pairs
 abbrev pub pair_cmp : ℕ × ℕ → ℕ × ℕ → Ordering
@@ -20,7 +20,7 @@ kept : (new here before : Bool) → new ≡ cond here true before → before ≡
 kept new true before is has = is
 kept new false before is has = is ∙ has
 
-pub one_more : (left at : ℕ) (old new : DeadEnds)
+pub one_more : (left at : ℕ) (old new : Places)
     → ((q : ℕ × ℕ) → contains pair_cmp new.pairs q ≡ cond (is_at (pair_cmp (left, at)) q) true (contains pair_cmp old.pairs q)) → Has new left at
     → (count place : ℕ) → Has new count place ↔ (Has old count place ⊎ ((count ≡ left) × (place ≡ at)))
 one_more left at old new each itself count place =

@@ -1,23 +1,23 @@
 ghost use Rattle.std.specs.Prelude.{◌≡◌, ◌↔◌, ◌⊎◌, ℕ, IsTrue, OnOk};
-ghost use Rattle.match_tests.specs.inner.DeadEnds.{Has};
+ghost use Rattle.match_tests.specs.inner.Places.{Has};
 
 use flow_values::NoMemory;
 use std::alloc::Global;
 use std::collections::BTreeSet;
 
-/// The objects that a search went to by a reference, and from which it found nothing: of each its
-/// position, and how many steps stood behind the name that led on from there.
+/// Objects that a search went to by a reference: of each its position, and how many steps stood behind the
+/// name that led on from there.
 #[derive(Drop)]
-pub(crate) struct DeadEnds {
+pub(crate) struct Places {
     pairs: BTreeSet<(usize, u32)>,
 }
 
-impl DeadEnds {
-    /// No dead ends.
-    pub(crate) fn new(alloc: Global) -> DeadEnds
+impl Places {
+    /// No places.
+    pub(crate) fn new(alloc: Global) -> Places
         ensures { (left at : ℕ) → ¬ Has result left at }
     {
-        DeadEnds {
+        Places {
             pairs: BTreeSet::new(alloc),
         }
     }

@@ -1,5 +1,5 @@
-use Rattle.match_tests.proofs.DeadEndsLemmas.{one_more}
-use Rattle.match_tests.proofs.dead_ends.DeadEnds.add.Goals as goal
+use Rattle.match_tests.proofs.PlacesLemmas.{one_more}
+use Rattle.match_tests.proofs.places.Places.add.Goals as goal
 
 pub returns : goal.returns
 returns c =
