@@ -1,0 +1,296 @@
+-- Command lines and what `clap` finds in their words: that the words ask for a request is that `clap` takes them and its rows ask for it.
+use Rattle.std.proofs.lemmas.Bool.{false≢true}
+use Rattle.std.proofs.Common.{◌≡◌, ◌↔◌, ◌≤◌, ℕ, Bool, true, false, ◌||◌, if◌then◌else◌, List, [], ◌∷◌, length, map, Option, Some, None, option_map, unwrap_or, slice_get, String, string_bytes, IsUtf8, codes, bytes_eq, inl, inr, refl, sym, ap, ◌∙◌, subst, arith}
+use Rattle.std.specs.declared.alloc.Global.{Global}
+use Rattle.std.proofs.lemmas.Str.{IsUtf8-string_bytes}
+use Rattle.clap.specs.Faults.{fault_of}
+use Rattle.clap.specs.Kinds.{HasKind, IsAmong, Kinds}
+use Rattle.clap.specs.Values.{kind_of}
+use Rattle.clap.specs.declared.error.Error.{Error}
+use Rattle.clap.specs.declared.error.kind.ErrorKind.TheVariants.{OutOfMemory}
+use Rattle.clap.specs.Simple.{subcommand_of}
+use Rattle.clap.specs.Walk.{Row, first_of, one_of}
+use Rattle.command_line.specs.Parts.{Part, AreParts, Options, positions}
+use Rattle.command_line.specs.CommandLines.{Check, IsCalledWith, IsCheckLine, IsCommandLine, IsFlag, IsMakeLine, IsMatchLine, IsNumberIn, IsNumberOr, IsShowLine, Make, Match, PlainRequest, Show, flags_of, texts, values_of}
+use Rattle.command_line.specs.declared.numbers.TheConstants.{DEFAULT_CAP, MAX_CAP, MAX_COUNT, MAX_SEED}
+use Rattle.command_line.specs.inner.Forms.{Form, check_form, line_app, make_form, match_form, show_form}
+use Rattle.command_line.specs.inner.Rows.{command_name, IsAskedBy, IsAskedIn, IsCapText, IsFlagText, IsMakeIn, IsMatchIn, IsNumberText}
+use Rattle.command_line.proofs.HasLemmas.{Text, differ, has, or_false, same_text}
+use Rattle.command_line.proofs.PartRowsLemmas.{word_rows}
+use Rattle.command_line.proofs.WalkLemmas.{AreUtf8}
+use Rattle.command_line.proofs.LevelLemmas.{Fits, IsTaken, Tells, command_rows, flag_text, level_from, level_to}
+use Rattle.command_line.proofs.LineLemmas.{Called, Known, called_of, is_check, is_make, is_match, is_show, line_fault, line_rows, sound_of}
+
+-- the words of a program are UTF-8
+pub texts_utf8 : (words : List (String Global)) → AreUtf8 (texts words)
+texts_utf8 [] = tt
+texts_utf8 (word ∷ words) = (IsUtf8-string_bytes word, texts_utf8 words)
+
+one_name : (x name : Text) → has name (x ∷ []) ≡ true → name ≡ x
+one_name x name h = sym (same_text x name (sym (or_false (bytes_eq x name)) ∙ h))
+
+no_name : {A : Type 0} (name : Text) → has name [] ≡ true → A
+no_name name h = absurd (false≢true h)
+
+flag_once : (flags : List Text) (given : Bool) → IsFlag flags given → length flags ≤ 1
+flag_once [] given h = omega arith
+flag_once (flag ∷ []) given h = omega arith
+flag_once (flag ∷ other ∷ flags) given h = absurd h
+
+number_once : (usual least most : ℕ) (values : List Text) (number : ℕ) → IsNumberOr usual least most values number → length values ≤ 1
+number_once usual least most [] number h = omega arith
+number_once usual least most (value ∷ []) number h = omega arith
+number_once usual least most (value ∷ other ∷ values) number h = absurd h
+
+-- what the flags of a name and their text say
+abbrev text_of : Bool → Text
+text_of given = if given then codes "true" else codes "false"
+
+flag_to : (flags : List Text) (given : Bool) (o : Option Text) → length flags ≤ 1 → o ≡ Some (flag_text flags) → IsFlagText o given → IsFlag flags given
+flag_to [] given o few e t = t.1 e
+flag_to (flag ∷ []) given o few e t = t.0 e
+flag_to (flag ∷ other ∷ flags) given o few e t = absurd (omega arith)
+
+flag_from : (flags : List Text) (given : Bool) → IsFlag flags given → flag_text flags ≡ text_of given
+flag_from [] given h = rw h refl
+flag_from (flag ∷ []) given h = rw h refl
+flag_from (flag ∷ other ∷ flags) given h = absurd h
+
+text_says : (o : Option Text) (given : Bool) → o ≡ Some (text_of given) → IsFlagText o given
+text_says o true e = (λ t. refl, λ f. let bad : Some (codes "true") ≡ Some (codes "false") = sym e ∙ f in absurd (cc))
+text_says o false e = (λ t. let bad : Some (codes "false") ≡ Some (codes "true") = sym e ∙ t in absurd (cc), λ f. refl)
+
+cap_to : (values : List Text) (cap : ℕ) (o : Option Text) → length values ≤ 1 → o ≡ slice_get values 0 → IsCapText o cap → IsNumberOr DEFAULT_CAP 1 MAX_CAP values cap
+cap_to [] cap o few e h = subst (λ (t : Option Text). IsCapText t cap) e h
+cap_to (value ∷ []) cap o few e h = subst (λ (t : Option Text). IsCapText t cap) e h
+cap_to (value ∷ other ∷ values) cap o few e h = absurd (omega arith)
+
+cap_from : (values : List Text) (cap : ℕ) (o : Option Text) → o ≡ slice_get values 0 → IsNumberOr DEFAULT_CAP 1 MAX_CAP values cap → IsCapText o cap
+cap_from [] cap o e h = subst (λ (t : Option Text). IsCapText t cap) (sym e) h
+cap_from (value ∷ []) cap o e h = subst (λ (t : Option Text). IsCapText t cap) (sym e) h
+cap_from (value ∷ other ∷ values) cap o e h = absurd h
+
+-- one position, and two
+pattern_to : (words : List Text) (pattern : Text) → length words ≡ 1 → first_of (codes "pattern") (word_rows (codes "pattern" ∷ []) words) ≡ Some pattern → words ≡ pattern ∷ []
+pattern_to [] pattern few e = absurd (omega arith)
+pattern_to (word ∷ []) pattern few e = let same : word ≡ pattern = cc in ap (λ (w : Text). w ∷ []) same
+pattern_to (word ∷ other ∷ words) pattern few e = absurd (omega arith)
+
+pattern_from : (words : List Text) (pattern : Text) → words ≡ pattern ∷ [] → first_of (codes "pattern") (word_rows (codes "pattern" ∷ []) words) ≡ Some pattern
+pattern_from words pattern e = rw e refl
+
+-- the texts of a seed and a count
+record Both (words : List Text) : Type 0 where
+  seed : Text
+  count : Text
+  both : words ≡ seed ∷ count ∷ []
+  seed_is : first_of (codes "seed") (word_rows (codes "seed" ∷ codes "count" ∷ []) words) ≡ Some seed
+  count_is : first_of (codes "count") (word_rows (codes "seed" ∷ codes "count" ∷ []) words) ≡ Some count
+
+both_of : (words : List Text) → length words ≡ 2 → Both words
+both_of [] few = absurd (omega arith)
+both_of (a ∷ []) few = absurd (omega arith)
+both_of (a ∷ b ∷ []) few = record { seed = a; count = b; both = refl; seed_is = refl; count_is = refl }
+both_of (a ∷ b ∷ c ∷ words) few = absurd (omega arith)
+
+number_text : (least most : ℕ) (o : Option Text) (text : Text) (number : ℕ) → o ≡ Some text → IsNumberText least most o number → IsNumberIn least most text number
+number_text least most o text number e h = subst (λ (t : Option Text). IsNumberText least most t number) e h
+
+abbrev pub Found : Type 0
+Found = Option (Text × List Row)
+
+abbrev pub found_as : Text → List Row → Found
+found_as command rows = Some (command, rows)
+
+same_pair : (a b : Text) (rows more : List Row) → found_as a rows ≡ found_as b more → (a ≡ b) × (rows ≡ more)
+same_pair a b rows more e =
+    let first : Text × List Row = (a, rows) in
+    (ap (λ (o : Found). (unwrap_or o first).0) e, ap (λ (o : Found). (unwrap_or o first).1) e)
+
+-- from what `clap` found to the line
+line_of : (form : Form) → Known form → (words rest : List Text) (parts : List Part) (rows : List Row) → words ≡ form.name ∷ rest → IsTaken form rest parts → Tells form parts rows
+    → (request : PlainRequest) → IsAskedIn form.name rows request → IsCommandLine words request
+line_of _ is_match words rest parts rows line taken tells (Match whole most pattern) asked = record {
+  parts = parts;
+  called = record { rest = rest; line = line; are_parts = taken.are_parts };
+  whole_is = flag_to (flags_of (codes "whole") parts) whole (one_of (codes "whole") rows) (taken.fits.flags (codes "whole") refl) (tells.flags (codes "whole") refl) asked.1.whole_is;
+  cap_is = cap_to (values_of (codes "cap") parts) most (first_of (codes "cap") rows) (taken.fits.valued (codes "cap") refl) (tells.valued (codes "cap") refl) asked.1.cap_is;
+  pattern_is = pattern_to (positions parts) pattern taken.fits.all (sym (tells.words (codes "pattern") refl) ∙ asked.1.pattern_is);
+}
+line_of _ is_check words rest parts rows line taken tells Check asked = record {
+  parts = parts;
+  called = record { rest = rest; line = line; are_parts = taken.are_parts };
+  alone = none_from (positions parts) taken.fits.all;
+}
+  where
+    none_from : (ws : List Text) → length ws ≡ 0 → ws ≡ []
+    none_from [] e = refl
+    none_from (w ∷ ws) e = absurd (omega arith)
+line_of _ is_show words rest parts rows line taken tells (Show pattern) asked = record {
+  parts = parts;
+  called = record { rest = rest; line = line; are_parts = taken.are_parts };
+  pattern_is = pattern_to (positions parts) pattern taken.fits.all (sym (tells.words (codes "pattern") refl) ∙ asked.1);
+}
+line_of _ is_make words rest parts rows line taken tells (Make seed count) asked =
+    let two = both_of (positions parts) taken.fits.all in
+    record {
+      parts = parts;
+      called = record { rest = rest; line = line; are_parts = taken.are_parts };
+      seed_text = two.seed;
+      count_text = two.count;
+      both = two.both;
+      seed_is = number_text 0 MAX_SEED (first_of (codes "seed") rows) two.seed seed (tells.words (codes "seed") refl ∙ two.seed_is) asked.1.seed_is;
+      count_is = number_text 1 MAX_COUNT (first_of (codes "count") rows) two.count count (tells.words (codes "count") refl ∙ two.count_is) asked.1.count_is;
+    }
+line_of form known words rest parts rows line taken tells request asked = differ form.name (command_name request) refl asked.0
+
+pub asked_to : (words : List Text) → AreUtf8 words → fault_of line_app words ≡ [] → (command : Text) (rows : List Row) → subcommand_of line_app words ≡ Some (command, rows)
+    → (request : PlainRequest) → IsAskedIn command rows request → IsCommandLine words request
+asked_to words utf8 quiet command rows found request asked =
+    let called = called_of words utf8 quiet in
+    let form = called.form in
+    let sound = sound_of called.known in
+    let taken = level_to form sound called.rest called.utf8 called.quiet in
+    let tells = (level_from form sound called.rest taken.0 taken.1).1 in
+    let same = same_pair command form.name rows (command_rows form called.rest) (sym found ∙ called.rows) in
+    line_of form called.known words called.rest taken.0 (command_rows form called.rest) called.line taken.1 tells request
+        (subst (λ (rs : List Row). IsAskedIn form.name rs request) same.1 (subst (λ (c : Text). IsAskedIn c rows request) same.0 asked))
+
+-- and back
+abbrev WholeIs : List Row → PlainRequest → Type 0
+WholeIs rows (Match whole cap pattern) = one_of (codes "whole") rows ≡ Some (text_of whole)
+WholeIs rows request = Unit {0}
+
+pub record Asked (words : List Text) (request : PlainRequest) : Type 0 where
+  pub quiet : fault_of line_app words ≡ []
+  pub rows : List Row
+  pub found : subcommand_of line_app words ≡ Some (command_name request, rows)
+  pub asked : IsAskedBy rows request
+  pub whole : WholeIs rows request
+
+record Taken (form : Form) (words : List Text) (parts : List Part) : Type 0 where
+  quiet : fault_of line_app words ≡ []
+  rows : List Row
+  found : subcommand_of line_app words ≡ Some (form.name, rows)
+  tells : Tells form parts rows
+
+taken_by : (form : Form) → Known form → (words : List Text) (parts : List Part) → IsCalledWith form.name form.options words parts → Fits form parts → Taken form words parts
+taken_by form known words parts called fits =
+    let level = level_from form (sound_of known) called.rest parts (record { are_parts = called.are_parts; fits = fits }) in
+    record {
+      quiet = rw called.line (line_fault form known called.rest ∙ level.0);
+      rows = command_rows form called.rest;
+      found = rw called.line (line_rows form known called.rest);
+      tells = level.1;
+    }
+
+pub asked_from : (words : List Text) (request : PlainRequest) → IsCommandLine words request → Asked words request
+asked_from words (Match whole most pattern) line =
+    let fits : Fits match_form line.parts = record {
+      flags = λ name h. rw (one_name (codes "whole") name h) (flag_once (flags_of (codes "whole") line.parts) whole line.whole_is);
+      valued = λ name h. rw (one_name (codes "cap") name h) (number_once DEFAULT_CAP 1 MAX_CAP (values_of (codes "cap") line.parts) most line.cap_is);
+      all = ap length line.pattern_is;
+    } in
+    let taken = taken_by match_form is_match words line.parts line.called fits in
+    let whole_text = taken.tells.flags (codes "whole") refl ∙ ap (λ (t : Text). Some t) (flag_from (flags_of (codes "whole") line.parts) whole line.whole_is) in
+    record {
+      quiet = taken.quiet;
+      rows = taken.rows;
+      found = taken.found;
+      asked = record {
+        whole_is = text_says (one_of (codes "whole") taken.rows) whole whole_text;
+        cap_is = cap_from (values_of (codes "cap") line.parts) most (first_of (codes "cap") taken.rows) (taken.tells.valued (codes "cap") refl) line.cap_is;
+        pattern_is = taken.tells.words (codes "pattern") refl ∙ pattern_from (positions line.parts) pattern line.pattern_is;
+      };
+      whole = whole_text;
+    }
+asked_from words Check line =
+    let fits : Fits check_form line.parts = record { flags = λ name h. no_name name h; valued = λ name h. no_name name h; all = ap length line.alone } in
+    let taken = taken_by check_form is_check words line.parts line.called fits in
+    record { quiet = taken.quiet; rows = taken.rows; found = taken.found; asked = tt; whole = tt }
+asked_from words (Show pattern) line =
+    let fits : Fits show_form line.parts = record { flags = λ name h. no_name name h; valued = λ name h. no_name name h; all = ap length line.pattern_is } in
+    let taken = taken_by show_form is_show words line.parts line.called fits in
+    record {
+      quiet = taken.quiet;
+      rows = taken.rows;
+      found = taken.found;
+      asked = taken.tells.words (codes "pattern") refl ∙ pattern_from (positions line.parts) pattern line.pattern_is;
+      whole = tt;
+    }
+asked_from words (Make seed count) line =
+    let fits : Fits make_form line.parts = record { flags = λ name h. no_name name h; valued = λ name h. no_name name h; all = ap length line.both } in
+    let taken = taken_by make_form is_make words line.parts line.called fits in
+    let seed_text : first_of (codes "seed") taken.rows ≡ Some line.seed_text = taken.tells.words (codes "seed") refl ∙ rw line.both refl in
+    let count_text : first_of (codes "count") taken.rows ≡ Some line.count_text = taken.tells.words (codes "count") refl ∙ rw line.both refl in
+    record {
+      quiet = taken.quiet;
+      rows = taken.rows;
+      found = taken.found;
+      asked = record {
+        seed_is = subst (λ (t : Option Text). IsNumberText 0 MAX_SEED t seed) (sym seed_text) line.seed_is;
+        count_is = subst (λ (t : Option Text). IsNumberText 1 MAX_COUNT t count) (sym count_text) line.count_is;
+      };
+      whole = tt;
+    }
+
+-- what some rows ask for is one thing
+same_flag : (a b : Bool) → text_of a ≡ text_of b → a ≡ b
+same_flag true true e = refl
+same_flag false false e = refl
+same_flag true false e = absurd (cc)
+same_flag false true e = absurd (cc)
+
+same_text_of : (a b : Bool) → Some (text_of a) ≡ Some (text_of b) → text_of a ≡ text_of b
+same_text_of a b e = cc
+
+same_cap : (o : Option Text) (a b : ℕ) → IsCapText o a → IsCapText o b → a ≡ b
+same_cap None a b h g = h ∙ sym g
+same_cap (Some text) a b h g = sym h.value ∙ g.value
+
+same_number : (least most : ℕ) (o : Option Text) (a b : ℕ) → IsNumberText least most o a → IsNumberText least most o b → a ≡ b
+same_number least most None a b h g = absurd h
+same_number least most (Some text) a b h g = sym h.value ∙ g.value
+
+same_request : (rows : List Row) (a b : PlainRequest) → command_name a ≡ command_name b → IsAskedBy rows a → IsAskedBy rows b → WholeIs rows a → WholeIs rows b → a ≡ b
+same_request rows (Match whole most pattern) (Match whole' most' pattern') e h g w v =
+    let texts_same : text_of whole ≡ text_of whole' = same_text_of whole whole' (sym w ∙ v) in
+    let flags_same = same_flag whole whole' texts_same in
+    let caps_same = same_cap (first_of (codes "cap") rows) most most' h.cap_is g.cap_is in
+    let patterns : Some pattern ≡ Some pattern' = sym h.pattern_is ∙ g.pattern_is in
+    cc
+same_request rows Check Check e h g w v = refl
+same_request rows (Show pattern) (Show pattern') e h g w v = let patterns : Some pattern ≡ Some pattern' = sym h ∙ g in cc
+same_request rows (Make seed count) (Make seed' count') e h g w v =
+    let seeds_same = same_number 0 MAX_SEED (first_of (codes "seed") rows) seed seed' h.seed_is g.seed_is in
+    let counts_same = same_number 1 MAX_COUNT (first_of (codes "count") rows) count count' h.count_is g.count_is in
+    cc
+same_request rows a b e h g w v = differ (command_name a) (command_name b) refl e
+
+pub one_request : (words : List Text) (first second : PlainRequest) → IsCommandLine words first → IsCommandLine words second → first ≡ second
+one_request words first second one two =
+    let a = asked_from words first one in
+    let b = asked_from words second two in
+    let same = same_pair (command_name first) (command_name second) a.rows b.rows (sym a.found ∙ b.found) in
+    same_request a.rows first second same.0 a.asked (subst (λ (rs : List Row). IsAskedBy rs second) (sym same.1) b.asked) a.whole
+        (subst (λ (rs : List Row). WholeIs rs second) (sym same.1) b.whole)
+
+-- a command whose rows ask for nothing
+pub no_match : (command : Text) (rows : List Row) → command ≡ codes "match" → ((whole : Bool) (most : ℕ) (pattern : Text) → ¬ IsMatchIn rows whole most pattern)
+    → (request : PlainRequest) → ¬ IsAskedIn command rows request
+no_match command rows is none (Match whole most pattern) asked = none whole most pattern asked.1
+no_match command rows is none request asked = differ (codes "match") (command_name request) refl (sym is ∙ asked.0)
+
+-- a request is refused only where the words ask for none
+pub none_asked : (words : List Text) (command : Text) (rows : List Row) → subcommand_of line_app words ≡ Some (command, rows)
+    → ((request : PlainRequest) → ¬ IsAskedIn command rows request) → (request : PlainRequest) → ¬ IsCommandLine words request
+none_asked words command rows found none request line =
+    let asked = asked_from words request line in
+    let same = same_pair command (command_name request) rows asked.rows (sym found ∙ asked.found) in
+    none request (same.0, subst (λ (rs : List Row). IsAskedBy rs request) (sym same.1) asked.asked)
+
+-- and an error is no want of memory only where they ask for none
+pub failed : (words : List Text) (e : Error) → HasKind (fault_of line_app words) e → ¬ (kind_of e ≡ OutOfMemory) → (request : PlainRequest) → ¬ IsCommandLine words request
+failed words e (inl memory) other request line = other memory
+failed words e (inr among) other request line =
+    subst (λ (ks : Kinds). IsAmong (kind_of e) ks) (asked_from words request line).quiet among

@@ -1,0 +1,12 @@
+pub mod HasLemmas
+pub mod FormLemmas
+pub mod LexerLemmas
+pub mod RowsLemmas
+pub mod StepLemmas
+pub mod WalkLemmas
+pub mod PartRowsLemmas
+pub mod DefaultsLemmas
+pub mod LevelLemmas
+pub mod LineLemmas
+pub mod CommandLinesLemmas
+pub mod FoundLemmas

@@ -1,0 +1,100 @@
+-- The command lines of the program: for each command, which words ask for it with which values.
+use Rattle.std.specs.Prelude.{◌≡◌, ◌≤◌, ℕ, List, [], ◌∷◌, length, map, codes, Bool, true, false, String, string_bytes, bytes_eq, if◌then◌else◌}
+use Rattle.std.specs.Str.Parse.{IsNumeral, digits_value}
+use Rattle.std.specs.declared.alloc.Global.{Global}
+use Rattle.command_line.specs.Parts.{Part, Flag, Valued, Position, Options, AreParts, positions}
+use Rattle.command_line.specs.declared.numbers.TheConstants.{DEFAULT_CAP, MAX_CAP, MAX_SEED, MAX_COUNT}
+
+-- the texts of the words
+abbrev pub texts : List (String Global) → List (List ℕ)
+texts words = map string_bytes words
+
+-- the flags of that name
+abbrev pub flags_of : List ℕ → List Part → List (List ℕ)
+flags_of name [] = []
+flags_of name (Flag other ∷ parts) = if bytes_eq other name then other ∷ flags_of name parts else flags_of name parts
+flags_of name (Valued other value ∷ parts) = flags_of name parts
+flags_of name (Position word ∷ parts) = flags_of name parts
+
+-- the values that are given to the option of that name, in turn
+abbrev pub values_of : List ℕ → List Part → List (List ℕ)
+values_of name [] = []
+values_of name (Flag other ∷ parts) = values_of name parts
+values_of name (Valued other value ∷ parts) = if bytes_eq other name then value ∷ values_of name parts else values_of name parts
+values_of name (Position word ∷ parts) = values_of name parts
+
+-- a flag stands there once, or not at all
+abbrev pub IsFlag : List (List ℕ) → Bool → Type 0
+IsFlag [] given = given ≡ false
+IsFlag (flag ∷ []) given = given ≡ true
+IsFlag (flag ∷ other ∷ flags) given = ⊥
+
+-- a number of that text: one to ten decimal digits, and a value in the range
+pub record IsNumberIn (least most : ℕ) (text : List ℕ) (number : ℕ) : Type 0 where
+  pub numeral : IsNumeral 10 text
+  pub short : length text ≤ 10
+  pub value : digits_value 10 text ≡ number
+  pub at_least : least ≤ number
+  pub at_most : number ≤ most
+
+-- the number that an option names, or the usual one where it isn't there
+abbrev pub IsNumberOr : ℕ → ℕ → ℕ → List (List ℕ) → ℕ → Type 0
+IsNumberOr usual least most [] number = number ≡ usual
+IsNumberOr usual least most (text ∷ []) number = IsNumberIn least most text number
+IsNumberOr usual least most (text ∷ other ∷ texts) number = ⊥
+
+-- the command, and then words of these parts
+pub record IsCalledWith (command : List ℕ) (options : Options) (words : List (List ℕ)) (parts : List Part) : Type 0 where
+  pub rest : List (List ℕ)
+  pub line : words ≡ command ∷ rest
+  pub are_parts : AreParts options rest parts
+
+abbrev pub match_options : Options
+match_options = record { flags = codes "whole" ∷ []; valued = codes "cap" ∷ [] }
+
+abbrev pub no_options : Options
+no_options = record { flags = []; valued = [] }
+
+-- match [--whole] [--cap N] PATTERN
+pub record IsMatchLine (words : List (List ℕ)) (whole : Bool) (cap : ℕ) (pattern : List ℕ) : Type 0 where
+  pub parts : List Part
+  pub called : IsCalledWith (codes "match") match_options words parts
+  pub whole_is : IsFlag (flags_of (codes "whole") parts) whole
+  pub cap_is : IsNumberOr DEFAULT_CAP 1 MAX_CAP (values_of (codes "cap") parts) cap
+  pub pattern_is : positions parts ≡ pattern ∷ []
+
+-- check
+pub record IsCheckLine (words : List (List ℕ)) : Type 0 where
+  pub parts : List Part
+  pub called : IsCalledWith (codes "check") no_options words parts
+  pub alone : positions parts ≡ []
+
+-- show PATTERN
+pub record IsShowLine (words : List (List ℕ)) (pattern : List ℕ) : Type 0 where
+  pub parts : List Part
+  pub called : IsCalledWith (codes "show") no_options words parts
+  pub pattern_is : positions parts ≡ pattern ∷ []
+
+-- make SEED COUNT
+pub record IsMakeLine (words : List (List ℕ)) (seed count : ℕ) : Type 0 where
+  pub parts : List Part
+  pub called : IsCalledWith (codes "make") no_options words parts
+  pub seed_text : List ℕ
+  pub count_text : List ℕ
+  pub both : positions parts ≡ seed_text ∷ count_text ∷ []
+  pub seed_is : IsNumberIn 0 MAX_SEED seed_text seed
+  pub count_is : IsNumberIn 1 MAX_COUNT count_text count
+
+-- what words ask for, without where it lies in memory
+pub data PlainRequest : Type 0 where
+  Match : (whole : Bool) (cap : ℕ) (pattern : List ℕ) → PlainRequest
+  Check : PlainRequest
+  Show : (pattern : List ℕ) → PlainRequest
+  Make : (seed count : ℕ) → PlainRequest
+
+-- the words are a command line, and ask for that
+abbrev pub IsCommandLine : List (List ℕ) → PlainRequest → Type 0
+IsCommandLine words (Match whole cap pattern) = IsMatchLine words whole cap pattern
+IsCommandLine words Check = IsCheckLine words
+IsCommandLine words (Show pattern) = IsShowLine words pattern
+IsCommandLine words (Make seed count) = IsMakeLine words seed count

@@ -1,0 +1,4 @@
+pub mod Parts
+pub mod CommandLines
+pub mod Request
+pub mod inner

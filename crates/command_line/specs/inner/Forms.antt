@@ -1,0 +1,65 @@
+-- What a command takes, and the command line of it as `clap` has it.
+use Rattle.std.specs.Prelude.{ℕ, List, [], ◌∷◌, ◌++◌, map, Some, true, codes}
+use Rattle.clap.specs.Words.{App, Rule, new_app, new_rule, with_subcommand}
+use Rattle.clap.specs.Simple.{Shape, new_shape, on_top}
+use Rattle.clap.specs.declared.builder.action.ArgAction.TheVariants.{SetTrue}
+use Rattle.command_line.specs.Parts.{Options}
+use Rattle.command_line.specs.CommandLines.{match_options, no_options}
+
+-- a command: its name, its options, and its positions, none of which may be missing
+pub record Form : Type 0 where
+  pub name : List ℕ
+  pub options : Options
+  pub positions : List (List ℕ)
+
+-- an option that stands alone
+abbrev pub flag_rule : List ℕ → Rule
+flag_rule name = record (new_rule name) { long = Some name; action = Some SetTrue }
+
+-- an option that takes a value
+abbrev pub option_rule : List ℕ → Rule
+option_rule name = record (new_rule name) { long = Some name }
+
+-- a position
+abbrev pub position_rule : List ℕ → Rule
+position_rule name = record (new_rule name) { required = true }
+
+abbrev pub rules_of_form : Form → List Rule
+rules_of_form form = map flag_rule form.options.flags ++ (map option_rule form.options.valued ++ map position_rule form.positions)
+
+-- the command as `clap` has it
+abbrev pub command_of : Form → App
+command_of form = record { top = record (new_shape form.name) { rules = rules_of_form form }; subs = [] }
+
+-- no help, no version, no name of the program, and no line without a command
+abbrev pub without_extras : Shape → Shape
+without_extras shape = record shape {
+  no_binary_name = true;
+  disable_help_flag = true;
+  disable_help_subcommand = true;
+  disable_version_flag = true;
+  subcommand_required = true;
+}
+
+abbrev pub match_form : Form
+match_form = record { name = codes "match"; options = match_options; positions = codes "pattern" ∷ [] }
+
+abbrev pub check_form : Form
+check_form = record { name = codes "check"; options = no_options; positions = [] }
+
+abbrev pub show_form : Form
+show_form = record { name = codes "show"; options = no_options; positions = codes "pattern" ∷ [] }
+
+abbrev pub make_form : Form
+make_form = record { name = codes "make"; options = no_options; positions = codes "seed" ∷ codes "count" ∷ [] }
+
+-- the command line with no command yet
+abbrev pub bare_app : App
+bare_app = on_top without_extras (new_app (codes "stix_command"))
+
+abbrev pub with_form : App → Form → App
+with_form app form = with_subcommand app (command_of form).top
+
+-- all commands
+abbrev pub line_app : App
+line_app = with_form (with_form (with_form (with_form bare_app match_form) check_form) show_form) make_form

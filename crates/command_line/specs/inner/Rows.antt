@@ -1,0 +1,46 @@
+-- What a command asks for, by the rows that `clap` found for it.
+use Rattle.std.specs.Prelude.{◌≡◌, ℕ, List, Bool, true, false, Option, Some, None, codes}
+use Rattle.clap.specs.Words.{Row, first_of, one_of}
+use Rattle.command_line.specs.CommandLines.{IsNumberIn, PlainRequest, Match, Check, Show, Make}
+use Rattle.command_line.specs.declared.numbers.TheConstants.{DEFAULT_CAP, MAX_CAP, MAX_SEED, MAX_COUNT}
+
+-- a flag's text says whether it was given
+abbrev pub IsFlagText : Option (List ℕ) → Bool → Type 0
+IsFlagText text given = (text ≡ Some (codes "true") → given ≡ true) × (text ≡ Some (codes "false") → given ≡ false)
+
+-- the cap that is named, or the usual one
+abbrev pub IsCapText : Option (List ℕ) → ℕ → Type 0
+IsCapText None cap = cap ≡ DEFAULT_CAP
+IsCapText (Some text) cap = IsNumberIn 1 MAX_CAP text cap
+
+-- a number of a text that is there
+abbrev pub IsNumberText : ℕ → ℕ → Option (List ℕ) → ℕ → Type 0
+IsNumberText least most None number = ⊥
+IsNumberText least most (Some text) number = IsNumberIn least most text number
+
+pub record IsMatchIn (rows : List Row) (whole : Bool) (cap : ℕ) (pattern : List ℕ) : Type 0 where
+  pub whole_is : IsFlagText (one_of (codes "whole") rows) whole
+  pub cap_is : IsCapText (first_of (codes "cap") rows) cap
+  pub pattern_is : first_of (codes "pattern") rows ≡ Some pattern
+
+pub record IsMakeIn (rows : List Row) (seed count : ℕ) : Type 0 where
+  pub seed_is : IsNumberText 0 MAX_SEED (first_of (codes "seed") rows) seed
+  pub count_is : IsNumberText 1 MAX_COUNT (first_of (codes "count") rows) count
+
+-- the command of a request
+abbrev pub command_name : PlainRequest → List ℕ
+command_name (Match whole cap pattern) = codes "match"
+command_name Check = codes "check"
+command_name (Show pattern) = codes "show"
+command_name (Make seed count) = codes "make"
+
+-- these rows ask for it
+abbrev pub IsAskedBy : List Row → PlainRequest → Type 0
+IsAskedBy rows (Match whole cap pattern) = IsMatchIn rows whole cap pattern
+IsAskedBy rows Check = Unit {0}
+IsAskedBy rows (Show pattern) = first_of (codes "pattern") rows ≡ Some pattern
+IsAskedBy rows (Make seed count) = IsMakeIn rows seed count
+
+-- that command, with these rows, asks for it
+abbrev pub IsAskedIn : List ℕ → List Row → PlainRequest → Type 0
+IsAskedIn command rows request = (command ≡ command_name request) × IsAskedBy rows request

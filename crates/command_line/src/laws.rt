@@ -1,0 +1,11 @@
+//! What follows from the definitions: the contracts are the laws, and the functions do nothing.
+
+ghost use Rattle.std.specs.Prelude.{◌≡◌, ℕ, List};
+ghost use Rattle.command_line.specs.CommandLines.{PlainRequest, IsCommandLine};
+
+/// Words ask for one thing at most.
+pub fn one_request()
+    ensures { (words : List (List ℕ)) (first second : PlainRequest)
+        → IsCommandLine words first → IsCommandLine words second → first ≡ second }
+{
+}

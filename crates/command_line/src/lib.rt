@@ -1,0 +1,17 @@
+//! The words of a command line, and what they ask for. A command line is a command and then its
+//! options and positions in any order: `match [--whole] [--cap N] PATTERN`, `check`, `show PATTERN`
+//! or `make SEED COUNT`. [`read_words`] answers the request of the words, or that they are no
+//! command line; it reads them with `clap`, and its contract is the rule without `clap`.
+#![tactic(auto)]
+
+pub mod laws;
+mod numbers;
+mod parser;
+mod read;
+mod request;
+#[cfg(test)]
+mod tests;
+
+pub use numbers::{DEFAULT_CAP, MAX_CAP, MAX_COUNT, MAX_SEED};
+pub use read::read_words;
+pub use request::{MatchRequest, Request, WordsRefusal};

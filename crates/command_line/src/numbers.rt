@@ -1,0 +1,33 @@
+//! Numbers in words: one to ten decimal digits in a range.
+
+ghost use Rattle.std.specs.Prelude.{◌≡◌, ◌↔◌, ℕ, Some};
+ghost use Rattle.command_line.specs.CommandLines.{IsNumberIn};
+
+/// The greatest number of things that may be live in a match, where the words name none.
+pub const DEFAULT_CAP: u32 = 200_000;
+
+/// The greatest such number that they may name.
+pub const MAX_CAP: u32 = 1_000_000;
+
+/// The greatest seed.
+pub const MAX_SEED: u32 = 2_147_483_647;
+
+/// The greatest count.
+pub const MAX_COUNT: u32 = 100_000;
+
+/// The number of a text, if it has one in the range.
+pub(crate) fn number_in(text: &str, least: u32, most: u32) -> Option<u32>
+    ensures { (number : ℕ) → (result ≡ Some number) ↔ IsNumberIn least most text.now number }
+{
+    if text.len() > 10 || text.as_bytes().first() == Some(&b'+') {
+        return None;
+    }
+    let Ok(number) = text.parse::<u32>() else {
+        return None;
+    };
+    if least <= number && number <= most {
+        Some(number)
+    } else {
+        None
+    }
+}

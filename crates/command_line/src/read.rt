@@ -1,0 +1,127 @@
+//! A request from words.
+
+ghost use Rattle.std.specs.Prelude.{◌≡◌, ◌↔◌, ℕ, List, Bool, IfErr, IfNone, IfOk, IfSome, Some, option_copied};
+ghost use Rattle.clap.specs.Words.{first_of, found_of, kind_of, one_of, rows_of};
+ghost use Rattle.clap.specs.declared.error.kind.ErrorKind.TheVariants.{OutOfMemory};
+ghost use Rattle.command_line.specs.CommandLines.{texts, PlainRequest, IsCommandLine};
+ghost use Rattle.command_line.specs.Request.{plain_request};
+ghost use Rattle.command_line.specs.inner.Rows.{IsAskedIn, IsCapText, IsFlagText, IsMakeIn, IsMatchIn, IsNumberText};
+
+use crate::numbers::{DEFAULT_CAP, MAX_CAP, MAX_COUNT, MAX_SEED, number_in};
+use crate::parser::parse;
+use crate::request::{MatchRequest, Request, WordsRefusal};
+use clap::error::ErrorKind;
+use clap::{ArgMatches, Error};
+use std::alloc::Global;
+
+/// What the words after the program's name ask for.
+pub fn read_words<'a>(alloc: Global, words: &'a [String]) -> Result<Request<'a>, WordsRefusal>
+    ensures ok { IfOk result
+        (λ request. IsCommandLine (texts words.entry.now) (plain_request request)) }
+    ensures no_line { IfErr result (λ refusal. refusal ≡ WordsRefusal.NoLine
+        → (request : PlainRequest) → ¬ IsCommandLine (texts words.entry.now) request) }
+{
+    let matches = match parse(alloc, words) {
+        Ok(matches) => matches,
+        Err(error) => return Err(refusal_of(&error)),
+    };
+    let Some((command, values)) = matches.subcommand() else {
+        return Err(WordsRefusal::NoLine);
+    };
+    match request_in(command, values) {
+        Some(request) => Ok(request),
+        None => Err(WordsRefusal::NoLine),
+    }
+}
+
+/// The refusal for an error of `clap`.
+fn refusal_of(error: &Error) -> WordsRefusal
+    ensures { (result ≡ WordsRefusal.NoMemory) ↔ (kind_of error.now ≡ OutOfMemory) }
+{
+    if error.kind() == ErrorKind::OutOfMemory {
+        WordsRefusal::NoMemory
+    } else {
+        WordsRefusal::NoLine
+    }
+}
+
+/// What a command asks for by its values.
+fn request_in<'a>(command: &str, values: &ArgMatches<'a>) -> Option<Request<'a>>
+    ensures some { IfSome result (λ request. IsAskedIn command.now (rows_of (found_of values.now)) (plain_request request)) }
+    ensures none { IfNone result ((request : PlainRequest)
+        → ¬ IsAskedIn command.now (rows_of (found_of values.now)) request) }
+{
+    match command {
+        "match" => Some(Request::Match(match_in(values)?)),
+        "check" => Some(Request::Check),
+        "show" => Some(Request::Show {
+            pattern: value_of(values, "pattern")?,
+        }),
+        "make" => {
+            let (seed, count) = make_in(values)?;
+            Some(Request::Make { seed, count })
+        }
+        _ => None,
+    }
+}
+
+/// What a `match` asks for.
+fn match_in<'a>(values: &ArgMatches<'a>) -> Option<MatchRequest<'a>>
+    ensures some { IfSome result (λ request. IsMatchIn (rows_of (found_of values.now)) request.whole request.cap request.pattern.now) }
+    ensures none { IfNone result ((whole : Bool) (cap : ℕ) (pattern : List ℕ)
+        → ¬ IsMatchIn (rows_of (found_of values.now)) whole cap pattern) }
+{
+    let pattern = value_of(values, "pattern")?;
+    let cap = cap_in(value_of(values, "cap"))?;
+    let whole = is_given(values, "whole");
+    Some(MatchRequest {
+        whole,
+        cap: u64::from(cap),
+        pattern,
+    })
+}
+
+/// The cap of a text, or the usual one.
+fn cap_in(text: Option<&str>) -> Option<u32>
+    ensures { (cap : ℕ) → (result ≡ Some cap) ↔ IsCapText (option_copied text.entry) cap }
+{
+    match text {
+        Some(text) => number_in(text, 1, MAX_CAP),
+        None => Some(DEFAULT_CAP),
+    }
+}
+
+/// The seed and the count of a `make`.
+fn make_in(values: &ArgMatches<'_>) -> Option<(u32, u32)>
+    ensures some { IfSome result
+        (λ both. IsMakeIn (rows_of (found_of values.now)) both.0 both.1) }
+    ensures none { IfNone result ((seed count : ℕ)
+        → ¬ IsMakeIn (rows_of (found_of values.now)) seed count) }
+{
+    let seed = number_of(values, "seed", 0, MAX_SEED)?;
+    let count = number_of(values, "count", 1, MAX_COUNT)?;
+    Some((seed, count))
+}
+
+/// The number of a position.
+fn number_of(values: &ArgMatches<'_>, name: &str, least: u32, most: u32) -> Option<u32>
+    ensures { (number : ℕ) → (result ≡ Some number)
+        ↔ IsNumberText least most (first_of name.now (rows_of (found_of values.now))) number }
+{
+    let text = value_of(values, name)?;
+    number_in(text, least, most)
+}
+
+/// The value of an option or a position.
+fn value_of<'a>(values: &ArgMatches<'a>, name: &str) -> Option<&'a str>
+    ensures { option_copied result ≡ first_of name.now (rows_of (found_of values.now)) }
+{
+    values.get_str(name)
+}
+
+/// Whether a flag was given.
+fn is_given(values: &ArgMatches<'_>, name: &str) -> bool
+    ensures { IsFlagText (one_of name.now (rows_of (found_of values.now))) result }
+{
+    values.get_flag(name)
+}
