@@ -1,6 +1,6 @@
 -- Command lines and what `clap` finds in their words: that the words ask for a request is that `clap` takes them and its rows ask for it.
 use Rattle.std.proofs.lemmas.Bool.{false≢true}
-use Rattle.std.proofs.Common.{◌≡◌, ◌↔◌, ◌≤◌, ℕ, Bool, true, false, ◌||◌, if◌then◌else◌, List, [], ◌∷◌, length, map, Option, Some, None, option_map, unwrap_or, slice_get, String, string_bytes, IsUtf8, codes, bytes_eq, inl, inr, refl, sym, ap, ◌∙◌, subst, arith}
+use Rattle.std.proofs.Common.{◌≡◌, ◌≤◌, ℕ, Bool, true, false, if◌then◌else◌, List, [], ◌∷◌, length, Option, Some, None, unwrap_or, slice_get, String, codes, bytes_eq, inl, inr, refl, sym, ap, ◌∙◌, subst, arith}
 use Rattle.std.specs.declared.alloc.Global.{Global}
 use Rattle.std.proofs.lemmas.Str.{IsUtf8-string_bytes}
 use Rattle.clap.specs.Faults.{fault_of}
@@ -10,16 +10,16 @@ use Rattle.clap.specs.declared.error.Error.{Error}
 use Rattle.clap.specs.declared.error.kind.ErrorKind.TheVariants.{OutOfMemory}
 use Rattle.clap.specs.Simple.{subcommand_of}
 use Rattle.clap.specs.Walk.{Row, first_of, one_of}
-use Rattle.command_line.specs.Parts.{Part, AreParts, Options, positions}
-use Rattle.command_line.specs.CommandLines.{Check, IsCalledWith, IsCheckLine, IsCommandLine, IsFlag, IsMakeLine, IsMatchLine, IsNumberIn, IsNumberOr, IsShowLine, Make, Match, PlainRequest, Show, flags_of, texts, values_of}
+use Rattle.command_line.specs.Parts.{Part, positions}
+use Rattle.command_line.specs.CommandLines.{Check, IsCalledWith, IsCommandLine, IsFlag, IsNumberIn, IsNumberOr, Make, Match, PlainRequest, Show, flags_of, texts, values_of}
 use Rattle.command_line.specs.declared.numbers.TheConstants.{DEFAULT_CAP, MAX_CAP, MAX_COUNT, MAX_SEED}
 use Rattle.command_line.specs.inner.Forms.{Form, check_form, line_app, make_form, match_form, show_form}
-use Rattle.command_line.specs.inner.Rows.{command_name, IsAskedBy, IsAskedIn, IsCapText, IsFlagText, IsMakeIn, IsMatchIn, IsNumberText}
+use Rattle.command_line.specs.inner.Rows.{command_name, IsAskedBy, IsAskedIn, IsCapText, IsFlagText, IsMatchIn, IsNumberText}
 use Rattle.command_line.proofs.HasLemmas.{Text, differ, has, or_false, same_text}
 use Rattle.command_line.proofs.PartRowsLemmas.{word_rows}
 use Rattle.command_line.proofs.WalkLemmas.{AreUtf8}
 use Rattle.command_line.proofs.LevelLemmas.{Fits, IsTaken, Tells, command_rows, flag_text, level_from, level_to}
-use Rattle.command_line.proofs.LineLemmas.{Called, Known, called_of, is_check, is_make, is_match, is_show, line_fault, line_rows, sound_of}
+use Rattle.command_line.proofs.LineLemmas.{Known, called_of, is_check, is_make, is_match, is_show, line_fault, line_rows, sound_of}
 
 -- the words of a program are UTF-8
 pub texts_utf8 : (words : List (String Global)) → AreUtf8 (texts words)
@@ -154,7 +154,7 @@ asked_to words utf8 quiet command rows found request asked =
     let tells = (level_from form sound called.rest taken.0 taken.1).1 in
     let same = same_pair command form.name rows (command_rows form called.rest) (sym found ∙ called.rows) in
     line_of form called.known words called.rest taken.0 (command_rows form called.rest) called.line taken.1 tells request
-        (subst (λ (rs : List Row). IsAskedIn form.name rs request) same.1 (subst (λ (c : Text). IsAskedIn c rows request) same.0 asked))
+    (subst (λ (rs : List Row). IsAskedIn form.name rs request) same.1 (subst (λ (c : Text). IsAskedIn c rows request) same.0 asked))
 
 -- and back
 abbrev WholeIs : List Row → PlainRequest → Type 0
@@ -273,7 +273,7 @@ one_request words first second one two =
     let b = asked_from words second two in
     let same = same_pair (command_name first) (command_name second) a.rows b.rows (sym a.found ∙ b.found) in
     same_request a.rows first second same.0 a.asked (subst (λ (rs : List Row). IsAskedBy rs second) (sym same.1) b.asked) a.whole
-        (subst (λ (rs : List Row). WholeIs rs second) (sym same.1) b.whole)
+    (subst (λ (rs : List Row). WholeIs rs second) (sym same.1) b.whole)
 
 -- a command whose rows ask for nothing
 pub no_match : (command : Text) (rows : List Row) → command ≡ codes "match" → ((whole : Bool) (most : ℕ) (pattern : Text) → ¬ IsMatchIn rows whole most pattern)

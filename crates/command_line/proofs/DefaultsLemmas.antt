@@ -1,7 +1,7 @@
 -- What `clap` does at the end of a command's words: a flag that wasn't given gets a default, and a position must have its row.
 use Rattle.std.proofs.lemmas.Bool.{false≢true}
 use Rattle.std.proofs.lemmas.List.Sums.{fold-append}
-use Rattle.std.proofs.Common.{◌≡◌, ◌↔◌, ◌<◌, ◌≤◌, ◌+◌, ℕ, zero, suc, Bool, true, false, not, ◌&&◌, ◌||◌, cond, if◌then◌else◌, List, [], ◌∷◌, ◌++◌, map, length, fold, find, Option, Some, None, codes, bytes_eq, refl, sym, ap, ◌∙◌, subst, arith}
+use Rattle.std.proofs.Common.{◌≡◌, ◌≤◌, ℕ, suc, Bool, true, false, not, ◌&&◌, ◌||◌, cond, if◌then◌else◌, List, [], ◌∷◌, ◌++◌, map, length, fold, Some, None, codes, bytes_eq, refl, sym, ap, ◌∙◌, subst, arith}
 use Rattle.std.specs.List.{list_any}
 use Rattle.clap.specs.Faults.{default_fault, defaults_fault}
 use Rattle.clap.specs.Takes.{is_given}
@@ -9,7 +9,7 @@ use Rattle.clap.specs.Walk.{Row, Rule, has_row, more_values, with_default}
 use Rattle.clap.specs.declared.builder.value_parser.Reading.TheVariants.{AsWritten}
 use Rattle.clap.specs.declared.parser.matches.ValueSource.TheVariants.{DefaultValue}
 use Rattle.command_line.specs.inner.Forms.{Form}
-use Rattle.command_line.proofs.HasLemmas.{Text, are_distinct, and_left, and_right, eq_self, eq_swap, has, not_true, or_right, same_text}
+use Rattle.command_line.proofs.HasLemmas.{Text, are_distinct, and_left, and_right, eq_self, has, not_true, or_right, same_text}
 use Rattle.command_line.proofs.FormLemmas.{built_flag, built_option, built_position, built_positions, built_rules}
 use Rattle.command_line.proofs.RowsLemmas.{at_absent, value_row}
 use Rattle.command_line.proofs.PartRowsLemmas.{has-append, row_at, word_rows}
@@ -67,6 +67,7 @@ row_with_defaults name [] rows = none_else (has_row name rows) refl
         go : (t : Bool) → (t || has_row name xs) ≡ false → (has_row name xs ≡ false → row_at name xs ≡ None) → cond t (Some r) (row_at name xs) ≡ None
         go true h rec = absurd (false≢true (sym h))
         go false h rec = rec h
+
     none_else : (b : Bool) → has_row name rows ≡ b → row_at name rows ≡ (if has_row name rows then row_at name rows else None)
     none_else true e = rw e refl
     none_else false e = rw e (no_row rows e)
@@ -78,6 +79,7 @@ row_with_defaults name (x ∷ names) rows = go (has_row x rows) refl (row_with_d
     kept h true true t b rec = rec ∙ rw b refl
     kept h true false t b rec = absurd (false≢true (sym b ∙ subst (λ (y : Text). has_row y rows ≡ true) (same_text x name t) h))
     kept h false b' t b rec = rec ∙ rw t refl
+
     added : (t b : Bool) → bytes_eq x name ≡ t → has_row name rows ≡ b
         → row_at name (fold with_default (rows ++ default_row x ∷ []) (map built_flag names))
         ≡ (if has_row name (rows ++ default_row x ∷ []) then row_at name (rows ++ default_row x ∷ []) else (if has name names then Some (default_row name) else None))
@@ -87,6 +89,7 @@ row_with_defaults name (x ∷ names) rows = go (has_row x rows) refl (row_with_d
     added true false t b rec = rec ∙ rw (has-append name rows (default_row x ∷ []), find-append name rows (default_row x ∷ []), b, t) (ap (λ (y : Text). Some (default_row y)) (same_text x name t))
     added false true t b rec = rec ∙ rw (has-append name rows (default_row x ∷ []), find-append name rows (default_row x ∷ []), b) refl
     added false false t b rec = rec ∙ rw (has-append name rows (default_row x ∷ []), find-append name rows (default_row x ∷ []), b, t) refl
+
     go : (h : Bool) → has_row x rows ≡ h
         → row_at name (fold with_default rows (map built_flag names)) ≡ (if has_row name rows then row_at name rows else (if has name names then Some (default_row name) else None))
         → row_at name (fold with_default (rows ++ default_row x ∷ []) (map built_flag names))

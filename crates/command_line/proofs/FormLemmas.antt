@@ -1,7 +1,7 @@
 -- The rules of a command once `clap` has filled them in, and what it finds among them.
 use Rattle.std.proofs.lemmas.Bool.{false≢true}
-use Rattle.std.proofs.Common.{ltb-true, is_some, ◌≡◌, ◌<◌, ◌+◌, ◌==◌, ℕ, zero, suc, Bool, true, false, not, ◌&&◌, ◌||◌, cond, List, [], ◌∷◌, ◌++◌, map, drop, length, nat_lt, Option, Some, None, option_map, slice_get, find, bytes_eq, refl, sym, ap, ◌∙◌, subst, arith}
-use Rattle.std.specs.List.{list_any, list_all}
+use Rattle.std.proofs.Common.{ltb-true, is_some, ◌≡◌, ◌<◌, ◌+◌, ◌==◌, ℕ, zero, suc, Bool, true, false, not, ◌&&◌, ◌||◌, cond, List, [], ◌∷◌, ◌++◌, map, drop, length, nat_lt, Some, None, option_map, slice_get, bytes_eq, refl, sym, ap, ◌∙◌, subst, arith}
+use Rattle.std.specs.List.{list_all}
 use Rattle.std.specs.Option.{option_map_or}
 use Rattle.std.proofs.lemmas.Bool.Decides.{Decides-eqb, nat_tests}
 use Rattle.clap.specs.Lexer.{has_byte}
@@ -102,8 +102,8 @@ module _ (form : Form) where
       let found = id_in_positions name 1 form.positions h in (
         found.0,
         passed_in (id_test name) built_flag name (λ x. refl) form.options.flags (map built_option form.options.valued ++ built_positions 1 form.positions) not_flag
-        ∙ passed_in (id_test name) built_option name (λ x. refl) form.options.valued (built_positions 1 form.positions) nor
-        ∙ found.1,
+            ∙ passed_in (id_test name) built_option name (λ x. refl) form.options.valued (built_positions 1 form.positions) nor
+            ∙ found.1,
       )
 
   pub no_short : (c : ℕ) → arg_by_short (built_rules form) c ≡ None

@@ -1,5 +1,5 @@
 -- What `clap` found, as rows: its getters read the rows.
-use Rattle.std.proofs.Common.{◌≡◌, ℕ, Bool, true, false, List, [], ◌∷◌, map, Option, Some, None, find, cond, option_map, option_and_then, slice_get, Box, box_value, bytes_eq, refl, sym, ap, ◌∙◌}
+use Rattle.std.proofs.Common.{◌≡◌, Bool, true, false, List, [], ◌∷◌, map, Option, Some, None, find, cond, option_map, option_and_then, slice_get, Box, box_value, bytes_eq, refl}
 use Rattle.std.specs.Borrow.{Bor}
 use Rattle.std.specs.declared.alloc.Global.{Global}
 use Rattle.clap.specs.Facts.{Entry}

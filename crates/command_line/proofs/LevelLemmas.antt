@@ -1,22 +1,22 @@
 -- One command of the line: `clap` takes the words behind it just where they have parts that fit, and then its rows say what the parts say.
 use Rattle.std.proofs.lemmas.Bool.{false≢true}
-use Rattle.std.proofs.Common.{◌≡◌, ◌↔◌, ◌<◌, ◌≤◌, ◌+◌, ℕ, zero, suc, Bool, true, false, not, ◌&&◌, ◌||◌, if◌then◌else◌, List, [], ◌∷◌, ◌++◌, map, length, fold, find, Option, Some, None, option_and_then, slice_get, codes, bytes_eq, refl, sym, ap, ◌∙◌, subst, arith, le_antisymm}
+use Rattle.std.proofs.Common.{◌≡◌, ◌↔◌, ◌≤◌, Bool, true, false, not, ◌&&◌, ◌||◌, if◌then◌else◌, List, [], ◌∷◌, map, length, fold, Option, Some, None, option_and_then, slice_get, codes, bytes_eq, refl, sym, ap, ◌∙◌, subst, arith, le_antisymm}
 use Rattle.std.specs.List.{list_any}
 use Rattle.std.proofs.lemmas.List.{length-map}
 use Rattle.clap.specs.Kinds.{Kinds, or_else}
-use Rattle.clap.specs.Faults.{check_fault, defaults_fault, level_fault, settle_fault, walk_fault}
+use Rattle.clap.specs.Faults.{check_fault, level_fault}
 use Rattle.std.specs.Option.{option_map_or}
 use Rattle.clap.specs.Facts.{explicit_source}
 use Rattle.clap.specs.Takes.{is_given}
-use Rattle.clap.specs.Walk.{Row, finished, first_of, has_row, idle, nothing_held, one_of, row_text, rows_after, settled, walk, walk_from, with_default}
+use Rattle.clap.specs.Walk.{Row, first_of, has_row, nothing_held, one_of, row_text, rows_after, with_default}
 use Rattle.clap.specs.declared.error.kind.ErrorKind.TheVariants.{MissingRequiredArgument}
 use Rattle.command_line.specs.Parts.{Part, AreParts, positions}
 use Rattle.command_line.specs.CommandLines.{flags_of, values_of}
 use Rattle.command_line.specs.inner.Forms.{Form}
 use Rattle.command_line.proofs.HasLemmas.{Text, has}
-use Rattle.command_line.proofs.FormLemmas.{built_flag, built_rules, flag_no_option, flag_no_position, is_sound_form, option_no_flag, option_no_position, position_no_flag, position_no_option, positions_distinct}
+use Rattle.command_line.proofs.FormLemmas.{built_rules, flag_no_option, flag_no_position, is_sound_form, option_no_flag, option_no_position, position_no_flag, position_no_option, positions_distinct}
 use Rattle.command_line.proofs.RowsLemmas.{Fresh, both_quiet, flag_row, part_rows, value_row}
-use Rattle.command_line.proofs.StepLemmas.{leaf, stands}
+use Rattle.command_line.proofs.StepLemmas.{leaf}
 use Rattle.command_line.proofs.WalkLemmas.{AreUtf8, Done, Quiet, end_rows, walk_to}
 use Rattle.command_line.proofs.WalkLemmas as walks
 use Rattle.command_line.proofs.PartRowsLemmas.{AreNamed, first_named, fresh_from, fresh_once, has_named, named_of, row_at, rows_named, rows_of_flags, rows_of_values, rows_of_words, word_once, word_rows}
@@ -56,6 +56,7 @@ some_row_from name rows r rs e = go (has_row name rows) refl
         part : (t : Bool) → bytes_eq x.id name ≡ t → (t || has_row name xs) ≡ false → (has_row name xs ≡ false → rows_named name xs ≡ []) → rows_named name (x ∷ xs) ≡ []
         part true t h rec = absurd (false≢true (sym h))
         part false t h rec = rw t (rec h)
+
     go : (t : Bool) → has_row name rows ≡ t → has_row name rows ≡ true
     go true t = t
     go false t = let none' = none_named rows t in absurd (cc)
@@ -107,12 +108,16 @@ module _ (form : Form) (sound : is_sound_form form ≡ true) (parts : List Part)
     where
       not_flag : has name form.options.flags ≡ false
       not_flag = position_no_flag form sound name h
+
       words : List Row
       words = word_rows form.positions (positions parts)
+
       same : rows_named name own ≡ rows_named name (word_rows form.positions (positions parts))
       same = other_rows name not_flag (position_no_option form sound name h)
+
       first : row_at name own ≡ row_at name (word_rows form.positions (positions parts))
       first = first_named name own ∙ ap (λ (rs : List Row). slice_get rs 0) same ∙ sym (first_named name (word_rows form.positions (positions parts)))
+
       go : (rs : List Row) → rows_named name own ≡ rs
           → (if has_row name own then row_at name own else (if has name form.options.flags then Some (default_row name) else None)) ≡ row_at name (word_rows form.positions (positions parts))
       go [] e = rw (no_row_from name own e, not_flag) (sym (first_named name (word_rows form.positions (positions parts)) ∙ ap (λ (rs : List Row). slice_get rs 0) (sym same ∙ e)))
@@ -169,10 +174,10 @@ command_rows form words = rows_after (built_rules form) [] words
 level_quiet : (a b c d : Kinds) → (or_else a (or_else [] (or_else b (or_else c d))) ≡ []) ↔ ((a ≡ []) × (b ≡ []) × (c ≡ []) × (d ≡ []))
 level_quiet a b c d = (
   λ h.
-    let first = (both_quiet a (or_else b (or_else c d))).0 h in
-    let second = (both_quiet b (or_else c d)).0 first.1 in
-    let third = (both_quiet c d).0 second.1 in
-    (first.0, second.0, third.0, third.1),
+      let first = (both_quiet a (or_else b (or_else c d))).0 h in
+      let second = (both_quiet b (or_else c d)).0 first.1 in
+      let third = (both_quiet c d).0 second.1 in
+      (first.0, second.0, third.0, third.1),
   λ h. (both_quiet a (or_else b (or_else c d))).1 (h.0, (both_quiet b (or_else c d)).1 (h.1, (both_quiet c d).1 (h.2, h.3))),
 )
 
@@ -187,8 +192,7 @@ module _ (form : Form) (sound : is_sound_form form ≡ true) (words : List Text)
       let named = named_of form.options taken.are_parts in
       let done = walks.walk_from form sound taken.are_parts [] None 0 form.positions refl refl (omega (arith, taken.fits.all)) (fresh_of form sound parts named taken.fits) in
       let rows : command_rows form words ≡ fold with_default (part_rows form.positions parts) (built_rules form)
-      = ap (λ (rs : List Row). fold with_default rs (built_rules form)) done.ends in
-      (
+      = ap (λ (rs : List Row). fold with_default rs (built_rules form)) done.ends in (
         (level_quiet _ _ _ _).1 (
           done.quiet.0,
           done.quiet.1,
@@ -206,8 +210,10 @@ module _ (form : Form) (sound : is_sound_form form ≡ true) (words : List Text)
       let done = walks.walk_from form sound cut.are_parts [] None 0 form.positions refl refl cut.fits cut.fresh in
       let rows : command_rows form words ≡ fold with_default (part_rows form.positions cut.parts) (built_rules form)
       = ap (λ (rs : List Row). fold with_default rs (built_rules form)) done.ends in
-      let last = subst (λ (rs : List Row). check_fault (leaf form) rs false ≡ []) rows four.3 in
-      (cut.parts, record {
-        are_parts = cut.are_parts;
-        fits = fits_from form sound cut.parts named cut.fresh (all_to form sound cut.parts named last cut.fits);
-      })
+      let last = subst (λ (rs : List Row). check_fault (leaf form) rs false ≡ []) rows four.3 in (
+        cut.parts,
+        record {
+          are_parts = cut.are_parts;
+          fits = fits_from form sound cut.parts named cut.fresh (all_to form sound cut.parts named last cut.fits);
+        },
+      )

@@ -1,12 +1,11 @@
 -- What a word is: an option's name with or without a value, `--`, or no option.
 use Rattle.std.proofs.lemmas.Bool.{false≢true}
-use Rattle.std.proofs.Common.{◌≡◌, ◌≢◌, ◌⊎◌, ◌<◌, ◌≤◌, ◌+◌, ◌==◌, ℕ, zero, suc, Bool, true, false, not, ◌&&◌, ◌||◌, cond, List, [], ◌∷◌, ◌++◌, take, drop, length, Option, Some, None, is_some, slice_get, bytes_eq, codes, chars, IsUtf8, inl, inr, refl, sym, ap, ◌∙◌, subst, arith}
-use Rattle.std.specs.List.{list_any, before_first, after_first, position_or_len}
+use Rattle.std.proofs.Common.{◌≡◌, ◌+◌, ◌==◌, ℕ, suc, Bool, true, false, ◌||◌, [], ◌∷◌, ◌++◌, Some, None, bytes_eq, inl, inr, refl, sym, ap, ◌∙◌, subst, arith}
+use Rattle.std.specs.List.{before_first, after_first, position_or_len}
 use Rattle.std.proofs.lemmas.Bool.Decides.{Decides-eqb}
-use Rattle.clap.specs.Lexer.{has_byte, long_of, long_of_rest, name_and_value, short_of, strip_byte}
-use Rattle.clap.specs.Walk.{is_empty}
+use Rattle.clap.specs.Lexer.{has_byte, long_of, long_of_rest, name_and_value, short_of}
 use Rattle.command_line.specs.Parts.{IsNoOption}
-use Rattle.command_line.proofs.HasLemmas.{Text, and_left, and_right, not_true, same_text}
+use Rattle.command_line.proofs.HasLemmas.{Text, and_right, not_true}
 use Rattle.command_line.proofs.FormLemmas.{is_name}
 
 abbrev is_equals : ℕ → Bool
@@ -138,6 +137,7 @@ look (x ∷ xs) = go (x == 45) refl
             third [] = dashes refl
             third (z ∷ zs) = look_long z zs
         second false t = short y ys refl (rw t refl) (rw t refl) (rw t refl)
+
     go : (t : Bool) → (x == 45) ≡ t → Look (x ∷ xs)
     go true t = subst (λ (z : ℕ). Look (z ∷ xs)) (sym ((Decides-eqb x 45).0 t)) (after xs)
     go false t = plain (inr (λ e. absurd (not-some t e)))

@@ -1,17 +1,16 @@
 -- The command line whole: its first word is a command, and `clap` takes it just where it takes the words behind the command.
-use Rattle.std.proofs.lemmas.Bool.{false≢true}
-use Rattle.std.proofs.Common.{◌≡◌, ◌↔◌, ℕ, Bool, true, false, ◌||◌, List, [], ◌∷◌, ◌++◌, fold, find, Option, Some, None, IsUtf8, codes, bytes_eq, append_assoc, append-nil, refl, sym, ap, ◌∙◌, subst}
+use Rattle.std.proofs.Common.{◌≡◌, ℕ, Bool, true, false, List, [], ◌∷◌, ◌++◌, fold, find, Some, None, IsUtf8, codes, bytes_eq, append_assoc, append-nil, refl, sym, ap, ◌∙◌, subst}
 use Rattle.clap.specs.Lexer.{long_of, short_of}
 use Rattle.clap.specs.Kinds.{Kinds, or_else}
 use Rattle.clap.specs.Faults.{defaults_fault, fault_of, flags_fault, turn_fault, walk_fault}
-use Rattle.clap.specs.Simple.{App, Shape, built, entered, label_of, names_of, subcommand_of}
-use Rattle.clap.specs.Walk.{Held, Names, Row, Rule, Walk, answers_to, idle, nothing_held, subcommand_met, walk, walk_from, walked}
+use Rattle.clap.specs.Simple.{Shape, built, label_of, names_of, subcommand_of}
+use Rattle.clap.specs.Walk.{Names, Walk, answers_to, idle, nothing_held, subcommand_met, walk, walk_from, walked}
 use Rattle.command_line.specs.inner.Forms.{Form, check_form, line_app, make_form, match_form, show_form}
 use Rattle.command_line.proofs.HasLemmas.{Text, same_text}
 use Rattle.command_line.proofs.FormLemmas.{is_sound_form}
 use Rattle.command_line.proofs.LexerLemmas.{Look, look, dashes, alone, with_value, short, plain, plain_word_is}
 use Rattle.command_line.proofs.RowsLemmas.{both_quiet}
-use Rattle.command_line.proofs.StepLemmas.{first_char, leaf, stands}
+use Rattle.command_line.proofs.StepLemmas.{first_char, leaf}
 use Rattle.command_line.proofs.WalkLemmas.{AreUtf8}
 use Rattle.command_line.proofs.LevelLemmas.{command_fault, command_rows}
 
@@ -98,7 +97,7 @@ short_first x xs utf8 d l s m q =
 
 -- a first word that is no command
 module _ (word : Text) (words : List Text) (no_match : bytes_eq (codes "match") word ≡ false) (no_check : bytes_eq (codes "check") word ≡ false)
-  (no_show : bytes_eq (codes "show") word ≡ false) (no_make : bytes_eq (codes "make") word ≡ false) where
+    (no_show : bytes_eq (codes "show") word ≡ false) (no_make : bytes_eq (codes "make") word ≡ false) where
   none_met : subcommand_met line_names idle word ≡ None
   none_met = rw (no_match, no_check, no_show, no_make) refl
 

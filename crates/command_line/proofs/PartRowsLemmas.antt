@@ -1,13 +1,10 @@
 -- The rows of some parts: those of a name, and that no name has two just where no part is repeated.
 use Rattle.std.proofs.lemmas.Bool.{false≢true}
-use Rattle.std.proofs.Common.{◌≡◌, ◌↔◌, ◌<◌, ◌≤◌, ◌+◌, ℕ, zero, suc, Bool, true, false, not, ◌&&◌, ◌||◌, cond, List, [], ◌∷◌, ◌++◌, map, length, filter, find, Option, Some, None, slice_get, bytes_eq, append_assoc, append-nil, length-append, refl, sym, ap, ◌∙◌, subst, arith}
-use Rattle.std.specs.List.{list_any}
+use Rattle.std.proofs.Common.{◌≡◌, ◌≤◌, ◌+◌, suc, Bool, true, false, ◌||◌, cond, List, [], ◌∷◌, ◌++◌, map, length, filter, find, Option, Some, slice_get, bytes_eq, append_assoc, length-append, refl, sym, ap, ◌∙◌, subst, arith}
 use Rattle.clap.specs.Walk.{Row, has_row}
 use Rattle.command_line.specs.Parts.{Part, Flag, Valued, Position, Options, AreParts, none, flag, joined, apart, position, rest, positions}
 use Rattle.command_line.specs.CommandLines.{flags_of, values_of}
-use Rattle.command_line.specs.inner.Forms.{Form}
 use Rattle.command_line.proofs.HasLemmas.{Text, are_distinct, and_left, and_right, eq_self, has, has_from, not_true, or_right, same_text}
-use Rattle.command_line.proofs.FormLemmas.{flag_no_option, flag_no_position, is_sound_form, option_no_flag, option_no_position, positions_distinct}
 use Rattle.command_line.proofs.RowsLemmas.{Fresh, flag_row, part_rows, value_row}
 
 -- the rows of a name
@@ -172,6 +169,7 @@ fresh_once name rows (r ∷ more) fresh = go (bytes_eq r.id name) refl (fresh_on
   where
     has_now : has_row name (rows ++ r ∷ []) ≡ (has_row name rows || (bytes_eq r.id name || false))
     has_now = has-append name rows (r ∷ [])
+
     go : (t : Bool) → bytes_eq r.id name ≡ t → (length (rows_named name more) ≤ 1) × (has_row name (rows ++ r ∷ []) ≡ true → rows_named name more ≡ [])
         → (length (rows_named name (r ∷ more)) ≤ 1) × (has_row name rows ≡ true → rows_named name (r ∷ more) ≡ [])
     go true t rec =
@@ -195,6 +193,6 @@ fresh_from rows (r ∷ more) once = (
         let second : rows_named r.id (r ∷ more) ≡ r ∷ rows_named r.id more = rw self refl in
         let all : length (rows_named r.id (rows ++ r ∷ more)) ≡ length (rows_named r.id rows) + suc (length (rows_named r.id more))
         = ap length (named-append r.id rows (r ∷ more)) ∙ length-append (rows_named r.id rows) (rows_named r.id (r ∷ more))
-          ∙ ap (λ (rs : List Row). length (rows_named r.id rows) + length rs) second in
+        ∙ ap (λ (rs : List Row). length (rows_named r.id rows) + length rs) second in
         absurd (omega (arith, once r.id))
     go false t = t

@@ -1,14 +1,12 @@
 -- One word of `clap`'s walk over the words behind a command of flags, options with a value and positions.
-use Rattle.std.proofs.lemmas.Bool.{false≢true}
-use Rattle.std.proofs.Common.{◌≡◌, ◌↔◌, ◌<◌, ◌≤◌, ◌+◌, ℕ, zero, suc, Bool, true, false, not, ◌&&◌, min, if◌then◌else◌, List, [], ◌∷◌, ◌++◌, drop, length, Option, Some, None, option_map, slice_get, codes, bytes_eq, chars, encode_utf8_all, is_some, IsUtf8, refl, sym, ap, ◌∙◌, subst, arith}
+use Rattle.std.proofs.Common.{◌≡◌, ◌↔◌, ◌<◌, ◌+◌, ℕ, suc, Bool, true, false, min, if◌then◌else◌, List, [], ◌∷◌, Option, Some, None, slice_get, bytes_eq, chars, encode_utf8_all, is_some, IsUtf8, refl, sym, ap, ◌∙◌, arith}
 use Rattle.std.proofs.lemmas.Str.{IsUtf8-drop, IsCharBoundary-after_ascii, encodes-chars}
 use Rattle.clap.specs.declared.error.kind.ErrorKind.TheVariants.{TooManyValues}
 use Rattle.clap.specs.Lexer.{long_of, short_of, usize_max}
 use Rattle.clap.specs.Kinds.{Kinds, or_else}
-use Rattle.clap.specs.Faults.{flags_fault, long_fault, option_fault, react_fault, settle_fault, turn_fault, use_fault, walk_fault}
+use Rattle.clap.specs.Faults.{flags_fault, long_fault, option_fault, react_fault, settle_fault, turn_fault}
 use Rattle.clap.specs.Simple.{Shape, new_shape}
-use Rattle.clap.specs.Walk.{Held, Row, Rule, Waiting, Walk, arg_by_id, arg_by_index, arg_by_long, arg_by_short, bundle_met, has_row, idle, is_pending, option, settled_rows, takes_values, used, walked}
-use Rattle.command_line.specs.Parts.{IsNoOption}
+use Rattle.clap.specs.Walk.{Held, Row, Rule, Waiting, Walk, arg_by_id, arg_by_index, arg_by_long, has_row, idle, is_pending, option, settled_rows, takes_values, used, walked}
 use Rattle.command_line.specs.inner.Forms.{Form}
 use Rattle.command_line.proofs.HasLemmas.{Text, has, and_false, eq_self}
 use Rattle.command_line.proofs.FormLemmas.{built_flag, built_option, built_position, built_rules, long_flag, long_option, long_none, no_short}
@@ -106,7 +104,7 @@ index_fits k few = omega arith
 
 -- a word behind `--`, or one that is no option
 module _ (form : Form) (rows : List Row) (pending : Pending) (k : ℕ) (few : k < 1000) (name : Text)
-  (next : arg_by_index (built_rules form) (1 + k) ≡ Some (built_position (1 + k) name)) where
+    (next : arg_by_index (built_rules form) (1 + k) ≡ Some (built_position (1 + k) name)) where
   pub step_trailing : (waiting : Waiting) (word : Text)
       → Steps form (stands rows pending waiting (1 + k) true) word (stands (rows_with form rows pending) (Some (name, word ∷ [])) idle (1 + suc k) true) (Settles form rows pending)
   unfolding walked
@@ -161,6 +159,7 @@ first_char x xs utf8 = go (chars (x ∷ xs)) refl
   where
     rest : IsUtf8 (x ∷ xs)
     rest = IsUtf8-drop (45 ∷ x ∷ xs) 1 utf8 (IsCharBoundary-after_ascii (45 ∷ x ∷ xs) 0 utf8 (omega arith) (omega arith))
+
     go : (cs : List ℕ) → chars (x ∷ xs) ≡ cs → (y : ℕ) × (slice_get (chars (x ∷ xs)) 0 ≡ Some y)
     go [] e = let none : x ∷ xs ≡ [] = sym (encodes-chars (x ∷ xs) rest) ∙ ap encode_utf8_all e in absurd (cc)
     go (c ∷ cs) e = (c, ap (λ (ds : List ℕ). slice_get ds 0) e)

@@ -1,17 +1,15 @@
 -- `clap`'s walk over the words behind a command: it makes no mistake just where the words have parts that fit, and then it keeps a row for each.
-use Rattle.std.proofs.lemmas.Bool.{false≢true}
-use Rattle.std.proofs.Common.{◌≡◌, ◌↔◌, ◌<◌, ◌≤◌, ◌+◌, ◌-◌, ℕ, zero, suc, Bool, true, false, ◌||◌, List, [], ◌∷◌, ◌++◌, map, drop, length, fold, Option, Some, None, option_map, slice_get, Contains, bytes_eq, IsUtf8, append_assoc, append-nil, length-drop, refl, sym, ap, ◌∙◌, subst, arith}
+use Rattle.std.proofs.Common.{◌≡◌, ◌↔◌, ◌<◌, ◌≤◌, ◌+◌, ℕ, zero, suc, Bool, true, false, ◌||◌, List, [], ◌∷◌, ◌++◌, map, drop, length, fold, Some, None, option_map, slice_get, bytes_eq, IsUtf8, append_assoc, append-nil, refl, sym, ap, ◌∙◌, subst, arith}
 use Rattle.clap.specs.Lexer.{long_of}
-use Rattle.clap.specs.Kinds.{Kinds, or_else}
 use Rattle.clap.specs.Faults.{settle_fault, turn_fault, walk_fault}
 use Rattle.clap.specs.Walk.{Row, Waiting, Walk, arg_by_id, arg_by_index, has_row, idle, option, settled, used, walked}
 use Rattle.command_line.specs.Parts.{Part, Flag, Valued, Position, Options, AreParts, none, flag, joined, apart, position, rest, IsNoOption, positions}
 use Rattle.command_line.specs.inner.Forms.{Form}
 use Rattle.command_line.proofs.HasLemmas.{Text, eq_self, has, has_from, has_to, or_right}
 use Rattle.command_line.proofs.FormLemmas.{built_flag, built_option, built_position, built_rules, id_option, id_position, index_after, is_sound_form, flag_name, option_name, option_no_flag, few_positions, position_no_flag, position_no_option}
-use Rattle.command_line.proofs.LexerLemmas.{Look, look, dashes, alone, with_value, short, plain, IsPlainWord, plain_word_is, long_alone, long_joined, named_is_long, joined_is_long}
+use Rattle.command_line.proofs.LexerLemmas.{Look, look, dashes, alone, with_value, short, plain, plain_word_is, long_alone, long_joined, named_is_long, joined_is_long}
 use Rattle.command_line.proofs.RowsLemmas.{Fresh, both_quiet, flag_row, part_rows, position_quiet, option_quiet, used_flag, used_option, used_position, value_row}
-use Rattle.command_line.proofs.StepLemmas.{Pending, Settles, Steps, flag_with_value, held, leaf, no_position, no_trailing, rows_with, short_option, stands, step_apart, step_dashes, step_flag, step_joined, step_position, step_trailing, step_value, unknown_option, unsettled, waiting_dashes, waiting_long, waiting_short}
+use Rattle.command_line.proofs.StepLemmas.{Pending, Settles, Steps, flag_with_value, leaf, no_position, no_trailing, rows_with, short_option, stands, step_apart, step_dashes, step_flag, step_joined, step_position, step_trailing, step_value, unknown_option, unsettled, waiting_dashes, waiting_long, waiting_short}
 
 -- each word is UTF-8
 abbrev pub AreUtf8 : List Text → Type 0
@@ -132,12 +130,12 @@ module _ (form : Form) (sound : is_sound_form form ≡ true) where
       let same : then ≡ now ++ value_row name word ∷ [] = position_rows now name word l.stands_there fresh.0 in
       let few : length (positions (map Position words)) ≤ length left = omega arith in
       let done = trail_from words now (Some (name, word ∷ [])) idle (suc k) left l.after ((position_settles now name word l.stands_there).1 fresh.0) few
-          (subst (λ (rs : List Row). Fresh rs (part_rows left (map Position words))) (sym same) fresh.1) in
+      (subst (λ (rs : List Row). Fresh rs (part_rows left (map Position words))) (sym same) fresh.1) in
       done_first form (stands rows pending waiting (1 + k) true) (stands now (Some (name, word ∷ [])) idle (1 + suc k) true) word words (Settles form rows pending)
-          (step_trailing form rows pending k l.few name l.next waiting word) settles
-          (now ++ (value_row name word ∷ part_rows left (map Position words)))
-          (subst (λ (rs : List Row). Done form (stands now (Some (name, word ∷ [])) idle (1 + suc k) true) words rs)
-          (ap (λ (rs : List Row). rs ++ part_rows left (map Position words)) same ∙ append_assoc now (value_row name word ∷ []) (part_rows left (map Position words))) done)
+      (step_trailing form rows pending k l.few name l.next waiting word) settles
+      (now ++ (value_row name word ∷ part_rows left (map Position words)))
+      (subst (λ (rs : List Row). Done form (stands now (Some (name, word ∷ [])) idle (1 + suc k) true) words rs)
+      (ap (λ (rs : List Row). rs ++ part_rows left (map Position words)) same ∙ append_assoc now (value_row name word ∷ []) (part_rows left (map Position words))) done)
 
   pub record Trailed (rows : List Row) (pending : Pending) (words : List Text) (left : List Text) : Type 0 where
     pub settles : Settles form rows pending
@@ -153,7 +151,7 @@ module _ (form : Form) (sound : is_sound_form form ≡ true) where
       let l = left_is k name left e in
       let now = rows_with form rows pending in
       let two = quiet_first form (stands rows pending waiting (1 + k) true) (stands now (Some (name, word ∷ [])) idle (1 + suc k) true) word words (Settles form rows pending)
-          (step_trailing form rows pending k l.few name l.next waiting word) q in
+      (step_trailing form rows pending k l.few name l.next waiting word) q in
       let rec = trail_to words now (Some (name, word ∷ [])) idle (suc k) left l.after two.1 in
       let new : has_row name now ≡ false = (position_settles now name word l.stands_there).0 rec.settles in
       record {
@@ -176,10 +174,10 @@ module _ (form : Form) (sound : is_sound_form form ≡ true) where
       let same : next ≡ now ++ flag_row name ∷ [] = used_flag name now fresh.0 in
       let done = walk_from d next None k left e refl fits (subst (λ (rs : List Row). Fresh rs (part_rows left parts)) (sym same) fresh.1) in
       done_first form (stands rows pending idle (1 + k) false) (stands next None idle (1 + k) false) (45 ∷ 45 ∷ name) words (Settles form rows pending × (has_row name now ≡ false))
-          (step_flag form rows pending (1 + k) name (45 ∷ 45 ∷ name) h (named_is_long name is) (long_alone name is)) (settles, fresh.0)
-          (now ++ (flag_row name ∷ part_rows left parts))
-          (subst (λ (rs : List Row). Done form (stands next None idle (1 + k) false) words rs)
-          (ap (λ (rs : List Row). rs ++ part_rows left parts) same ∙ append_assoc now (flag_row name ∷ []) (part_rows left parts)) done)
+      (step_flag form rows pending (1 + k) name (45 ∷ 45 ∷ name) h (named_is_long name is) (long_alone name is)) (settles, fresh.0)
+      (now ++ (flag_row name ∷ part_rows left parts))
+      (subst (λ (rs : List Row). Done form (stands next None idle (1 + k) false) words rs)
+      (ap (λ (rs : List Row). rs ++ part_rows left parts) same ∙ append_assoc now (flag_row name ∷ []) (part_rows left parts)) done)
   walk_from (joined {name} {value} {words} {parts} c d) rows pending k left e settles fits fresh =
       let h = has_from form.options.valued name c in
       let is = option_name form sound name h in
@@ -189,10 +187,10 @@ module _ (form : Form) (sound : is_sound_form form ≡ true) where
       let done = walk_from d next None k left e refl fits (subst (λ (rs : List Row). Fresh rs (part_rows left parts)) (sym same) fresh.1) in
       let word = 45 ∷ 45 ∷ (name ++ 61 ∷ value) in
       done_first form (stands rows pending idle (1 + k) false) (stands next None idle (1 + k) false) word words (Settles form rows pending × (has_row name now ≡ false))
-          (step_joined form rows pending (1 + k) name value word (option_no_flag form sound name h) h (joined_is_long name value is) (long_joined name value is)) (settles, fresh.0)
-          (now ++ (value_row name value ∷ part_rows left parts))
-          (subst (λ (rs : List Row). Done form (stands next None idle (1 + k) false) words rs)
-          (ap (λ (rs : List Row). rs ++ part_rows left parts) same ∙ append_assoc now (value_row name value ∷ []) (part_rows left parts)) done)
+      (step_joined form rows pending (1 + k) name value word (option_no_flag form sound name h) h (joined_is_long name value is) (long_joined name value is)) (settles, fresh.0)
+      (now ++ (value_row name value ∷ part_rows left parts))
+      (subst (λ (rs : List Row). Done form (stands next None idle (1 + k) false) words rs)
+      (ap (λ (rs : List Row). rs ++ part_rows left parts) same ∙ append_assoc now (value_row name value ∷ []) (part_rows left parts)) done)
   walk_from (apart {name} {value} {words} {parts} c p d) rows pending k left e settles fits fresh =
       let h = has_from form.options.valued name c in
       let is = option_name form sound name h in
@@ -200,15 +198,15 @@ module _ (form : Form) (sound : is_sound_form form ≡ true) where
       let then = rows_with form now (Some (name, value ∷ [])) in
       let same : then ≡ now ++ value_row name value ∷ [] = option_rows now name value h fresh.0 in
       let done = walk_from d now (Some (name, value ∷ [])) k left e ((option_settles now name value h).1 fresh.0) fits
-          (subst (λ (rs : List Row). Fresh rs (part_rows left parts)) (sym same) fresh.1) in
+      (subst (λ (rs : List Row). Fresh rs (part_rows left parts)) (sym same) fresh.1) in
       let all = now ++ (value_row name value ∷ part_rows left parts) in
       let waits = stands now (Some (name, [])) (option name) (1 + k) false in
       done_first form (stands rows pending idle (1 + k) false) waits (45 ∷ 45 ∷ name) (value ∷ words) (Settles form rows pending)
-          (step_apart form rows pending (1 + k) name (45 ∷ 45 ∷ name) (option_no_flag form sound name h) h (named_is_long name is) (long_alone name is)) settles all
-          (done_first form waits (stands now (Some (name, value ∷ [])) idle (1 + k) false) value words (Unit {0})
-          (step_value form now (1 + k) name value (option_found name h) (plain_word_is value p)) tt all
-          (subst (λ (rs : List Row). Done form (stands now (Some (name, value ∷ [])) idle (1 + k) false) words rs)
-          (ap (λ (rs : List Row). rs ++ part_rows left parts) same ∙ append_assoc now (value_row name value ∷ []) (part_rows left parts)) done))
+      (step_apart form rows pending (1 + k) name (45 ∷ 45 ∷ name) (option_no_flag form sound name h) h (named_is_long name is) (long_alone name is)) settles all
+      (done_first form waits (stands now (Some (name, value ∷ [])) idle (1 + k) false) value words (Unit {0})
+      (step_value form now (1 + k) name value (option_found name h) (plain_word_is value p)) tt all
+      (subst (λ (rs : List Row). Done form (stands now (Some (name, value ∷ [])) idle (1 + k) false) words rs)
+      (ap (λ (rs : List Row). rs ++ part_rows left parts) same ∙ append_assoc now (value_row name value ∷ []) (part_rows left parts)) done))
   walk_from (position {word} {words} {parts} p d) rows pending k [] e settles fits fresh = absurd (omega arith)
   walk_from (position {word} {words} {parts} p d) rows pending k (name ∷ left) e settles fits fresh =
       let l = left_is k name left e in
@@ -217,15 +215,15 @@ module _ (form : Form) (sound : is_sound_form form ≡ true) where
       let same : then ≡ now ++ value_row name word ∷ [] = position_rows now name word l.stands_there fresh.0 in
       let few : length (positions parts) ≤ length left = omega arith in
       let done = walk_from d now (Some (name, word ∷ [])) (suc k) left l.after ((position_settles now name word l.stands_there).1 fresh.0) few
-          (subst (λ (rs : List Row). Fresh rs (part_rows left parts)) (sym same) fresh.1) in
+      (subst (λ (rs : List Row). Fresh rs (part_rows left parts)) (sym same) fresh.1) in
       done_first form (stands rows pending idle (1 + k) false) (stands now (Some (name, word ∷ [])) idle (1 + suc k) false) word words (Settles form rows pending)
-          (step_position form rows pending k l.few name l.next word (plain_word_is word p)) settles
-          (now ++ (value_row name word ∷ part_rows left parts))
-          (subst (λ (rs : List Row). Done form (stands now (Some (name, word ∷ [])) idle (1 + suc k) false) words rs)
-          (ap (λ (rs : List Row). rs ++ part_rows left parts) same ∙ append_assoc now (value_row name word ∷ []) (part_rows left parts)) done)
+      (step_position form rows pending k l.few name l.next word (plain_word_is word p)) settles
+      (now ++ (value_row name word ∷ part_rows left parts))
+      (subst (λ (rs : List Row). Done form (stands now (Some (name, word ∷ [])) idle (1 + suc k) false) words rs)
+      (ap (λ (rs : List Row). rs ++ part_rows left parts) same ∙ append_assoc now (value_row name word ∷ []) (part_rows left parts)) done)
   walk_from (rest {words}) rows pending k left e settles fits fresh =
       done_first form (stands rows pending idle (1 + k) false) (stands rows pending idle (1 + k) true) (45 ∷ 45 ∷ []) words (Unit {0})
-          (step_dashes form rows pending (1 + k)) tt _ (trail_from words rows pending idle k left e settles fits fresh)
+      (step_dashes form rows pending (1 + k)) tt _ (trail_from words rows pending idle k left e settles fits fresh)
 
   -- parts of the words that fit, from a state on
   pub record Cut (rows : List Row) (pending : Pending) (words left : List Text) : Type 0 where
@@ -271,11 +269,11 @@ module _ (form : Form) (sound : is_sound_form form ≡ true) where
   waiting_step word words utf8 claims (plain p) rows name k left e h q =
       let from = stands rows (Some (name, [])) (option name) (1 + k) false in
       let two = quiet_first form from (stands rows (Some (name, word ∷ [])) idle (1 + k) false) word words (Unit {0})
-          (step_value form rows (1 + k) name word (option_found name h) (plain_word_is word p)) q in
+      (step_value form rows (1 + k) name word (option_found name h) (plain_word_is word p)) q in
       record { value = word; after = words; words_are = refl; plain_value = p; cut = claims.from_idle rows (Some (name, word ∷ [])) k left e two.1 }
 
   module _ (word : Text) (words : List Text) (utf8 : IsUtf8 word) (claims : Claims words) (rows : List Row) (pending : Pending) (k : ℕ) (left : List Text)
-    (e : drop k form.positions ≡ left) (q : Quiet form (stands rows pending idle (1 + k) false) (word ∷ words)) where
+      (e : drop k form.positions ≡ left) (q : Quiet form (stands rows pending idle (1 + k) false) (word ∷ words)) where
     here : turn_fault (leaf form) [] (stands rows pending idle (1 + k) false) word ≡ []
     here = turn_of form (stands rows pending idle (1 + k) false) word words q
 
@@ -285,7 +283,7 @@ module _ (form : Form) (sound : is_sound_form form ≡ true) where
         let now = rows_with form rows pending in
         let next = used (built_flag name) [] now in
         let two = quiet_first form (stands rows pending idle (1 + k) false) (stands next None idle (1 + k) false) word words (Settles form rows pending × (has_row name now ≡ false))
-            (step_flag form rows pending (1 + k) name word h d l) q in
+        (step_flag form rows pending (1 + k) name word h d l) q in
         let cut = claims.from_idle next None k left e two.1 in
         record {
           parts = Flag name ∷ cut.parts;
@@ -301,7 +299,7 @@ module _ (form : Form) (sound : is_sound_form form ≡ true) where
         let now = rows_with form rows pending in
         let next = used (built_option name) (value ∷ []) now in
         let two = quiet_first form (stands rows pending idle (1 + k) false) (stands next None idle (1 + k) false) word words (Settles form rows pending × (has_row name now ≡ false))
-            (step_joined form rows pending (1 + k) name value word (option_no_flag form sound name h) h d l) q in
+        (step_joined form rows pending (1 + k) name value word (option_no_flag form sound name h) h d l) q in
         let cut = claims.from_idle next None k left e two.1 in
         record {
           parts = Valued name value ∷ cut.parts;
@@ -316,7 +314,7 @@ module _ (form : Form) (sound : is_sound_form form ≡ true) where
     apart_cut name is d l h =
         let now = rows_with form rows pending in
         let two = quiet_first form (stands rows pending idle (1 + k) false) (stands now (Some (name, [])) (option name) (1 + k) false) word words (Settles form rows pending)
-            (step_apart form rows pending (1 + k) name word (option_no_flag form sound name h) h d l) q in
+        (step_apart form rows pending (1 + k) name word (option_no_flag form sound name h) h d l) q in
         let found = claims.from_waiting now name k left e h two.1 in
         let cut = found.cut in
         let new : has_row name now ≡ false = (option_settles now name found.value h).0 cut.settles in
@@ -334,7 +332,7 @@ module _ (form : Form) (sound : is_sound_form form ≡ true) where
         let l = left_is k name after (e ∙ some') in
         let now = rows_with form rows pending in
         let two = quiet_first form (stands rows pending idle (1 + k) false) (stands now (Some (name, word ∷ [])) idle (1 + suc k) false) word words (Settles form rows pending)
-            (step_position form rows pending k l.few name l.next word (plain_word_is word p)) q in
+        (step_position form rows pending k l.few name l.next word (plain_word_is word p)) q in
         let cut = claims.from_idle now (Some (name, word ∷ [])) (suc k) after l.after two.1 in
         let new : has_row name now ≡ false = (position_settles now name word l.stands_there).0 cut.settles in
         rw some' (record {

@@ -7,5 +7,4 @@ ghost use Rattle.command_line.specs.CommandLines.{PlainRequest, IsCommandLine};
 pub fn one_request()
     ensures { (words : List (List ℕ)) (first second : PlainRequest)
         → IsCommandLine words first → IsCommandLine words second → first ≡ second }
-{
-}
+{}

@@ -1,10 +1,8 @@
-use Rattle.std.proofs.Common.{◌≡◌, ◌∙◌, List, ℕ, Option, Some, None, sym, ap, option_map}
+use Rattle.std.proofs.Common.{◌∙◌, sym}
 use Rattle.clap.specs.Matches.{found_of}
-use Rattle.clap.specs.Simple.{subcommand_of}
 use Rattle.clap.specs.Walk.{rows_of}
 use Rattle.clap.specs.declared.parser.matches.ArgMatches.TheViews.{out-ArgMatches}
 use Rattle.command_line.specs.CommandLines.{texts}
-use Rattle.command_line.specs.inner.Forms.{line_app}
 use Rattle.command_line.specs.Request.{plain_request}
 use Rattle.command_line.proofs.CommandLinesLemmas.{asked_from, asked_to, failed, none_asked, texts_utf8}
 use Rattle.command_line.proofs.FoundLemmas.{entered_as, not_entered}
@@ -24,7 +22,7 @@ returns-in-Some-request_in-clause-ok c =
     let rows = rows_of (found_of c.in-Some.values.now) in
     let entered = entered_as (out-ArgMatches c.in-Ok.matches).subcommand command rows c.in-Some.ensures.name c.in-Some.ensures.rows in
     asked_to (texts c.args.words.now) (texts_utf8 c.args.words.now) c.in-Ok.ensures.exact command rows (sym c.in-Ok.ensures.matches ∙ entered)
-        (plain_request c.in-Some-request_in.request) c.in-Some-request_in.ensures.some
+    (plain_request c.in-Some-request_in.request) c.in-Some-request_in.ensures.some
 
 pub returns-clause-no_line : goal.returns-clause-no_line
 returns-clause-no_line c = λ is.

@@ -1,4 +1,3 @@
-use Rattle.std.proofs.Common.{IfNone, sym, subst}
 use Rattle.clap.specs.Matches.{found_of}
 use Rattle.clap.specs.Walk.{rows_of}
 use Rattle.command_line.proofs.CommandLinesLemmas.{no_match}
