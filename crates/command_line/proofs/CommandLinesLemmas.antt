@@ -13,11 +13,11 @@ use Rattle.clap.specs.Walk.{Row, first_of, one_of}
 use Rattle.command_line.specs.Parts.{Part, positions}
 use Rattle.command_line.specs.CommandLines.{Check, IsCalledWith, IsCommandLine, IsFlag, IsNumberIn, IsNumberOr, Make, Match, PlainRequest, Show, flags_of, texts, values_of}
 use Rattle.command_line.specs.declared.numbers.TheConstants.{DEFAULT_CAP, MAX_CAP, MAX_COUNT, MAX_SEED}
-use Rattle.command_line.specs.inner.Forms.{Form, check_form, line_app, make_form, match_form, show_form}
+use Rattle.command_line.specs.inner.Forms.{Form, check_form, program_app, make_form, match_form, show_form}
 use Rattle.command_line.specs.inner.Rows.{command_name, IsAskedBy, IsAskedIn, IsCapText, IsFlagText, IsMatchIn, IsNumberText}
 use Rattle.command_line.proofs.HasLemmas.{Text, differ, has, or_false, same_text}
 use Rattle.command_line.proofs.PartRowsLemmas.{word_rows}
-use Rattle.command_line.proofs.WalkLemmas.{AreUtf8}
+use Rattle.command_line.proofs.CutLemmas.{AreUtf8}
 use Rattle.command_line.proofs.LevelLemmas.{Fits, IsTaken, Tells, command_rows, flag_text, level_from, level_to}
 use Rattle.command_line.proofs.LineLemmas.{Known, called_of, is_check, is_make, is_match, is_show, line_fault, line_rows, sound_of}
 
@@ -144,7 +144,7 @@ line_of _ is_make words rest parts rows line taken tells (Make seed count) asked
     }
 line_of form known words rest parts rows line taken tells request asked = differ form.name (command_name request) refl asked.0
 
-pub asked_to : (words : List Text) → AreUtf8 words → fault_of line_app words ≡ [] → (command : Text) (rows : List Row) → subcommand_of line_app words ≡ Some (command, rows)
+pub asked_to : (words : List Text) → AreUtf8 words → fault_of program_app words ≡ [] → (command : Text) (rows : List Row) → subcommand_of program_app words ≡ Some (command, rows)
     → (request : PlainRequest) → IsAskedIn command rows request → IsCommandLine words request
 asked_to words utf8 quiet command rows found request asked =
     let called = called_of words utf8 quiet in
@@ -162,16 +162,16 @@ WholeIs rows (Match whole cap pattern) = one_of (codes "whole") rows ≡ Some (t
 WholeIs rows request = Unit {0}
 
 pub record Asked (words : List Text) (request : PlainRequest) : Type 0 where
-  pub quiet : fault_of line_app words ≡ []
+  pub quiet : fault_of program_app words ≡ []
   pub rows : List Row
-  pub found : subcommand_of line_app words ≡ Some (command_name request, rows)
+  pub found : subcommand_of program_app words ≡ Some (command_name request, rows)
   pub asked : IsAskedBy rows request
   pub whole : WholeIs rows request
 
 record Taken (form : Form) (words : List Text) (parts : List Part) : Type 0 where
-  quiet : fault_of line_app words ≡ []
+  quiet : fault_of program_app words ≡ []
   rows : List Row
-  found : subcommand_of line_app words ≡ Some (form.name, rows)
+  found : subcommand_of program_app words ≡ Some (form.name, rows)
   tells : Tells form parts rows
 
 taken_by : (form : Form) → Known form → (words : List Text) (parts : List Part) → IsCalledWith form.name form.options words parts → Fits form parts → Taken form words parts
@@ -282,7 +282,7 @@ no_match command rows is none (Match whole most pattern) asked = none whole most
 no_match command rows is none request asked = differ (codes "match") (command_name request) refl (sym is ∙ asked.0)
 
 -- a request is refused only where the words ask for none
-pub none_asked : (words : List Text) (command : Text) (rows : List Row) → subcommand_of line_app words ≡ Some (command, rows)
+pub none_asked : (words : List Text) (command : Text) (rows : List Row) → subcommand_of program_app words ≡ Some (command, rows)
     → ((request : PlainRequest) → ¬ IsAskedIn command rows request) → (request : PlainRequest) → ¬ IsCommandLine words request
 none_asked words command rows found none request line =
     let asked = asked_from words request line in
@@ -290,7 +290,7 @@ none_asked words command rows found none request line =
     none request (same.0, subst (λ (rs : List Row). IsAskedBy rs request) (sym same.1) asked.asked)
 
 -- and an error is no want of memory only where they ask for none
-pub failed : (words : List Text) (e : Error) → HasKind (fault_of line_app words) e → ¬ (kind_of e ≡ OutOfMemory) → (request : PlainRequest) → ¬ IsCommandLine words request
+pub failed : (words : List Text) (e : Error) → HasKind (fault_of program_app words) e → ¬ (kind_of e ≡ OutOfMemory) → (request : PlainRequest) → ¬ IsCommandLine words request
 failed words e (inl memory) other request line = other memory
 failed words e (inr among) other request line =
     subst (λ (ks : Kinds). IsAmong (kind_of e) ks) (asked_from words request line).quiet among

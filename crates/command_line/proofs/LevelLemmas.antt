@@ -17,8 +17,8 @@ use Rattle.command_line.proofs.HasLemmas.{Text, has}
 use Rattle.command_line.proofs.FormLemmas.{built_rules, flag_no_option, flag_no_position, is_sound_form, option_no_flag, option_no_position, position_no_flag, position_no_option, positions_distinct}
 use Rattle.command_line.proofs.RowsLemmas.{Fresh, both_quiet, flag_row, part_rows, value_row}
 use Rattle.command_line.proofs.StepLemmas.{leaf}
-use Rattle.command_line.proofs.WalkLemmas.{AreUtf8, Done, Quiet, end_rows, walk_to}
-use Rattle.command_line.proofs.WalkLemmas as walks
+use Rattle.command_line.proofs.WalkLemmas.{walk_from}
+use Rattle.command_line.proofs.CutLemmas.{AreUtf8, walk_to}
 use Rattle.command_line.proofs.PartRowsLemmas.{AreNamed, first_named, fresh_from, fresh_once, has_named, named_of, row_at, rows_named, rows_of_flags, rows_of_values, rows_of_words, word_once, word_rows}
 use Rattle.command_line.proofs.DefaultsLemmas.{all_given_from, all_given_to, any_same, default_row, fold_rules, no_defaults_fault, row_with_defaults, wants_rules}
 
@@ -190,7 +190,7 @@ module _ (form : Form) (sound : is_sound_form form ≡ true) (words : List Text)
   pub level_from : (parts : List Part) → IsTaken form words parts → (command_fault form words ≡ []) × Tells form parts (command_rows form words)
   level_from parts taken =
       let named = named_of form.options taken.are_parts in
-      let done = walks.walk_from form sound taken.are_parts [] None 0 form.positions refl refl (omega (arith, taken.fits.all)) (fresh_of form sound parts named taken.fits) in
+      let done = walk_from form sound taken.are_parts [] None 0 form.positions refl refl (omega (arith, taken.fits.all)) (fresh_of form sound parts named taken.fits) in
       let rows : command_rows form words ≡ fold with_default (part_rows form.positions parts) (built_rules form)
       = ap (λ (rs : List Row). fold with_default rs (built_rules form)) done.ends in (
         (level_quiet _ _ _ _).1 (
@@ -207,7 +207,7 @@ module _ (form : Form) (sound : is_sound_form form ≡ true) (words : List Text)
       let four = (level_quiet _ _ _ _).0 quiet in
       let cut = walk_to form sound words utf8 (four.0, four.1) in
       let named = named_of form.options cut.are_parts in
-      let done = walks.walk_from form sound cut.are_parts [] None 0 form.positions refl refl cut.fits cut.fresh in
+      let done = walk_from form sound cut.are_parts [] None 0 form.positions refl refl cut.fits cut.fresh in
       let rows : command_rows form words ≡ fold with_default (part_rows form.positions cut.parts) (built_rules form)
       = ap (λ (rs : List Row). fold with_default rs (built_rules form)) done.ends in
       let last = subst (λ (rs : List Row). check_fault (leaf form) rs false ≡ []) rows four.3 in (

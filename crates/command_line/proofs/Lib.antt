@@ -3,7 +3,9 @@ pub mod FormLemmas
 pub mod LexerLemmas
 pub mod RowsLemmas
 pub mod StepLemmas
+pub mod QuietLemmas
 pub mod WalkLemmas
+pub mod CutLemmas
 pub mod PartRowsLemmas
 pub mod DefaultsLemmas
 pub mod LevelLemmas

@@ -5,16 +5,16 @@ use Rattle.clap.specs.Kinds.{Kinds, or_else}
 use Rattle.clap.specs.Faults.{defaults_fault, fault_of, flags_fault, turn_fault, walk_fault}
 use Rattle.clap.specs.Simple.{Shape, built, label_of, names_of, subcommand_of}
 use Rattle.clap.specs.Walk.{Names, Walk, answers_to, idle, nothing_held, subcommand_met, walk, walk_from, walked}
-use Rattle.command_line.specs.inner.Forms.{Form, check_form, line_app, make_form, match_form, show_form}
+use Rattle.command_line.specs.inner.Forms.{Form, check_form, program_app, make_form, match_form, show_form}
 use Rattle.command_line.proofs.HasLemmas.{Text, same_text}
 use Rattle.command_line.proofs.FormLemmas.{is_sound_form}
 use Rattle.command_line.proofs.LexerLemmas.{Look, look, dashes, alone, with_value, short, plain, plain_word_is}
 use Rattle.command_line.proofs.RowsLemmas.{both_quiet}
 use Rattle.command_line.proofs.StepLemmas.{first_char, leaf}
-use Rattle.command_line.proofs.WalkLemmas.{AreUtf8}
+use Rattle.command_line.proofs.CutLemmas.{AreUtf8}
 use Rattle.command_line.proofs.LevelLemmas.{command_fault, command_rows}
 
--- the commands of the line
+-- the commands of the program
 pub data Known : Form → Type 0 where
   is_match : Known match_form
   is_check : Known check_form
@@ -27,20 +27,20 @@ sound_of is_check = refl
 sound_of is_show = refl
 sound_of is_make = refl
 
-abbrev line_shape : Shape
-line_shape = (built line_app).top
+abbrev program_shape : Shape
+program_shape = (built program_app).top
 
-abbrev line_names : Names
-line_names = names_of (built line_app)
+abbrev program_names : Names
+program_names = names_of (built program_app)
 
 -- where the walk stands once it met a command, and words behind it
 abbrev met : Text → List Text → Walk
 met name words = record { held = nothing_held; waiting = idle; position = 1; is_trailing = false; stopped = Some (name, words) }
 
 record IsCommand (form : Form) : Type 0 where
-  goes : walked [] line_names (walk_from nothing_held) form.name ≡ met form.name []
-  quiet : turn_fault line_shape line_names (walk_from nothing_held) form.name ≡ []
-  found : find (λ s. answers_to form.name (label_of s)) (built line_app).subs ≡ Some (leaf form)
+  goes : walked [] program_names (walk_from nothing_held) form.name ≡ met form.name []
+  quiet : turn_fault program_shape program_names (walk_from nothing_held) form.name ≡ []
+  found : find (λ s. answers_to form.name (label_of s)) (built program_app).subs ≡ Some (leaf form)
 
 known_command : {form : Form} → Known form → IsCommand form
 unfolding walked
@@ -50,30 +50,30 @@ known_command is_show = record { goes = refl; quiet = refl; found = refl }
 known_command is_make = record { goes = refl; quiet = refl; found = refl }
 
 -- the words behind a command are kept for it
-met_quiet : (name : Text) (before words : List Text) → walk_fault line_shape line_names (met name before) words ≡ []
+met_quiet : (name : Text) (before words : List Text) → walk_fault program_shape program_names (met name before) words ≡ []
 unfolding walked walk_fault
 met_quiet name before [] = refl
 met_quiet name before (word ∷ words) = met_quiet name (before ++ word ∷ []) words
 
-met_all : (name : Text) (before words : List Text) → fold (walked [] line_names) (met name before) words ≡ met name (before ++ words)
+met_all : (name : Text) (before words : List Text) → fold (walked [] program_names) (met name before) words ≡ met name (before ++ words)
 unfolding walked
 met_all name before [] = ap (met name) (sym (append-nil before))
 met_all name before (word ∷ words) = met_all name (before ++ word ∷ []) words ∙ ap (met name) (append_assoc before (word ∷ []) words)
 
 module _ (form : Form) (known : Known form) (words : List Text) where
-  walks_to : walk [] line_names nothing_held (form.name ∷ words) ≡ met form.name words
-  walks_to = ap (λ (w : Walk). fold (walked [] line_names) w words) (known_command known).goes ∙ met_all form.name [] words
+  walks_to : walk [] program_names nothing_held (form.name ∷ words) ≡ met form.name words
+  walks_to = ap (λ (w : Walk). fold (walked [] program_names) w words) (known_command known).goes ∙ met_all form.name [] words
 
-  walk_quiet : walk_fault line_shape line_names (walk_from nothing_held) (form.name ∷ words) ≡ []
+  walk_quiet : walk_fault program_shape program_names (walk_from nothing_held) (form.name ∷ words) ≡ []
   unfolding walk_fault
-  walk_quiet = (both_quiet _ _).1 ((known_command known).quiet, subst (λ (w : Walk). walk_fault line_shape line_names w words ≡ []) (sym (known_command known).goes) (met_quiet form.name [] words))
+  walk_quiet = (both_quiet _ _).1 ((known_command known).quiet, subst (λ (w : Walk). walk_fault program_shape program_names w words ≡ []) (sym (known_command known).goes) (met_quiet form.name [] words))
 
   -- the rows of the command
-  pub line_rows : subcommand_of line_app (form.name ∷ words) ≡ Some (form.name, command_rows form words)
+  pub line_rows : subcommand_of program_app (form.name ∷ words) ≡ Some (form.name, command_rows form words)
   line_rows = rw (walks_to, (known_command known).found) refl
 
   -- the mistakes are those behind the command
-  pub line_fault : fault_of line_app (form.name ∷ words) ≡ command_fault form words
+  pub line_fault : fault_of program_app (form.name ∷ words) ≡ command_fault form words
   unfolding defaults_fault
   line_fault = rw (walk_quiet, walks_to, (known_command known).found) (alone_left (command_fault form words))
     where
@@ -82,14 +82,14 @@ module _ (form : Form) (known : Known form) (words : List Text) where
       alone_left (k ∷ ks) = refl
 
 -- `--` first leaves the command out
-dashes_first : (words : List Text) → fault_of line_app ((45 ∷ 45 ∷ []) ∷ words) ≡ [] → ⊥
+dashes_first : (words : List Text) → fault_of program_app ((45 ∷ 45 ∷ []) ∷ words) ≡ [] → ⊥
 unfolding walked walk_fault defaults_fault
 dashes_first [] h = absurd (cc)
 dashes_first (word ∷ words) h = absurd (cc)
 
 -- `-` with more first
 short_first : (x : ℕ) (xs : Text) → IsUtf8 (45 ∷ x ∷ xs) → bytes_eq (45 ∷ x ∷ xs) (45 ∷ 45 ∷ []) ≡ false → long_of (45 ∷ x ∷ xs) ≡ None → short_of (45 ∷ x ∷ xs) ≡ Some (x ∷ xs)
-    → subcommand_met line_names idle (45 ∷ x ∷ xs) ≡ None → turn_fault line_shape line_names (walk_from nothing_held) (45 ∷ x ∷ xs) ≡ [] → ⊥
+    → subcommand_met program_names idle (45 ∷ x ∷ xs) ≡ None → turn_fault program_shape program_names (walk_from nothing_held) (45 ∷ x ∷ xs) ≡ [] → ⊥
 unfolding flags_fault
 short_first x xs utf8 d l s m q =
     let first = first_char x xs utf8 in
@@ -98,18 +98,18 @@ short_first x xs utf8 d l s m q =
 -- a first word that is no command
 module _ (word : Text) (words : List Text) (no_match : bytes_eq (codes "match") word ≡ false) (no_check : bytes_eq (codes "check") word ≡ false)
     (no_show : bytes_eq (codes "show") word ≡ false) (no_make : bytes_eq (codes "make") word ≡ false) where
-  none_met : subcommand_met line_names idle word ≡ None
+  none_met : subcommand_met program_names idle word ≡ None
   none_met = rw (no_match, no_check, no_show, no_make) refl
 
   abbrev Turn : Type 0
-  Turn = turn_fault line_shape line_names (walk_from nothing_held) word ≡ []
+  Turn = turn_fault program_shape program_names (walk_from nothing_held) word ≡ []
 
-  no_command : IsUtf8 word → Look word → fault_of line_app (word ∷ words) ≡ [] → ⊥
+  no_command : IsUtf8 word → Look word → fault_of program_app (word ∷ words) ≡ [] → ⊥
   unfolding walk_fault
   no_command utf8 l h = go l (((both_quiet _ _).0 ((both_quiet _ _).0 h).0).0)
     where
       go : Look word → Turn → ⊥
-      go (dashes is) q = dashes_first words (subst (λ (w : Text). fault_of line_app (w ∷ words) ≡ []) is h)
+      go (dashes is) q = dashes_first words (subst (λ (w : Text). fault_of program_app (w ∷ words) ≡ []) is h)
       go (alone name is d l) q = let bad = rw (none_met, d, l) at q in absurd (cc)
       go (with_value name value is d l) q = let bad = rw (none_met, d, l) at q in absurd (cc)
       go (short x xs is d l s) q = short_first x xs (rw is at utf8) (rw is at d) (rw is at l) (rw is at s) (rw is at none_met) (rw is at q)
@@ -117,7 +117,7 @@ module _ (word : Text) (words : List Text) (no_match : bytes_eq (codes "match") 
           let w = plain_word_is word p in
           let bad = rw (none_met, w.not_dashes, w.not_long, w.not_short) at q in absurd (cc)
 
--- words that the line takes begin with a command
+-- words that the program takes begin with a command
 pub record Called (words : List Text) : Type 0 where
   pub form : Form
   pub known : Known form
@@ -125,9 +125,9 @@ pub record Called (words : List Text) : Type 0 where
   pub utf8 : AreUtf8 rest
   pub line : words ≡ form.name ∷ rest
   pub quiet : command_fault form rest ≡ []
-  pub rows : subcommand_of line_app words ≡ Some (form.name, command_rows form rest)
+  pub rows : subcommand_of program_app words ≡ Some (form.name, command_rows form rest)
 
-called_as : (form : Form) (known : Known form) (word : Text) (words : List Text) → AreUtf8 words → bytes_eq form.name word ≡ true → fault_of line_app (word ∷ words) ≡ [] → Called (word ∷ words)
+called_as : (form : Form) (known : Known form) (word : Text) (words : List Text) → AreUtf8 words → bytes_eq form.name word ≡ true → fault_of program_app (word ∷ words) ≡ [] → Called (word ∷ words)
 called_as form known word words utf8 t h =
     let is : word ≡ form.name = sym (same_text form.name word t) in
     record {
@@ -137,10 +137,10 @@ called_as form known word words utf8 t h =
       utf8 = utf8;
       line = ap (λ (w : Text). w ∷ words) is;
       quiet = sym (line_fault form known words) ∙ (rw is at h);
-      rows = ap (λ (w : Text). subcommand_of line_app (w ∷ words)) is ∙ line_rows form known words;
+      rows = ap (λ (w : Text). subcommand_of program_app (w ∷ words)) is ∙ line_rows form known words;
     }
 
-pub called_of : (words : List Text) → AreUtf8 words → fault_of line_app words ≡ [] → Called words
+pub called_of : (words : List Text) → AreUtf8 words → fault_of program_app words ≡ [] → Called words
 unfolding walked walk_fault defaults_fault
 called_of [] utf8 h = absurd (cc)
 called_of (word ∷ words) utf8 h =

@@ -1,6 +1,6 @@
 -- The rows that `clap` keeps: one for each part of a line, and what a use of an option or a position adds to them.
 use Rattle.std.proofs.lemmas.Bool.{false≢true}
-use Rattle.std.proofs.Common.{◌≡◌, ◌↔◌, ℕ, Bool, true, false, not, ◌&&◌, ◌||◌, if◌then◌else◌, List, [], ◌∷◌, ◌++◌, Some, None, codes, bytes_eq, append-nil, refl, sym, ap, ◌∙◌}
+use Rattle.std.proofs.Common.{◌≡◌, ◌↔◌, ℕ, Bool, true, false, not, ◌&&◌, ◌||◌, if◌then◌else◌, List, [], ◌∷◌, ◌++◌, Some, None, codes, bytes_eq, append-nil, refl, sym, subst, ap, ◌∙◌}
 use Rattle.clap.specs.Kinds.{Kinds, or_else}
 use Rattle.clap.specs.Faults.{use_fault}
 use Rattle.clap.specs.Walk.{Row, at_row, has_row, more_values, used}
@@ -29,6 +29,9 @@ part_rows (name ∷ left) (Position word ∷ parts) = value_row name word ∷ pa
 abbrev pub Fresh : List Row → List Row → Type 0
 Fresh rows [] = Unit {0}
 Fresh rows (r ∷ rs) = (has_row r.id rows ≡ false) × Fresh (rows ++ r ∷ []) rs
+
+pub fresh_with : (now grown more : List Row) (r : Row) → grown ≡ now ++ r ∷ [] → Fresh (now ++ r ∷ []) more → Fresh grown more
+fresh_with now grown more r same fresh = subst (λ (rs : List Row). Fresh rs more) (sym same) fresh
 
 -- a change at a name that has no row
 pub at_absent : (id : Text) (change : Row → List Row) (missing rows : List Row) → has_row id rows ≡ false → at_row id change missing rows ≡ rows ++ missing

@@ -2,6 +2,9 @@
 //! options and positions in any order: `match [--whole] [--cap N] PATTERN`, `check`, `show PATTERN`
 //! or `make SEED COUNT`. [`read_words`] answers the request of the words, or that they are no
 //! command line; it reads them with `clap`, and its contract is the rule without `clap`.
+//!
+//! The words `match`, `--cap=7`, `--` and `-x` ask for the matches of the pattern `-x`, of which at
+//! most 7 may be live; with another `--cap` they ask for nothing.
 #![tactic(auto)]
 
 pub mod laws;

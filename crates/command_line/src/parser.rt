@@ -1,14 +1,15 @@
-//! The command line as `clap` parses it.
+//! The program's commands, as `clap` parses them.
 
 ghost use Rattle.std.specs.Prelude.{◌≡◌, IfOk, false};
 ghost use Rattle.clap.specs.Words.{app_of, rule_of, with_rule, with_subcommand, FailsBy, fault_of, subcommand_of, subcommand_rows_of};
 ghost use Rattle.clap.specs.declared.builder.command.Command.TheViews.{out-Command as fields_of};
 ghost use Rattle.command_line.specs.CommandLines.{texts};
-ghost use Rattle.command_line.specs.inner.Forms.{flag_rule, option_rule, position_rule, command_of, bare_app, line_app, match_form, check_form, show_form, make_form};
+ghost use Rattle.command_line.specs.inner.Forms.{flag_rule, option_rule, position_rule, command_of, bare_app, program_app, match_form, check_form, show_form, make_form};
 
 use clap::{Arg, ArgAction, ArgMatches, Command, Error};
 use std::alloc::{AllocError, Global};
 
+/// An option that stands alone.
 fn flag<'a>(alloc: Global, name: &'a str) -> Arg<'a>
     ensures rule { rule_of result ≡ flag_rule name.entry.now }
     ensures local { result.global ≡ false }
@@ -16,6 +17,7 @@ fn flag<'a>(alloc: Global, name: &'a str) -> Arg<'a>
     Arg::new(alloc, name).long(name).action(ArgAction::SetTrue)
 }
 
+/// An option that takes a value.
 fn option<'a>(alloc: Global, name: &'a str) -> Arg<'a>
     ensures rule { rule_of result ≡ option_rule name.entry.now }
     ensures local { result.global ≡ false }
@@ -23,6 +25,7 @@ fn option<'a>(alloc: Global, name: &'a str) -> Arg<'a>
     Arg::new(alloc, name).long(name)
 }
 
+/// A position, which may not be missing.
 fn position<'a>(alloc: Global, name: &'a str) -> Arg<'a>
     ensures rule { rule_of result ≡ position_rule name.entry.now }
     ensures local { result.global ≡ false }
@@ -30,9 +33,11 @@ fn position<'a>(alloc: Global, name: &'a str) -> Arg<'a>
     Arg::new(alloc, name).required(true)
 }
 
+/// The command with one more option or position.
 fn with_arg<'a>(command: Command<'a>, arg: Arg<'a>) -> Result<Command<'a>, AllocError>
     requires { arg.global ≡ false }
-    ensures app { IfOk result (λ r. app_of r ≡ with_rule (app_of command.entry) (rule_of arg.entry)) }
+    ensures app { IfOk result
+        (λ r. app_of r ≡ with_rule (app_of command.entry) (rule_of arg.entry)) }
     ensures local { (fields_of command.entry).has_globals ≡ false
         → IfOk result (λ r. (fields_of r).has_globals ≡ false) }
 {
@@ -40,16 +45,19 @@ fn with_arg<'a>(command: Command<'a>, arg: Arg<'a>) -> Result<Command<'a>, Alloc
     Ok(command)
 }
 
-fn with_command<'a>(line: Command<'a>, command: Command<'a>) -> Result<Command<'a>, AllocError>
+/// The program with one more command.
+fn with_command<'a>(program: Command<'a>, command: Command<'a>) -> Result<Command<'a>, AllocError>
     requires { (fields_of command).has_globals ≡ false }
     ensures { IfOk result
-        (λ r. app_of r ≡ with_subcommand (app_of line.entry) (app_of command.entry).top) }
+        (λ r. app_of r ≡ with_subcommand (app_of program.entry) (app_of command.entry).top) }
 {
-    let line = line.subcommand(command)?;
-    Ok(line)
+    let program = program.subcommand(command)?;
+    Ok(program)
 }
 
-fn bare_line<'a>(alloc: Global) -> Command<'a>
+/// The program without commands. It has no help and no version, and its words don't begin with its
+/// name.
+fn bare_program<'a>(alloc: Global) -> Command<'a>
     ensures { app_of result ≡ bare_app }
 {
     Command::new(alloc, "stix_command")
@@ -94,22 +102,23 @@ fn make_command<'a>(alloc: Global) -> Result<Command<'a>, AllocError>
     Ok(command)
 }
 
-fn line<'a>(alloc: Global) -> Result<Command<'a>, AllocError>
-    ensures { IfOk result (λ c. app_of c ≡ line_app) }
+/// The program with its commands.
+fn program<'a>(alloc: Global) -> Result<Command<'a>, AllocError>
+    ensures { IfOk result (λ c. app_of c ≡ program_app) }
 {
-    let line = with_command(bare_line(alloc), match_command(alloc)?)?;
-    let line = with_command(line, check_command(alloc))?;
-    let line = with_command(line, show_command(alloc)?)?;
-    let line = with_command(line, make_command(alloc)?)?;
-    Ok(line)
+    let program = with_command(bare_program(alloc), match_command(alloc)?)?;
+    let program = with_command(program, check_command(alloc))?;
+    let program = with_command(program, show_command(alloc)?)?;
+    let program = with_command(program, make_command(alloc)?)?;
+    Ok(program)
 }
 
 /// What `clap` finds in the words.
 pub(crate) fn parse<'a>(alloc: Global, words: &'a [String]) -> Result<ArgMatches<'a>, Error>
     ensures matches { IfOk result
-        (λ m. subcommand_rows_of m ≡ subcommand_of line_app (texts words.entry.now)) }
-    ensures exact { FailsBy (fault_of line_app (texts words.entry.now)) result }
+        (λ m. subcommand_rows_of m ≡ subcommand_of program_app (texts words.entry.now)) }
+    ensures exact { FailsBy (fault_of program_app (texts words.entry.now)) result }
 {
-    let line = line(alloc)?;
-    line.try_get_matches_from(words)
+    let program = program(alloc)?;
+    program.try_get_matches_from(words)
 }

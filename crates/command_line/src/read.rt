@@ -1,11 +1,11 @@
 //! A request from words.
 
 ghost use Rattle.std.specs.Prelude.{◌≡◌, ◌↔◌, ℕ, List, Bool, IfErr, IfNone, IfOk, IfSome, Some, option_copied};
-ghost use Rattle.clap.specs.Words.{first_of, found_of, kind_of, one_of, rows_of};
+ghost use Rattle.clap.specs.Words.{first_of, kind_of, one_of};
 ghost use Rattle.clap.specs.declared.error.kind.ErrorKind.TheVariants.{OutOfMemory};
 ghost use Rattle.command_line.specs.CommandLines.{texts, PlainRequest, IsCommandLine};
 ghost use Rattle.command_line.specs.Request.{plain_request};
-ghost use Rattle.command_line.specs.inner.Rows.{IsAskedIn, IsCapText, IsFlagText, IsMakeIn, IsMatchIn, IsNumberText};
+ghost use Rattle.command_line.specs.inner.Rows.{IsAskedIn, IsCapText, IsFlagText, IsMakeIn, IsMatchIn, IsNumberText, rows_in};
 
 use crate::numbers::{DEFAULT_CAP, MAX_CAP, MAX_COUNT, MAX_SEED, number_in};
 use crate::parser::parse;
@@ -47,9 +47,10 @@ fn refusal_of(error: &Error) -> WordsRefusal
 
 /// What a command asks for by its values.
 fn request_in<'a>(command: &str, values: &ArgMatches<'a>) -> Option<Request<'a>>
-    ensures some { IfSome result (λ request. IsAskedIn command.now (rows_of (found_of values.now)) (plain_request request)) }
+    ensures some { IfSome result
+        (λ request. IsAskedIn command.now (rows_in values.now) (plain_request request)) }
     ensures none { IfNone result ((request : PlainRequest)
-        → ¬ IsAskedIn command.now (rows_of (found_of values.now)) request) }
+        → ¬ IsAskedIn command.now (rows_in values.now) request) }
 {
     match command {
         "match" => Some(Request::Match(match_in(values)?)),
@@ -67,9 +68,10 @@ fn request_in<'a>(command: &str, values: &ArgMatches<'a>) -> Option<Request<'a>>
 
 /// What a `match` asks for.
 fn match_in<'a>(values: &ArgMatches<'a>) -> Option<MatchRequest<'a>>
-    ensures some { IfSome result (λ request. IsMatchIn (rows_of (found_of values.now)) request.whole request.cap request.pattern.now) }
+    ensures some { IfSome result (λ request.
+        IsMatchIn (rows_in values.now) request.whole request.cap request.pattern.now) }
     ensures none { IfNone result ((whole : Bool) (cap : ℕ) (pattern : List ℕ)
-        → ¬ IsMatchIn (rows_of (found_of values.now)) whole cap pattern) }
+        → ¬ IsMatchIn (rows_in values.now) whole cap pattern) }
 {
     let pattern = value_of(values, "pattern")?;
     let cap = cap_in(value_of(values, "cap"))?;
@@ -93,10 +95,9 @@ fn cap_in(text: Option<&str>) -> Option<u32>
 
 /// The seed and the count of a `make`.
 fn make_in(values: &ArgMatches<'_>) -> Option<(u32, u32)>
-    ensures some { IfSome result
-        (λ both. IsMakeIn (rows_of (found_of values.now)) both.0 both.1) }
-    ensures none { IfNone result ((seed count : ℕ)
-        → ¬ IsMakeIn (rows_of (found_of values.now)) seed count) }
+    ensures some { IfSome result (λ both. IsMakeIn (rows_in values.now) both.0 both.1) }
+    ensures none { IfNone result
+        ((seed count : ℕ) → ¬ IsMakeIn (rows_in values.now) seed count) }
 {
     let seed = number_of(values, "seed", 0, MAX_SEED)?;
     let count = number_of(values, "count", 1, MAX_COUNT)?;
@@ -106,7 +107,7 @@ fn make_in(values: &ArgMatches<'_>) -> Option<(u32, u32)>
 /// The number of a position.
 fn number_of(values: &ArgMatches<'_>, name: &str, least: u32, most: u32) -> Option<u32>
     ensures { (number : ℕ) → (result ≡ Some number)
-        ↔ IsNumberText least most (first_of name.now (rows_of (found_of values.now))) number }
+        ↔ IsNumberText least most (first_of name.now (rows_in values.now)) number }
 {
     let text = value_of(values, name)?;
     number_in(text, least, most)
@@ -114,14 +115,14 @@ fn number_of(values: &ArgMatches<'_>, name: &str, least: u32, most: u32) -> Opti
 
 /// The value of an option or a position.
 fn value_of<'a>(values: &ArgMatches<'a>, name: &str) -> Option<&'a str>
-    ensures { option_copied result ≡ first_of name.now (rows_of (found_of values.now)) }
+    ensures { option_copied result ≡ first_of name.now (rows_in values.now) }
 {
     values.get_str(name)
 }
 
 /// Whether a flag was given.
 fn is_given(values: &ArgMatches<'_>, name: &str) -> bool
-    ensures { IsFlagText (one_of name.now (rows_of (found_of values.now))) result }
+    ensures { IsFlagText (one_of name.now (rows_in values.now)) result }
 {
     values.get_flag(name)
 }

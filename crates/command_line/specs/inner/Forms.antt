@@ -1,4 +1,4 @@
--- What a command takes, and the command line of it as `clap` has it.
+-- What each command takes, and the program with its commands as `clap` has it.
 use Rattle.std.specs.Prelude.{ℕ, List, [], ◌∷◌, ◌++◌, map, Some, true, codes}
 use Rattle.clap.specs.Words.{App, Rule, new_app, new_rule, with_subcommand}
 use Rattle.clap.specs.Simple.{Shape, new_shape, on_top}
@@ -31,7 +31,7 @@ rules_of_form form = map flag_rule form.options.flags ++ (map option_rule form.o
 abbrev pub command_of : Form → App
 command_of form = record { top = record (new_shape form.name) { rules = rules_of_form form }; subs = [] }
 
--- no help, no version, no name of the program, and no line without a command
+-- no help, no version, no name of the program among the words, and no words without a command
 abbrev pub without_extras : Shape → Shape
 without_extras shape = record shape {
   no_binary_name = true;
@@ -53,13 +53,13 @@ show_form = record { name = codes "show"; options = no_options; positions = code
 abbrev pub make_form : Form
 make_form = record { name = codes "make"; options = no_options; positions = codes "seed" ∷ codes "count" ∷ [] }
 
--- the command line with no command yet
+-- the program with no command yet
 abbrev pub bare_app : App
 bare_app = on_top without_extras (new_app (codes "stix_command"))
 
 abbrev pub with_form : App → Form → App
 with_form app form = with_subcommand app (command_of form).top
 
--- all commands
-abbrev pub line_app : App
-line_app = with_form (with_form (with_form (with_form bare_app match_form) check_form) show_form) make_form
+-- the program with its commands
+abbrev pub program_app : App
+program_app = with_form (with_form (with_form (with_form bare_app match_form) check_form) show_form) make_form

@@ -1,8 +1,13 @@
 -- What a command asks for, by the rows that `clap` found for it.
 use Rattle.std.specs.Prelude.{◌≡◌, ℕ, List, Bool, true, false, Option, Some, None, codes}
-use Rattle.clap.specs.Words.{Row, first_of, one_of}
+use Rattle.clap.specs.Words.{Row, first_of, found_of, one_of, rows_of}
+use Rattle.clap.specs.declared.parser.matches.ArgMatches.{ArgMatches}
 use Rattle.command_line.specs.CommandLines.{IsNumberIn, PlainRequest, Match, Check, Show, Make}
 use Rattle.command_line.specs.declared.numbers.TheConstants.{DEFAULT_CAP, MAX_CAP, MAX_SEED, MAX_COUNT}
+
+-- the rows that a parse found
+abbrev pub rows_in : ArgMatches → List Row
+rows_in matches = rows_of (found_of matches)
 
 -- a flag's text says whether it was given
 abbrev pub IsFlagText : Option (List ℕ) → Bool → Type 0
