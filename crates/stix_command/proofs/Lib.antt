@@ -1,4 +1,3 @@
 pub mod VerdictsLemmas
 pub mod WritesWholeLemmas
-pub mod CommandLineLemmas
 pub mod RunEndingsLemmas

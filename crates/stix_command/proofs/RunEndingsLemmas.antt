@@ -8,50 +8,59 @@ use Rattle.stix_command.specs.declared.checking.CheckEnding.{CheckEnding}
 use Rattle.stix_command.specs.declared.checking.CheckEnding.TheVariants as checking
 use Rattle.stix_command.specs.declared.showing.ShowEnding.{ShowEnding}
 use Rattle.stix_command.specs.declared.showing.ShowEnding.TheVariants as showing
+use Rattle.stix_command.specs.declared.making.MakeEnding.{MakeEnding}
+use Rattle.stix_command.specs.declared.making.MakeEnding.TheVariants as making
 use Rattle.stix_command.specs.declared.ending.Ending.{Ending}
-use Rattle.stix_command.specs.declared.ending.Ending.TheVariants.{Match, Check, Show, Usage}
+use Rattle.stix_command.specs.declared.ending.Ending.TheVariants.{Match, Check, Show, Make, Usage, NoMemory}
 use Rattle.match_input.specs.declared.mode.Mode.{Mode}
-use Rattle.match_input.specs.declared.mode.Mode.TheVariants.{Lines, Whole}
-use Rattle.stix_command.specs.CommandLine.{Request, IsCap, match_words, IsMatchLine, IsShowLine, IsCheckLine}
-use Rattle.stix_command.proofs.CommandLineLemmas.{one_line, one_cap}
+use Rattle.command_line.specs.CommandLines.{PlainRequest, IsCommandLine}
+use Rattle.stix_command.specs.Requests.{Request, mode_of, IsMatchLine, IsShowLine, IsCheckLine, IsMakeLine}
 use Rattle.stix_command.specs.Streams.{Streams}
 use Rattle.stix_command.specs.MatchEndings.{IsUnread, EndsMatch, IsPatternRefusal, match_status}
 use Rattle.stix_command.specs.CheckEndings.{check_status}
 use Rattle.stix_command.specs.ShowEndings.{EndsShow, show_status}
-use Rattle.stix_command.specs.RunEndings.{status_of, IsNoCommand, EndsRun, RefusesMatch, RefusesShow, RefusesPattern, IsReadFault, IsWriteFault, ListsBindings}
+use Rattle.stix_command.specs.MakeEndings.{EndsMake, make_status}
+use Rattle.stix_command.specs.RunEndings.{status_of, IsNoCommand, EndsRun, RefusesMatch, RefusesShow, RefusesPattern, IsReadFault, IsWriteFault, ListsBindings, TellsNumbers}
 
--- words are one command at most, with one request
-not_check : (mode : Mode) (cap : Option (List ℕ)) (pattern : List ℕ) → match_words mode cap pattern ≡ codes "check" ∷ [] → ⊥
-not_check Lines None pattern same = cc
-not_check Whole None pattern same = cc
-not_check Lines (Some cap) pattern same = cc
-not_check Whole (Some cap) pattern same = cc
+-- words ask for one thing at most
+abbrev pub OneRequest : Type 0
+OneRequest = (words : List (List ℕ)) (first second : PlainRequest) → IsCommandLine words first → IsCommandLine words second → first ≡ second
 
-match_isn't_check : (words : List (List ℕ)) (request : Request) → IsMatchLine words request → ¬ IsCheckLine words
-match_isn't_check words request match check = not_check request.mode match.cap_text request.pattern (sym match.line ∙ check)
+module _ (one : OneRequest) (words : List (List ℕ)) where
+  match_isn't_check : (request : Request) → IsMatchLine words request → ¬ IsCheckLine words
+  match_isn't_check request line check = let same = one words _ _ line.line check in cc
 
-pub show_isn't_check : (words : List (List ℕ)) (pattern : List ℕ) → IsShowLine words pattern → ¬ IsCheckLine words
-show_isn't_check words pattern show check = let same = sym check ∙ show.line in cc
+  pub match_isn't_show : (request : Request) (pattern : List ℕ) → IsMatchLine words request → ¬ IsShowLine words pattern
+  match_isn't_show request pattern line show = let same = one words _ _ line.line show in cc
 
-not_show : (mode : Mode) (cap : Option (List ℕ)) (pattern shown : List ℕ) → match_words mode cap pattern ≡ codes "show" ∷ shown ∷ [] → ⊥
-not_show Lines None pattern shown same = cc
-not_show Whole None pattern shown same = cc
-not_show Lines (Some cap) pattern shown same = cc
-not_show Whole (Some cap) pattern shown same = cc
+  pub match_isn't_make : (request : Request) (seed count : ℕ) → IsMatchLine words request → ¬ IsMakeLine words seed count
+  match_isn't_make request seed count line making = let same = one words _ _ line.line making in cc
 
-pub match_isn't_show : (words : List (List ℕ)) (request : Request) (pattern : List ℕ) → IsMatchLine words request → ¬ IsShowLine words pattern
-match_isn't_show words request pattern match show = not_show request.mode match.cap_text request.pattern pattern (sym match.line ∙ show.line)
+  pub show_isn't_check : (pattern : List ℕ) → IsShowLine words pattern → ¬ IsCheckLine words
+  show_isn't_check pattern show check = let same = one words _ _ show check in cc
 
-one_shown : (words : List (List ℕ)) (a b : List ℕ) → IsShowLine words a → IsShowLine words b → a ≡ b
-one_shown words a b first second = let same = sym first.line ∙ second.line in cc
+  pub show_isn't_make : (pattern : List ℕ) (seed count : ℕ) → IsShowLine words pattern → ¬ IsMakeLine words seed count
+  show_isn't_make pattern seed count show making = let same = one words _ _ show making in cc
 
-one_request : (words : List (List ℕ)) (a b : Request) → IsMatchLine words a → IsMatchLine words b → a ≡ b
-one_request words a b first second =
-    let same = one_line a.mode b.mode first.cap_text second.cap_text a.pattern b.pattern (sym first.line ∙ second.line) in
-    let caps = one_cap second.cap_text a.cap b.cap (subst (λ (t : Option (List ℕ)). IsCap t a.cap) same.1 first.cap_is) second.cap_is in
-    ap (λ (m : Mode). record { mode = m; cap = a.cap; pattern = a.pattern }) same.0
-    ∙ ap (λ (c : ℕ). record { mode = b.mode; cap = c; pattern = a.pattern }) caps
-    ∙ ap (λ (p : List ℕ). record { mode = b.mode; cap = b.cap; pattern = p }) same.2
+  pub check_isn't_make : (seed count : ℕ) → IsCheckLine words → ¬ IsMakeLine words seed count
+  check_isn't_make seed count check making = let same = one words _ _ check making in cc
+
+  one_shown : (a b : List ℕ) → IsShowLine words a → IsShowLine words b → a ≡ b
+  one_shown a b first second = let same = one words _ _ first second in cc
+
+  one_matched : (a b : Request) → IsMatchLine words a → IsMatchLine words b → a ≡ b
+  one_matched a b first second =
+      let same = one words _ _ first.line second.line in
+      let whole : first.whole ≡ second.whole = cc in
+      let cap : a.cap ≡ b.cap = cc in
+      let pattern : a.pattern ≡ b.pattern = cc in
+      let mode : a.mode ≡ b.mode = first.mode_is ∙ ap mode_of whole ∙ sym second.mode_is in
+      ap (λ (m : Mode). record { mode = m; cap = a.cap; pattern = a.pattern }) mode
+      ∙ ap (λ (c : ℕ). record { mode = b.mode; cap = c; pattern = a.pattern }) cap
+      ∙ ap (λ (p : List ℕ). record { mode = b.mode; cap = b.cap; pattern = p }) pattern
+
+  one_made : (seed count other also : ℕ) → IsMakeLine words seed count → IsMakeLine words other also → (seed ≡ other) × (count ≡ also)
+  one_made seed count other also first second = let same = one words _ _ first second in (cc, cc)
 
 -- which statuses a command ends with
 match_statuses : (ending : MatchEnding) → (¬ (match_status ending ≡ 2)) × (match_status ending ≡ 3 → IsPatternRefusal ending)
@@ -80,11 +89,28 @@ show_isn't_usage (showing.PatternRefused refusal) is = omega arith
 show_isn't_usage showing.WriteFault is = omega arith
 show_isn't_usage showing.NoMemory is = omega arith
 
-pub usage-run : (words : List (List ℕ)) (before after : Streams) (ending : Ending) → EndsRun words before after ending → (status_of ending ≡ 2) ↔ IsNoCommand words
-usage-run words before after (Match ending) ends = (λ is. absurd ((match_statuses ending).0 is), λ none. absurd (none.no_match ends.request ends.command))
-usage-run words before after (Check ending) ends = (λ is. absurd ((check_statuses ending).0 is), λ none. absurd (none.no_check ends.command))
-usage-run words before after (Show ending) ends = (λ is. absurd (show_isn't_usage ending is), λ none. absurd (none.no_show ends.pattern ends.command))
-usage-run words before after Usage ends = (λ is. ends.0, λ none. refl)
+make_statuses : (ending : MakeEnding) → (¬ (make_status ending ≡ 2)) × (¬ (make_status ending ≡ 3))
+make_statuses making.Made = (λ is. omega arith, λ is. omega arith)
+make_statuses (making.Refused line rule) = (λ is. omega arith, λ is. omega arith)
+make_statuses making.WriteFault = (λ is. omega arith, λ is. omega arith)
+make_statuses making.NoMemory = (λ is. omega arith, λ is. omega arith)
+
+pub usage-run : (words : List (List ℕ)) (before after : Streams) (ending : Ending) → EndsRun words before after ending → status_of ending ≡ 2 → IsNoCommand words
+usage-run words before after (Match ending) ends is = absurd ((match_statuses ending).0 is)
+usage-run words before after (Check ending) ends is = absurd ((check_statuses ending).0 is)
+usage-run words before after (Show ending) ends is = absurd (show_isn't_usage ending is)
+usage-run words before after (Make ending) ends is = absurd ((make_statuses ending).0 is)
+usage-run words before after Usage ends is = ends.0
+usage-run words before after NoMemory ends is = absurd (omega arith)
+
+pub no_line-run : (words : List (List ℕ)) (before after : Streams) (ending : Ending) → EndsRun words before after ending → IsNoCommand words
+    → (status_of ending ≡ 2) ⊎ (status_of ending ≡ 1)
+no_line-run words before after (Match ending) ends none = absurd (none _ ends.command.line)
+no_line-run words before after (Check ending) ends none = absurd (none _ ends.command)
+no_line-run words before after (Show ending) ends none = absurd (none _ ends.command)
+no_line-run words before after (Make ending) ends none = absurd (none _ ends.command)
+no_line-run words before after Usage ends none = inl refl
+no_line-run words before after NoMemory ends none = inr refl
 
 -- status 3 comes for a pattern that is refused
 match-pattern : (words : List (List ℕ)) (request : Request) (before after : Streams) (ending : MatchEnding)
@@ -104,7 +130,9 @@ pub pattern-run : (words : List (List ℕ)) (before after : Streams) (ending : E
 pattern-run words before after (Match ending) ends is = inl (match-pattern words ends.request before after ending ends.command ends.match_ends ((match_statuses ending).1 is))
 pattern-run words before after (Check ending) ends is = absurd ((check_statuses ending).1 is)
 pattern-run words before after (Show ending) ends is = inr (show-pattern words ends.pattern before after ending ends.command ends.show_ends is)
+pattern-run words before after (Make ending) ends is = absurd ((make_statuses ending).1 is)
 pattern-run words before after Usage ends is = absurd (omega arith)
+pattern-run words before after NoMemory ends is = absurd (omega arith)
 
 -- a pattern that is refused ends in status 3, or memory ran out
 match-refused : (request : Request) (before after : Streams) (ending : MatchEnding)
@@ -120,19 +148,23 @@ show-refused pattern before after (showing.PatternRefused refusal) none ends = i
 show-refused pattern before after showing.WriteFault none ends = absurd (none ends.1.pattern ends.1.read)
 show-refused pattern before after showing.NoMemory none ends = inr refl
 
-pub refused-run : (words : List (List ℕ)) (before after : Streams) (ending : Ending) → EndsRun words before after ending → RefusesPattern words → (status_of ending ≡ 3) ⊎ (status_of ending ≡ 1)
-refused-run words before after (Match ending) ends (inl refuses) =
+pub refused-run : OneRequest → (words : List (List ℕ)) (before after : Streams) (ending : Ending) → EndsRun words before after ending → RefusesPattern words
+    → (status_of ending ≡ 3) ⊎ (status_of ending ≡ 1)
+refused-run one words before after (Match ending) ends (inl refuses) =
     match-refused ends.request before after ending
-    (subst (λ (r : Request). IsUnread r.pattern) (one_request words refuses.request ends.request refuses.command ends.command) refuses.none) ends.match_ends
-refused-run words before after (Match ending) ends (inr refuses) = absurd (match_isn't_show words ends.request refuses.pattern ends.command refuses.command)
-refused-run words before after (Check ending) ends (inl refuses) = absurd (match_isn't_check words refuses.request refuses.command ends.command)
-refused-run words before after (Check ending) ends (inr refuses) = absurd (show_isn't_check words refuses.pattern refuses.command ends.command)
-refused-run words before after (Show ending) ends (inl refuses) = absurd (match_isn't_show words refuses.request ends.pattern refuses.command ends.command)
-refused-run words before after (Show ending) ends (inr refuses) =
+    (subst (λ (r : Request). IsUnread r.pattern) (one_matched one words refuses.request ends.request refuses.command ends.command) refuses.none) ends.match_ends
+refused-run one words before after (Match ending) ends (inr refuses) = absurd (match_isn't_show one words ends.request refuses.pattern ends.command refuses.command)
+refused-run one words before after (Check ending) ends (inl refuses) = absurd (match_isn't_check one words refuses.request refuses.command ends.command)
+refused-run one words before after (Check ending) ends (inr refuses) = absurd (show_isn't_check one words refuses.pattern refuses.command ends.command)
+refused-run one words before after (Show ending) ends (inl refuses) = absurd (match_isn't_show one words refuses.request ends.pattern refuses.command ends.command)
+refused-run one words before after (Show ending) ends (inr refuses) =
     show-refused ends.pattern before after ending
-    (subst (λ (p : List ℕ). IsUnread p) (one_shown words refuses.pattern ends.pattern refuses.command ends.command) refuses.none) ends.show_ends
-refused-run words before after Usage ends (inl refuses) = absurd (ends.0.no_match refuses.request refuses.command)
-refused-run words before after Usage ends (inr refuses) = absurd (ends.0.no_show refuses.pattern refuses.command)
+    (subst (λ (p : List ℕ). IsUnread p) (one_shown one words refuses.pattern ends.pattern refuses.command ends.command) refuses.none) ends.show_ends
+refused-run one words before after (Make ending) ends (inl refuses) = absurd (match_isn't_make one words refuses.request ends.seed ends.count refuses.command ends.command)
+refused-run one words before after (Make ending) ends (inr refuses) = absurd (show_isn't_make one words refuses.pattern ends.seed ends.count refuses.command ends.command)
+refused-run one words before after Usage ends (inl refuses) = absurd (ends.0 _ refuses.command.line)
+refused-run one words before after Usage ends (inr refuses) = absurd (ends.0 _ refuses.command)
+refused-run one words before after NoMemory ends refuses = inr refl
 
 -- a match that ends in status 0 lists the bindings
 match-listing : (request : Request) (before after : Streams) (ending : MatchEnding)
@@ -158,13 +190,36 @@ match-listing request before after (matching.Ended (end.Crowded number cap)) end
 match-listing request before after (matching.Ended end.NoMemory) ends is = absurd (omega arith)
 match-listing request before after matching.NoMemory ends is = absurd (omega arith)
 
-pub listing-run : (words : List (List ℕ)) (before after : Streams) (ending : Ending) → EndsRun words before after ending → status_of ending ≡ 0
+pub listing-run : OneRequest → (words : List (List ℕ)) (before after : Streams) (ending : Ending) → EndsRun words before after ending → status_of ending ≡ 0
     → (request : Request) → IsMatchLine words request → ListsBindings request before after
-listing-run words before after (Match ending) ends is request line =
-    subst (λ (r : Request). ListsBindings r before after) (one_request words ends.request request ends.command line) (match-listing ends.request before after ending ends.match_ends is)
-listing-run words before after (Check ending) ends is request line = absurd (match_isn't_check words request line ends.command)
-listing-run words before after (Show ending) ends is request line = absurd (match_isn't_show words request ends.pattern line ends.command)
-listing-run words before after Usage ends is request line = absurd (omega arith)
+listing-run one words before after (Match ending) ends is request line =
+    subst (λ (r : Request). ListsBindings r before after) (one_matched one words ends.request request ends.command line)
+    (match-listing ends.request before after ending ends.match_ends is)
+listing-run one words before after (Check ending) ends is request line = absurd (match_isn't_check one words request line ends.command)
+listing-run one words before after (Show ending) ends is request line = absurd (match_isn't_show one words request ends.pattern line ends.command)
+listing-run one words before after (Make ending) ends is request line = absurd (match_isn't_make one words request ends.seed ends.count line ends.command)
+listing-run one words before after Usage ends is request line = absurd (omega arith)
+listing-run one words before after NoMemory ends is request line = absurd (omega arith)
+
+-- a make that ends in status 0 tells the numbers
+made-numbers : (seed count : ℕ) (before after : Streams) (ending : MakeEnding) → EndsMake seed count before.written after.written ending
+    → make_status ending ≡ 0 → TellsNumbers seed count before after
+made-numbers seed count before after making.Made ends is = ends
+made-numbers seed count before after (making.Refused line rule) ends is = absurd (omega arith)
+made-numbers seed count before after making.WriteFault ends is = absurd (omega arith)
+made-numbers seed count before after making.NoMemory ends is = absurd (omega arith)
+
+pub making-run : OneRequest → (words : List (List ℕ)) (before after : Streams) (ending : Ending) → EndsRun words before after ending → status_of ending ≡ 0
+    → (seed count : ℕ) → IsMakeLine words seed count → TellsNumbers seed count before after
+making-run one words before after (Match ending) ends is seed count line = absurd (match_isn't_make one words ends.request seed count ends.command line)
+making-run one words before after (Check ending) ends is seed count line = absurd (check_isn't_make one words seed count ends.command line)
+making-run one words before after (Show ending) ends is seed count line = absurd (show_isn't_make one words ends.pattern seed count ends.command line)
+making-run one words before after (Make ending) ends is seed count line =
+    let same = one_made one words ends.seed ends.count seed count ends.command line in
+    subst (λ (s : ℕ). TellsNumbers s count before after) same.0
+    (subst (λ (n : ℕ). TellsNumbers ends.seed n before after) same.1 (made-numbers ends.seed ends.count before after ending ends.make_ends is))
+making-run one words before after Usage ends is seed count line = absurd (omega arith)
+making-run one words before after NoMemory ends is seed count line = absurd (omega arith)
 
 -- which ending has the status of a fault, and the other way round
 pub read_fault-status : (ending : Ending) → (status_of ending ≡ 5) ↔ IsReadFault ending
@@ -190,7 +245,12 @@ read_fault-status ending = (there ending, back ending) where
   there (Show (showing.PatternRefused refusal)) is = absurd (omega arith)
   there (Show showing.WriteFault) is = absurd (omega arith)
   there (Show showing.NoMemory) is = absurd (omega arith)
+  there (Make making.Made) is = absurd (omega arith)
+  there (Make (making.Refused line rule)) is = absurd (omega arith)
+  there (Make making.WriteFault) is = absurd (omega arith)
+  there (Make making.NoMemory) is = absurd (omega arith)
   there Usage is = absurd (omega arith)
+  there NoMemory is = absurd (omega arith)
 
   back : (ending : Ending) → IsReadFault ending → status_of ending ≡ 5
   back ending (inl is) = ap status_of is
@@ -217,11 +277,17 @@ write_fault-status ending = (there ending, back ending) where
   there (Check checking.NoMemory) is = absurd (omega arith)
   there (Show showing.Shown) is = absurd (omega arith)
   there (Show (showing.PatternRefused refusal)) is = absurd (omega arith)
-  there (Show showing.WriteFault) is = inr (inr refl)
+  there (Show showing.WriteFault) is = inr (inr (inl refl))
   there (Show showing.NoMemory) is = absurd (omega arith)
+  there (Make making.Made) is = absurd (omega arith)
+  there (Make (making.Refused line rule)) is = absurd (omega arith)
+  there (Make making.WriteFault) is = inr (inr (inr refl))
+  there (Make making.NoMemory) is = absurd (omega arith)
   there Usage is = absurd (omega arith)
+  there NoMemory is = absurd (omega arith)
 
   back : (ending : Ending) → IsWriteFault ending → status_of ending ≡ 6
   back ending (inl is) = ap status_of is
   back ending (inr (inl is)) = ap status_of is
-  back ending (inr (inr is)) = ap status_of is
+  back ending (inr (inr (inl is))) = ap status_of is
+  back ending (inr (inr (inr is))) = ap status_of is

@@ -11,7 +11,7 @@ use Rattle.match_log.specs.declared.end.MatchEnd.{MatchEnd}
 use Rattle.match_log.specs.declared.end.MatchEnd.TheVariants as end
 use Rattle.stix_command.specs.declared.matching.MatchEnding.{MatchEnding}
 use Rattle.stix_command.specs.declared.matching.MatchEnding.TheVariants.{PatternRefused, Ended, NoMemory}
-use Rattle.stix_command.specs.CommandLine.{Request}
+use Rattle.stix_command.specs.Requests.{Request}
 use Rattle.stix_command.specs.Streams.{Streams, AreUntouched}
 
 -- the text is read as no pattern

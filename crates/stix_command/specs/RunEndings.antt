@@ -19,18 +19,20 @@ use Rattle.stix_command.specs.declared.checking.CheckEnding.TheVariants as check
 use Rattle.stix_command.specs.declared.showing.ShowEnding.{ShowEnding}
 use Rattle.stix_command.specs.declared.showing.ShowEnding.TheVariants as showing
 use Rattle.stix_command.specs.declared.ending.Ending.{Ending}
-use Rattle.stix_command.specs.declared.ending.Ending.TheVariants.{Match, Check, Show, Usage}
-use Rattle.stix_command.specs.CommandLine.{Request, IsMatchLine, IsShowLine, IsCheckLine}
+use Rattle.stix_command.specs.declared.making.MakeEnding.{MakeEnding}
+use Rattle.stix_command.specs.declared.making.MakeEnding.TheVariants as making
+use Rattle.stix_command.specs.declared.ending.Ending.TheVariants.{Match, Check, Show, Make, Usage, NoMemory}
+use Rattle.command_line.specs.CommandLines.{PlainRequest, IsCommandLine}
+use Rattle.stix_command.specs.Requests.{Request, IsMatchLine, IsShowLine, IsCheckLine, IsMakeLine}
 use Rattle.stix_command.specs.Streams.{Streams, AreUntouched}
 use Rattle.stix_command.specs.MatchEndings.{IsUnread, EndsMatch, match_status, IsMatchReason}
 use Rattle.stix_command.specs.CheckEndings.{EndsCheck, check_status, IsCheckReason}
 use Rattle.stix_command.specs.ShowEndings.{EndsShow, show_status, IsShowReason}
+use Rattle.stix_command.specs.MakeEndings.{IsTextOfLog, EndsMake, make_status, IsMakeReason}
 
 -- the words are no command line
-pub record IsNoCommand (words : List (List ℕ)) : Type 0 where
-  pub no_match : (request : Request) → ¬ IsMatchLine words request
-  pub no_check : ¬ IsCheckLine words
-  pub no_show : (pattern : List ℕ) → ¬ IsShowLine words pattern
+abbrev pub IsNoCommand : List (List ℕ) → Type 0
+IsNoCommand words = (request : PlainRequest) → ¬ IsCommandLine words request
 
 -- the words are `match` with that request, which ended so
 pub record RunsMatch (words : List (List ℕ)) (before after : Streams) (ending : MatchEnding) : Type 0 where
@@ -50,32 +52,47 @@ pub record RunsShow (words : List (List ℕ)) (before after : Streams) (ending :
   pub show_ends : EndsShow pattern before after ending
   pub unread : after.left ≡ before.left
 
+-- the words are `make` with a seed and a count, which ended so; nothing was read
+pub record RunsMake (words : List (List ℕ)) (before after : Streams) (ending : MakeEnding) : Type 0 where
+  pub seed : ℕ
+  pub count : ℕ
+  pub command : IsMakeLine words seed count
+  pub make_ends : EndsMake seed count before.written after.written ending
+  pub unread : after.left ≡ before.left
+
 -- what an ending says of the words and the streams
 abbrev pub EndsRun : List (List ℕ) → Streams → Streams → Ending → Type 0
 EndsRun words before after (Match ending) = RunsMatch words before after ending
 EndsRun words before after (Check ending) = RunsCheck words before after ending
 EndsRun words before after (Show ending) = RunsShow words before after ending
+EndsRun words before after (Make ending) = RunsMake words before after ending
 EndsRun words before after Usage = IsNoCommand words × AreUntouched before after
+EndsRun words before after NoMemory = AreUntouched before after
 
 abbrev pub status_of : Ending → ℕ
 status_of (Match ending) = match_status ending
 status_of (Check ending) = check_status ending
 status_of (Show ending) = show_status ending
+status_of (Make ending) = make_status ending
 status_of Usage = 2
+status_of NoMemory = 1
 
 -- what is written on the sink for reasons
 abbrev pub IsReasonOf : Ending → List ℕ → Type 0
 IsReasonOf (Match ending) text = IsMatchReason ending text
 IsReasonOf (Check ending) text = IsCheckReason ending text
 IsReasonOf (Show ending) text = IsShowReason ending text
-IsReasonOf Usage text = text ≡ codes "usage: stix_command (match | check | show) WORDS\n"
+IsReasonOf (Make ending) text = IsMakeReason ending text
+IsReasonOf Usage text = text ≡ codes "usage: stix_command (match | check | show | make) WORDS\n"
+IsReasonOf NoMemory text = text ≡ codes "out of memory\n"
 
 -- the run ended by a fault of the input, and of the output
 abbrev pub IsReadFault : Ending → Type 0
 IsReadFault ending = (ending ≡ Match (matching.Ended match_end.ReadFault)) ⊎ (ending ≡ Check checking.ReadFault)
 
 abbrev pub IsWriteFault : Ending → Type 0
-IsWriteFault ending = (ending ≡ Match (matching.Ended match_end.WriteFault)) ⊎ (ending ≡ Check checking.WriteFault) ⊎ (ending ≡ Show showing.WriteFault)
+IsWriteFault ending = (ending ≡ Match (matching.Ended match_end.WriteFault)) ⊎ (ending ≡ Check checking.WriteFault)
+    ⊎ (ending ≡ Show showing.WriteFault) ⊎ (ending ≡ Make making.WriteFault)
 
 -- the words are `match` with a text that is read as no pattern
 pub record RefusesMatch (words : List (List ℕ)) : Type 0 where
@@ -119,3 +136,7 @@ pub record ListsBindings (request : Request) (before after : Streams) : Type 0 w
   pub trees : List BindTree
   pub bindings : AreBindings pattern log trees
   pub text : after.written ≡ written_with (listing_text trees) before.written
+
+-- the numbers of the generated log were written, and nothing else
+abbrev pub TellsNumbers : ℕ → ℕ → Streams → Streams → Type 0
+TellsNumbers seed count before after = (text : List ℕ) × IsTextOfLog seed count text × (after.written ≡ written_with text before.written)

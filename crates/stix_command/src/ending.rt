@@ -2,7 +2,9 @@ ghost use Rattle.flow_edges.specs.Faults.{Causes};
 ghost use Rattle.flow_edges.specs.Flow.{WritesWhole};
 
 use crate::checking::CheckEnding;
+use crate::making::MakeEnding;
 use crate::matching::MatchEnding;
+use crate::reasons::write_no_memory;
 use crate::showing::ShowEnding;
 use flow_edges::{Sink, write_whole};
 use flow_values::Fault;
@@ -13,8 +15,11 @@ pub enum Ending {
     Match(MatchEnding),
     Check(CheckEnding),
     Show(ShowEnding),
+    Make(MakeEnding),
     /// The words are no command line.
     Usage,
+    /// Memory ran out while the words were read.
+    NoMemory,
 }
 
 impl Ending {
@@ -29,7 +34,9 @@ impl Ending {
             Ending::Match(ending) => ending.status(),
             Ending::Check(ending) => ending.status(),
             Ending::Show(ending) => ending.status(),
+            Ending::Make(ending) => ending.status(),
             Ending::Usage => 2,
+            Ending::NoMemory => 1,
         }
     }
 
@@ -42,10 +49,12 @@ impl Ending {
             Ending::Match(ending) => ending.write_reason(reasons),
             Ending::Check(ending) => ending.write_reason(reasons),
             Ending::Show(ending) => ending.write_reason(reasons),
+            Ending::Make(ending) => ending.write_reason(reasons),
             Ending::Usage => write_whole(
                 reasons,
-                b"usage: stix_command (match | check | show) WORDS\n",
+                b"usage: stix_command (match | check | show | make) WORDS\n",
             ),
+            Ending::NoMemory => write_no_memory(reasons),
         }
     }
 }

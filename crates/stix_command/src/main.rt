@@ -2,10 +2,10 @@
 #![tactic(auto)]
 
 mod checking;
-mod command;
 mod ending;
 mod judging;
 mod laws;
+mod making;
 mod matching;
 mod reasons;
 mod refusal_text;

@@ -3,17 +3,18 @@ ghost use Rattle.flow_edges.specs.Faults.{Rose, Causes};
 ghost use Rattle.flow_edges.specs.Flow.{WritesWhole};
 ghost use Rattle.pattern_reader.specs.Read.{IsReadAs};
 ghost use Rattle.stix_command.specs.Streams.{streams};
-ghost use Rattle.stix_command.specs.MatchRequest.{request_of};
+ghost use Rattle.stix_command.specs.MatchRequests.{request_of};
+ghost use Rattle.stix_command.specs.Requests.{mode_of};
 ghost use Rattle.stix_command.specs.MatchEndings.{EndsMatch, IsPatternRefusal};
 
-use crate::command::MatchRequest;
 use crate::reasons::{
     write_crowded, write_no_memory, write_pattern_reason, write_read_fault, write_write_fault,
 };
+use command_line::MatchRequest;
 use flow_edges::{Sink, Source, write_whole};
 use flow_values::{Fault, NoMemory};
 use match_input::write_input_refusal;
-use match_log::{MatchEnd, Matcher, match_stream};
+use match_log::{MatchEnd, Matcher, Mode, match_stream};
 use pattern_reader::laws::none_refused;
 use pattern_reader::{Pattern, PatternRefusal, read_pattern};
 use pattern_types::laws::leaves_are_brackets;
@@ -93,8 +94,15 @@ fn match_pattern<I: Source, O: Sink>(
         Ok(matcher) => matcher,
         Err(NoMemory) => return MatchEnding::NoMemory,
     };
-    let end = match_stream(alloc, &mut matcher, input, output, request.mode);
+    let end = match_stream(alloc, &mut matcher, input, output, mode_of(request.whole));
     MatchEnding::Ended(end)
+}
+
+/// How the input is cut into bundles: whether it is one.
+fn mode_of(whole: bool) -> Mode
+    ensures { result ≡ mode_of whole }
+{
+    if whole { Mode::Whole } else { Mode::Lines }
 }
 
 /// The command `match`: writes the bindings of a pattern over an input.

@@ -1,14 +1,17 @@
-ghost use Rattle.std.specs.Prelude.{◌≡◌, ◌≢◌, ◌⊎◌, ◌↔◌, ℕ, List};
+ghost use Rattle.std.specs.Prelude.{◌≡◌, ◌≢◌, ◌⊎◌, ℕ, List};
 ghost use Rattle.flow_edges.specs.Faults.{Rose};
-ghost use Rattle.stix_command.specs.CommandLine.{texts, Request, IsMatchLine, IsShowLine};
+ghost use Rattle.command_line.specs.CommandLines.{texts};
+ghost use Rattle.stix_command.specs.Requests.{Request, IsMatchLine, IsShowLine, IsMakeLine};
 ghost use Rattle.stix_command.specs.Streams.{streams};
-ghost use Rattle.stix_command.specs.RunEndings.{status_of, IsReasonOf, IsNoCommand, RefusesPattern, EndsRun, IsReadFault, IsWriteFault, WritesReason, Ends, ListsBindings};
+ghost use Rattle.stix_command.specs.RunEndings.{status_of, IsReasonOf, IsNoCommand, RefusesPattern, EndsRun, IsReadFault, IsWriteFault, WritesReason, Ends, ListsBindings, TellsNumbers};
 
 use crate::checking::check;
-use crate::command::{is_check, match_request, show_pattern};
 use crate::ending::Ending;
+use crate::making::make;
 use crate::matching::match_bindings;
 use crate::showing::show;
+use command_line::laws::one_request;
+use command_line::{Request, WordsRefusal, read_words};
 use flow_edges::{Sink, Source};
 use std::alloc::Global;
 
@@ -23,20 +26,22 @@ fn obey<I: Source, O: Sink>(
         (streams (I.left input.new) (O.written output.new)) result }
     ensures untouched { (status_of result ≡ 2) ⊎ (status_of result ≡ 3) → (input.new ≡ input.old) × (output.new ≡ output.old) }
     ensures unread { (pattern : List ℕ) → IsShowLine (texts words.now) pattern → input.new ≡ input.old }
+    ensures made_unread { (seed count : ℕ) → IsMakeLine (texts words.now) seed count → input.new ≡ input.old }
     ensures read_failed { IsReadFault result → Rose (I.faults input.old) (I.faults input.new) }
     ensures read_quiet { ¬ IsReadFault result → I.faults input.new ≡ I.faults input.old }
     ensures write_failed { IsWriteFault result → Rose (O.faults output.old) (O.faults output.new) }
     ensures write_quiet { ¬ IsWriteFault result → O.faults output.new ≡ O.faults output.old }
 {
-    if is_check(words) {
-        return Ending::Check(check(alloc, input, output));
-    }
-    if let Some(pattern) = show_pattern(words) {
-        return Ending::Show(show(alloc, pattern, output));
-    }
-    match match_request(words) {
-        Some(request) => Ending::Match(match_bindings(alloc, request, input, output)),
-        None => Ending::Usage,
+    one_request();
+    match read_words(alloc, words) {
+        Ok(Request::Match(request)) => {
+            Ending::Match(match_bindings(alloc, request, input, output))
+        }
+        Ok(Request::Check) => Ending::Check(check(alloc, input, output)),
+        Ok(Request::Show { pattern }) => Ending::Show(show(alloc, pattern, output)),
+        Ok(Request::Make { seed, count }) => Ending::Make(make(alloc, seed, count, output)),
+        Err(WordsRefusal::NoLine) => Ending::Usage,
+        Err(WordsRefusal::NoMemory) => Ending::NoMemory,
     }
 }
 
@@ -46,7 +51,7 @@ fn obey<I: Source, O: Sink>(
 /// |---|---|
 /// | 0 | the input that is asked for was read to its end, and all output was written |
 /// | 1 | memory ran out |
-/// | 2 | exactly where the words are no command line |
+/// | 2 | exactly where the words are no command line, unless memory runs out while they are read |
 /// | 3 | exactly where the pattern is refused |
 /// | 4 | where a line is refused, the first such one; and where a bundle that is checked has breaks |
 /// | 5, 6 | only where the input, the output counted a fault, and at each fault of theirs |
@@ -65,16 +70,21 @@ pub fn run<I: Source, O: Sink, E: Sink>(
         (λ reason. WritesReason reason (E.written reasons.old) (E.written reasons.new) (E.faults reasons.old) (E.faults reasons.new)) }
     ensures listing { result ≡ 0 → (request : Request) → IsMatchLine (texts words.now) request
         → ListsBindings request (streams (I.left input.old) (O.written output.old)) (streams (I.left input.new) (O.written output.new)) }
-    ensures usage { (result ≡ 2) ↔ IsNoCommand (texts words.now) }
+    ensures making { result ≡ 0 → (seed count : ℕ) → IsMakeLine (texts words.now) seed count
+        → TellsNumbers seed count (streams (I.left input.old) (O.written output.old)) (streams (I.left input.new) (O.written output.new)) }
+    ensures usage { result ≡ 2 → IsNoCommand (texts words.now) }
+    ensures no_line { IsNoCommand (texts words.now) → (result ≡ 2) ⊎ (result ≡ 1) }
     ensures pattern { result ≡ 3 → RefusesPattern (texts words.now) }
     ensures refused { RefusesPattern (texts words.now) → (result ≡ 3) ⊎ (result ≡ 1) }
     ensures untouched { (result ≡ 2) ⊎ (result ≡ 3) → (input.new ≡ input.old) × (output.new ≡ output.old) }
     ensures unread { (pattern : List ℕ) → IsShowLine (texts words.now) pattern → input.new ≡ input.old }
+    ensures made_unread { (seed count : ℕ) → IsMakeLine (texts words.now) seed count → input.new ≡ input.old }
     ensures read_fault { result ≡ 5 → Rose (I.faults input.old) (I.faults input.new) }
     ensures read_quiet { result ≢ 5 → I.faults input.new ≡ I.faults input.old }
     ensures write_fault { result ≡ 6 → Rose (O.faults output.old) (O.faults output.new) }
     ensures write_quiet { result ≢ 6 → O.faults output.new ≡ O.faults output.old }
 {
+    one_request();
     let ending = obey(alloc, words, input, output);
     finish(&ending, reasons)
 }
