@@ -1,10 +1,14 @@
 -- What the observations of one bundle add.
-use Rattle.std.proofs.Common.{◌≡◌, ◌≢◌, ℕ, suc, ◌+◌, ◌^◌, ◌≤◌, ◌<◌, ℤ, ◌≤ℤ◌, Bool, List, [], ◌∷◌, ◌++◌, length, Option, Some, Result, Ok, Err, OnOk, IfErr, refl, sym, ap, subst, ◌∙◌, append_assoc, length-append, take, drop, get_or, drop-cons, arith}
+use Rattle.std.proofs.Common.{◌≡◌, ◌≢◌, ℕ, suc, ◌+◌, ◌^◌, ◌≤◌, ◌<◌, ℤ, ◌≤ℤ◌, Bool, List, [], ◌∷◌, ◌++◌, length, Option, Some, None, Result, Ok, Err, OnOk, IfErr, refl, sym, ap, subst, ◌∙◌, append_assoc, length-append, take, drop, get_or, drop-cons, arith}
+use Rattle.std.specs.Prelude.{slice_get, MatchOption, IsSomeAnd}
 use Rattle.std.proofs.lemmas.List.{append-nil, take_more, take-append-drop}
+use Rattle.std.proofs.lemmas.Option.{slice_get_read, slice_get_within}
+use Rattle.std.proofs.lemmas.Slice.Zip.{AllZip-left}
 use Rattle.serde_json.specs.Data.{Data}
 use Rattle.stix_bundles.specs.declared.observation.Observation.{Observation}
 use Rattle.pattern_types.specs.declared.pattern.Pattern.{Pattern}
-use Rattle.pattern_types.specs.PlainPattern.{plain_pattern}
+use Rattle.pattern_types.specs.PlainPattern.{PlainPattern, plain_pattern}
+use Rattle.match_tests.specs.Truths.{AreTruths, AreTruthsOfEach}
 use Rattle.match_bindings.specs.declared.log_entry.LogEntry.{LogEntry}
 use Rattle.match_bindings.specs.NumberedPattern.{numbered_pattern}
 use Rattle.match_bindings.specs.BindTree.{BindTree}
@@ -232,3 +236,35 @@ module _ (p : Pattern) (most : ℕ) (objects : List Data) (observations : List O
   no_fault (Err WriteFault) ends is = absurd ends
   no_fault (Err (Crowded number named)) ends is = absurd (cc)
   no_fault (Err NoMemory) ends is = absurd (cc)
+
+-- the truths that were found for the observation at a place
+module _ (objects : List Data) (p : PlainPattern) (observations : List Observation) (rows : List (List Bool)) (i : ℕ) (o : Observation)
+    (found : AreTruthsOfEach objects observations p rows) (below : i < length observations) (here : o ≡ get_or observations i o) where
+  pub some_row : IsSomeAnd (slice_get rows i) (λ (row : List Bool). AreTruths objects o.roots p row)
+  some_row =
+      let R = λ (it : Observation) (row : List Bool). AreTruths objects it.roots p row in
+      subst (λ (it : Option Observation). MatchOption it (Unit {0}) (λ x. IsSomeAnd (slice_get rows i) (R x)))
+      (slice_get_read observations (length observations) i o refl below here) (AllZip-left R observations rows found i)
+
+  pub row_below : i < length rows
+  row_below = below_of (slice_get rows i) refl some_row where
+    below_of : (it : Option (List Bool)) → slice_get rows i ≡ it → IsSomeAnd it (λ (row : List Bool). AreTruths objects o.roots p row) → i < length rows
+    below_of None is nothing = absurd nothing
+    below_of (Some row) is holds = slice_get_within rows i row is
+
+  pub own_truths : (row : List Bool) → row ≡ get_or rows i row → AreTruths objects o.roots p row
+  own_truths row at =
+      subst (λ (it : Option (List Bool)). IsSomeAnd it (λ (r : List Bool). AreTruths objects o.roots p r))
+      (slice_get_read rows (length rows) i row refl row_below at) some_row
+
+-- the same of the lists that are lent
+pub found_in : (objects : List Data) (p : Pattern) (items : List Observation) (truths rows : List (List Bool)) → rows ≡ truths
+    → AreTruthsOfEach objects items (plain_pattern p) truths → AreTruthsOfEach objects items (plain_pattern p) rows
+found_in objects p items truths rows lent found = subst (AreTruthsOfEach objects items (plain_pattern p)) (sym lent) found
+
+pub truths_of : (objects : List Data) (p q : Pattern) (items : List Observation) (rows : List (List Bool)) (i : ℕ) (o : Observation) (row lent : List Bool)
+    → AreTruthsOfEach objects items (plain_pattern p) rows → i < length items → o ≡ get_or items i o → row ≡ get_or rows i row → lent ≡ row → p ≡ q
+    → AreTruths objects o.roots (plain_pattern q) lent
+truths_of objects p q items rows i o row lent found below here at same pattern =
+    subst (λ (it : Pattern). AreTruths objects o.roots (plain_pattern it) lent) pattern
+    (subst (AreTruths objects o.roots (plain_pattern p)) (sym same) (own_truths objects (plain_pattern p) items rows i o found below here row at))

@@ -15,9 +15,6 @@ use Rattle.match_log.proofs.RowsLemmas.{behind-more}
 use Rattle.match_log.proofs.EndLemmas.{may_end, ends_row}
 use Rattle.match_log.proofs.answers.answer.Goals as goal
 
-pub take-requires-clause-room : goal.take-requires-clause-room
-take-requires-clause-room c = λ _. omega (arith, c.requires.number)
-
 pub end_of-requires : goal.end_of-requires
 end_of-requires c =
     let b = c.requires.behind.2 in
@@ -25,38 +22,32 @@ end_of-requires c =
     (λ before time is. (c.in-Err.ensures.out_of_order before time).0 is)
     (λ e is. (c.in-Err.ensures.ended e).0 is)
 
-pub returns-in-Ok-clause-row : goal.returns-in-Ok-clause-row
-returns-in-Ok-clause-row c log answers b =
+pub returns-in_ok-add_lines-in-Ok-clause-row : goal.returns-in_ok-add_lines-in-Ok-clause-row
+returns-in_ok-add_lines-in-Ok-clause-row c objects log answers are b =
     let m = c.args.matcher.now in
     let o = c.args.observation.now in
-    let truths = c.as_slice.result.now in
+    let truths = c.args.truths.now in
     let binds = map tree_of c.in-Ok.binds in
-    let own : AreTruths (data_in c.args.bundle.now) o.roots (plain_pattern (pattern_of m)) c.in_ok-truths.truths =
-    subst (λ (p : Pattern). AreTruths (data_in c.args.bundle.now) o.roots (plain_pattern p) c.in_ok-truths.truths) c.pattern.ensures.made c.in_ok-truths.ensures in
     let same : length binds ≡ length c.in-Ok.binds = length-map c.in-Ok.binds tree_of in
     let count : c.len.result ≡ length binds = c.len.ensures ∙ sym same in
     record {
       truths = truths;
-      are = subst (λ (ts : List Bool). AreTruths (data_in c.args.bundle.now) o.roots (plain_pattern (pattern_of m)) ts) (sym c.as_slice.ensures) own;
+      are = are;
       answer = binds;
       behind = subst (λ (t : Tally). IsBehind (pattern_of m) m.run.cap (matcher_state c.take.new.self) t (log ++ row_of o truths ∷ []) (answers ++ binds ∷ []))
           (sym (c.count.ensures ∙ ap (counted c.args.tally.now o.number) count))
           (behind-more (pattern_of m) m.run.cap (matcher_state m) (matcher_state c.take.new.self) c.args.tally.now log answers o truths binds b
           c.requires.span c.requires.order c.requires.number (omega (arith, count)) (c.in-Ok.ensures.stands log b.stands b.rows.order)
           (c.in-Ok.ensures.answers log b.stands b.rows.order) (c.in-Ok.ensures.roomy log b.stands b.rows.order));
-      text_is = c.in_ok-add_lines-in-Ok.ensures ∙ ap (λ (bs : List Bind). c.args.text.now ++ listing_text (map tree_of bs)) c.as_slice-in-Ok.ensures;
+      text_is = c.in_ok-add_lines-in-Ok.ensures ∙ ap (λ (bs : List Bind). c.args.text.now ++ listing_text (map tree_of bs)) c.as_slice.ensures;
     }
 
-pub returns-clause-end : goal.returns-clause-end
-returns-clause-end c log answers b =
+pub returns-in-Err-clause-end : goal.returns-in-Err-clause-end
+returns-in-Err-clause-end c objects log answers are b =
     let m = c.args.matcher.now in
     let o = c.args.observation.now in
-    let truths = c.as_slice.result.now in
-    let own : AreTruths (data_in c.args.bundle.now) o.roots (plain_pattern (pattern_of m)) c.in_ok-truths.truths =
-    subst (λ (p : Pattern). AreTruths (data_in c.args.bundle.now) o.roots (plain_pattern p) c.in_ok-truths.truths) c.pattern.ensures.made c.in_ok-truths.ensures in
-    let are = subst (λ (ts : List Bool). AreTruths (data_in c.args.bundle.now) o.roots (plain_pattern (pattern_of m)) ts) (sym c.as_slice.ensures) own in
-    subst (λ (e : MatchEnd). EndsAtRow (pattern_of m) m.run.cap (data_in c.args.bundle.now) o log (matcher_state c.take.new.self) c.args.text.now c.args.text.now e)
+    subst (λ (e : MatchEnd). EndsAtRow (pattern_of m) m.run.cap objects o log (matcher_state c.take.new.self) c.args.text.now c.args.text.now e)
     (sym c.end_of.ensures)
-    (ends_row (pattern_of m) m.run.cap (data_in c.args.bundle.now) o log (matcher_state m) (matcher_state c.take.new.self) c.args.text.now truths c.in-Err.refusal are
+    (ends_row (pattern_of m) m.run.cap objects o log (matcher_state m) (matcher_state c.take.new.self) c.args.text.now c.args.truths.now c.in-Err.refusal are
     (λ number named is. c.in-Err.ensures.crowded log b.stands b.rows.order number named is)
     (λ e is. c.in-Err.ensures.stopped e is))
