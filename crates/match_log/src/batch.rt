@@ -89,7 +89,14 @@ fn answer_all(
     let truths = leaf_truths(alloc, matcher.pattern(), observations, &batch.bundle)?;
     let rows = truths.as_slice();
     for at in 0..observations.len() {
-        match answer(alloc, matcher, &observations[at], rows[at].as_slice(), tally, text) {
+        match answer(
+            alloc,
+            matcher,
+            &observations[at],
+            rows[at].as_slice(),
+            tally,
+            text,
+        ) {
             Ok(()) => {}
             Err(end) => return Err(end),
         }

@@ -32,10 +32,10 @@ loop-at-preserved c =
     let text_after = c.answer.new.text in
     let invariant = c.loop-at.invariant in
     let own = truths_of objects c.pattern.result.now (pattern_of old) items c.as_slice-rows.result.now i o c.index-rows-at.result c.as_slice.result.now
-        (found_in objects c.pattern.result.now items c.in_ok-truths.truths c.as_slice-rows.result.now
-        c.as_slice-rows.ensures c.in_ok-truths.ensures) c.loop-at-test.true c.index-observations-at.is c.index-rows-at.is c.as_slice.ensures (c.pattern.ensures.made ∙ sym invariant.pattern) in
+    (found_in objects c.pattern.result.now items c.in_ok-truths.truths c.as_slice-rows.result.now
+    c.as_slice-rows.ensures c.in_ok-truths.ensures) c.loop-at-test.true c.index-observations-at.is c.index-rows-at.is c.as_slice.ensures (c.pattern.ensures.made ∙ sym invariant.pattern) in
     let row = λ (log : List LogEntry) (answers : List (List BindTree)) (b : IsBehind (pattern_of old) old.run.cap (matcher_state old) tally log answers).
-        c.in-Ok.ensures.row objects log answers own b in
+    c.in-Ok.ensures.row objects log answers own b in
     let here = drop_here items i o c.loop-at-test.true c.index-observations-at.is in
     let seen = take_here items i o c.loop-at-test.true c.index-observations-at.is in
     record {
@@ -64,10 +64,10 @@ returns-in-Err-clause-end c log answers b =
     let text_after = c.answer.new.text in
     let invariant = c.loop-at.invariant in
     let own = truths_of objects c.pattern.result.now (pattern_of old) items c.as_slice-rows.result.now i o c.index-rows-at.result c.as_slice.result.now
-        (found_in objects c.pattern.result.now items c.in_ok-truths.truths c.as_slice-rows.result.now
-        c.as_slice-rows.ensures c.in_ok-truths.ensures) c.loop-at-test.true c.index-observations-at.is c.index-rows-at.is c.as_slice.ensures (c.pattern.ensures.made ∙ sym invariant.pattern) in
+    (found_in objects c.pattern.result.now items c.in_ok-truths.truths c.as_slice-rows.result.now
+    c.as_slice-rows.ensures c.in_ok-truths.ensures) c.loop-at-test.true c.index-observations-at.is c.index-rows-at.is c.as_slice.ensures (c.pattern.ensures.made ∙ sym invariant.pattern) in
     let end_here = λ (log : List LogEntry) (answers : List (List BindTree)) (b : IsBehind (pattern_of old) old.run.cap (matcher_state old) c.loop-at.tally log answers).
-        c.in-Err.ensures.end objects log answers own b in
+    c.in-Err.ensures.end objects log answers own b in
     let whole = sym c.as_slice-observations.ensures ∙ all_here items i o c.loop-at-test.true c.index-observations-at.is in
     subst (λ (os : List Observation). EndsAmong (pattern_of first) first.run.cap objects os log answers (matcher_state new) text_after c.in-Err.end) (sym whole)
     (turn-end (pattern_of first) first.run.cap objects (take i items) o log answers (matcher_state old) (matcher_state new) c.loop-at.tally c.answer.new.tally
