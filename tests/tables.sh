@@ -130,6 +130,39 @@ lay_logs() {
   done < "$1"
 }
 
+# word WORD: the word that is written so in a table of words.
+word() {
+  case $1 in
+    "''") ;;
+    A) printf '%s' "[user-account:account_login = 'a']" ;;
+    *x\**) printf '%s' "${1%x\**}" && head -c "${1##*\*}" /dev/zero | tr '\0' x ;;
+    *) printf '%s' "${1//\\_/ }" ;;
+  esac
+}
+
+# lay_lines TABLE TO: lines 'WORDS => TEXT', what is written; 'WORDS => usage', where they are no command line; or
+# 'WORDS => STATUS TEXT'. Words are divided by spaces, and written as `word` says; the input is the login of a.
+lay_lines() {
+  local line words text number=0 -
+  set -f
+  while IFS= read -r line; do
+    number=$((number + 1))
+    [[ $line == *' => '* ]] || continue
+    to=$2:$number text=${line#* => }
+    mkdir -p "$to"
+    for words in ${line%% => *}; do
+      word "$words"
+      echo
+    done > "$to/args"
+    login a 0 0 > "$to/stdin"
+    case $text in
+      usage) refused 2 'usage: stix_command (match | check | show | make) WORDS' ;;
+      [1-9]' '*) refused "${text%% *}" "${text#* }" ;;
+      *) printf '%s\n' "$text" > "$to/stdout" ;;
+    esac
+  done < "$1"
+}
+
 # lay_tables FROM TO: makes the rows of all tables below FROM folders below TO.
 lay_tables() {
   local table name to
@@ -138,6 +171,7 @@ lay_tables() {
     name=$2/${table#"$1/"}
     case $table in
       *.patterns) lay_patterns "$table" "$name" ;;
+      *.lines) lay_lines "$table" "$name" ;;
       *.inputs) lay_inputs "$table" "$name" ;;
       *.objects) lay_objects "$table" "$name" ;;
       *.truths) lay_truths "$table" "$name" ;;
