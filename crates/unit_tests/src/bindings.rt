@@ -3,8 +3,8 @@
 ghost use Rattle.std.specs.Prelude.{◌≡◌, IfOk};
 ghost use Rattle.pattern_types.specs.Leaves.{leaves};
 
-use match_bindings::{Bind, Log, check_binding, copy_bind, flat, listing};
 use flow_values::{Items, NoMemory};
+use match_bindings::{Bind, Log, check_binding, copy_bind, flat, listing};
 use pattern_types::{Leaf, Pattern};
 use std::alloc::Global;
 use std::process::Abort;

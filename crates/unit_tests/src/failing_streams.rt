@@ -1,10 +1,13 @@
 //! A log matched while each read of it, and each write of its bindings, fails in turn.
 
+ghost use Rattle.std.specs.Prelude.{ℕ, List};
+ghost use Rattle.pattern_reader.specs.Read.{IsReadAs};
+
 use crate::lists::listed;
 use flow_edges::{MemorySink, MemorySource};
-use flow_values::{Items, NoMemory};
 use match_log::{MatchEnd, Matcher, Mode, match_stream};
-use pattern_reader::read_pattern;
+use pattern_reader::{Pattern, read_pattern};
+use pattern_types::laws::leaves_are_brackets;
 use std::alloc::Global;
 use std::test::Fail;
 
@@ -23,7 +26,15 @@ struct Outcome {
 /// these numbers fail.
 fn match_with_faults(alloc: Global, read: u64, write: u64) -> Result<Outcome, Fail> {
     let pattern = read_pattern(alloc, "[user-account:account_login = 'a']")?;
-    let mut matcher = Matcher::new(alloc, &pattern, 10)?;
+    match_pattern(alloc, &pattern, read, write)
+}
+
+/// The same, of a pattern.
+fn match_pattern(alloc: Global, pattern: &Pattern, read: u64, write: u64) -> Result<Outcome, Fail>
+    requires { (text : List ℕ) × IsReadAs text pattern.now }
+{
+    leaves_are_brackets();
+    let mut matcher = Matcher::new(alloc, pattern, 10)?;
     let log = format!(in alloc; "{LOGIN}{LOGIN}")?;
     let bytes = listed(alloc, log.as_bytes())?;
     let mut input = MemorySource::new(bytes, 100, listed(alloc, &[read])?);
@@ -50,7 +61,11 @@ fn what_stands_after_a_fault(rt: HostRuntime) -> Result<(), Fail> {
             _ => "another end",
         };
         assert_eq!(rt; end, wanted, "{read}, {write}");
-        assert_eq!(rt; outcome.output.bytes(), output.as_bytes(), "{read}, {write}");
+        assert_eq!(rt;
+            outcome.output.bytes(),
+            output.as_bytes(),
+            "{read}, {write}"
+        );
     }
     Ok(())
 }

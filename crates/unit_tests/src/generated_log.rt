@@ -1,7 +1,7 @@
 //! The generated log, of which `make` writes numbers alone.
 
-use match_generator::GeneratedLog;
 use flow_edges::Source;
+use match_generator::GeneratedLog;
 use std::test::Fail;
 
 #[test]

@@ -1,8 +1,8 @@
-use stix_ids::{IdRefusal, is_of_kind, is_text_of, read_id, read_kind, write_id};
 use flow_values::Text;
 use std::alloc::Global;
 use std::process::Abort;
 use std::test::Fail;
+use stix_ids::{IdRefusal, is_of_kind, is_text_of, read_id, read_kind, write_id};
 
 /// The identifier of the text has the kind and the number, and is written as wanted.
 fn reads_and_writes(

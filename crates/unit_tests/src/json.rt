@@ -1,13 +1,13 @@
 //! Rows of JSON texts and what RFC 8259 and the bounds of a value say of them.
 
-use stix_json::{
-    Entry, Field, Json, JsonRefusal, get, get_ordered, is_ordered, read_entries, read_json,
-    write_json,
-};
 use flow_values::{Items, NoMemory, Text};
 use std::alloc::Global;
 use std::process::Abort;
 use std::test::Fail;
+use stix_json::{
+    Entry, Field, Json, JsonRefusal, get, get_ordered, is_ordered, read_entries, read_json,
+    write_json,
+};
 
 /// The text of the value that bytes are, or of their refusal.
 fn read_again(alloc: Global, bytes: &[u8]) -> Result<Text, NoMemory> {

@@ -2,7 +2,9 @@
 
 use crate::lists::listed;
 use flow_edges::{MAX_READ, MemorySource, QuietSource};
-use flow_lines::{InputRefusal, LineRefusal, Lines, MAX_INPUT, MAX_LINE, MAX_WHOLE_INPUT, read_whole};
+use flow_lines::{
+    InputRefusal, LineRefusal, Lines, MAX_INPUT, MAX_LINE, MAX_WHOLE_INPUT, read_whole,
+};
 use std::test::Fail;
 
 #[test]

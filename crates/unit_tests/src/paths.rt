@@ -1,5 +1,5 @@
-use match_paths::values;
 use flow_values::{Items, NoMemory, Text};
+use match_paths::values;
 use pattern_types::{MAX_STEPS, Path, Step};
 use std::alloc::Global;
 use std::test::Fail;

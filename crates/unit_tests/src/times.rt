@@ -1,5 +1,8 @@
-use stix_times::{TimeRefusal, from_micros, from_nanos, laws, nanos, read, read_millis, write, write_micros, write_millis};
 use std::test::Fail;
+use stix_times::{
+    TimeRefusal, from_micros, from_nanos, laws, nanos, read, read_millis, write, write_micros,
+    write_millis,
+};
 
 /// Reads `text`, as its nanoseconds.
 fn nanos_read(text: &str) -> Result<i128, TimeRefusal> {
