@@ -1,0 +1,55 @@
+#!/usr/bin/env bash
+# Times the streaming matcher alone, on 100,000 rows that are made in memory and on ten times as many: for each pattern the
+# bindings, the rows kept at the end, the nanoseconds a row and the greatest memory. The program is built over copies of the
+# crates, since a repository's gate takes no crate but its own.
+#
+#   bench/live.sh [PROGRAM]    a program that was built before
+set -eu
+top=$(cd "$(dirname "$0")/.." && pwd)
+folder=$(mktemp -d)
+trap 'rm -rf "$folder"' EXIT
+crates="flow_values stix_times match_cidr pattern_types pattern_tokens pattern_lexer pattern_grammar pattern_meaning
+  pattern_reader match_bindings match_windows match_live"
+
+# build: the program, in $program.
+build() {
+  local bench=$folder/repo/crates/bench_live crate part
+  mkdir -p "$bench/src" "$bench/proofs/take_rows"
+  cp "$top/HANDLES" "$folder/repo/"
+  for crate in $crates; do
+    mkdir "$folder/repo/crates/$crate"
+    for part in src specs proofs; do
+      [ ! -d "$top/crates/$crate/$part" ] || cp -r "$top/crates/$crate/$part" "$folder/repo/crates/$crate/"
+    done
+    grep "^$crate:" "$top/crates.txt"
+  done > "$folder/repo/crates.txt"
+  echo "bench_live: flow_values stix_times pattern_types pattern_reader match_bindings match_live anyhow" >> "$folder/repo/crates.txt"
+  cp "$top/bench/live/main.rt.txt" "$bench/src/main.rt"
+  for part in "$top"/bench/live/*.antt.txt; do
+    cp "$part" "$bench/proofs/take_rows/$(basename "$part" .txt)"
+  done
+  echo "building; this takes some minutes" >&2
+  (cd "$bench" && rt run -- "[a:b='1']" 1 < /dev/null > "$folder/build.log" 2>&1) || { tail "$folder/build.log" >&2; exit 1; }
+  program=$bench/out/bench_live
+}
+
+# live NAME PATTERN
+live() {
+  local rows
+  for rows in 100000 1000000; do
+    printf '%-22s %7d rows: ' "$1" "$rows"
+    /usr/bin/time -f '%M' -o "$folder/memory" "$program" "$2" "$rows" | tr -d '\n'
+    printf ', %s KB\n' "$(cat "$folder/memory")"
+  done
+}
+
+program=${1:-}
+[ -n "$program" ] || build
+uptime
+for _ in 1 2 3; do
+  live "one bracket" "[a:b='1']"
+  live "REPEATS 2, 30 s" "[a:b='1'] REPEATS 2 TIMES WITHIN 30 SECONDS"
+  live "AND, 60 s" "([a:b='1'] AND [a:b='2']) WITHIN 60 SECONDS"
+  live "two FOLLOWEDBY, 60 s" "([a:b='1'] FOLLOWEDBY [a:b='2'] FOLLOWEDBY [a:b='3']) WITHIN 60 SECONDS"
+  live "eight brackets by OR" "[a:b=1] OR [a:b=2] OR [a:b=3] OR [a:b=4] OR [a:b=5] OR [a:b=6] OR [a:b=7] OR [a:b=8]"
+done
