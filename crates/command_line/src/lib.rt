@@ -12,8 +12,6 @@ mod numbers;
 mod parser;
 mod read;
 mod request;
-#[cfg(test)]
-mod tests;
 
 pub use numbers::{DEFAULT_CAP, MAX_CAP, MAX_COUNT, MAX_SEED};
 pub use read::read_words;
