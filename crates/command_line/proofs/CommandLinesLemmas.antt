@@ -12,7 +12,8 @@ use Rattle.clap.specs.Simple.{subcommand_of}
 use Rattle.clap.specs.Walk.{Row, first_of, one_of}
 use Rattle.command_line.specs.Parts.{Part, positions}
 use Rattle.command_line.specs.CommandLines.{Check, IsCalledWith, IsCommandLine, IsFlag, IsNumberIn, IsNumberOr, Make, Match, PlainRequest, Show, flags_of, texts, values_of}
-use Rattle.command_line.specs.declared.numbers.TheConstants.{DEFAULT_CAP, MAX_CAP, MAX_COUNT, MAX_SEED}
+use Rattle.match_generator.specs.declared.log.TheConstants.{MAX_SEED, MAX_COUNT}
+use Rattle.command_line.specs.declared.numbers.TheConstants.{DEFAULT_CAP, MAX_CAP}
 use Rattle.command_line.specs.inner.Forms.{Form, check_form, program_app, make_form, match_form, show_form}
 use Rattle.command_line.specs.inner.Rows.{command_name, IsAskedBy, IsAskedIn, IsCapText, IsFlagText, IsMatchIn, IsNumberText}
 use Rattle.command_line.proofs.HasLemmas.{Text, differ, has, or_false, same_text}

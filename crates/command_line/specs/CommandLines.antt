@@ -3,7 +3,8 @@ use Rattle.std.specs.Prelude.{◌≡◌, ◌≤◌, ℕ, List, [], ◌∷◌, le
 use Rattle.std.specs.Str.Parse.{IsNumeral, digits_value}
 use Rattle.std.specs.declared.alloc.Global.{Global}
 use Rattle.command_line.specs.Parts.{Part, Flag, Valued, Position, Options, AreParts, positions}
-use Rattle.command_line.specs.declared.numbers.TheConstants.{DEFAULT_CAP, MAX_CAP, MAX_SEED, MAX_COUNT}
+use Rattle.match_generator.specs.declared.log.TheConstants.{MAX_SEED, MAX_COUNT}
+use Rattle.command_line.specs.declared.numbers.TheConstants.{DEFAULT_CAP, MAX_CAP}
 
 -- the texts of the words
 abbrev pub texts : List (String Global) → List (List ℕ)

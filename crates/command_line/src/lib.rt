@@ -13,6 +13,6 @@ mod parser;
 mod read;
 mod request;
 
-pub use numbers::{DEFAULT_CAP, MAX_CAP, MAX_COUNT, MAX_SEED};
+pub use numbers::{DEFAULT_CAP, MAX_CAP};
 pub use read::read_words;
 pub use request::{MatchRequest, Request, WordsRefusal};

@@ -9,12 +9,6 @@ pub const DEFAULT_CAP: u32 = 200_000;
 /// The greatest such number that they may name.
 pub const MAX_CAP: u32 = 1_000_000;
 
-/// The greatest seed.
-pub const MAX_SEED: u32 = 2_147_483_647;
-
-/// The greatest count.
-pub const MAX_COUNT: u32 = 100_000;
-
 /// The number of a text, if it has one in the range.
 pub(crate) fn number_in(text: &str, least: u32, most: u32) -> Option<u32>
     ensures { (number : ℕ) → (result ≡ Some number) ↔ IsNumberIn least most text.now number }

@@ -7,11 +7,12 @@ ghost use Rattle.command_line.specs.CommandLines.{texts, PlainRequest, IsCommand
 ghost use Rattle.command_line.specs.Request.{plain_request};
 ghost use Rattle.command_line.specs.inner.Rows.{IsAskedIn, IsCapText, IsFlagText, IsMakeIn, IsMatchIn, IsNumberText, rows_in};
 
-use crate::numbers::{DEFAULT_CAP, MAX_CAP, MAX_COUNT, MAX_SEED, number_in};
+use crate::numbers::{DEFAULT_CAP, MAX_CAP, number_in};
 use crate::parser::parse;
 use crate::request::{MatchRequest, Request, WordsRefusal};
 use clap::error::ErrorKind;
 use clap::{ArgMatches, Error};
+use match_generator::{MAX_COUNT, MAX_SEED};
 use std::alloc::Global;
 
 /// What the words after the program's name ask for.

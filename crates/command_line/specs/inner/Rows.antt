@@ -3,7 +3,8 @@ use Rattle.std.specs.Prelude.{◌≡◌, ℕ, List, Bool, true, false, Option, S
 use Rattle.clap.specs.Words.{Row, first_of, found_of, one_of, rows_of}
 use Rattle.clap.specs.declared.parser.matches.ArgMatches.{ArgMatches}
 use Rattle.command_line.specs.CommandLines.{IsNumberIn, PlainRequest, Match, Check, Show, Make}
-use Rattle.command_line.specs.declared.numbers.TheConstants.{DEFAULT_CAP, MAX_CAP, MAX_SEED, MAX_COUNT}
+use Rattle.match_generator.specs.declared.log.TheConstants.{MAX_SEED, MAX_COUNT}
+use Rattle.command_line.specs.declared.numbers.TheConstants.{DEFAULT_CAP, MAX_CAP}
 
 -- the rows that a parse found
 abbrev pub rows_in : ArgMatches → List Row
