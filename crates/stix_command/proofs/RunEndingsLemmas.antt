@@ -1,5 +1,5 @@
 -- What the status of a run says of its words and its streams.
-use Rattle.std.proofs.Common.{◌≡◌, ◌↔◌, ◌⊎◌, ℕ, List, [], ◌∷◌, Option, Some, None, inl, inr, refl, sym, ap, subst, ◌∙◌, arith, codes}
+use Rattle.std.proofs.Common.{◌≡◌, ◌↔◌, ◌⊎◌, ℕ, List, [], ◌∷◌, Bool, true, false, Option, Some, None, inl, inr, refl, sym, ap, subst, ◌∙◌, arith, codes}
 use Rattle.match_log.specs.declared.end.MatchEnd.TheVariants as end
 use Rattle.stix_command.specs.declared.verdict.Verdict.TheVariants as verdict
 use Rattle.stix_command.specs.declared.matching.MatchEnding.{MatchEnding}
@@ -14,7 +14,8 @@ use Rattle.stix_command.specs.declared.ending.Ending.{Ending}
 use Rattle.stix_command.specs.declared.ending.Ending.TheVariants.{Match, Check, Show, Make, Usage, NoMemory}
 use Rattle.match_input.specs.declared.mode.Mode.{Mode}
 use Rattle.command_line.specs.CommandLines.{PlainRequest, IsCommandLine}
-use Rattle.stix_command.specs.Requests.{Request, mode_of, IsMatchLine, IsShowLine, IsCheckLine, IsMakeLine}
+use Rattle.command_line.specs.CommandLines as asked
+use Rattle.stix_command.specs.Requests.{MatchTask, mode_of, IsMatchLine, IsShowLine, IsCheckLine, IsMakeLine}
 use Rattle.stix_command.specs.Streams.{Streams}
 use Rattle.stix_command.specs.MatchEndings.{IsUnread, EndsMatch, IsPatternRefusal, match_status}
 use Rattle.stix_command.specs.CheckEndings.{check_status}
@@ -26,41 +27,75 @@ use Rattle.stix_command.specs.RunEndings.{status_of, IsNoCommand, EndsRun, Refus
 abbrev pub OneRequest : Type 0
 OneRequest = (words : List (List ℕ)) (first second : PlainRequest) → IsCommandLine words first → IsCommandLine words second → first ≡ second
 
+abbrev kind : PlainRequest → ℕ
+kind (asked.Match whole cap pattern) = 0
+kind asked.Check = 1
+kind (asked.Show pattern) = 2
+kind (asked.Make seed count) = 3
+
+abbrev whole_in : PlainRequest → Bool
+whole_in (asked.Match whole cap pattern) = whole
+whole_in asked.Check = false
+whole_in (asked.Show pattern) = false
+whole_in (asked.Make seed count) = false
+
+abbrev first_in : PlainRequest → ℕ
+first_in (asked.Match whole cap pattern) = cap
+first_in asked.Check = 0
+first_in (asked.Show pattern) = 0
+first_in (asked.Make seed count) = seed
+
+abbrev second_in : PlainRequest → ℕ
+second_in (asked.Match whole cap pattern) = 0
+second_in asked.Check = 0
+second_in (asked.Show pattern) = 0
+second_in (asked.Make seed count) = count
+
+abbrev pattern_in : PlainRequest → List ℕ
+pattern_in (asked.Match whole cap pattern) = pattern
+pattern_in asked.Check = []
+pattern_in (asked.Show pattern) = pattern
+pattern_in (asked.Make seed count) = []
+
 module _ (one : OneRequest) (words : List (List ℕ)) where
-  match_isn't_check : (request : Request) → IsMatchLine words request → ¬ IsCheckLine words
-  match_isn't_check request line check = let same = one words _ _ line.line check in cc
+  other_kind : (first second : PlainRequest) → IsCommandLine words first → IsCommandLine words second → kind first ≡ kind second
+  other_kind first second is also = ap kind (one words first second is also)
 
-  pub match_isn't_show : (request : Request) (pattern : List ℕ) → IsMatchLine words request → ¬ IsShowLine words pattern
-  match_isn't_show request pattern line show = let same = one words _ _ line.line show in cc
+  match_isn't_check : (request : MatchTask) → IsMatchLine words request → ¬ IsCheckLine words
+  match_isn't_check request line check = absurd (omega (arith, other_kind (asked.Match line.whole request.cap request.pattern) asked.Check line.line check))
 
-  pub match_isn't_make : (request : Request) (seed count : ℕ) → IsMatchLine words request → ¬ IsMakeLine words seed count
-  match_isn't_make request seed count line making = let same = one words _ _ line.line making in cc
+  match_isn't_show : (request : MatchTask) (pattern : List ℕ) → IsMatchLine words request → ¬ IsShowLine words pattern
+  match_isn't_show request pattern line show =
+      absurd (omega (arith, other_kind (asked.Match line.whole request.cap request.pattern) (asked.Show pattern) line.line show))
 
-  pub show_isn't_check : (pattern : List ℕ) → IsShowLine words pattern → ¬ IsCheckLine words
-  show_isn't_check pattern show check = let same = one words _ _ show check in cc
+  match_isn't_make : (request : MatchTask) (seed count : ℕ) → IsMatchLine words request → ¬ IsMakeLine words seed count
+  match_isn't_make request seed count line making =
+      absurd (omega (arith, other_kind (asked.Match line.whole request.cap request.pattern) (asked.Make seed count) line.line making))
 
-  pub show_isn't_make : (pattern : List ℕ) (seed count : ℕ) → IsShowLine words pattern → ¬ IsMakeLine words seed count
-  show_isn't_make pattern seed count show making = let same = one words _ _ show making in cc
+  show_isn't_check : (pattern : List ℕ) → IsShowLine words pattern → ¬ IsCheckLine words
+  show_isn't_check pattern show check = absurd (omega (arith, other_kind (asked.Show pattern) asked.Check show check))
 
-  pub check_isn't_make : (seed count : ℕ) → IsCheckLine words → ¬ IsMakeLine words seed count
-  check_isn't_make seed count check making = let same = one words _ _ check making in cc
+  show_isn't_make : (pattern : List ℕ) (seed count : ℕ) → IsShowLine words pattern → ¬ IsMakeLine words seed count
+  show_isn't_make pattern seed count show making = absurd (omega (arith, other_kind (asked.Show pattern) (asked.Make seed count) show making))
+
+  check_isn't_make : (seed count : ℕ) → IsCheckLine words → ¬ IsMakeLine words seed count
+  check_isn't_make seed count check making = absurd (omega (arith, other_kind asked.Check (asked.Make seed count) check making))
 
   one_shown : (a b : List ℕ) → IsShowLine words a → IsShowLine words b → a ≡ b
-  one_shown a b first second = let same = one words _ _ first second in cc
+  one_shown a b first second = ap pattern_in (one words (asked.Show a) (asked.Show b) first second)
 
-  one_matched : (a b : Request) → IsMatchLine words a → IsMatchLine words b → a ≡ b
+  one_matched : (a b : MatchTask) → IsMatchLine words a → IsMatchLine words b → a ≡ b
   one_matched a b first second =
-      let same = one words _ _ first.line second.line in
-      let whole : first.whole ≡ second.whole = cc in
-      let cap : a.cap ≡ b.cap = cc in
-      let pattern : a.pattern ≡ b.pattern = cc in
-      let mode : a.mode ≡ b.mode = first.mode_is ∙ ap mode_of whole ∙ sym second.mode_is in
+      let same = one words (asked.Match first.whole a.cap a.pattern) (asked.Match second.whole b.cap b.pattern) first.line second.line in
+      let mode : a.mode ≡ b.mode = first.mode_is ∙ ap mode_of (ap whole_in same) ∙ sym second.mode_is in
       ap (λ (m : Mode). record { mode = m; cap = a.cap; pattern = a.pattern }) mode
-      ∙ ap (λ (c : ℕ). record { mode = b.mode; cap = c; pattern = a.pattern }) cap
-      ∙ ap (λ (p : List ℕ). record { mode = b.mode; cap = b.cap; pattern = p }) pattern
+      ∙ ap (λ (c : ℕ). record { mode = b.mode; cap = c; pattern = a.pattern }) (ap first_in same)
+      ∙ ap (λ (p : List ℕ). record { mode = b.mode; cap = b.cap; pattern = p }) (ap pattern_in same)
 
   one_made : (seed count other also : ℕ) → IsMakeLine words seed count → IsMakeLine words other also → (seed ≡ other) × (count ≡ also)
-  one_made seed count other also first second = let same = one words _ _ first second in (cc, cc)
+  one_made seed count other also first second =
+      let same = one words (asked.Make seed count) (asked.Make other also) first second in
+      (ap first_in same, ap second_in same)
 
 -- which statuses a command ends with
 match_statuses : (ending : MatchEnding) → (¬ (match_status ending ≡ 2)) × (match_status ending ≡ 3 → IsPatternRefusal ending)
@@ -105,15 +140,15 @@ usage-run words before after NoMemory ends is = absurd (omega arith)
 
 pub no_line-run : (words : List (List ℕ)) (before after : Streams) (ending : Ending) → EndsRun words before after ending → IsNoCommand words
     → (status_of ending ≡ 2) ⊎ (status_of ending ≡ 1)
-no_line-run words before after (Match ending) ends none = absurd (none _ ends.command.line)
-no_line-run words before after (Check ending) ends none = absurd (none _ ends.command)
-no_line-run words before after (Show ending) ends none = absurd (none _ ends.command)
-no_line-run words before after (Make ending) ends none = absurd (none _ ends.command)
+no_line-run words before after (Match ending) ends none = absurd (none (asked.Match ends.command.whole ends.request.cap ends.request.pattern) ends.command.line)
+no_line-run words before after (Check ending) ends none = absurd (none asked.Check ends.command)
+no_line-run words before after (Show ending) ends none = absurd (none (asked.Show ends.pattern) ends.command)
+no_line-run words before after (Make ending) ends none = absurd (none (asked.Make ends.seed ends.count) ends.command)
 no_line-run words before after Usage ends none = inl refl
 no_line-run words before after NoMemory ends none = inr refl
 
 -- status 3 comes for a pattern that is refused
-match-pattern : (words : List (List ℕ)) (request : Request) (before after : Streams) (ending : MatchEnding)
+match-pattern : (words : List (List ℕ)) (request : MatchTask) (before after : Streams) (ending : MatchEnding)
     → IsMatchLine words request → EndsMatch request before after ending → IsPatternRefusal ending → RefusesMatch words
 match-pattern words request before after (matching.PatternRefused refusal) command ends is = record { request = request; command = command; none = ends.0.unread }
 match-pattern words request before after (matching.Ended ended) command ends is = elim is [ ]
@@ -135,7 +170,7 @@ pattern-run words before after Usage ends is = absurd (omega arith)
 pattern-run words before after NoMemory ends is = absurd (omega arith)
 
 -- a pattern that is refused ends in status 3, or memory ran out
-match-refused : (request : Request) (before after : Streams) (ending : MatchEnding)
+match-refused : (request : MatchTask) (before after : Streams) (ending : MatchEnding)
     → IsUnread request.pattern → EndsMatch request before after ending → (match_status ending ≡ 3) ⊎ (match_status ending ≡ 1)
 match-refused request before after (matching.PatternRefused refusal) none ends = inl refl
 match-refused request before after (matching.Ended ended) none ends = absurd (none ends.pattern ends.read)
@@ -152,7 +187,7 @@ pub refused-run : OneRequest → (words : List (List ℕ)) (before after : Strea
     → (status_of ending ≡ 3) ⊎ (status_of ending ≡ 1)
 refused-run one words before after (Match ending) ends (inl refuses) =
     match-refused ends.request before after ending
-    (subst (λ (r : Request). IsUnread r.pattern) (one_matched one words refuses.request ends.request refuses.command ends.command) refuses.none) ends.match_ends
+    (subst (λ (r : MatchTask). IsUnread r.pattern) (one_matched one words refuses.request ends.request refuses.command ends.command) refuses.none) ends.match_ends
 refused-run one words before after (Match ending) ends (inr refuses) = absurd (match_isn't_show one words ends.request refuses.pattern ends.command refuses.command)
 refused-run one words before after (Check ending) ends (inl refuses) = absurd (match_isn't_check one words refuses.request refuses.command ends.command)
 refused-run one words before after (Check ending) ends (inr refuses) = absurd (show_isn't_check one words refuses.pattern refuses.command ends.command)
@@ -162,12 +197,13 @@ refused-run one words before after (Show ending) ends (inr refuses) =
     (subst (λ (p : List ℕ). IsUnread p) (one_shown one words refuses.pattern ends.pattern refuses.command ends.command) refuses.none) ends.show_ends
 refused-run one words before after (Make ending) ends (inl refuses) = absurd (match_isn't_make one words refuses.request ends.seed ends.count refuses.command ends.command)
 refused-run one words before after (Make ending) ends (inr refuses) = absurd (show_isn't_make one words refuses.pattern ends.seed ends.count refuses.command ends.command)
-refused-run one words before after Usage ends (inl refuses) = absurd (ends.0 _ refuses.command.line)
-refused-run one words before after Usage ends (inr refuses) = absurd (ends.0 _ refuses.command)
+refused-run one words before after Usage ends (inl refuses) =
+    absurd (ends.0 (asked.Match refuses.command.whole refuses.request.cap refuses.request.pattern) refuses.command.line)
+refused-run one words before after Usage ends (inr refuses) = absurd (ends.0 (asked.Show refuses.pattern) refuses.command)
 refused-run one words before after NoMemory ends refuses = inr refl
 
 -- a match that ends in status 0 lists the bindings
-match-listing : (request : Request) (before after : Streams) (ending : MatchEnding)
+match-listing : (request : MatchTask) (before after : Streams) (ending : MatchEnding)
     → EndsMatch request before after ending → match_status ending ≡ 0 → ListsBindings request before after
 match-listing request before after (matching.Ended (end.Done observations bindings last)) ends is =
     let whole = ends.answers in
@@ -191,9 +227,9 @@ match-listing request before after (matching.Ended end.NoMemory) ends is = absur
 match-listing request before after matching.NoMemory ends is = absurd (omega arith)
 
 pub listing-run : OneRequest → (words : List (List ℕ)) (before after : Streams) (ending : Ending) → EndsRun words before after ending → status_of ending ≡ 0
-    → (request : Request) → IsMatchLine words request → ListsBindings request before after
+    → (request : MatchTask) → IsMatchLine words request → ListsBindings request before after
 listing-run one words before after (Match ending) ends is request line =
-    subst (λ (r : Request). ListsBindings r before after) (one_matched one words ends.request request ends.command line)
+    subst (λ (r : MatchTask). ListsBindings r before after) (one_matched one words ends.request request ends.command line)
     (match-listing ends.request before after ending ends.match_ends is)
 listing-run one words before after (Check ending) ends is request line = absurd (match_isn't_check one words request line ends.command)
 listing-run one words before after (Show ending) ends is request line = absurd (match_isn't_show one words request ends.pattern line ends.command)

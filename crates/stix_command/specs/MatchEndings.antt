@@ -11,7 +11,7 @@ use Rattle.match_log.specs.declared.end.MatchEnd.{MatchEnd}
 use Rattle.match_log.specs.declared.end.MatchEnd.TheVariants as end
 use Rattle.stix_command.specs.declared.matching.MatchEnding.{MatchEnding}
 use Rattle.stix_command.specs.declared.matching.MatchEnding.TheVariants.{PatternRefused, Ended, NoMemory}
-use Rattle.stix_command.specs.Requests.{Request}
+use Rattle.stix_command.specs.Requests.{MatchTask}
 use Rattle.stix_command.specs.Streams.{Streams, AreUntouched}
 
 -- the text is read as no pattern
@@ -24,13 +24,13 @@ pub record IsRefusedPattern (text : List ℕ) (refusal : PatternRefusal) : Type 
   pub why : IsRefusedAs text refusal
 
 -- the text is read as a pattern, and the input was matched against it
-pub record MatchesInput (request : Request) (before after : Streams) (ended : MatchEnd) : Type 0 where
+pub record MatchesInput (request : MatchTask) (before after : Streams) (ended : MatchEnd) : Type 0 where
   pub pattern : Pattern
   pub read : IsReadAs request.pattern pattern
   pub matcher : MatcherState
   pub answers : AnswersMatch request.mode pattern request.cap before after matcher ended
 
-abbrev pub EndsMatch : Request → Streams → Streams → MatchEnding → Type 0
+abbrev pub EndsMatch : MatchTask → Streams → Streams → MatchEnding → Type 0
 EndsMatch request before after (PatternRefused refusal) = IsRefusedPattern request.pattern refusal × AreUntouched before after
 EndsMatch request before after (Ended ended) = MatchesInput request before after ended
 EndsMatch request before after NoMemory = AreUntouched before after

@@ -10,13 +10,13 @@ mode_of true = Whole
 mode_of false = Lines
 
 -- what a `match` is to do: how the input is cut, how much may be live, and the pattern
-pub record Request : Type 0 where
+pub record MatchTask : Type 0 where
   pub mode : Mode
   pub cap : ℕ
   pub pattern : List ℕ
 
 -- match [--whole] [--cap N] PATTERN
-pub record IsMatchLine (words : List (List ℕ)) (request : Request) : Type 0 where
+pub record IsMatchLine (words : List (List ℕ)) (request : MatchTask) : Type 0 where
   pub whole : Bool
   pub mode_is : request.mode ≡ mode_of whole
   pub line : IsCommandLine words (Match whole request.cap request.pattern)

@@ -23,7 +23,7 @@ use Rattle.stix_command.specs.declared.making.MakeEnding.{MakeEnding}
 use Rattle.stix_command.specs.declared.making.MakeEnding.TheVariants as making
 use Rattle.stix_command.specs.declared.ending.Ending.TheVariants.{Match, Check, Show, Make, Usage, NoMemory}
 use Rattle.command_line.specs.CommandLines.{PlainRequest, IsCommandLine}
-use Rattle.stix_command.specs.Requests.{Request, IsMatchLine, IsShowLine, IsCheckLine, IsMakeLine}
+use Rattle.stix_command.specs.Requests.{MatchTask, IsMatchLine, IsShowLine, IsCheckLine, IsMakeLine}
 use Rattle.stix_command.specs.Streams.{Streams, AreUntouched}
 use Rattle.stix_command.specs.MatchEndings.{IsUnread, EndsMatch, match_status, IsMatchReason}
 use Rattle.stix_command.specs.CheckEndings.{EndsCheck, check_status, IsCheckReason}
@@ -36,7 +36,7 @@ IsNoCommand words = (request : PlainRequest) → ¬ IsCommandLine words request
 
 -- the words are `match` with that request, which ended so
 pub record RunsMatch (words : List (List ℕ)) (before after : Streams) (ending : MatchEnding) : Type 0 where
-  pub request : Request
+  pub request : MatchTask
   pub command : IsMatchLine words request
   pub match_ends : EndsMatch request before after ending
 
@@ -96,7 +96,7 @@ IsWriteFault ending = (ending ≡ Match (matching.Ended match_end.WriteFault)) �
 
 -- the words are `match` with a text that is read as no pattern
 pub record RefusesMatch (words : List (List ℕ)) : Type 0 where
-  pub request : Request
+  pub request : MatchTask
   pub command : IsMatchLine words request
   pub none : IsUnread request.pattern
 
@@ -126,7 +126,7 @@ pub record Ends (words : List (List ℕ)) (before after : Streams) (status : ℕ
 
 -- the text is read as a pattern, the whole input as bundles, and these make a log for it: all bindings of the pattern over
 -- that log are written, and nothing else
-pub record ListsBindings (request : Request) (before after : Streams) : Type 0 where
+pub record ListsBindings (request : MatchTask) (before after : Streams) : Type 0 where
   pub pattern : Pattern
   pub read : IsReadAs request.pattern pattern
   pub bundles : List BundleOf

@@ -83,7 +83,7 @@ pub fn check<I: Source, O: Sink>(alloc: Global, input: &mut I, output: &mut O) -
 
 /// Judges bytes, and writes the verdict.
 fn check_bytes<O: Sink>(alloc: Global, bytes: Items<u8>, output: &mut O) -> CheckEnding
-    ensures end { EndsJudging bytes.entry (O.written output.old) (O.written output.new) result }
+    ensures end { EndsJudging bytes (O.written output.old) (O.written output.new) result }
     ensures write_failed { result ≡ CheckEnding.WriteFault → Rose (O.faults output.old) (O.faults output.new) }
     ensures write_quiet { result ≢ CheckEnding.WriteFault → O.faults output.new ≡ O.faults output.old }
 {

@@ -16,7 +16,7 @@ use stix_versions::{marking_breaks, version_breaks};
 
 /// What bytes are, as a bundle. They are let go once they are read, before the objects are judged.
 pub fn judge(alloc: Global, bytes: Items<u8>) -> Result<Verdict, NoMemory>
-    ensures { IfOk result (IsJudged bytes.entry) }
+    ensures { IfOk result (IsJudged bytes) }
 {
     match value_of(alloc, bytes) {
         Ok(value) => judge_value(alloc, value),
@@ -26,8 +26,8 @@ pub fn judge(alloc: Global, bytes: Items<u8>) -> Result<Verdict, NoMemory>
 
 /// The value of bytes, which are let go.
 fn value_of(alloc: Global, bytes: Items<u8>) -> Result<Json, JsonRefusal>
-    ensures ok { IfOk result (λ json. IsJsonOf bytes.entry json) }
-    ensures err { IfErr result (λ refusal. IsJsonRefusedAs bytes.entry refusal) }
+    ensures ok { IfOk result (λ json. IsJsonOf bytes json) }
+    ensures err { IfErr result (λ refusal. IsJsonRefusedAs bytes refusal) }
 {
     read_json(alloc, bytes.as_slice())
 }

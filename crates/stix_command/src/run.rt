@@ -1,7 +1,7 @@
 ghost use Rattle.std.specs.Prelude.{◌≡◌, ◌≢◌, ◌⊎◌, ℕ, List};
 ghost use Rattle.flow_edges.specs.Faults.{Rose};
 ghost use Rattle.command_line.specs.CommandLines.{texts};
-ghost use Rattle.stix_command.specs.Requests.{Request, IsMatchLine, IsShowLine, IsMakeLine};
+ghost use Rattle.stix_command.specs.Requests.{MatchTask, IsMatchLine, IsShowLine, IsMakeLine};
 ghost use Rattle.stix_command.specs.Streams.{streams};
 ghost use Rattle.stix_command.specs.RunEndings.{status_of, IsReasonOf, IsNoCommand, RefusesPattern, EndsRun, IsReadFault, IsWriteFault, WritesReason, Ends, ListsBindings, TellsNumbers};
 
@@ -68,8 +68,8 @@ pub fn run<I: Source, O: Sink, E: Sink>(
     ensures ends { Ends (texts words.now) (streams (I.left input.old) (O.written output.old))
         (streams (I.left input.new) (O.written output.new)) result
         (λ reason. WritesReason reason (E.written reasons.old) (E.written reasons.new) (E.faults reasons.old) (E.faults reasons.new)) }
-    ensures listing { result ≡ 0 → (request : Request) → IsMatchLine (texts words.now) request
-        → ListsBindings request (streams (I.left input.old) (O.written output.old)) (streams (I.left input.new) (O.written output.new)) }
+    ensures listing { result ≡ 0 → (task : MatchTask) → IsMatchLine (texts words.now) task
+        → ListsBindings task (streams (I.left input.old) (O.written output.old)) (streams (I.left input.new) (O.written output.new)) }
     ensures making { result ≡ 0 → (seed count : ℕ) → IsMakeLine (texts words.now) seed count
         → TellsNumbers seed count (streams (I.left input.old) (O.written output.old)) (streams (I.left input.new) (O.written output.new)) }
     ensures usage { result ≡ 2 → IsNoCommand (texts words.now) }
