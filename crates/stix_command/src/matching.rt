@@ -19,6 +19,7 @@ use pattern_reader::laws::none_refused;
 use pattern_reader::{Pattern, PatternRefusal, read_pattern};
 use pattern_types::laws::leaves_are_brackets;
 use std::alloc::Global;
+use std::mem;
 
 /// How `match` ends.
 #[derive(Debug, Drop)]
@@ -95,6 +96,8 @@ fn match_pattern<I: Source, O: Sink>(
         Err(NoMemory) => return MatchEnding::NoMemory,
     };
     let end = match_stream(alloc, &mut matcher, input, output, mode_of(request.whole));
+    // The program ends next. To drop what the matcher keeps would go as deep as the pattern has brackets.
+    mem::forget(matcher);
     MatchEnding::Ended(end)
 }
 
