@@ -1,12 +1,27 @@
 use std::test::Fail;
 use stix_times::{
-    TimeRefusal, from_micros, from_nanos, laws, nanos, read, read_millis, write, write_micros,
-    write_millis,
+    Instant, TimeRefusal, from_micros, from_nanos, laws, nanos, read, read_millis, write,
+    write_micros, write_millis,
 };
 
 /// Reads `text`, as its nanoseconds.
 fn nanos_read(text: &str) -> Result<i128, TimeRefusal> {
-    read(text).map(nanos)
+    let instant = read(text)?;
+    Ok(nanos(instant))
+}
+
+/// Reads `text`, which is to have three to six digits, as its nanoseconds.
+fn nanos_of_millis(text: &str) -> Result<i128, TimeRefusal> {
+    let instant = read_millis(text)?;
+    Ok(nanos(instant))
+}
+
+/// The nanoseconds of an instant, where there is one.
+fn nanos_in(instant: Option<Instant>) -> Option<i128> {
+    match instant {
+        Some(instant) => Some(nanos(instant)),
+        None => None,
+    }
 }
 
 #[test]
@@ -131,7 +146,7 @@ fn texts_of_three_to_six_digits(rt: HostRuntime) {
         ("2021-06-31T00:00:00.1", Err(TimeRefusal::Shape { at: 21 })),
     ];
     for (text, answer) in rows {
-        assert_eq!(rt; read_millis(text).map(nanos), answer, "{text}");
+        assert_eq!(rt; nanos_of_millis(text), answer, "{text}");
     }
 }
 
@@ -160,14 +175,14 @@ fn refusals_in_words(rt: HostRuntime) -> Result<(), Fail> {
 fn instants_from_numbers(rt: HostRuntime) {
     let first = -62_167_219_200_000_000_000;
     let last = 253_402_300_799_999_999_999;
-    assert_eq!(rt; from_nanos(first).map(nanos), Some(first));
-    assert_eq!(rt; from_nanos(first - 1).map(nanos), None);
-    assert_eq!(rt; from_nanos(last).map(nanos), Some(last));
-    assert_eq!(rt; from_nanos(last + 1).map(nanos), None);
+    assert_eq!(rt; nanos_in(from_nanos(first)), Some(first));
+    assert_eq!(rt; nanos_in(from_nanos(first - 1)), None);
+    assert_eq!(rt; nanos_in(from_nanos(last)), Some(last));
+    assert_eq!(rt; nanos_in(from_nanos(last + 1)), None);
     let last_micro = 253_402_300_799_999_999;
-    assert_eq!(rt; from_micros(last_micro).map(nanos), Some(last - 999));
-    assert_eq!(rt; from_micros(last_micro + 1).map(nanos), None);
-    assert_eq!(rt; from_micros(u64::MAX).map(nanos), None);
+    assert_eq!(rt; nanos_in(from_micros(last_micro)), Some(last - 999));
+    assert_eq!(rt; nanos_in(from_micros(last_micro + 1)), None);
+    assert_eq!(rt; nanos_in(from_micros(u64::MAX)), None);
     if let (Some(before), Some(after)) = (from_nanos(-1), from_nanos(0)) {
         assert!(rt; laws::is_before(before, after) && before < after && !(after < before));
     }
