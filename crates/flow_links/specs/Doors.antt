@@ -1,0 +1,33 @@
+-- Doors: where the callers of a server come from. What a door holds is told by some doors alone: `None` claims nothing,
+-- and a door that tells goes on to tell.
+use Rattle.std.specs.Prelude.{◌≡◌, ℕ, ◌+◌, List, [], ◌∷◌, ◌++◌, Option, Some, None, MatchOption}
+
+-- the links to come; those that were handed back, in order; the port that the door listens at; and how many links are out:
+-- given and not handed back
+pub record DoorState (L : Type 0) : Type 0 where
+  pub coming : List L
+  pub finished : List L
+  pub port : Option ℕ
+  pub given : ℕ
+
+-- what a call made of the state, where the door tells it
+abbrev pub Changes : {L : Type 0} → (DoorState L → DoorState L → Type 0) → Option (DoorState L) → Option (DoorState L) → Type 0
+Changes {L} How before after = MatchOption before (after ≡ None) (λ state. (now : DoorState L) × (after ≡ Some now) × How state now)
+
+-- nothing changed
+abbrev pub Stays : {L : Type 0} → Option (DoorState L) → Option (DoorState L) → Type 0
+Stays before after = after ≡ before
+
+-- the door listens at this port, and nothing else changed
+abbrev pub Listens : {L : Type 0} → ℕ → Option (DoorState L) → Option (DoorState L) → Type 0
+Listens port before after = Changes (λ state now. now ≡ record { coming = state.coming; finished = state.finished; port = Some port; given = state.given }) before after
+
+-- the link is the first of those to come, and one more is out; without a link none is to come, and nothing changed
+abbrev pub GivesNext : {L : Type 0} → Option L → Option (DoorState L) → Option (DoorState L) → Type 0
+GivesNext link before after = Changes (λ state now. MatchOption link ((state.coming ≡ []) × (now ≡ state)) (λ caller.
+    (state.coming ≡ caller ∷ now.coming) × (now.finished ≡ state.finished) × (now.port ≡ state.port) × (now.given ≡ state.given + 1))) before after
+
+-- the link stands behind those that were handed back, and one fewer is out
+abbrev pub Finishes : {L : Type 0} → L → Option (DoorState L) → Option (DoorState L) → Type 0
+Finishes link before after = Changes (λ state now.
+    (now.finished ≡ state.finished ++ link ∷ []) × (now.coming ≡ state.coming) × (now.port ≡ state.port) × (state.given ≡ now.given + 1)) before after

@@ -1,0 +1,4 @@
+pub mod Doors
+pub mod Moments
+pub mod Memory
+pub mod System

@@ -1,0 +1,20 @@
+-- Links, doors and clocks in memory: what contracts see of them.
+use Rattle.std.specs.Prelude.{ℕ, ◌-◌, List, Option, length, min, slice_get}
+use Rattle.flow_edges.specs.Memory.{SourceState, SinkState}
+use Rattle.flow_links.specs.Doors.{DoorState}
+
+-- what comes from the peer, and what goes to it
+pub record LinkState : Type 0 where
+  pub source : SourceState
+  pub sink : SinkState
+
+-- the links, which calls of `listen` and `next` fail (counted together from 1), and the counts of calls and faults
+pub record MemoryDoorState : Type 0 where
+  pub links : DoorState LinkState
+  pub failing : List ℕ
+  pub calls : ℕ
+  pub faults : ℕ
+
+-- the moments of a list, of which the last one repeats
+abbrev pub moment_at : List ℕ → ℕ → Option ℕ
+moment_at moments n = slice_get moments (min n (length moments - 1))

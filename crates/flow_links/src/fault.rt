@@ -1,0 +1,13 @@
+ghost use Rattle.std.specs.Prelude.{◌≡◌, ◌≤◌};
+ghost use Rattle.flow_edges.specs.Faults.{counted};
+
+use flow_values::Fault;
+
+/// A fault, which is counted.
+pub(crate) fn counted_fault(faults: &mut u64) -> Fault
+    ensures counted { faults.new ≡ counted faults.old }
+    ensures later { faults.old ≤ faults.new }
+{
+    *faults = faults.saturating_add(1);
+    Fault
+}

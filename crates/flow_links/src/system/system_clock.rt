@@ -1,0 +1,35 @@
+ghost use Rattle.std.specs.Prelude.{None};
+
+use crate::Clock;
+use std::time::{Clock as Timer, SystemTime, UNIX_EPOCH};
+
+/// The system's clock. Where it tells no time it gives the last moment again, or 0 at first.
+#[derive(Drop)]
+pub struct SystemClock<'r, R: Timer> {
+    rt: &'r R,
+    last: u64,
+}
+
+impl<'r, R: Timer> SystemClock<'r, R> {
+    /// A clock over this runtime.
+    pub fn new(rt: &'r R) -> SystemClock<'r, R> {
+        SystemClock { rt, last: 0 }
+    }
+
+    fn moment(&self) -> Option<u64> {
+        let now = SystemTime::now(self.rt).ok()?;
+        let since = now.duration_since(UNIX_EPOCH).ok()?;
+        u64::try_from(since.as_micros()).ok()
+    }
+}
+
+impl<'r, R: Timer> Clock for SystemClock<'r, R> {
+    ghost moments = { λ _ _. None };
+
+    fn now(&mut self) -> u64 {
+        if let Some(moment) = self.moment() {
+            self.last = moment;
+        }
+        self.last
+    }
+}

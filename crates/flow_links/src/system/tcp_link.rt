@@ -1,0 +1,88 @@
+ghost use Rattle.std.specs.Prelude.{◌≡◌, ◌≤◌, ◌<◌, None, length, IfOk};
+ghost use Rattle.std.specs.Io.KnownBytes.{ReadConsumes, WriteAppends};
+ghost use Rattle.flow_edges.specs.Faults.{Causes};
+
+use crate::Link;
+use crate::fault::counted_fault;
+use flow_edges::{Sink, Source};
+use flow_values::Fault;
+use std::io::{Read, Write};
+use std::marker::Model;
+
+/// A stream of the system as a link. It tells no content, and counts each error of a read and of a
+/// write. A write that takes nothing of a piece is one. Contracts see what the stream has left and holds,
+/// where it tells that, and the counts.
+#[derive(Drop)]
+pub struct TcpLink<S: Read + Write> {
+    stream: S,
+    read_faults: u64,
+    write_faults: u64,
+}
+
+impl<S: Read + Write> Model for TcpLink<S> {
+    ghost use Rattle.flow_links.specs.System.{StreamState};
+
+    ghost Value = { StreamState };
+
+    ghost view = { λ link. record {
+      remaining = S.remaining link.stream;
+      contents = S.contents link.stream;
+      read_faults = link.read_faults;
+      write_faults = link.write_faults;
+    } };
+}
+
+impl<S: Read + Write> TcpLink<S> {
+    /// A link over this stream, which has failed in no call yet.
+    pub fn new(stream: S) -> TcpLink<S>
+        ensures { result ≡ record { remaining = S.remaining stream; contents = S.contents stream; read_faults = 0; write_faults = 0 } }
+    {
+        TcpLink {
+            stream,
+            read_faults: 0,
+            write_faults: 0,
+        }
+    }
+}
+
+impl<S: Read + Write> Source for TcpLink<S> {
+    ghost left = { λ _. None };
+
+    ghost faults = { λ link. link.read_faults };
+
+    /// One read of the stream, whose answer is handed on; an error is a `Fault`.
+    fn read(&mut self, buffer: &mut [u8]) -> Result<usize, Fault>
+        ensures within { IfOk result (λ n. n ≤ length buffer.old) }
+        ensures causes { Causes self.old.read_faults self.new.read_faults result }
+        ensures handed { ReadConsumes self.old.remaining self.new.remaining result buffer.new }
+        ensures unwritten { self.new.write_faults ≡ self.old.write_faults }
+    {
+        match self.stream.read(buffer) {
+            Ok(count) => Ok(count),
+            Err(_) => Err(counted_fault(&mut self.read_faults)),
+        }
+    }
+}
+
+impl<S: Read + Write> Sink for TcpLink<S> {
+    ghost written = { λ _. None };
+
+    ghost faults = { λ link. link.write_faults };
+
+    /// One write of the stream, whose answer is handed on; an error, and a write of nothing, is a `Fault`.
+    fn write(&mut self, piece: &[u8]) -> Result<usize, Fault>
+        ensures within { IfOk result (λ n. n ≤ length piece.now) }
+        ensures some { IfOk result (λ n. 0 < length piece.now → 0 < n) }
+        ensures causes { Causes self.old.write_faults self.new.write_faults result }
+        ensures handed { WriteAppends self.old.contents self.new.contents result piece.now }
+        ensures unread { self.new.read_faults ≡ self.old.read_faults }
+    {
+        match self.stream.write(piece) {
+            Ok(0) if !piece.is_empty() => Err(counted_fault(&mut self.write_faults)),
+            Ok(count) => Ok(count),
+            Err(_) => Err(counted_fault(&mut self.write_faults)),
+        }
+    }
+}
+
+impl<S: Read + Write> Link for TcpLink<S> {}
