@@ -1,0 +1,139 @@
+-- Which of the conditions of a head decides, and what a session keeps.
+use Rattle.std.proofs.Common.{◌≡◌, ℕ, ◌+◌, ◌<◌, ◌≤◌, Bool, true, false, ◌||◌, not, ◌==◌, if◌then◌else◌, codes, map, Bor, List, [], ◌++◌, length, take, drop, inr, length-take, length-append, length-drop, Option, Some, None, refl, sym, ap, subst, ◌∙◌, arith, nat_lt}
+use Rattle.std.specs.List.{list_all}
+use Rattle.std.specs.Str.{is_utf8}
+use Rattle.std.proofs.lemmas.List.{append-nil}
+use Rattle.std.proofs.lemmas.Bool.Decides.{Decides-eqb}
+use Rattle.http_frames.specs.declared.refusal.Refusal.{Refusal}
+use Rattle.http_frames.specs.declared.refusal.Refusal.TheVariants.{BadRequest, LengthRequired, BodyTooLarge, TransferCoding}
+use Rattle.http_frames.specs.Fields.{HeadParts, values, first_length, states, body_length, lacks_host, has_bad_text, has_bad_text_in, has_coding, has_bad_length, lacks_length}
+use Rattle.http_frames.specs.Frames.{refusal_of, Accepts}
+use Rattle.http_frames.specs.inner.Searching.{IsMore, Wants}
+use Rattle.http_frames.proofs.ValueLemmas.{all_of}
+use Rattle.http_frames.proofs.FrameLemmas.{wants_body}
+
+-- the first of the conditions that holds
+abbrev pick : Bool → Bool → Bool → Bool → Bool → Bool → Option Refusal
+pick host text coding bad lacks large =
+    if host || text then Some BadRequest
+    else if coding then Some TransferCoding
+    else if bad then Some BadRequest
+    else if lacks then Some LengthRequired
+    else if large then Some BodyTooLarge
+    else None
+
+pick_host : (a b c d e f : Bool) → a ≡ true → Some BadRequest ≡ pick a b c d e f
+pick_host true b c d e f is = refl
+pick_host false b c d e f is = absurd (cc is)
+
+pick_text : (a b c d e f : Bool) → b ≡ true → Some BadRequest ≡ pick a b c d e f
+pick_text true b c d e f is = refl
+pick_text false true c d e f is = refl
+pick_text false false c d e f is = absurd (cc is)
+
+pick_coding : (a b c d e f : Bool) → a ≡ false → b ≡ false → c ≡ true → Some TransferCoding ≡ pick a b c d e f
+pick_coding a b c d e f p q r = rw (p, q, r) refl
+
+pick_bad : (a b c d e f : Bool) → a ≡ false → b ≡ false → c ≡ false → d ≡ true → Some BadRequest ≡ pick a b c d e f
+pick_bad a b c d e f p q r s = rw (p, q, r, s) refl
+
+pick_lacks : (a b c d e f : Bool) → a ≡ false → b ≡ false → c ≡ false → d ≡ false → e ≡ true → Some LengthRequired ≡ pick a b c d e f
+pick_lacks a b c d e f p q r s t = rw (p, q, r, s, t) refl
+
+pick_large : (a b c d e f : Bool) → a ≡ false → b ≡ false → c ≡ false → d ≡ false → e ≡ false → f ≡ true → Some BodyTooLarge ≡ pick a b c d e f
+pick_large a b c d e f p q r s t u = rw (p, q, r, s, t, u) refl
+
+pick_none : (a b c d e f : Bool) → a ≡ false → b ≡ false → c ≡ false → d ≡ false → e ≡ false → f ≡ false → None ≡ pick a b c d e f
+pick_none a b c d e f p q r s t u = rw (p, q, r, s, t, u) refl
+
+no_text : (a b c d e f : Bool) → pick a b c d e f ≡ None → b ≡ false
+no_text true b c d e f is = absurd (cc is)
+no_text false true c d e f is = absurd (cc is)
+no_text false false c d e f is = refl
+
+pub by_host : (g : ℕ) (h : HeadParts) → lacks_host h ≡ true → Some BadRequest ≡ refusal_of g h
+by_host g h = pick_host (lacks_host h) (has_bad_text h) (has_coding h) (has_bad_length h) (lacks_length h) (nat_lt g (body_length h))
+
+pub by_text : (g : ℕ) (h : HeadParts) → has_bad_text h ≡ true → Some BadRequest ≡ refusal_of g h
+by_text g h = pick_text (lacks_host h) (has_bad_text h) (has_coding h) (has_bad_length h) (lacks_length h) (nat_lt g (body_length h))
+
+pub by_coding : (g : ℕ) (h : HeadParts) → lacks_host h ≡ false → has_bad_text h ≡ false → has_coding h ≡ true → Some TransferCoding ≡ refusal_of g h
+by_coding g h = pick_coding (lacks_host h) (has_bad_text h) (has_coding h) (has_bad_length h) (lacks_length h) (nat_lt g (body_length h))
+
+pub by_bad : (g : ℕ) (h : HeadParts) → lacks_host h ≡ false → has_bad_text h ≡ false → has_coding h ≡ false → has_bad_length h ≡ true → Some BadRequest ≡ refusal_of g h
+by_bad g h = pick_bad (lacks_host h) (has_bad_text h) (has_coding h) (has_bad_length h) (lacks_length h) (nat_lt g (body_length h))
+
+pub by_lacks : (g : ℕ) (h : HeadParts) → lacks_host h ≡ false → has_bad_text h ≡ false → has_coding h ≡ false → has_bad_length h ≡ false → lacks_length h ≡ true
+    → Some LengthRequired ≡ refusal_of g h
+by_lacks g h = pick_lacks (lacks_host h) (has_bad_text h) (has_coding h) (has_bad_length h) (lacks_length h) (nat_lt g (body_length h))
+
+pub by_large : (g : ℕ) (h : HeadParts) → lacks_host h ≡ false → has_bad_text h ≡ false → has_coding h ≡ false → has_bad_length h ≡ false → lacks_length h ≡ false
+    → nat_lt g (body_length h) ≡ true → Some BodyTooLarge ≡ refusal_of g h
+by_large g h = pick_large (lacks_host h) (has_bad_text h) (has_coding h) (has_bad_length h) (lacks_length h) (nat_lt g (body_length h))
+
+pub by_none : (g : ℕ) (h : HeadParts) → lacks_host h ≡ false → has_bad_text h ≡ false → has_coding h ≡ false → has_bad_length h ≡ false → lacks_length h ≡ false
+    → nat_lt g (body_length h) ≡ false → None ≡ refusal_of g h
+by_none g h = pick_none (lacks_host h) (has_bad_text h) (has_coding h) (has_bad_length h) (lacks_length h) (nat_lt g (body_length h))
+
+pub texts_are_fine : (g : ℕ) (h : HeadParts) → refusal_of g h ≡ None → has_bad_text h ≡ false
+texts_are_fine g h = no_text (lacks_host h) (has_bad_text h) (has_coding h) (has_bad_length h) (lacks_length h) (nat_lt g (body_length h))
+
+-- ---- the values that are read as texts
+
+not_false : (x : Bool) → not x ≡ false → x ≡ true
+not_false true is = refl
+not_false false is = absurd (cc is)
+
+or_false : (a b c : Bool) → a || b || c ≡ false → (a ≡ false) × (b ≡ false) × (c ≡ false)
+or_false false false false is = (refl, refl, refl)
+or_false false false true is = absurd (cc is)
+or_false false true c is = absurd (cc is)
+or_false true b c is = absurd (cc is)
+
+-- where no text is bad, each value is UTF-8
+pub record AreTexts (h : HeadParts) : Type 0 where
+  pub accept : list_all is_utf8 (values (codes "accept") h) ≡ true
+  pub content_type : list_all is_utf8 (values (codes "content-type") h) ≡ true
+
+pub are_texts : (h : HeadParts) → has_bad_text h ≡ false → AreTexts h
+are_texts h fine =
+    let each = or_false (has_bad_text_in (codes "accept") h) (has_bad_text_in (codes "content-type") h) (has_bad_text_in (codes "connection") h) fine in
+    record { accept = not_false _ each.0; content_type = not_false _ each.1 }
+
+-- ---- what the functions of a head answer
+
+pub bad_length : (n : ℕ) (a : Bool) (xs ys : List (Bor (List ℕ))) (zs : List (List ℕ)) → map (λ (x : Bor (List ℕ)). x.now) xs ≡ zs → map (λ (x : Bor (List ℕ)). x.now) ys ≡ zs
+    → n ≡ first_length (map (λ (x : Bor (List ℕ)). x.now) xs) → a ≡ list_all (λ (x : Bor (List ℕ)). states n x.now) ys
+    → not a ≡ not (list_all (states (first_length zs)) zs)
+bad_length n a xs ys zs same again number all =
+    ap not (all ∙ all_of (states n) ys zs again ∙ ap (λ (k : ℕ). list_all (states k) zs) (number ∙ ap first_length same))
+
+pub close_old : (m n : ℕ) (q r : Bool) → n ≡ m → n ≡ 0 → r ≡ (n == 0) → r ≡ ((m == 0) || q)
+close_old m n q r same old is =
+    let zero : m ≡ 0 = sym same ∙ old in
+    rw zero (is ∙ ap (λ (k : ℕ). k == 0) old)
+
+pub close_new : (m : ℕ) (q a r : Bool) → (m ≡ 0 → ⊥) → a ≡ q → r ≡ a → r ≡ ((m == 0) || q)
+close_new m q a r new asks is = by_test (m == 0) refl
+  where
+    by_test : (t : Bool) → (m == 0) ≡ t → r ≡ ((m == 0) || q)
+    by_test true same = absurd (new ((Decides-eqb m 0).0 same))
+    by_test false other = rw other (is ∙ asks)
+
+-- what is found where the body isn't whole
+pub wants_more : (g : ℕ) (bytes : List ℕ) (s e n : ℕ) (parts : HeadParts) → Accepts g bytes s e parts → n ≡ body_length parts → length bytes < e + n
+    → IsMore g bytes × Wants g bytes (e + n)
+wants_more g bytes s e n parts accepts size short = (
+  inr (record { start = s; end = e; parts = parts; accepts = accepts; short = subst (λ (k : ℕ). length bytes < e + k) size short }),
+  subst (λ (k : ℕ). Wants g bytes (e + k)) (sym size) (wants_body g bytes s e parts accepts),
+)
+
+-- a slice of a list that is lent and given back leaves as much room
+pub same_room : {S : Type 0} (lent items : List S) (len most : ℕ) → len ≡ length items → most ≤ length items → most ≤ length (take len (lent ++ drop (length lent) items))
+same_room {S} lent items len most all room =
+    omega (arith, length-take len (lent ++ drop (length lent) items), length-append lent (drop (length lent) items), length-drop (length lent) items)
+
+-- where a session waits for more, more is wanted
+pub wants_now : (greatest : ℕ) (bytes : List ℕ) (wanted : ℕ) → Wants greatest bytes wanted → length bytes < wanted → IsMore greatest bytes
+wants_now greatest bytes wanted wants short =
+    subst (IsMore greatest) (append-nil bytes) (wants [] (omega (arith, ap length (append-nil bytes))))

@@ -1,0 +1,8 @@
+pub mod AnswerLemmas
+pub mod FrameLemmas
+pub mod GrammarLemmas
+pub mod HeadLemmas
+pub mod JudgeLemmas
+pub mod LengthLemmas
+pub mod SearchLemmas
+pub mod ValueLemmas

@@ -1,0 +1,5 @@
+use Rattle.http_frames.specs.inner.Searching.{HasNoEnd}
+use Rattle.http_frames.proofs.search.last_line_end.Given as goal
+
+abbrev pub invariant-loop-place : goal.invariant-loop-place
+invariant-loop-place l = HasNoEnd l.bytes l.from l.place

@@ -1,0 +1,17 @@
+use Rattle.std.proofs.Common.{arith, ap, length, refl, subst, List, ℕ}
+use Rattle.http_frames.specs.inner.Searching.{IsSearched, IsFound, Wants}
+use Rattle.http_frames.proofs.JudgeLemmas.{wants_now, same_room}
+use Rattle.http_frames.proofs.session.Session.next_request.Goals as goal
+
+pub returns-then-as_slice-self-clause-first : goal.returns-then-as_slice-self-clause-first
+returns-then-as_slice-self-clause-first c =
+    rw (← c.self.view_is)
+    (wants_now _ _ c.self.inside.wanted c.self.invariant.wants (omega (arith, c.if-as_slice-self.true, ap length c.as_slice.ensures)), refl)
+
+pub invariant_of-self-in-More : goal.invariant_of-self-in-More
+invariant_of-self-in-More c =
+    let found = subst (IsFound c.self.inside.greatest_body c.as_slice-2.result.now) c.in-More.is c.in_ok-found.ensures.found in record {
+      searched = subst (λ (bytes : List ℕ). IsSearched bytes c.find_frame.new.search) c.as_slice-2.ensures c.find_frame.ensures.searched;
+      wants = subst (λ (bytes : List ℕ). Wants c.self.inside.greatest_body bytes c.in-More.wanted) c.as_slice-2.ensures found.1;
+      room = same_room c.find_frame.new.spans c.self.inside.spans.items c.self.inside.spans.len _ (omega (arith, c.self.inside.spans.ok)) c.self.invariant.room;
+    }

@@ -1,0 +1,12 @@
+use Rattle.std.proofs.Common.{refl, None}
+use Rattle.std.specs.Fmt.{digits}
+use Rattle.http_frames.specs.Answers.{head_text}
+use Rattle.http_frames.proofs.writing.write_no_memory.Goals as goal
+
+pub returns-clause-text : goal.returns-clause-text
+unfolding head_text digits
+returns-clause-text g c = record {
+  text = _;
+  text_is = record { first = None; last = None; first_is = tt; last_is = tt; text_is = refl };
+  writes = c.write_whole.ensures.text;
+}

@@ -1,0 +1,33 @@
+-- Where the head of a request begins and ends among the bytes of a connection (RFC 9112, sections 2.1 and 2.2). Of the bytes, 10 is
+-- LF and 13 is CR.
+use Rattle.std.specs.Prelude.{◌≡◌, ℕ, ◌+◌, ◌<◌, ◌≤◌, Bool, true, false, ◌==◌, ◌&&◌, ◌||◌, if◌then◌else◌, List, length, slice_index}
+
+-- CR or LF
+abbrev pub is_line_byte : ℕ → Bool
+is_line_byte byte = byte == 13 || byte == 10
+
+-- an empty line follows the LF at this place: LF, or CR LF
+abbrev pub is_last_line_end : List ℕ → ℕ → Bool
+is_last_line_end bytes at =
+    slice_index bytes at == 10
+    && (slice_index bytes (at + 1) == 10 || (slice_index bytes (at + 1) == 13 && slice_index bytes (at + 2) == 10))
+
+-- where the empty line after the LF at this place ends
+abbrev pub after_empty_line : List ℕ → ℕ → ℕ
+after_empty_line bytes at = if slice_index bytes (at + 1) == 10 then at + 2 else at + 3
+
+-- the bytes before `start` are CR and LF, which are dropped; the head begins there with another byte, and `end` is after its first
+-- empty line
+pub record IsHeadAt (bytes : List ℕ) (start end : ℕ) : Type 0 where
+  pub dropped : (place : ℕ) → place < start → is_line_byte (slice_index bytes place) ≡ true
+  pub begins : is_line_byte (slice_index bytes start) ≡ false
+  pub last : ℕ
+  pub after : start ≤ last
+  pub empty : is_last_line_end bytes last ≡ true
+  pub first : (place : ℕ) → start ≤ place → place < last → is_last_line_end bytes place ≡ false
+  pub end_is : end ≡ after_empty_line bytes last
+  pub within : end ≤ length bytes
+
+-- no head ends in the first n bytes
+abbrev pub HasNoHeadIn : ℕ → List ℕ → Type 0
+HasNoHeadIn n bytes = (start end : ℕ) → IsHeadAt bytes start end → n < end

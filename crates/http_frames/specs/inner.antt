@@ -1,0 +1,4 @@
+pub mod HeadText
+pub mod Parsing
+pub mod Searching
+pub mod Sessions

@@ -1,0 +1,51 @@
+-- What the search for the end of a head keeps, and what it finds. No public contract cites these.
+use Rattle.std.specs.Prelude.{◌≡◌, ℕ, ◌+◌, ◌<◌, ◌≤◌, ◌⊎◌, true, false, List, ◌++◌, length, drop, slice_index}
+use Rattle.http_frames.specs.declared.search.HeadSearch.{HeadSearch}
+use Rattle.http_frames.specs.declared.judging.Found.{Found}
+use Rattle.http_frames.specs.declared.judging.Found.TheVariants.{More, Request, Refused}
+use Rattle.http_frames.specs.Heads.{is_line_byte, is_last_line_end, IsHeadAt}
+use Rattle.http_frames.specs.Frames.{WantsHead, WantsBody, GivesRequest, IsRefused}
+
+-- from `low` on up to `high` no LF has an empty line behind it
+abbrev pub HasNoEnd : List ℕ → ℕ → ℕ → Type 0
+HasNoEnd bytes low high = (place : ℕ) → low ≤ place → place < high → is_last_line_end bytes place ≡ false
+
+-- the bytes before `start` are dropped, and no head ends before `next`, whatever bytes follow
+pub record IsSearched (bytes : List ℕ) (search : HeadSearch) : Type 0 where
+  pub dropped : (place : ℕ) → place < search.start → is_line_byte (slice_index bytes place) ≡ true
+  pub order : search.start ≤ search.next
+  pub within : search.next ≤ length bytes
+  pub settled : search.start < search.next → search.next + 1 < length bytes
+  pub begins : search.start < search.next → is_line_byte (slice_index bytes search.start) ≡ false
+  pub none : HasNoEnd bytes search.start search.next
+
+-- from `from` on up to `place` there are CR and LF alone, and no further
+pub record SkipsTo (bytes : List ℕ) (from place : ℕ) : Type 0 where
+  pub order : from ≤ place
+  pub within : place ≤ length bytes
+  pub passed : (k : ℕ) → from ≤ k → k < place → is_line_byte (slice_index bytes k) ≡ true
+  pub other : place < length bytes → is_line_byte (slice_index bytes place) ≡ false
+
+-- the first LF from `from` on that has an empty line behind it
+pub record IsFirstEnd (bytes : List ℕ) (from place : ℕ) : Type 0 where
+  pub order : from ≤ place
+  pub here : is_last_line_end bytes place ≡ true
+  pub first : HasNoEnd bytes from place
+
+-- the bytes hold no head
+abbrev pub HasNoHead : List ℕ → Type 0
+HasNoHead bytes = (start end : ℕ) → IsHeadAt bytes start end → ⊥
+
+-- more is wanted
+abbrev pub IsMore : ℕ → List ℕ → Type 0
+IsMore greatest bytes = WantsHead bytes ⊎ WantsBody greatest bytes
+
+-- more is wanted until so many bytes have come
+abbrev pub Wants : ℕ → List ℕ → ℕ → Type 0
+Wants greatest bytes wanted = (more : List ℕ) → length (bytes ++ more) < wanted → IsMore greatest (bytes ++ more)
+
+-- what the bytes begin with
+abbrev pub IsFound : ℕ → List ℕ → Found → Type 0
+IsFound greatest bytes (More wanted) = IsMore greatest bytes × Wants greatest bytes wanted
+IsFound greatest bytes (Request request size) = GivesRequest greatest bytes request (drop size bytes) × (size ≤ length bytes)
+IsFound greatest bytes (Refused refusal) = IsRefused greatest bytes refusal

@@ -1,0 +1,73 @@
+ghost use Rattle.std.specs.Prelude.{◌≡◌, ◌≤◌, [], ◌++◌, length, drop, OnOk, OnErr};
+
+use flow_values::NoMemory;
+use std::alloc::Global;
+use std::marker::Model;
+
+/// Bytes that are added at the end and taken from the front. Contracts see those that are there.
+#[derive(Drop)]
+pub(crate) struct Buffer {
+    bytes: Vec<u8>,
+    /// How many bytes from the front are taken, and not cleared away yet.
+    taken: usize,
+}
+
+impl Model for Buffer {
+    ghost use Rattle.std.specs.Prelude.{ℕ, ◌≤◌, List, length, drop};
+
+    ghost Value = { List ℕ };
+
+    ghost view = { λ buffer. drop buffer.taken buffer.bytes.items };
+
+    ghost invariant = { λ buffer. buffer.taken ≤ length buffer.bytes.items };
+}
+
+impl Buffer {
+    /// No bytes. Takes no memory.
+    pub(crate) fn new(alloc: Global) -> Buffer
+        ensures { result ≡ [] }
+    {
+        Buffer {
+            bytes: Vec::new(alloc),
+            taken: 0,
+        }
+    }
+
+    /// The bytes, lent.
+    pub(crate) fn as_slice(&self) -> &[u8]
+        ensures { result.now ≡ self.now }
+    {
+        &self.bytes[self.taken..]
+    }
+
+    /// Adds bytes at the end. Without memory the buffer stays as it was.
+    pub(crate) fn push(&mut self, piece: &[u8]) -> Result<(), NoMemory>
+        ensures ok { OnOk result (self.new ≡ self.old ++ piece.now) }
+        ensures err { OnErr result (self.new ≡ self.old) }
+    {
+        self.clear_taken();
+        self.bytes.extend_from_slice(piece)?;
+        Ok(())
+    }
+
+    /// Takes so many bytes from the front.
+    pub(crate) fn take(&mut self, count: usize)
+        requires { count ≤ length self.old }
+        ensures { self.new ≡ drop count self.old }
+    {
+        self.taken += count;
+    }
+
+    /// Clears the bytes away that are taken, where they are half of all or more: so each byte is moved
+    /// once at most.
+    fn clear_taken(&mut self)
+        ensures { self.new ≡ self.old }
+    {
+        let left = self.bytes.len() - self.taken;
+        if self.taken >= left {
+            self.bytes.copy_within(self.taken.., 0);
+            self.bytes.truncate(left);
+            self.taken = 0;
+        }
+    }
+}

@@ -1,0 +1,39 @@
+//! What follows from the definitions: the contracts are the laws, and the functions do next to nothing.
+
+ghost use Rattle.std.specs.Prelude.{◌≡◌, ◌≢◌, ◌<◌, ◌++◌, ℕ, List, length, Bool};
+ghost use Rattle.http_frames.specs.declared.frame.Frame.{Frame};
+ghost use Rattle.http_frames.specs.declared.request.Request.{Request};
+ghost use Rattle.http_frames.specs.declared.answer.Answer.{Answer};
+ghost use Rattle.http_frames.specs.Frames.{IsFirstFrame};
+ghost use Rattle.http_frames.specs.Answers.{IsAnswerText};
+
+use stix_times::laws::one_text_of_digits;
+
+/// Bytes have at most one first frame.
+pub fn one_first_frame()
+    ensures { (greatest : ℕ) (bytes : List ℕ) (frame other : Frame) (rest other_rest : List ℕ)
+        → IsFirstFrame greatest bytes frame rest → IsFirstFrame greatest bytes other other_rest
+        → (frame ≡ other) × (rest ≡ other_rest) }
+{}
+
+/// A request and a refusal are the same whatever bytes follow, so that nothing depends on how the bytes
+/// are cut.
+pub fn later_bytes_change_nothing()
+    ensures { (greatest : ℕ) (bytes more : List ℕ) (frame : Frame) (rest : List ℕ)
+        → IsFirstFrame greatest bytes frame rest → frame ≢ Frame.More
+        → IsFirstFrame greatest (bytes ++ more) frame (rest ++ more) }
+{}
+
+/// A request takes a byte at least.
+pub fn requests_take_bytes()
+    ensures { (greatest : ℕ) (bytes : List ℕ) (request : Request) (rest : List ℕ)
+        → IsFirstFrame greatest bytes (Frame.Request request) rest → length rest < length bytes }
+{}
+
+/// An answer has at most one text.
+pub fn one_answer_text()
+    ensures { (answer : Answer) (close : Bool) (text other : List ℕ)
+        → IsAnswerText answer close text → IsAnswerText answer close other → text ≡ other }
+{
+    one_text_of_digits();
+}

@@ -1,0 +1,16 @@
+mod AnswerLemmas
+mod MediaTypeLemmas
+mod MembersLemmas
+mod ValueLemmas
+mod MeaningLemmas
+mod FieldLemmas
+mod QueryLemmas
+mod ReadsLemmas
+mod TargetLemmas
+mod RouteLemmas
+mod SegmentLemmas
+mod SeekLemmas
+mod WalkLemmas
+mod TableLemmas
+mod FoundLemmas
+mod RouteAnswerLemmas

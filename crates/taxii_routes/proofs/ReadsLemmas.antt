@@ -1,0 +1,61 @@
+-- A query read up to some pair.
+use Rattle.std.proofs.Common.{◌≡◌, ◌⊎◌, inl, inr, ℕ, List, [], ◌∷◌, ◌++◌, map, None, Result, Ok, Err, refl, sym, subst, ◌∙◌, append-nil, append_assoc}
+use Rattle.std.specs.Prelude.{OnOk, IfErr}
+use Rattle.form_urlencoded.specs.Form.{raw_pairs}
+use Rattle.taxii_routes.specs.declared.param.Param.{Param}
+use Rattle.taxii_routes.specs.declared.query.Query.{Query}
+use Rattle.taxii_routes.specs.declared.refusal.QueryRefusal.{QueryRefusal}
+use Rattle.taxii_routes.specs.declared.refusal.QueryRefusal.TheVariants.{NoMemory}
+use Rattle.taxii_routes.specs.Param.{name_of}
+use Rattle.taxii_routes.specs.Query.{Pair, text_of, pairs_of, asked, IsQueryOf, IsBadAfter, IsRefusedAs}
+use Rattle.taxii_routes.specs.inner.Step.{Adds, CannotAdd, Steps, Stops}
+use Rattle.taxii_routes.proofs.FieldLemmas.{AddAnswers}
+use Rattle.taxii_routes.proofs.QueryLemmas.{query_passes, query_grows, query_stops}
+
+abbrev pub decoded : Pair → Pair
+decoded pair = (text_of pair.0, text_of pair.1)
+
+-- the pairs up to here ask for the query, and these come yet
+pub record Reads (text : List ℕ) (left : List Pair) (query : Query) : Type 0 where
+  pub done : List Pair
+  pub all : pairs_of text ≡ done ++ map decoded left
+  pub asks : IsQueryOf done query
+
+pub reads_start : (text : List ℕ) (query : Query) → ((param : Param) → asked param query ≡ None) → Reads text (raw_pairs text) query
+reads_start text query nothing = record { done = []; all = refl; asks = nothing }
+
+moves : (text : List ℕ) (raw : Pair) (left : List Pair) (query : Query) (reads : Reads text (raw ∷ left) query) → pairs_of text ≡ (reads.done ++ decoded raw ∷ []) ++ map decoded left
+moves text raw left query reads = reads.all ∙ sym (append_assoc reads.done (decoded raw ∷ []) (map decoded left))
+
+pub reads_on : (text : List ℕ) (raw : Pair) (left : List Pair) (old new : Query) → Reads text (raw ∷ left) old → Steps raw.0 raw.1 old new → Reads text left new
+reads_on text raw left old new reads (inl (param, named, adds)) = record {
+  done = reads.done ++ decoded raw ∷ [];
+  all = moves text raw left old reads;
+  asks = query_grows reads.done (decoded raw) param old new named adds reads.asks;
+}
+reads_on text raw left old new reads (inr (other, same)) = record {
+  done = reads.done ++ decoded raw ∷ [];
+  all = moves text raw left old reads;
+  asks = subst (λ query. IsQueryOf (reads.done ++ decoded raw ∷ []) query) (sym same) (query_passes reads.done (decoded raw) old other reads.asks);
+}
+
+pub reads_stop : (text : List ℕ) (raw : Pair) (left : List Pair) (old : Query) (refusal : QueryRefusal) → Reads text (raw ∷ left) old → Stops raw.0 raw.1 old refusal
+    → (refusal ≡ NoMemory) ⊎ IsRefusedAs (pairs_of text) refusal
+reads_stop text raw left old refusal reads (inl none) = inl none
+reads_stop text raw left old refusal reads (inr (param, named, cannot)) = go (query_stops reads.done (decoded raw) param old refusal named reads.asks cannot)
+  where
+    go : (refusal ≡ NoMemory) ⊎ IsBadAfter reads.done (decoded raw) refusal → (refusal ≡ NoMemory) ⊎ IsRefusedAs (pairs_of text) refusal
+    go (inl none) = inl none
+    go (inr bad) = inr (record { before = reads.done; pair = decoded raw; after = map decoded left; spelling = reads.all; fine = (old, reads.asks); bad = bad })
+
+pub reads_end : (text : List ℕ) (query : Query) → Reads text [] query → IsQueryOf (pairs_of text) query
+reads_end text query reads = subst (λ pairs. IsQueryOf pairs query) (sym (reads.all ∙ append-nil reads.done)) reads.asks
+
+-- what adding a value says of the encoded pair
+pub pair_answers : (name value : List ℕ) (param : Param) (shown worth : List ℕ) (old new : Query) (answer : Result (Unit {0}) QueryRefusal)
+    → shown ≡ text_of name → worth ≡ text_of value → shown ≡ name_of param → AddAnswers param worth old new answer
+    → OnOk answer (Steps name value old new) × IfErr answer (Stops name value old)
+pair_answers name value param shown worth old new (Ok u) same also named adds =
+    (inl (param, sym same ∙ named, subst (λ w. Adds param w old new) also adds.0), tt)
+pair_answers name value param shown worth old new (Err e) same also named adds =
+    (tt, inr (param, sym same ∙ named, subst (λ w. CannotAdd param w old e) also adds.1))

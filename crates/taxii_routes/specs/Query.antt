@@ -1,0 +1,64 @@
+-- Queries: TAXII 2.1, section 3.4, in the form of the URL Standard, section 5
+-- (`application/x-www-form-urlencoded`). A query is its pairs of a name and a value. Each parameter has
+-- one pair at most, and pairs of other names don't matter.
+use Rattle.std.specs.Prelude.{◌≡◌, ◌≢◌, ℕ, List, [], ◌∷◌, ◌++◌, map, filter, bytes_eq, Option, None, IsSomeAnd}
+use Rattle.std.specs.Str.Lossy.{utf8_lossy}
+use Rattle.form_urlencoded.specs.Form.{raw_pairs, decode}
+use Rattle.taxii_routes.specs.declared.param.Param.{Param}
+use Rattle.taxii_routes.specs.declared.param.Param.TheVariants.{AddedAfter, Limit, Next, MatchId, MatchType, MatchVersion, MatchSpec}
+use Rattle.taxii_routes.specs.declared.query.Query.{Query}
+use Rattle.taxii_routes.specs.declared.refusal.QueryRefusal.{QueryRefusal}
+use Rattle.taxii_routes.specs.declared.refusal.QueryRefusal.TheVariants.{BadValue, Repeated, NoMemory}
+use Rattle.taxii_routes.specs.Param.{name_of}
+use Rattle.taxii_routes.specs.Value.{Meaning, IsValueOf, HasMeaning}
+
+-- a name and a value
+abbrev pub Pair : Type 0
+Pair = List ℕ × List ℕ
+
+-- the text that an encoded one stands for
+abbrev pub text_of : List ℕ → List ℕ
+text_of encoded = utf8_lossy (decode encoded)
+
+-- the pairs of a query, in turn
+abbrev pub pairs_of : List ℕ → List Pair
+pairs_of query = map (λ pair. (text_of pair.0, text_of pair.1)) (raw_pairs query)
+
+-- the values of the pairs of a name
+abbrev pub values_of : List ℕ → List Pair → List (List ℕ)
+values_of name pairs = map (λ pair. pair.1) (filter (λ pair. bytes_eq pair.0 name) pairs)
+
+-- what a query asks for by a parameter
+abbrev pub asked : (param : Param) → Query → Option (Meaning param)
+asked AddedAfter query = query.added_after
+asked Limit query = query.limit
+asked Next query = query.next
+asked MatchId query = query.ids
+asked MatchType query = query.kinds
+asked MatchVersion query = query.picks
+asked MatchSpec query = query.specs
+
+-- these values of a parameter ask for that: nothing where there is none, else what the one means
+abbrev pub AskFor : (param : Param) → List (List ℕ) → Option (Meaning param) → Type 0
+AskFor param [] wanted = wanted ≡ None
+AskFor param (value ∷ []) wanted = IsSomeAnd wanted (λ meaning. IsValueOf param value meaning)
+AskFor param (value ∷ other ∷ values) wanted = ⊥
+
+-- the pairs ask for the query
+abbrev pub IsQueryOf : List Pair → Query → Type 0
+IsQueryOf pairs query = (param : Param) → AskFor param (values_of (name_of param) pairs) (asked param query)
+
+-- what is wrong with a pair behind others: its parameter stood there before, or its value has no meaning
+abbrev pub IsBadAfter : List Pair → Pair → QueryRefusal → Type 0
+IsBadAfter before pair (Repeated param) = (pair.0 ≡ name_of param) × (values_of pair.0 before ≢ [])
+IsBadAfter before pair (BadValue param) = (pair.0 ≡ name_of param) × (values_of pair.0 before ≡ []) × (¬ HasMeaning param pair.1)
+IsBadAfter before pair NoMemory = ⊥
+
+-- the first bad pair: those before it are a query
+pub record IsRefusedAs (pairs : List Pair) (refusal : QueryRefusal) : Type 0 where
+  pub before : List Pair
+  pub pair : Pair
+  pub after : List Pair
+  pub spelling : pairs ≡ before ++ pair ∷ after
+  pub fine : (query : Query) × IsQueryOf before query
+  pub bad : IsBadAfter before pair refusal

@@ -1,0 +1,130 @@
+ghost use Rattle.std.specs.Prelude.{◌≡◌, ◌≢◌, ◌⊎◌, ◌↔◌, None, Some, Err, IsTrue, IsOk, IfOk, IfErr, OnOk, MatchOption};
+ghost use Rattle.taxii_routes.specs.declared.param.Param.{Param};
+ghost use Rattle.taxii_routes.specs.declared.refusal.QueryRefusal.TheVariants as QueryRefusal;
+ghost use Rattle.taxii_routes.specs.Query.{pairs_of, asked, IsQueryOf, IsRefusedAs};
+ghost use Rattle.taxii_routes.specs.inner.Step.{Adds, CannotAdd, Steps, Stops};
+
+use crate::members::{read_ids, read_picks, read_texts};
+use crate::value::{read_instant, read_limit, read_next};
+use crate::{Param, QueryRefusal};
+use flow_values::{Items, Text};
+use form_urlencoded::{decode, raw_pairs};
+use std::alloc::Global;
+use stix_ids::{Id, Pick};
+use stix_times::Instant;
+
+/// What a query asks for: of each parameter what its value means, and none where it isn't named.
+#[derive(Debug, Drop)]
+pub struct Query {
+    /// Only what was added after this instant (`added_after`).
+    pub added_after: Option<Instant>,
+    /// How many things a page may have (`limit`).
+    pub limit: Option<u64>,
+    /// Where the page begins (`next`).
+    pub next: Option<u64>,
+    /// The identifiers of the objects (`match[id]`).
+    pub ids: Option<Items<Id>>,
+    /// The types of the objects (`match[type]`).
+    pub kinds: Option<Items<Text>>,
+    /// Which versions of an object (`match[version]`).
+    pub picks: Option<Items<Pick>>,
+    /// The versions of the standard (`match[spec_version]`).
+    pub specs: Option<Items<Text>>,
+}
+
+/// The query of the text behind the `?` of a target. Its pairs are judged from left to right, and the
+/// first bad one is refused. Parameters of other names are passed over.
+pub fn read_query(alloc: Global, text: &str) -> Result<Query, QueryRefusal>
+    ensures ok { IfOk result (IsQueryOf (pairs_of text.now)) }
+    ensures err { IfErr result
+        (λ refusal. (refusal ≡ QueryRefusal.NoMemory) ⊎ IsRefusedAs (pairs_of text.now) refusal) }
+{
+    let mut query = Query::new();
+    for (name, value) in raw_pairs(text.as_bytes()) {
+        query.add_pair(alloc, name, value)?;
+    }
+    Ok(query)
+}
+
+impl Query {
+    /// A query that asks for nothing.
+    fn new() -> Query
+        ensures { (param : Param) → asked param result ≡ None }
+    {
+        Query {
+            added_after: None,
+            limit: None,
+            next: None,
+            ids: None,
+            kinds: None,
+            picks: None,
+            specs: None,
+        }
+    }
+
+    /// Whether the query asks for something by the parameter.
+    fn has(&self, param: Param) -> bool
+        ensures { IsTrue result ↔ (asked param self.now ≢ None) }
+    {
+        match param {
+            Param::AddedAfter => self.added_after.is_some(),
+            Param::Limit => self.limit.is_some(),
+            Param::Next => self.next.is_some(),
+            Param::MatchId => self.ids.is_some(),
+            Param::MatchType => self.kinds.is_some(),
+            Param::MatchVersion => self.picks.is_some(),
+            Param::MatchSpec => self.specs.is_some(),
+        }
+    }
+
+    /// Adds what an encoded pair asks for, which is nothing where no parameter has its name.
+    fn add_pair(&mut self, alloc: Global, name: &[u8], value: &[u8]) -> Result<(), QueryRefusal>
+        ensures ok { OnOk result (Steps name.now value.now self.old self.new) }
+        ensures err { IfErr result (Stops name.now value.now self.old) }
+    {
+        let name = decode(alloc, name)?;
+        match Param::named(name.as_str()) {
+            Some(param) => {
+                let value = decode(alloc, value)?;
+                self.add(alloc, param, value.as_str())
+            }
+            None => Ok(()),
+        }
+    }
+
+    /// Adds what a value of the parameter asks for.
+    fn add(&mut self, alloc: Global, param: Param, value: &str) -> Result<(), QueryRefusal>
+        ensures ok { OnOk result (Adds param value.now self.old self.new) }
+        ensures err { IfErr result (CannotAdd param value.now self.old) }
+    {
+        if self.has(param) {
+            return Err(QueryRefusal::Repeated { name: param });
+        }
+        let bad = QueryRefusal::BadValue { name: param };
+        match param {
+            Param::AddedAfter => set(&mut self.added_after, read_instant(value), bad),
+            Param::Limit => set(&mut self.limit, read_limit(value), bad),
+            Param::Next => set(&mut self.next, read_next(value), bad),
+            Param::MatchId => set(&mut self.ids, read_ids(alloc, value)?, bad),
+            Param::MatchType => set(&mut self.kinds, read_texts(alloc, value)?, bad),
+            Param::MatchVersion => set(&mut self.picks, read_picks(alloc, value)?, bad),
+            Param::MatchSpec => set(&mut self.specs, read_texts(alloc, value)?, bad),
+        }
+    }
+}
+
+/// Sets what is asked for by a parameter, where its value has a meaning.
+fn set<T: Drop>(
+    wanted: &mut Option<T>,
+    meaning: Option<T>,
+    bad: QueryRefusal,
+) -> Result<(), QueryRefusal>
+    ensures { MatchOption meaning ((result ≡ Err bad) × (wanted.new ≡ wanted.old))
+        (λ value. IsOk result × (wanted.new ≡ Some value)) }
+{
+    if meaning.is_none() {
+        return Err(bad);
+    }
+    *wanted = meaning;
+    Ok(())
+}

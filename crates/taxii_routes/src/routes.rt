@@ -1,0 +1,97 @@
+ghost use Rattle.std.specs.Prelude.{◌≡◌, ◌≢◌, ℕ, List, Ok, IfOk};
+ghost use Rattle.taxii_routes.specs.declared.route.Route.{Route};
+ghost use Rattle.taxii_routes.specs.declared.route.Route.TheVariants as Route;
+ghost use Rattle.taxii_routes.specs.Route.{IsPathOf};
+ghost use Rattle.taxii_routes.specs.inner.Found.{taken, Takes, Found};
+ghost use Rattle.taxii_routes.specs.inner.Table.{table};
+
+use crate::Route;
+use crate::endpoint::Endpoint;
+use flow_values::{NoMemory, Text};
+use matchit::{InsertError, Params, Router};
+use std::alloc::Global;
+
+/// The routes of the server, made ready for look-ups.
+#[derive(Drop)]
+pub struct Routes {
+    alloc: Global,
+    router: Router<Endpoint>,
+    ghost whole: { router ≡ table },
+}
+
+impl Routes {
+    /// The routes of the server.
+    pub fn new(alloc: Global) -> Result<Routes, NoMemory> {
+        match router(alloc) {
+            Ok(router) => Ok(Routes { alloc, router }),
+            Err(_) => Err(NoMemory),
+        }
+    }
+
+    /// The route of a path, which ends before the `?` of a target. Nothing in it is decoded.
+    pub fn route(&self, path: &str) -> Result<Route, NoMemory>
+        ensures found { IfOk result (λ route. route ≢ Route.None → IsPathOf path.now route) }
+        ensures none { result ≡ Ok Route.None → (route : Route) → ¬ IsPathOf path.now route }
+    {
+        match self.router.at(path) {
+            Ok(found) => self.named(*found.value, &found.params),
+            Err(_) => Ok(Route::None),
+        }
+    }
+
+    /// The route of the endpoint, with what the parameters of a match took.
+    fn named(&self, endpoint: Endpoint, params: &Params<'_, '_>) -> Result<Route, NoMemory>
+        ensures { (path : List ℕ) → Found endpoint path (taken params.now)
+            → IfOk result (λ route. (route ≢ Route.None) × IsPathOf path route) }
+    {
+        match endpoint {
+            Endpoint::Discovery => Ok(Route::Discovery),
+            Endpoint::Root => Ok(Route::Root),
+            Endpoint::Status => Ok(Route::Status(self.text(params, "id")?)),
+            Endpoint::Collections => Ok(Route::Collections),
+            Endpoint::Collection => Ok(Route::Collection(self.text(params, "id")?)),
+            Endpoint::Manifest => Ok(Route::Manifest(self.text(params, "id")?)),
+            Endpoint::Objects => Ok(Route::Objects(self.text(params, "id")?)),
+            Endpoint::Object => {
+                let collection = self.text(params, "id")?;
+                let object = self.text(params, "object")?;
+                Ok(Route::Object { collection, object })
+            }
+            Endpoint::Versions => {
+                let collection = self.text(params, "id")?;
+                let object = self.text(params, "object")?;
+                Ok(Route::Versions { collection, object })
+            }
+        }
+    }
+
+    /// What stands in the path for a name.
+    fn text(&self, params: &Params<'_, '_>, name: &str) -> Result<Text, NoMemory>
+        ensures { (value : List ℕ) → Takes (taken params.now) name.now value
+            → IfOk result (λ text. text ≡ value) }
+    {
+        match params.get(name) {
+            Some(text) => Text::from_text(self.alloc, text),
+            None => Ok(Text::new(self.alloc)),
+        }
+    }
+}
+
+fn router(alloc: Global) -> Result<Router<Endpoint>, InsertError>
+    ensures { IfOk result (λ router. router ≡ table) }
+{
+    let mut router = Router::new(alloc);
+    router.insert("/taxii2/", Endpoint::Discovery)?;
+    router.insert("/api/", Endpoint::Root)?;
+    router.insert("/api/status/{id}/", Endpoint::Status)?;
+    router.insert("/api/collections/", Endpoint::Collections)?;
+    router.insert("/api/collections/{id}/", Endpoint::Collection)?;
+    router.insert("/api/collections/{id}/manifest/", Endpoint::Manifest)?;
+    router.insert("/api/collections/{id}/objects/", Endpoint::Objects)?;
+    router.insert("/api/collections/{id}/objects/{object}/", Endpoint::Object)?;
+    router.insert(
+        "/api/collections/{id}/objects/{object}/versions/",
+        Endpoint::Versions,
+    )?;
+    Ok(router)
+}

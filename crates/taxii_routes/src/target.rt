@@ -1,0 +1,12 @@
+ghost use Rattle.std.specs.Prelude.{option_map};
+ghost use Rattle.taxii_routes.specs.Target.{IsTargetOf};
+
+/// The path of a target, and the query behind its first `?`, if it has one. Takes no memory.
+pub fn split_target(target: &str) -> (&str, Option<&str>)
+    ensures { IsTargetOf target.now result.0.now (option_map (λ query. query.now) result.1) }
+{
+    match target.split_once('?') {
+        Some((path, query)) => (path, Some(query)),
+        None => (target, None),
+    }
+}

@@ -1,0 +1,6 @@
+pub mod TimeLemmas
+pub mod VersionLemmas
+pub mod SoundLemmas
+pub mod RiseLemmas
+pub mod StateLemmas
+pub mod KeptLemmas

@@ -1,0 +1,37 @@
+-- What a keeper of rows answers and leaves, where it tells its rows.
+use Rattle.std.specs.Prelude.{◌≡◌, ℕ, ◌≤◌, List, ◌++◌, Bool, true, not, nat_eq, nat_lt, Option, option_map, IfSome, All, find, filter}
+use Rattle.std.specs.List.{list_any}
+use Rattle.taxii_rows.specs.declared.stored_row.StoredRow.{StoredRow}
+use Rattle.taxii_rows.specs.StoreState.{StoreState, dates_of, RiseFrom}
+
+-- the first row that was added later than the date
+abbrev pub row_after : ℕ → List StoredRow → Option StoredRow
+row_after date rows = find (λ row. nat_lt date row.date) rows
+
+-- the first row of the date
+abbrev pub row_at : ℕ → List StoredRow → Option StoredRow
+row_at date rows = find (λ row. nat_eq row.date date) rows
+
+-- whether a date is one of these
+abbrev pub is_date_in : List ℕ → ℕ → Bool
+is_date_in dates date = list_any (λ one. nat_eq one date) dates
+
+-- the state with more rows at the end, and another mark
+abbrev pub with_rows : List StoredRow → ℕ → StoreState → StoreState
+with_rows rows mark state = record { rows = state.rows ++ rows; mark = mark }
+
+-- the state without the rows of these dates, and the same mark
+abbrev pub without : List ℕ → StoreState → StoreState
+without dates state = record { rows = filter (λ row. not (is_date_in dates row.date)) state.rows; mark = state.mark }
+
+-- with the rows at the end the dates rise strictly, and the mark isn't earlier than one of the rows
+pub record CanAppend (rows : List StoredRow) (mark : ℕ) (state : StoreState) : Type 0 where
+  pub rise : RiseFrom 1 (dates_of (state.rows ++ rows))
+  pub marked : All (λ row. row.date ≤ mark) rows
+
+-- what stands after an `attach` under a text: the keeper is attached, and where it tells its rows, their dates rise strictly
+-- and the text is its name
+pub record IsAttached (text : List ℕ) (told : Option StoreState) (name : Option (List ℕ)) (ready : Bool) : Type 0 where
+  pub attached : ready ≡ true
+  pub named : name ≡ option_map (λ _. text) told
+  pub rise : IfSome told (λ state. RiseFrom 1 (dates_of state.rows))

@@ -1,0 +1,9 @@
+pub mod Described
+pub mod Keeper
+pub mod KeeperCauses
+pub mod MemoryKeeper
+pub mod SoundRow
+pub mod StoreState
+pub mod Version
+pub mod Identity
+pub mod Picking

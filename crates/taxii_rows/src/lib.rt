@@ -1,0 +1,30 @@
+//! The rows of a TAXII 2.1 server's store: an object in a collection with the date when it was added
+//! (section 3.4), and what the object says of itself: its identifier, its version (STIX 2.1, sections
+//! 2.9 and 3.2) and its compact text.
+//!
+//! Where rows last is a `Keeper`, a trait with a ghost meaning (its rows, the last date given) and a
+//! count of faults; `MemoryKeeper` is one in memory that can be made to fail.
+#![tactic(auto)]
+
+mod by_date;
+mod calls;
+mod described;
+mod held;
+mod keeper;
+mod keeper_refusal;
+pub mod laws;
+mod memory_keeper;
+mod sound;
+mod stored_row;
+mod type_set;
+mod version;
+
+pub use by_date::{row_after, row_at};
+pub use described::{Described, describe};
+pub use keeper::Keeper;
+pub use keeper_refusal::KeeperRefusal;
+pub use memory_keeper::MemoryKeeper;
+pub use sound::is_sound_row;
+pub use stored_row::{LAST_DATE, StoredRow};
+pub use type_set::TypeSet;
+pub use version::version_of;

@@ -1,0 +1,93 @@
+ghost use Rattle.std.specs.Prelude.{◌≡◌, ◌↔◌, IsTrue, IfOk};
+ghost use Rattle.flow_values.specs.Answers.{FindsExactly};
+ghost use Rattle.stix_json.specs.DataOf.{data_of};
+ghost use Rattle.stix_json.specs.Ordered.{IsOrdered};
+ghost use Rattle.stix_json.specs.Reading.{IsJsonOf};
+ghost use Rattle.stix_objects.specs.Properties.{HasId};
+ghost use Rattle.taxii_rows.specs.SoundRow.{FitsUnder, Fits, IsRowOf, IsSoundRow};
+
+use crate::laws::one_version;
+use crate::{StoredRow, TypeSet, version_of};
+use flow_values::NoMemory;
+use std::alloc::Global;
+use stix_ids::{Id, is_text_of};
+use stix_json::{Json, JsonRefusal, read_json, text_at, write_json};
+
+/// Whether the row is what its body gives: the body is the compact text of an ordered JSON value, with
+/// the row's identifier, and with its version by the types of observables of either set.
+pub fn is_sound_row(alloc: Global, row: &StoredRow) -> Result<bool, NoMemory>
+    ensures { IfOk result (λ sound. IsTrue sound ↔ IsSoundRow row.now) }
+{
+    match read_body(alloc, row)? {
+        Some(object) => is_row_of(alloc, row, &object),
+        None => Ok(false),
+    }
+}
+
+/// Whether the row is what the object makes.
+fn is_row_of(alloc: Global, row: &StoredRow, object: &Json) -> Result<bool, NoMemory>
+    requires { IsOrdered (data_of object.now) }
+    ensures { IfOk result (λ own. IsTrue own ↔ IsRowOf row.now (data_of object.now)) }
+{
+    let text = write_json(alloc, object)?;
+    let own = has_body(row, text.as_str());
+    Ok(own && is_told_by(row, object))
+}
+
+fn has_body(row: &StoredRow, text: &str) -> bool
+    ensures { IsTrue result ↔ (row.now.body ≡ text.now) }
+{
+    row.body.as_str() == text
+}
+
+/// Whether the row has the object's identifier and version.
+fn is_told_by(row: &StoredRow, object: &Json) -> bool
+    ensures { IsTrue result ↔ (HasId (data_of object.now) row.now.id × Fits row.now (data_of object.now)) }
+{
+    has_id(object, &row.id) && fits(row, object)
+}
+
+/// The JSON value that the row's body is, where it is one.
+fn read_body(alloc: Global, row: &StoredRow) -> Result<Option<Json>, NoMemory>
+    ensures { IfOk result (FindsExactly (IsJsonOf row.now.body)) }
+{
+    match read_json(alloc, row.body.as_str().as_bytes()) {
+        Ok(object) => Ok(Some(object)),
+        Err(JsonRefusal::NoMemory) => Err(NoMemory),
+        Err(
+            JsonRefusal::NotJson
+            | JsonRefusal::TooDeep { .. }
+            | JsonRefusal::NotWhole { .. }
+            | JsonRefusal::Null { .. }
+            | JsonRefusal::OutOfRange { .. }
+            | JsonRefusal::NotList,
+        ) => Ok(None),
+    }
+}
+
+fn has_id(object: &Json, id: &Id) -> bool
+    ensures { IsTrue result ↔ HasId (data_of object.now) id.now }
+{
+    match text_at(object, "id") {
+        Some(text) => is_text_of(id, text),
+        None => false,
+    }
+}
+
+/// Whether the row's version is that of the object by one of the sets.
+fn fits(row: &StoredRow, object: &Json) -> bool
+    ensures { IsTrue result ↔ Fits row.now (data_of object.now) }
+{
+    fits_under(TypeSet::First, row, object) || fits_under(TypeSet::Second, row, object)
+}
+
+fn fits_under(set: TypeSet, row: &StoredRow, object: &Json) -> bool
+    ensures { IsTrue result ↔ FitsUnder set row.now (data_of object.now) }
+{
+    one_version();
+    match (version_of(object, set), row.dated) {
+        (Some(version), true) => row.version == version,
+        (None, false) => i128::from(row.version) == i128::from(row.date),
+        (Some(_), false) | (None, true) => false,
+    }
+}

@@ -1,0 +1,46 @@
+ghost use Rattle.std.specs.Prelude.{◌≡◌, IfOk};
+
+use flow_values::{NoMemory, Text};
+use std::alloc::Global;
+use stix_ids::Id;
+
+/// The latest date that a row can have, in microseconds since 1970: the last one of the year 9999.
+pub const LAST_DATE: u64 = 253_402_300_799_999_999;
+
+/// A row of a store: an object in a collection, and when it was added.
+#[derive(Drop)]
+pub struct StoredRow {
+    /// When the object was added, in microseconds since 1970. No two rows of a store have one date.
+    pub date: u64,
+    /// The number of the collection's UUID.
+    pub collection: u128,
+    /// The object's identifier.
+    pub id: Id,
+    /// The object's version in microseconds since 1970, or the date where it is undated.
+    pub version: i64,
+    /// Whether the object tells its version.
+    pub dated: bool,
+    /// The object as compact JSON.
+    pub body: Text,
+}
+
+impl StoredRow {
+    /// An equal row.
+    pub fn copy(&self, alloc: Global) -> Result<StoredRow, NoMemory>
+        ensures { IfOk result (λ copy. copy ≡ self.now) }
+    {
+        let kind = Text::from_text(alloc, self.id.kind.as_str())?;
+        let body = Text::from_text(alloc, self.body.as_str())?;
+        Ok(StoredRow {
+            date: self.date,
+            collection: self.collection,
+            id: Id {
+                kind,
+                number: self.id.number,
+            },
+            version: self.version,
+            dated: self.dated,
+            body,
+        })
+    }
+}

@@ -1,0 +1,4 @@
+mod RowsLemmas
+mod HistoryLemmas
+mod WalkLemmas
+mod PageLemmas

@@ -1,0 +1,4 @@
+pub mod Meeting
+pub mod Page
+pub mod History
+pub mod Walk
