@@ -1,4 +1,4 @@
-ghost use Rattle.std.specs.Prelude.{◌≡◌, ◌≢◌, ℕ, List, Ok, IfOk};
+ghost use Rattle.std.specs.Prelude.{◌≡◌, ◌≢◌, ℕ, List, Ok, IfOk, OnErr};
 ghost use Rattle.taxii_routes.specs.declared.route.Route.{Route};
 ghost use Rattle.taxii_routes.specs.declared.route.Route.TheVariants as Route;
 ghost use Rattle.taxii_routes.specs.Route.{IsPathOf};
@@ -28,10 +28,12 @@ impl Routes {
         }
     }
 
-    /// The route of a path, which ends before the `?` of a target. Nothing in it is decoded.
+    /// The route of a path, which ends before the `?` of a target. Nothing in it is decoded. A path
+    /// without a route is answered as such also without memory.
     pub fn route(&self, path: &str) -> Result<Route, NoMemory>
         ensures found { IfOk result (λ route. route ≢ Route.None → IsPathOf path.now route) }
         ensures none { result ≡ Ok Route.None → (route : Route) → ¬ IsPathOf path.now route }
+        ensures err { OnErr result ((route : Route) × IsPathOf path.now route) }
     {
         match self.router.at(path) {
             Ok(found) => self.named(*found.value, &found.params),
