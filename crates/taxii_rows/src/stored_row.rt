@@ -1,4 +1,5 @@
 ghost use Rattle.std.specs.Prelude.{◌≡◌, IfOk};
+ghost use Rattle.taxii_rows.specs.Identity.{is_row_of};
 
 use flow_values::{NoMemory, Text};
 use std::alloc::Global;
@@ -25,6 +26,15 @@ pub struct StoredRow {
 }
 
 impl StoredRow {
+    /// Whether the row is of that object in that collection.
+    pub fn is_of(&self, collection: u128, id: &Id) -> bool
+        ensures { result ≡ is_row_of collection id.now self.now }
+    {
+        self.collection == collection
+            && self.id.number == id.number
+            && self.id.kind.as_str() == id.kind.as_str()
+    }
+
     /// An equal row.
     pub fn copy(&self, alloc: Global) -> Result<StoredRow, NoMemory>
         ensures { IfOk result (λ copy. copy ≡ self.now) }

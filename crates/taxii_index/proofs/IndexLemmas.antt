@@ -1,0 +1,65 @@
+-- The index of some rows after one more is added, the last one is taken out, or those of some dates are.
+use Rattle.std.proofs.Common.{◌≡◌, ℕ, List, [], ◌∷◌, ◌++◌, map, filter, not, sym, ap, ◌∙◌, subst, All, Result, Ok, Err, OnOk, OnErr}
+use Rattle.std.specs.List.{Contains}
+use Rattle.std.specs.BTreeSet.{BTreeSet}
+use Rattle.std.proofs.lemmas.List.{map-append}
+use Rattle.std.proofs.lemmas.List.Elements.{All-push, All-contains, All-weaker, All-contains_itself, Contains-append_left}
+use Rattle.taxii_rows.specs.declared.stored_row.StoredRow.{StoredRow}
+use Rattle.taxii_rows.specs.Keeper.{is_date_in}
+use Rattle.taxii_index.specs.declared.row_index.RowIndex.{RowIndex}
+use Rattle.taxii_index.specs.Keys.{Key, IsIn64Bits, HasKeys}
+use Rattle.taxii_index.specs.Index.{version_key, text_key, IsIndexOf, IsAbsent}
+use Rattle.taxii_index.proofs.ListLemmas.{Contains-from_map, filter-map}
+
+-- the keys of the rows and of one more
+pushed : (key_of : StoredRow → Key) (rows : List StoredRow) (row : StoredRow) → map key_of (rows ++ row ∷ []) ≡ map key_of rows ++ key_of row ∷ []
+pushed key_of rows row = map-append key_of rows (row ∷ [])
+
+pub has_pushed : (key_of : StoredRow → Key) (rows : List StoredRow) (row : StoredRow) (key : Key) (set : BTreeSet Key) → key ≡ key_of row
+    → HasKeys (map key_of rows ++ key ∷ []) set → HasKeys (map key_of (rows ++ row ∷ [])) set
+has_pushed key_of rows row key set is has =
+    subst (λ (keys : List Key). HasKeys keys set) (ap (λ (k : Key). map key_of rows ++ k ∷ []) is ∙ sym (pushed key_of rows row)) has
+
+pub has_unpushed : (key_of : StoredRow → Key) (rows : List StoredRow) (row : StoredRow) (key : Key) (set : BTreeSet Key) → key ≡ key_of row
+    → HasKeys (map key_of (rows ++ row ∷ [])) set → HasKeys (map key_of rows ++ key ∷ []) set
+has_unpushed key_of rows row key set is has =
+    subst (λ (keys : List Key). HasKeys keys set) (pushed key_of rows row ∙ ap (λ (k : Key). map key_of rows ++ k ∷ []) (sym is)) has
+
+-- the key of a row whose date no other has is no other's
+pub own_key : (key_of : StoredRow → Key) → ((row : StoredRow) → (key_of row).2 ≡ row.date) → (rows : List StoredRow) (row : StoredRow) (key : Key) → key ≡ key_of row
+    → IsAbsent row.date rows → ¬ Contains (map key_of rows) key
+own_key key_of dated rows row key is absent here =
+    let found = Contains-from_map key_of rows key here in
+    All-contains (λ (other : StoredRow). ¬ (other.date ≡ row.date)) rows found.0 absent found.1
+    (sym (dated found.0) ∙ ap (λ (k : Key). k.2) (found.2 ∙ is) ∙ dated row)
+
+pub has_filtered : (key_of : StoredRow → Key) (dates : List ℕ) (rows : List StoredRow) (set : BTreeSet Key)
+    → map key_of (filter (λ row. not (is_date_in dates (key_of row).2)) rows) ≡ map key_of (filter (λ row. not (is_date_in dates row.date)) rows)
+    → HasKeys (filter (λ key. not (is_date_in dates key.2)) (map key_of rows)) set → HasKeys (map key_of (filter (λ row. not (is_date_in dates row.date)) rows)) set
+has_filtered key_of dates rows set same has =
+    subst (λ (keys : List Key). HasKeys keys set) (filter-map (λ (key : Key). not (is_date_in dates key.2)) key_of rows ∙ same) has
+
+-- ---- what an answer says, and what follows from it
+
+pub on_ok : {A B : Type 0} {P Q : Type 0} (answer : Result A B) → OnOk answer P → (P → Q) → OnOk answer Q
+on_ok (Ok value) says follows = follows says
+on_ok (Err error) says follows = tt
+
+pub on_err : {A B : Type 0} {P Q : Type 0} (answer : Result A B) → OnErr answer P → (P → Q) → OnErr answer Q
+on_err (Ok value) says follows = tt
+on_err (Err error) says follows = follows says
+
+-- ---- the whole index
+
+pub index_with : (rows : List StoredRow) (row : StoredRow) (old new : RowIndex) → IsIndexOf rows old → IsIn64Bits (version_key row)
+    → HasKeys (map version_key (rows ++ row ∷ [])) new.by_version.keys → HasKeys (map text_key (rows ++ row ∷ [])) new.by_text.keys → IsIndexOf (rows ++ row ∷ []) new
+index_with rows row old new index bits versions texts = record {
+  versions = versions;
+  texts = texts;
+  bits = All-push (λ (row : StoredRow). IsIn64Bits (version_key row)) rows row index.bits bits;
+}
+
+pub all_but_last : (Rule : StoredRow → Type 0) (rows : List StoredRow) (row : StoredRow) → All Rule (rows ++ row ∷ []) → All Rule rows
+all_but_last Rule rows row all =
+    All-weaker (Contains rows) Rule (λ other here. All-contains Rule (rows ++ row ∷ []) other all (Contains-append_left rows (row ∷ []) other here)) rows
+    (All-contains_itself rows)

@@ -1,0 +1,8 @@
+pub mod ListLemmas
+pub mod KeyLemmas
+pub mod OrderLemmas
+pub mod RowLemmas
+pub mod NameLemmas
+pub mod IndexLemmas
+pub mod LookUpLemmas
+pub mod GrowthLemmas

@@ -1,0 +1,52 @@
+-- The index of some rows: under which keys it has them, and what its look-ups lead to.
+use Rattle.std.specs.Prelude.{◌≡◌, ◌⊎◌, ◌↔◌, ℕ, ◌<◌, pos, ◌<ℤ◌, Bool, true, false, List, map, All, option_map, unwrap_or}
+use Rattle.std.specs.List.{Contains}
+use Rattle.taxii_rows.specs.declared.stored_row.StoredRow.{StoredRow}
+use Rattle.taxii_rows.specs.declared.described.Described.{Described}
+use Rattle.taxii_rows.specs.StoreState.{RiseFrom}
+use Rattle.taxii_rows.specs.Keeper.{row_at}
+use Rattle.taxii_rows.specs.Identity.{is_row_of}
+use Rattle.taxii_index.specs.declared.row_index.RowIndex.{RowIndex}
+use Rattle.taxii_index.specs.Names.{name_of, text_name_of}
+use Rattle.taxii_index.specs.Keys.{Key, IsIn64Bits, HasKeys}
+use Rattle.taxii_index.specs.Presence.{is_same}
+
+-- the key of a row among the versions of its object
+abbrev pub version_key : StoredRow → Key
+version_key row = (name_of row.collection row.id, row.version, row.date)
+
+-- the key of a row among the rows of its text
+abbrev pub text_key : StoredRow → Key
+text_key row = (text_name_of row.collection row.id row.body, pos 0, row.date)
+
+-- the index has each of the rows, and nothing else
+pub record IsIndexOf (rows : List StoredRow) (index : RowIndex) : Type 0 where
+  pub versions : HasKeys (map version_key rows) index.by_version.keys
+  pub texts : HasKeys (map text_key rows) index.by_text.keys
+  pub bits : All (λ row. IsIn64Bits (version_key row)) rows
+
+-- no row is of that date
+abbrev pub IsAbsent : ℕ → List StoredRow → Type 0
+IsAbsent date rows = All (λ row. ¬ (row.date ≡ date)) rows
+
+-- whether the row of the date passes the test
+abbrev pub has_row : (StoredRow → Bool) → List StoredRow → ℕ → Bool
+has_row test rows date = unwrap_or (option_map test (row_at date rows)) false
+
+-- the dates of some keys
+abbrev pub key_dates : List Key → List ℕ
+key_dates keys = map (λ key. key.2) keys
+
+-- the keys lead to each row that makes the object present, the earlier ones first
+pub record LeadsToSame (collection : ℕ) (object : Described) (rows : List StoredRow) (keys : List Key) : Type 0 where
+  pub rise : RiseFrom 0 (key_dates keys)
+  pub every : (row : StoredRow) → Contains rows row → is_same collection object row ≡ true → Contains (key_dates keys) row.date
+
+-- the second row is later than the first: by version, and of one version by date
+abbrev pub IsBefore : StoredRow → StoredRow → Type 0
+IsBefore row other = (row.version <ℤ other.version) ⊎ ((row.version ≡ other.version) × (row.date < other.date))
+
+-- of the rows of the object of this row, the keys lead to those that keep a rule, and to no other
+pub record LeadsToThose (Rule : StoredRow → Type 0) (row : StoredRow) (rows : List StoredRow) (keys : List Key) : Type 0 where
+  pub own : (key : Key) → Contains keys key → Contains (map version_key rows) key
+  pub those : (other : StoredRow) → Contains rows other → is_row_of row.collection row.id other ≡ true → Contains keys (version_key other) ↔ Rule other

@@ -1,0 +1,4 @@
+pub mod Presence
+pub mod Names
+pub mod Keys
+pub mod Index

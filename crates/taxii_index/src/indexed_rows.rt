@@ -1,0 +1,220 @@
+ghost use Rattle.std.specs.Prelude.{◌≡◌, ◌↔◌, ◌-◌, IsTrue, [], ◌∷◌, ◌++◌, not, length, take, map, filter, find, option_map, OnOk, OnErr};
+ghost use Rattle.std.specs.List.{list_any};
+ghost use Rattle.stix_ids.specs.declared.pick.Pick.TheVariants.{Last as LastOne, First as FirstOne};
+ghost use Rattle.taxii_rows.specs.StoreState.{dates_of, RiseFrom};
+ghost use Rattle.taxii_rows.specs.Keeper.{is_date_in};
+ghost use Rattle.taxii_rows.specs.Identity.{is_row_of as is_of};
+ghost use Rattle.taxii_rows.specs.Picking.{IsPicked, IsPickedBy};
+ghost use Rattle.taxii_index.specs.Presence.{is_same as is_present, row_of_same as first_of_same};
+ghost use Rattle.taxii_index.specs.Index.{has_row, key_dates};
+
+use crate::dates::is_among;
+use crate::keys::Key;
+use crate::presence::is_same;
+use crate::row_index::RowIndex;
+use flow_values::NoMemory;
+use std::alloc::Global;
+use std::collections::btree_set::Range;
+use std::marker::Model;
+use stix_ids::{Id, Pick};
+use taxii_rows::{Described, StoredRow, row_at};
+
+/// The rows of a store in the order of their dates, which rise, with an index of them by object.
+#[derive(Drop)]
+pub struct IndexedRows {
+    rows: Vec<StoredRow>,
+    index: RowIndex,
+}
+
+impl Model for IndexedRows {
+    ghost use Rattle.std.specs.Prelude.{List};
+    ghost use Rattle.taxii_rows.specs.declared.stored_row.StoredRow.{StoredRow as Row};
+    ghost use Rattle.taxii_rows.specs.StoreState.{dates_of, RiseFrom};
+    ghost use Rattle.taxii_index.specs.Index.{IsIndexOf};
+
+    ghost Value = { List Row };
+
+    ghost view = { λ store. store.rows.items };
+
+    ghost invariant = { λ store. RiseFrom 1 (dates_of store.rows.items) × IsIndexOf store.rows.items store.index };
+}
+
+impl IndexedRows {
+    /// No rows. Takes no memory.
+    pub fn new(alloc: Global) -> IndexedRows
+        ensures { result ≡ [] }
+    {
+        IndexedRows {
+            rows: Vec::new(alloc),
+            index: RowIndex::new(alloc),
+        }
+    }
+
+    /// The rows, by date.
+    pub fn as_slice(&self) -> &[StoredRow]
+        ensures rows { result.now ≡ self.now }
+        ensures rise { RiseFrom 1 (dates_of self.now) }
+    {
+        self.rows.as_slice()
+    }
+
+    /// The rows alone, which keep their memory.
+    pub fn into_rows(self) -> Vec<StoredRow>
+        ensures rows { result.items ≡ self }
+        ensures rise { RiseFrom 1 (dates_of self) }
+    {
+        let IndexedRows { rows, .. } = self;
+        rows
+    }
+
+    /// Adds a row of a later date. Without memory the rows are as they were.
+    pub fn push(&mut self, row: StoredRow) -> Result<(), NoMemory>
+        requires later { RiseFrom 1 (dates_of (self.old ++ row ∷ [])) }
+        ensures ok { OnOk result (self.new ≡ self.old ++ row ∷ []) }
+        ensures err { OnErr result (self.new ≡ self.old) }
+    {
+        self.index.insert(&row)?;
+        match self.rows.push(row) {
+            Ok(()) => Ok(()),
+            Err(refused) => {
+                self.index.remove(&refused.value);
+                Err(NoMemory)
+            }
+        }
+    }
+
+    /// Adds rows of later dates. Without memory the rows are as they were.
+    pub fn append(&mut self, rows: Vec<StoredRow>) -> Result<(), NoMemory>
+        requires later { RiseFrom 1 (dates_of (self.old ++ rows.items)) }
+        ensures ok { OnOk result (self.new ≡ self.old ++ rows.items) }
+        ensures err { OnErr result (self.new ≡ self.old) }
+    {
+        let length = self.rows.len();
+        let added = self.push_all(rows);
+        if added.is_err() {
+            self.truncate(length);
+        }
+        added
+    }
+
+    /// Adds rows of later dates. Without memory some of them may be there.
+    fn push_all(&mut self, rows: Vec<StoredRow>) -> Result<(), NoMemory>
+        requires later { RiseFrom 1 (dates_of (self.old ++ rows.items)) }
+        ensures ok { OnOk result (self.new ≡ self.old ++ rows.items) }
+        ensures err { OnErr result (take (length self.old) self.new ≡ self.old) }
+    {
+        for row in rows {
+            self.push(row)?;
+        }
+        Ok(())
+    }
+
+    /// Takes the rows behind that many out. Takes no memory, as all below.
+    pub fn truncate(&mut self, length: usize)
+        ensures { self.new ≡ take length self.old }
+    {
+        while self.rows.len() > length {
+            self.pop();
+        }
+    }
+
+    /// Takes the last row out.
+    fn pop(&mut self)
+        ensures { self.new ≡ take (length self.old - 1) self.old }
+    {
+        if let Some(row) = self.rows.pop() {
+            self.index.remove(&row);
+        }
+    }
+
+    /// Takes the rows of these dates out.
+    pub fn remove(&mut self, dates: &[u64])
+        requires rise { RiseFrom 0 dates.now }
+        ensures { self.new ≡ filter (λ row. not (is_date_in dates.now row.date)) self.old }
+    {
+        self.index.remove_dates(dates);
+        self.rows.retain(|row| !is_among(dates, row.date));
+    }
+
+    /// The first row, by date, that makes the object present in the collection (TAXII 2.1, section
+    /// 5.5): one that tells its version where the object does, and else one that has its text.
+    pub fn row_of_same(&self, collection: u128, object: &Described) -> Option<&StoredRow>
+        ensures { option_map (λ row. row.now) result ≡ first_of_same collection object.now self.now }
+    {
+        let date = self.date_of_same(self.index.same(collection, object), collection, object)?;
+        row_at(&self.rows, date)
+    }
+
+    /// The date of the first of these keys whose row makes the object present.
+    fn date_of_same(
+        &self,
+        keys: Range<'_, Key>,
+        collection: u128,
+        object: &Described,
+    ) -> Option<u64>
+        ensures { result ≡ find (has_row (is_present collection object.now) self.now) (key_dates keys.entry) }
+    {
+        keys.map(|key| key.2)
+            .find(|date| self.is_same_at(*date, collection, object))
+    }
+
+    /// Whether the row of that date makes the object present in the collection.
+    fn is_same_at(&self, date: u64, collection: u128, object: &Described) -> bool
+        ensures { result ≡ has_row (is_present collection object.now) self.now date }
+    {
+        match row_at(&self.rows, date) {
+            Some(row) => is_same(collection, object, row),
+            None => false,
+        }
+    }
+
+    /// Whether one of the picks selects the row among the rows of its object.
+    pub fn is_picked(&self, row: &StoredRow, picks: &[Pick]) -> bool
+        ensures { IsTrue result ↔ IsPicked picks.now self.now row.now }
+    {
+        picks.iter().any(|pick| self.is_picked_by(*pick, row))
+    }
+
+    fn is_picked_by(&self, pick: Pick, row: &StoredRow) -> bool
+        ensures { IsTrue result ↔ IsPickedBy pick self.now row.now }
+    {
+        match pick {
+            Pick::Last => self.is_last(row),
+            Pick::First => self.is_first(row),
+            Pick::All => true,
+            Pick::At(version) => row.version == version,
+        }
+    }
+
+    /// Whether no version of the row's object is later.
+    fn is_last(&self, row: &StoredRow) -> bool
+        ensures { IsTrue result ↔ IsPickedBy LastOne self.now row.now }
+    {
+        !self.has_row_among(self.index.later(row), row.collection, &row.id)
+    }
+
+    /// Whether no version of the row's object is earlier.
+    fn is_first(&self, row: &StoredRow) -> bool
+        ensures { IsTrue result ↔ IsPickedBy FirstOne self.now row.now }
+    {
+        !self.has_row_among(self.index.earlier(row), row.collection, &row.id)
+    }
+
+    /// Whether one of these keys is that of a row of the object in the collection.
+    fn has_row_among(&self, keys: Range<'_, Key>, collection: u128, id: &Id) -> bool
+        ensures { result ≡ list_any (has_row (is_of collection id.now) self.now) (key_dates keys.entry) }
+    {
+        keys.map(|key| key.2)
+            .any(|date| self.is_row_at(date, collection, id))
+    }
+
+    /// Whether the row of that date is of the object in the collection.
+    fn is_row_at(&self, date: u64, collection: u128, id: &Id) -> bool
+        ensures { result ≡ has_row (is_of collection id.now) self.now date }
+    {
+        match row_at(&self.rows, date) {
+            Some(row) => row.is_of(collection, id),
+            None => false,
+        }
+    }
+}

@@ -1,0 +1,43 @@
+ghost use Rattle.std.specs.Prelude.{◌≡◌};
+ghost use Rattle.sha2.specs.Hashers.{Holds256};
+ghost use Rattle.taxii_index.specs.Names.{half_of, object_bytes, name_of, text_name_of};
+
+use sha2::{Digest, Sha256};
+use stix_ids::Id;
+
+/// The name of an object of a collection.
+pub(crate) fn object_name(collection: u128, id: &Id) -> u128
+    ensures { result ≡ name_of collection id.now }
+{
+    half(object_hasher(collection, id).finalize())
+}
+
+/// The name of a text of the object.
+pub(crate) fn text_name(collection: u128, id: &Id, body: &str) -> u128
+    ensures { result ≡ text_name_of collection id.now body.now }
+{
+    let mut hasher = object_hasher(collection, id);
+    hasher.update(&[0]);
+    hasher.update(body);
+    half(hasher.finalize())
+}
+
+/// A hasher that was fed what tells the object of the collection.
+fn object_hasher(collection: u128, id: &Id) -> Sha256
+    ensures { Holds256 result (object_bytes collection id.now) }
+{
+    let mut hasher = Sha256::new();
+    hasher.update(collection.to_be_bytes());
+    hasher.update(id.number.to_be_bytes());
+    hasher.update(id.kind.as_str());
+    hasher
+}
+
+/// The number of the first half of a digest.
+fn half(digest: [u8; 32]) -> u128
+    ensures { result ≡ half_of digest }
+{
+    let mut first = [0; 16];
+    first.copy_from_slice(&digest[..16]);
+    u128::from_be_bytes(first)
+}

@@ -1,0 +1,108 @@
+ghost use Rattle.std.specs.Prelude.{◌≡◌, [], ◌∷◌, ◌++◌, List, not, filter, OnOk, OnErr};
+ghost use Rattle.taxii_rows.specs.declared.stored_row.StoredRow.{StoredRow as Row};
+ghost use Rattle.taxii_rows.specs.StoreState.{RiseFrom};
+ghost use Rattle.taxii_rows.specs.Keeper.{is_date_in};
+ghost use Rattle.taxii_index.specs.Index.{version_key as version_key_of, text_key as text_key_of, IsIndexOf, IsAbsent, IsBefore, LeadsToSame, LeadsToThose};
+
+use crate::keys::{Key, Keys};
+use crate::names::{object_name, text_name};
+use flow_values::NoMemory;
+use std::alloc::Global;
+use std::collections::btree_set::Range;
+use taxii_rows::{Described, StoredRow};
+
+/// Under which keys some rows are found: the versions of an object, and the rows of a text of it.
+#[derive(Drop)]
+pub(crate) struct RowIndex {
+    by_version: Keys,
+    by_text: Keys,
+}
+
+impl RowIndex {
+    /// The index of no rows. Takes no memory.
+    pub(crate) fn new(alloc: Global) -> RowIndex
+        ensures { IsIndexOf [] result }
+    {
+        RowIndex {
+            by_version: Keys::new(alloc),
+            by_text: Keys::new(alloc),
+        }
+    }
+
+    /// Adds a row. Without memory the index stays that of the rows before.
+    pub(crate) fn insert(&mut self, row: &StoredRow) -> Result<(), NoMemory>
+        ensures ok { (rows : List Row) → IsIndexOf rows self.old → OnOk result (IsIndexOf (rows ++ row.now ∷ []) self.new) }
+        ensures err { (rows : List Row) → IsAbsent row.now.date rows → IsIndexOf rows self.old → OnErr result (IsIndexOf rows self.new) }
+    {
+        let key = version_key(row);
+        self.by_version.insert(key)?;
+        let added = self.by_text.insert(text_key(row));
+        if added.is_err() {
+            self.by_version.remove(key);
+        }
+        added
+    }
+
+    /// Takes the last row out, where no other has its date. Takes no memory, as all below.
+    pub(crate) fn remove(&mut self, row: &StoredRow)
+        ensures { (rows : List Row) → IsAbsent row.now.date rows → IsIndexOf (rows ++ row.now ∷ []) self.old → IsIndexOf rows self.new }
+    {
+        self.by_version.remove(version_key(row));
+        self.by_text.remove(text_key(row));
+    }
+
+    /// Takes the rows of these dates out.
+    pub(crate) fn remove_dates(&mut self, dates: &[u64])
+        requires { RiseFrom 0 dates.now }
+        ensures { (rows : List Row) → IsIndexOf rows self.old → IsIndexOf (filter (λ row. not (is_date_in dates.now row.date)) rows) self.new }
+    {
+        self.by_version.remove_dates(dates);
+        self.by_text.remove_dates(dates);
+    }
+
+    /// The keys of the rows that may make the object present in the collection, by date: none is left
+    /// out.
+    pub(crate) fn same(&self, collection: u128, object: &Described) -> Range<'_, Key>
+        ensures { (rows : List Row) → IsIndexOf rows self.now → LeadsToSame collection object.now rows result }
+    {
+        match object.version {
+            Some(version) => {
+                let name = object_name(collection, &object.id);
+                self.by_version.of_number(name, version)
+            }
+            None => {
+                let name = text_name(collection, &object.id, object.body.as_str());
+                self.by_text.of_number(name, 0)
+            }
+        }
+    }
+
+    /// The keys of the versions of the row's object that are later.
+    pub(crate) fn later(&self, row: &StoredRow) -> Range<'_, Key>
+        ensures { (rows : List Row) → IsIndexOf rows self.now → LeadsToThose (IsBefore row.now) row.now rows result }
+    {
+        self.by_version.after(version_key(row))
+    }
+
+    /// The keys of the versions of the row's object that are earlier.
+    pub(crate) fn earlier(&self, row: &StoredRow) -> Range<'_, Key>
+        ensures { (rows : List Row) → IsIndexOf rows self.now → LeadsToThose (λ other. IsBefore other row.now) row.now rows result }
+    {
+        self.by_version.before(version_key(row))
+    }
+}
+
+/// The key of a row among the versions of its object.
+fn version_key(row: &StoredRow) -> Key
+    ensures { result ≡ version_key_of row.now }
+{
+    (object_name(row.collection, &row.id), row.version, row.date)
+}
+
+/// The key of a row among the rows of its text.
+fn text_key(row: &StoredRow) -> Key
+    ensures { result ≡ text_key_of row.now }
+{
+    let name = text_name(row.collection, &row.id, row.body.as_str());
+    (name, 0, row.date)
+}

@@ -1,0 +1,62 @@
+-- A sound plan may be added to the sound store that it was made for.
+use Rattle.std.proofs.Common.{◌≡◌, ℕ, ◌+◌, ◌-◌, ◌≤◌, List, [], ◌∷◌, ◌++◌, length, take, drop, filter, not, All, Bool, true, false, Option, Some, None, IfSome, refl, sym, ap, subst, ◌∙◌, arith}
+use Rattle.std.proofs.lemmas.List.{length-append, take_all}
+use Rattle.std.proofs.Math.Seq.{drop-append_seam}
+use Rattle.std.proofs.lemmas.List.Elements.{All-nil, All-cons}
+use Rattle.taxii_rows.specs.declared.stored_row.StoredRow.{StoredRow}
+use Rattle.taxii_rows.specs.declared.stored_row.TheConstants.{LAST_DATE}
+use Rattle.taxii_rows.specs.SoundRow.{IsSoundRow, IsSoundState}
+use Rattle.taxii_rows.specs.StoreState.{StoreState, dates_of, RiseFrom}
+use Rattle.taxii_rows.specs.Keeper.{CanAppend, with_rows, is_date_in}
+use Rattle.taxii_store.specs.Addition.{mark_after}
+use Rattle.taxii_store.specs.Planned.{PlannedState, IsSoundPlan}
+
+pub mark_not_before : (mark : ℕ) (rows : List StoredRow) → RiseFrom (mark + 1) (dates_of rows) → mark ≤ mark_after mark rows
+mark_not_before mark [] rise = omega arith
+mark_not_before mark (row ∷ rows) rise =
+    let rest = mark_not_before row.date rows rise.1 in omega (arith, rest, rise.0)
+
+pub marked_all : (mark least : ℕ) (rows : List StoredRow) → RiseFrom least (dates_of rows) → All (λ row. row.date ≤ mark_after mark rows) rows
+marked_all mark least [] rise = All-nil (λ (row : StoredRow). row.date ≤ mark)
+marked_all mark least (row ∷ rows) rise =
+    All-cons (λ one. one.date ≤ mark_after row.date rows) row rows (mark_not_before row.date rows rise.1) (marked_all row.date (row.date + 1) rows rise.1)
+
+abbrev pub LaterLaw : Type 0
+LaterLaw = (state : StoreState) (rows : List StoredRow) (mark : ℕ) → IsSoundState state
+    → RiseFrom (state.mark + 1) (dates_of rows) → All (λ row. row.date ≤ mark) rows → CanAppend rows mark state
+
+abbrev pub AddedLaw : Type 0
+AddedLaw = (state : StoreState) (rows : List StoredRow) (mark : ℕ) → IsSoundState state → CanAppend rows mark state
+    → All IsSoundRow rows → state.mark ≤ mark → mark ≤ LAST_DATE → IsSoundState (with_rows rows mark state)
+
+pub can_commit : LaterLaw → (state : StoreState) (planned : PlannedState) → IsSoundState state → IsSoundPlan planned → planned.mark ≡ state.mark
+    → CanAppend planned.rows (mark_after planned.mark planned.rows) state
+can_commit later state planned sound plan same =
+    later state planned.rows (mark_after planned.mark planned.rows) sound
+        (subst (λ (mark : ℕ). RiseFrom (mark + 1) (dates_of planned.rows)) same plan.rise)
+        (marked_all planned.mark (planned.mark + 1) planned.rows plan.rise)
+
+pub sound_committed : LaterLaw → AddedLaw → (state : StoreState) (planned : PlannedState) → IsSoundState state → IsSoundPlan planned → planned.mark ≡ state.mark
+    → IsSoundState (with_rows planned.rows (mark_after planned.mark planned.rows) state)
+sound_committed later added state planned sound plan same =
+    let before = mark_not_before planned.mark planned.rows plan.rise in
+    added state planned.rows (mark_after planned.mark planned.rows) sound (can_commit later state planned sound plan same) plan.rows (omega (arith, before, same)) plan.last
+
+-- what stands behind the first rows
+pub rows_behind : (rows more first all : List StoredRow) → first ≡ rows → all ≡ rows ++ more → take (length all - length first) (drop (length first) all) ≡ more
+rows_behind rows more first all first_is all_is =
+    let same = ap length first_is in
+    let count = ap length all_is ∙ length-append rows more in
+    let behind : drop (length first) all ≡ more =
+        ap (λ (n : ℕ). drop n all) same ∙ ap (drop (length rows)) all_is ∙ drop-append_seam rows more in
+    ap (take (length all - length first)) behind ∙ take_all (length all - length first) more (omega (arith, same, count))
+
+pub if_same : (told : Option StoreState) (P : StoreState → Type 0) (state : StoreState) → IfSome told (λ kept. kept ≡ state) → P state → IfSome told P
+if_same (Some kept) P state same it = subst P (sym same) it
+if_same None P state same it = tt
+
+-- no date takes no row away
+pub none_taken : (rows : List StoredRow) (dates : List ℕ) → dates ≡ [] → rows ≡ filter (λ row. not (is_date_in dates row.date)) rows
+none_taken rows (date ∷ dates) none = absurd (cc)
+none_taken [] [] none = refl
+none_taken (row ∷ rows) [] none = ap (λ (rs : List StoredRow). row ∷ rs) (none_taken rows [] refl)

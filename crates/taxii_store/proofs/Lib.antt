@@ -1,0 +1,7 @@
+mod AnswerLemmas
+mod CountLemmas
+mod AddsLemmas
+mod DraftLemmas
+mod CommitLemmas
+mod LoadLemmas
+mod DeleteLemmas

@@ -1,0 +1,184 @@
+-- Rows that are read one after the other: how far a store is read, and what is behind that.
+use Rattle.std.proofs.Common.{◌≡◌, ◌⊎◌, inl, inr, ℕ, ◌+◌, ◌-◌, ◌<◌, ◌≤◌, List, [], ◌∷◌, ◌++◌, length, All, Bool, true, false, cond, Option, Some, None, IfSome, MatchOption, refl, sym, ap, subst, ◌∙◌, append_assoc, arith}
+use Rattle.std.specs.Prelude.{nat_lt, find}
+use Rattle.std.specs.List.{Contains}
+use Rattle.std.specs.Option.{option_or}
+use Rattle.std.proofs.lemmas.Bool.{ltb-true, ltb-false, lt-ltb, le-ltb}
+use Rattle.std.proofs.lemmas.List.{append-nil, map-append}
+use Rattle.std.proofs.lemmas.List.Elements.{All-nil, All-cons, All-append, All-head, All-tail, All-weaker, All-contains, Contains-append_left, Contains-append_right, Contains-append_cases, Contains-push}
+use Rattle.std.proofs.lemmas.List.Folds.{find-append}
+use Rattle.taxii_rows.specs.declared.stored_row.StoredRow.{StoredRow}
+use Rattle.taxii_rows.specs.declared.stored_row.TheConstants.{LAST_DATE}
+use Rattle.taxii_rows.specs.StoreState.{StoreState, dates_of, RiseFrom}
+use Rattle.taxii_rows.specs.Keeper.{row_after}
+use Rattle.taxii_store.specs.declared.load_refusal.LoadRefusal.{LoadRefusal}
+use Rattle.taxii_store.specs.declared.load_refusal.LoadRefusal.TheVariants.{KeeperFault, BadRow, NoMemory as OutOfMemory}
+use Rattle.taxii_store.specs.Loading.{IsFit, AreFitUpTo, IsBadAfter}
+use Rattle.taxii_store.specs.inner.Reading.{AreFit, IsBadNext}
+
+-- rows that were read, up to that date
+pub record AreGood (mark after : ℕ) (rows : List StoredRow) : Type 0 where
+  pub rise : RiseFrom 1 (dates_of rows)
+  pub upto : All (λ row. row.date ≤ after) rows
+  pub fit : All (IsFit mark) rows
+  pub last : after ≤ LAST_DATE
+  pub ends : (after ≡ 0) ⊎ ((row : StoredRow) × Contains rows row × (row.date ≡ after))
+
+-- they are all rows of the store up to that date
+pub record IsReadTo (state : StoreState) (rows : List StoredRow) (after : ℕ) : Type 0 where
+  pub rest : List StoredRow
+  pub split : state.rows ≡ rows ++ rest
+  pub behind : RiseFrom (after + 1) (dates_of rest)
+
+pub good_none : (mark : ℕ) → AreGood mark 0 []
+good_none mark = record {
+  rise = tt;
+  upto = All-nil (λ (row : StoredRow). row.date ≤ 0);
+  fit = All-nil (IsFit mark);
+  last = omega arith;
+  ends = inl refl;
+}
+
+pub read_none : (state : StoreState) → RiseFrom 1 (dates_of state.rows) → IsReadTo state [] 0
+read_none state rise = record { rest = state.rows; split = refl; behind = rise }
+
+rise_pushed : (least after : ℕ) (rows : List StoredRow) (row : StoredRow) → least ≤ after + 1 → RiseFrom least (dates_of rows) → All (λ one. one.date ≤ after) rows
+    → after < row.date → RiseFrom least (dates_of (rows ++ row ∷ []))
+rise_pushed least after [] row from rise upto later = (omega (arith, later), tt)
+rise_pushed least after (first ∷ rows) row from rise upto later =
+    let here = All-head (λ one. one.date ≤ after) first rows upto in
+    (rise.0, rise_pushed (first.date + 1) after rows row (omega (arith, here)) rise.1 (All-tail (λ one. one.date ≤ after) first rows upto) later)
+
+pub good_pushed : (mark after : ℕ) (rows : List StoredRow) (row : StoredRow) → AreGood mark after rows → after < row.date → IsFit mark row
+    → AreGood mark row.date (rows ++ row ∷ [])
+good_pushed mark after rows row good later fit =
+    let Upto = λ (one : StoredRow). one.date ≤ row.date in record {
+      rise = rise_pushed 1 after rows row (omega arith) good.rise good.upto later;
+      upto = All-append Upto rows (row ∷ [])
+          (All-weaker (λ one. one.date ≤ after) Upto (λ one within. omega (arith, within, later)) rows good.upto)
+          (All-cons Upto row [] (omega arith) (All-nil Upto));
+      fit = All-append (IsFit mark) rows (row ∷ []) good.fit (All-cons (IsFit mark) row [] fit (All-nil (IsFit mark)));
+      last = fit.last;
+      ends = inr (row, Contains-push rows row, refl);
+    }
+
+-- ---- the row behind a date
+
+none_up_to : (after : ℕ) (rows : List StoredRow) → All (λ row. row.date ≤ after) rows → row_after after rows ≡ None
+none_up_to after [] upto = refl
+none_up_to after (row ∷ rows) upto =
+    let here = All-head (λ one. one.date ≤ after) row rows upto in
+    ap (λ (b : Bool). cond b (Some row) (row_after after rows)) (le-ltb after row.date here)
+    ∙ none_up_to after rows (All-tail (λ one. one.date ≤ after) row rows upto)
+
+abbrev first_of : List StoredRow → Option StoredRow
+first_of [] = None
+first_of (row ∷ rows) = Some row
+
+first_behind : (after : ℕ) (rest : List StoredRow) → RiseFrom (after + 1) (dates_of rest) → row_after after rest ≡ first_of rest
+first_behind after [] rise = refl
+first_behind after (row ∷ rest) rise =
+    ap (λ (b : Bool). cond b (Some row) (row_after after rest)) (lt-ltb after row.date (omega (arith, rise.0)))
+
+next_is : (state : StoreState) (mark after : ℕ) (rows : List StoredRow) → AreGood mark after rows → (read : IsReadTo state rows after)
+    → row_after after state.rows ≡ first_of read.rest
+next_is state mark after rows good read =
+    ap (row_after after) read.split ∙ find-append (λ row. nat_lt after row.date) rows read.rest
+    ∙ ap (λ (found : Option StoredRow). option_or found (row_after after read.rest)) (none_up_to after rows good.upto)
+    ∙ first_behind after read.rest read.behind
+
+pub read_pushed : (state : StoreState) (mark after : ℕ) (rows : List StoredRow) (row : StoredRow) → AreGood mark after rows → IsReadTo state rows after
+    → Some row ≡ row_after after state.rows → IsReadTo state (rows ++ row ∷ []) row.date
+read_pushed state mark after rows row good read found = go read.rest read.split read.behind (found ∙ next_is state mark after rows good read)
+  where
+    go : (rest : List StoredRow) → state.rows ≡ rows ++ rest → RiseFrom (after + 1) (dates_of rest) → Some row ≡ first_of rest
+        → IsReadTo state (rows ++ row ∷ []) row.date
+    go [] split behind is = absurd (cc)
+    go (first ∷ rest) split behind is =
+        let same : row ≡ first = cc in record {
+          rest = rest;
+          split = split ∙ ap (λ (one : StoredRow). rows ++ one ∷ rest) (sym same) ∙ sym (append_assoc rows (row ∷ []) rest);
+          behind = subst (λ (one : StoredRow). RiseFrom (one.date + 1) (dates_of rest)) (sym same) behind.1;
+        }
+
+pub read_whole : (state : StoreState) (mark after : ℕ) (rows : List StoredRow) → AreGood mark after rows → IsReadTo state rows after
+    → None ≡ row_after after state.rows → rows ≡ state.rows
+read_whole state mark after rows good read found = go read.rest read.split (found ∙ next_is state mark after rows good read)
+  where
+    go : (rest : List StoredRow) → state.rows ≡ rows ++ rest → None ≡ first_of rest → rows ≡ state.rows
+    go [] split is = sym (split ∙ append-nil rows)
+    go (first ∷ rest) split is = absurd (cc)
+
+later_than : (least : ℕ) (rows : List StoredRow) (row : StoredRow) → RiseFrom least (dates_of rows) → Contains rows row → least ≤ row.date
+later_than least rows row rise there = All-contains (λ one. least ≤ one.date) rows row (all least rows rise) there
+  where
+    all : (n : ℕ) (rs : List StoredRow) → RiseFrom n (dates_of rs) → All (λ one. n ≤ one.date) rs
+    all n [] up = All-nil (λ (one : StoredRow). n ≤ one.date)
+    all n (r ∷ rs) up = All-cons (λ one. n ≤ one.date) r rs up.0
+        (All-weaker (λ one. r.date + 1 ≤ one.date) (λ one. n ≤ one.date) (λ one within. omega (arith, within, up.0)) rs (all (r.date + 1) rs up.1))
+
+pub bad_after : (state : StoreState) (after : ℕ) (rows : List StoredRow) → AreGood state.mark after rows → IsReadTo state rows after
+    → IsBadNext state after → IsBadAfter state after
+bad_after state after rows good read bad = record {
+  before = record {
+    fit = λ row there upto. elim (Contains-append_cases rows read.rest row (subst (λ (all : List StoredRow). Contains all row) read.split there)) [
+      | inl held ↦ All-contains (IsFit state.mark) rows row good.fit held
+      | inr behind ↦ absurd (omega (arith, upto, later_than (after + 1) read.rest row read.behind behind))
+    ];
+    ends = elim good.ends [
+      | inl start ↦ inl start
+      | inr last ↦ inr (last.0, subst (λ (all : List StoredRow). Contains all last.0) (sym read.split) (Contains-append_left rows read.rest last.0 last.1), last.2)
+    ];
+  };
+  bad = bad;
+}
+
+-- ---- a row that doesn't fit
+
+passes : (test : StoredRow → Bool) (rows : List StoredRow) → IfSome (find test rows) (λ row. test row ≡ true)
+passes test [] = tt
+passes test (row ∷ rows) = go (test row) refl (passes test rows)
+  where
+    go : (b : Bool) → test row ≡ b → IfSome (find test rows) (λ one. test one ≡ true) → IfSome (cond b (Some row) (find test rows)) (λ one. test one ≡ true)
+    go true is rest = is
+    go false is rest = rest
+
+pub bad_next : (state : StoreState) (after mark : ℕ) (found : Option StoredRow) → state.mark ≡ mark → found ≡ row_after after state.rows
+    → ¬ MatchOption found (mark ≤ LAST_DATE) (λ row. (after < row.date) × IsFit mark row) → IsBadNext state after
+bad_next state after mark found same is unfit =
+    go (row_after after state.rows) (passes (λ row. nat_lt after row.date) state.rows)
+        (subst (λ (m : ℕ). ¬ MatchOption (row_after after state.rows) (m ≤ LAST_DATE) (λ row. (after < row.date) × IsFit m row)) (sym same)
+            (subst (λ (f : Option StoredRow). ¬ MatchOption f (mark ≤ LAST_DATE) (λ row. (after < row.date) × IsFit mark row)) is unfit))
+  where
+    go : (f : Option StoredRow) → IfSome f (λ row. nat_lt after row.date ≡ true)
+        → ¬ MatchOption f (state.mark ≤ LAST_DATE) (λ row. (after < row.date) × IsFit state.mark row)
+        → MatchOption f (LAST_DATE < state.mark) (λ row. ¬ IsFit state.mark row)
+    go (Some row) later never = λ fit. never (ltb-true after row.date later, fit)
+    go None later never = either (nat_lt LAST_DATE state.mark) refl
+      where
+        either : (b : Bool) → nat_lt LAST_DATE state.mark ≡ b → LAST_DATE < state.mark
+        either true is = ltb-true LAST_DATE state.mark is
+        either false is = absurd (never (ltb-false LAST_DATE state.mark is))
+
+pub if_both : (told : Option StoreState) (P Q R : StoreState → Type 0) → ((state : StoreState) → P state → Q state → R state) → IfSome told P → IfSome told Q → IfSome told R
+if_both (Some state) P Q R both p q = both state p q
+if_both None P Q R both p q = tt
+
+-- ---- refusals
+
+abbrev after_of : LoadRefusal → ℕ
+after_of KeeperFault = 0
+after_of (BadRow after) = after
+after_of OutOfMemory = 0
+
+pub one_after : (first second : ℕ) → BadRow first ≡ BadRow second → second ≡ first
+one_after first second same = sym (ap after_of same)
+
+-- a told state that isn't whole makes the row behind the rows that were read bad
+pub bad_told : (told : Option StoreState) (mark after at : ℕ) (rows : List StoredRow)
+    → IfSome told (λ state. (state.mark ≡ mark) × RiseFrom 1 (dates_of state.rows)) → AreGood mark after rows → IfSome told (λ state. IsReadTo state rows after)
+    → at ≡ after → IfSome told (λ state. IsBadNext state after) → IfSome told (λ state. IsBadAfter state at)
+bad_told None mark after at rows marked good read here bad = tt
+bad_told (Some state) mark after at rows marked good read here bad =
+    subst (IsBadAfter state) (sym here)
+        (bad_after state after rows (subst (λ (m : ℕ). AreGood m after rows) (sym marked.0) good) read bad)

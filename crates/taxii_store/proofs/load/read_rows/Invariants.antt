@@ -1,0 +1,16 @@
+use Rattle.std.proofs.Common.{◌≡◌, ◌-◌, true, IfSome}
+use Rattle.taxii_rows.specs.declared.stored_row.TheConstants.{LAST_DATE}
+use Rattle.taxii_store.proofs.LoadLemmas.{AreGood, IsReadTo}
+use Rattle.taxii_store.proofs.load.read_rows.Given as goal
+
+abbrev pub decreases-loop-rows : goal.decreases-loop-rows
+decreases-loop-rows g l = LAST_DATE - l.after
+
+abbrev pub invariant-loop-rows : goal.invariant-loop-rows
+invariant-loop-rows g l =
+    (g.K.Keeper.told l.keeper ≡ g.K.Keeper.told l.fn.keeper)
+    × (g.K.Keeper.name l.keeper ≡ g.K.Keeper.name l.fn.keeper)
+    × (g.K.Keeper.attached l.keeper ≡ g.K.Keeper.attached l.fn.keeper)
+    × (g.K.Keeper.faults l.keeper ≡ g.K.Keeper.faults l.fn.keeper)
+    × AreGood l.mark l.after l.rows
+    × IfSome (g.K.Keeper.told l.fn.keeper) (λ state. IsReadTo state l.rows l.after)

@@ -1,0 +1,6 @@
+pub mod Addition
+pub mod Planned
+pub mod Agreement
+pub mod Loading
+pub mod Deleting
+pub mod inner

@@ -1,0 +1,33 @@
+-- Which row of a keeper is bad, where its rows are read by date.
+use Rattle.std.specs.Prelude.{◌≡◌, ◌⊎◌, ℕ, ◌≤◌, ◌<◌, List, MatchOption}
+use Rattle.std.specs.List.{Contains}
+use Rattle.taxii_rows.specs.declared.stored_row.StoredRow.{StoredRow}
+use Rattle.taxii_rows.specs.declared.stored_row.TheConstants.{LAST_DATE}
+use Rattle.taxii_rows.specs.StoreState.{StoreState}
+use Rattle.taxii_rows.specs.SoundRow.{IsSoundRow}
+use Rattle.taxii_rows.specs.Keeper.{row_after}
+use Rattle.taxii_rows.specs.declared.keeper_refusal.KeeperRefusal.{KeeperRefusal}
+use Rattle.taxii_rows.specs.declared.keeper_refusal.KeeperRefusal.TheVariants.{Fault, NoMemory as KeeperWants}
+use Rattle.taxii_store.specs.declared.load_refusal.LoadRefusal.{LoadRefusal}
+use Rattle.taxii_store.specs.declared.load_refusal.LoadRefusal.TheVariants.{KeeperFault, NoMemory as OutOfMemory}
+
+-- what a keeper's refusal is to a load
+abbrev pub load_refusal : KeeperRefusal → LoadRefusal
+load_refusal Fault = KeeperFault
+load_refusal KeeperWants = OutOfMemory
+
+-- the row is sound, and neither past the mark nor past the last date there is
+pub record IsFit (mark : ℕ) (row : StoredRow) : Type 0 where
+  pub marked : row.date ≤ mark
+  pub last : row.date ≤ LAST_DATE
+  pub sound : IsSoundRow row
+
+-- the rows up to that date are fit, of which it is the last, or there is none
+pub record AreFitUpTo (state : StoreState) (after : ℕ) : Type 0 where
+  pub fit : (row : StoredRow) → Contains state.rows row → row.date ≤ after → IsFit state.mark row
+  pub ends : (after ≡ 0) ⊎ ((row : StoredRow) × Contains state.rows row × (row.date ≡ after))
+
+-- the first row that isn't fit is the one behind that date; where no row is behind it, the mark is past the last date there is
+pub record IsBadAfter (state : StoreState) (after : ℕ) : Type 0 where
+  pub before : AreFitUpTo state after
+  pub bad : MatchOption (row_after after state.rows) (LAST_DATE < state.mark) (λ row. ¬ IsFit state.mark row)

@@ -1,0 +1,26 @@
+-- The rows of a keeper, read one after the other.
+use Rattle.std.specs.Prelude.{◌≡◌, ◌≢◌, ◌≤◌, ◌<◌, ℕ, List, Result, Err, All, MatchOption}
+use Rattle.flow_edges.specs.Faults.{Rose}
+use Rattle.taxii_rows.specs.declared.stored_row.StoredRow.{StoredRow}
+use Rattle.taxii_rows.specs.declared.stored_row.TheConstants.{LAST_DATE}
+use Rattle.taxii_rows.specs.Keeper.{row_after}
+use Rattle.taxii_rows.specs.StoreState.{StoreState, dates_of, RiseFrom}
+use Rattle.taxii_store.specs.Loading.{IsFit}
+use Rattle.taxii_store.specs.declared.load_refusal.LoadRefusal.{LoadRefusal}
+use Rattle.taxii_store.specs.declared.load_refusal.LoadRefusal.TheVariants.{KeeperFault}
+
+-- rows that a store with that mark may have
+pub record AreFit (mark : ℕ) (rows : List StoredRow) : Type 0 where
+  pub rise : RiseFrom 1 (dates_of rows)
+  pub fit : All (IsFit mark) rows
+  pub last : mark ≤ LAST_DATE
+
+-- the row behind the date isn't fit, or there is none and the mark is no date
+abbrev pub IsBadNext : StoreState → ℕ → Type 0
+IsBadNext state after = MatchOption (row_after after state.rows) (LAST_DATE < state.mark) (λ row. ¬ IsFit state.mark row)
+
+-- a fault comes where the count rose, and at no other answer does it rise
+pub record LoadCauses {T : Type 0} (before now : ℕ) (answer : Result T LoadRefusal) : Type 0 where
+  pub later : before ≤ now
+  pub failed : answer ≡ Err KeeperFault → Rose before now
+  pub quiet : answer ≢ Err KeeperFault → now ≡ before

@@ -1,0 +1,66 @@
+ghost use Rattle.std.specs.Prelude.{◌≡◌, ◌↔◌, [], true, IsTrue, IfOk, OnOk, OnErr};
+ghost use Rattle.std.specs.List.{Contains};
+ghost use Rattle.taxii_rows.specs.Keeper.{without};
+ghost use Rattle.taxii_rows.specs.KeeperCauses.{KeeperCauses};
+ghost use Rattle.taxii_rows.specs.StoreState.{RiseFrom};
+ghost use Rattle.taxii_store.specs.Agreement.{Agrees};
+ghost use Rattle.taxii_store.specs.Deleting.{IsTaken, AreDatesTaken};
+
+use crate::Library;
+use flow_values::{Items, NoMemory};
+use stix_ids::{Id, Pick};
+use taxii_rows::laws::sound_states;
+use taxii_rows::{Keeper, KeeperRefusal, StoredRow};
+
+impl Library {
+    /// The dates of the rows of an object in a collection that the picks select, rising. Nothing changes.
+    pub fn plan_delete(
+        &self,
+        collection: u128,
+        id: &Id,
+        picks: &[Pick],
+    ) -> Result<Items<u64>, NoMemory>
+        ensures { IfOk result (AreDatesTaken self.now.rows collection id.now picks.now) }
+    {
+        let mut dates = Items::new(self.alloc);
+        for row in self.rows.as_slice() {
+            if self.is_taken(row, collection, id, picks) {
+                dates.push(row.date)?;
+            }
+        }
+        Ok(dates)
+    }
+
+    /// Whether a row of the library is of the object, and one of the picks selects it.
+    fn is_taken(&self, row: &StoredRow, collection: u128, id: &Id, picks: &[Pick]) -> bool
+        requires { Contains self.now.rows row.now }
+        ensures { IsTrue result ↔ IsTaken self.now.rows collection id.now picks.now row.now }
+    {
+        row.is_of(collection, id) && self.rows.is_picked(row, picks)
+    }
+
+    /// Removes the rows of these dates, which rise, from the keeper and then from the library. Where there
+    /// is none the keeper isn't called. The last date ever given stays.
+    pub fn commit_delete<K: Keeper>(
+        &mut self,
+        keeper: &mut K,
+        dates: &[u64],
+    ) -> Result<(), KeeperRefusal>
+        requires agrees { Agrees (K.attached keeper.old) (K.told keeper.old) self.old }
+        requires rise { RiseFrom 0 dates.now }
+        ensures agrees { Agrees (K.attached keeper.new) (K.told keeper.new) self.new }
+        ensures name { K.name keeper.new ≡ K.name keeper.old }
+        ensures ok { OnOk result (self.new ≡ without dates.now self.old) }
+        ensures err { OnErr result (self.new ≡ self.old) }
+        ensures nothing { dates.now ≡ [] → keeper.new ≡ keeper.old }
+        ensures causes { KeeperCauses (K.faults keeper.old) (K.faults keeper.new) result }
+    {
+        if dates.is_empty() {
+            return Ok(());
+        }
+        sound_states();
+        keeper.remove(dates)?;
+        self.rows.remove(dates);
+        Ok(())
+    }
+}

@@ -1,0 +1,103 @@
+ghost use Rattle.std.specs.Prelude.{◌≡◌, ◌↔◌, IsTrue, option_map, OnOk, OnErr, [], true};
+ghost use Rattle.std.specs.List.{Contains};
+ghost use Rattle.taxii_rows.specs.Keeper.{row_after as first_later, row_at as first_then, with_rows};
+ghost use Rattle.taxii_rows.specs.KeeperCauses.{KeeperCauses};
+ghost use Rattle.taxii_rows.specs.Picking.{IsPicked};
+ghost use Rattle.taxii_rows.specs.SoundRow.{IsSoundState};
+ghost use Rattle.taxii_store.specs.Addition.{mark_after};
+ghost use Rattle.taxii_store.specs.Agreement.{Agrees};
+
+use crate::Planned;
+use std::alloc::Global;
+use std::marker::Model;
+use stix_ids::Pick;
+use taxii_index::IndexedRows;
+use taxii_rows::laws::{later_rows, sound_states};
+use taxii_rows::{Keeper, KeeperRefusal, StoredRow, row_after, row_at};
+
+/// The rows of a keeper in memory, with the last date ever given.
+#[derive(Drop)]
+pub struct Library {
+    pub(crate) alloc: Global,
+    pub(crate) rows: IndexedRows,
+    pub(crate) mark: u64,
+}
+
+impl Model for Library {
+    ghost use Rattle.taxii_rows.specs.StoreState.{StoreState};
+    ghost use Rattle.taxii_rows.specs.SoundRow.{IsSoundState};
+
+    ghost Value = { StoreState };
+
+    ghost view = { λ library. record { rows = library.rows; mark = library.mark } };
+
+    ghost invariant = { λ library. IsSoundState (record { rows = library.rows; mark = library.mark }) };
+}
+
+impl Library {
+    /// The rows, by date. Takes no memory, as the calls below but for `commit_add`.
+    pub fn rows(&self) -> &[StoredRow]
+        ensures rows { result.now ≡ self.now.rows }
+        ensures sound { IsSoundState self.now }
+    {
+        self.rows.as_slice()
+    }
+
+    /// The row of that date.
+    pub fn row(&self, date: u64) -> Option<&StoredRow>
+        ensures { option_map (λ row. row.now) result ≡ first_then date self.now.rows }
+    {
+        row_at(self.rows.as_slice(), date)
+    }
+
+    /// The first row that was added later than the date.
+    pub fn row_after(&self, date: u64) -> Option<&StoredRow>
+        ensures { option_map (λ row. row.now) result ≡ first_later date self.now.rows }
+    {
+        row_after(self.rows.as_slice(), date)
+    }
+
+    /// Whether one of the picks selects a row of the library, among the rows of its object.
+    pub fn is_picked(&self, row: &StoredRow, picks: &[Pick]) -> bool
+        requires { Contains self.now.rows row.now }
+        ensures { IsTrue result ↔ IsPicked picks.now self.now.rows row.now }
+    {
+        self.rows.is_picked(row, picks)
+    }
+
+    /// Adds the rows of a plan to the keeper and to the library. Where there is none the keeper isn't
+    /// called. Memory is taken before the keeper is called, and nothing can fail after its `Ok`.
+    pub fn commit_add<K: Keeper>(
+        &mut self,
+        keeper: &mut K,
+        planned: Planned,
+    ) -> Result<(), KeeperRefusal>
+        requires agrees { Agrees (K.attached keeper.old) (K.told keeper.old) self.old }
+        requires mark { planned.mark ≡ self.old.mark }
+        ensures agrees { Agrees (K.attached keeper.new) (K.told keeper.new) self.new }
+        ensures name { K.name keeper.new ≡ K.name keeper.old }
+        ensures ok { OnOk result (self.new ≡ with_rows planned.rows (mark_after planned.mark planned.rows) self.old) }
+        ensures err { OnErr result (self.new ≡ self.old) }
+        ensures nothing { planned.rows ≡ [] → keeper.new ≡ keeper.old }
+        ensures causes { KeeperCauses (K.faults keeper.old) (K.faults keeper.new) result }
+    {
+        if planned.rows.is_empty() {
+            return Ok(());
+        }
+        later_rows();
+        sound_states();
+        let length = self.rows.as_slice().len();
+        let last = planned.last;
+        self.rows.append(planned.rows)?;
+        match keeper.append(&self.rows.as_slice()[length..], last) {
+            Ok(()) => {
+                self.mark = last;
+                Ok(())
+            }
+            Err(refusal) => {
+                self.rows.truncate(length);
+                Err(refusal)
+            }
+        }
+    }
+}

@@ -1,0 +1,116 @@
+ghost use Rattle.std.specs.Prelude.{◌≡◌, ◌≢◌, ◌≤◌, ◌<◌, ◌↔◌, ℕ, true, IsTrue, Ok, Err, None, All, MatchOption, IfOk, IfErr, IfSome, OnOk, option_map};
+ghost use Rattle.flow_edges.specs.Faults.{Rose};
+ghost use Rattle.taxii_rows.specs.declared.stored_row.TheConstants.{LAST_DATE as last_date};
+ghost use Rattle.taxii_rows.specs.Keeper.{row_after};
+ghost use Rattle.taxii_rows.specs.StoreState.{dates_of, RiseFrom};
+ghost use Rattle.taxii_rows.specs.SoundRow.{IsSoundState};
+ghost use Rattle.taxii_store.specs.Agreement.{Agrees};
+ghost use Rattle.taxii_store.specs.Loading.{IsFit, IsBadAfter};
+ghost use Rattle.taxii_store.specs.inner.Reading.{AreFit, IsBadNext, LoadCauses};
+ghost use Rattle.taxii_store.specs.declared.load_refusal.LoadRefusal.TheVariants as Refused;
+
+use crate::{Library, LoadRefusal};
+use flow_values::{Items, NoMemory};
+use std::alloc::Global;
+use taxii_index::IndexedRows;
+use taxii_rows::{Keeper, LAST_DATE, StoredRow, is_sound_row};
+
+impl Library {
+    /// Reads the rows of a keeper under a name, and its mark. The keeper's rows and its mark stay.
+    pub fn load<K: Keeper>(
+        alloc: Global,
+        keeper: &mut K,
+        name: &str,
+    ) -> Result<Library, LoadRefusal>
+        ensures ok { IfOk result (λ library. Agrees (K.attached keeper.new) (K.told keeper.new) library) }
+        ensures sound { IfOk result IsSoundState }
+        ensures name { OnOk result (K.name keeper.new ≡ option_map (λ _. name.now) (K.told keeper.old)) }
+        ensures bad { IfErr result (λ refusal. (after : ℕ) → refusal ≡ Refused.BadRow after → IfSome (K.told keeper.old) (λ state. IsBadAfter state after)) }
+        ensures told { K.told keeper.new ≡ K.told keeper.old }
+        ensures failed { result ≡ Err Refused.KeeperFault → Rose (K.faults keeper.old) (K.faults keeper.new) }
+        ensures quiet { result ≢ Err Refused.KeeperFault → K.faults keeper.new ≡ K.faults keeper.old }
+        ensures later { K.faults keeper.old ≤ K.faults keeper.new }
+    {
+        keeper.attach(name)?;
+        let mark = keeper.mark()?;
+        let found = read_rows(alloc, keeper, mark)?;
+        let mut rows = IndexedRows::new(alloc);
+        rows.append(found.into_vec())?;
+        Ok(Library { alloc, rows, mark })
+    }
+}
+
+/// All rows, by date.
+fn read_rows<K: Keeper>(
+    alloc: Global,
+    keeper: &mut K,
+    mark: u64,
+) -> Result<Items<StoredRow>, LoadRefusal>
+    requires attached { K.attached keeper.old ≡ true }
+    requires told { IfSome (K.told keeper.old) (λ state. (state.mark ≡ mark) × RiseFrom 1 (dates_of state.rows)) }
+    ensures rows { IfOk result (λ rows. IfSome (K.told keeper.old) (λ state. rows ≡ state.rows)) }
+    ensures fit { IfOk result (λ rows. AreFit mark rows) }
+    ensures bad { IfErr result (λ refusal. (after : ℕ) → refusal ≡ Refused.BadRow after → IfSome (K.told keeper.old) (λ state. IsBadAfter state after)) }
+    ensures told { K.told keeper.new ≡ K.told keeper.old }
+    ensures name { K.name keeper.new ≡ K.name keeper.old }
+    ensures attached { K.attached keeper.new ≡ K.attached keeper.old }
+    ensures causes { LoadCauses (K.faults keeper.old) (K.faults keeper.new) result }
+{
+    let mut rows = Items::new(alloc);
+    let mut after = 0;
+    loop {
+        let Some(row) = next_fit(alloc, keeper, after, mark)? else {
+            return Ok(rows);
+        };
+        after = row.date;
+        rows.push(row)?;
+    }
+}
+
+/// The first row behind the date, where it may stand there. At the end, the mark has to be a date.
+fn next_fit<K: Keeper>(
+    alloc: Global,
+    keeper: &mut K,
+    after: u64,
+    mark: u64,
+) -> Result<Option<StoredRow>, LoadRefusal>
+    requires attached { K.attached keeper.old ≡ true }
+    requires mark { IfSome (K.told keeper.old) (λ state. state.mark ≡ mark) }
+    ensures next { IfOk result (λ found. IfSome (K.told keeper.old) (λ state. found ≡ row_after after state.rows)) }
+    ensures fit { IfOk result (λ found. IfSome found (λ row. (after < row.date) × IsFit mark row)) }
+    ensures last { result ≡ Ok None → mark ≤ last_date }
+    ensures bad { IfErr result (λ refusal. (at : ℕ) → refusal ≡ Refused.BadRow at → (at ≡ after) × IfSome (K.told keeper.old) (λ state. IsBadNext state after)) }
+    ensures told { K.told keeper.new ≡ K.told keeper.old }
+    ensures name { K.name keeper.new ≡ K.name keeper.old }
+    ensures attached { K.attached keeper.new ≡ K.attached keeper.old }
+    ensures causes { LoadCauses (K.faults keeper.old) (K.faults keeper.new) result }
+{
+    let found = keeper.next_after(after)?;
+    if may_follow(alloc, &found, after, mark)? {
+        Ok(found)
+    } else {
+        Err(LoadRefusal::BadRow { after })
+    }
+}
+
+/// Whether that row, or the end, may stand behind the date.
+fn may_follow(
+    alloc: Global,
+    found: &Option<StoredRow>,
+    after: u64,
+    mark: u64,
+) -> Result<bool, NoMemory>
+    ensures { IfOk result (λ follows. IsTrue follows ↔ MatchOption found.now (mark ≤ last_date) (λ row. (after < row.date) × IsFit mark row)) }
+{
+    match found {
+        Some(row) => Ok(is_dated(row, after, mark) && is_sound_row(alloc, row)?),
+        None => Ok(mark <= LAST_DATE),
+    }
+}
+
+/// Whether the row's date is behind that one, and no later than the mark and the last date there is.
+fn is_dated(row: &StoredRow, after: u64, mark: u64) -> bool
+    ensures { IsTrue result ↔ ((after < row.now.date) × (row.now.date ≤ mark) × (row.now.date ≤ last_date)) }
+{
+    after < row.date && row.date <= mark && row.date <= LAST_DATE
+}

@@ -1,0 +1,56 @@
+use flow_values::NoMemory;
+use std::error::Error;
+use std::fmt;
+use taxii_rows::KeeperRefusal;
+
+/// Why the rows of a keeper aren't loaded. The keeper's rows and its mark are as they were.
+#[derive(Clone, Copy, Debug, PartialEq, Eq)]
+pub enum LoadRefusal {
+    /// A call of the keeper failed, and it has counted it.
+    KeeperFault,
+    /// The row behind this date isn't what its body gives, or its date is past the mark; or no row is behind
+    /// it, and the mark is past the last date there is.
+    BadRow {
+        /// In microseconds since 1970; 0 where it is the first row.
+        after: u64,
+    },
+    /// Memory ran out.
+    NoMemory,
+}
+
+impl fmt::Display for LoadRefusal {
+    fn fmt<W: fmt::Write>(&self, f: &mut fmt::Formatter<W>) -> fmt::Result {
+        match self {
+            LoadRefusal::KeeperFault => write!(f, "the keeper of the rows failed"),
+            LoadRefusal::BadRow { after } => write!(f, "bad row after {after}"),
+            LoadRefusal::NoMemory => write!(f, "out of memory"),
+        }
+    }
+}
+
+impl Error for LoadRefusal {}
+
+impl From<NoMemory> for LoadRefusal {
+    ghost use Rattle.std.specs.Prelude.{◌≡◌};
+    ghost use Rattle.taxii_store.specs.declared.load_refusal.LoadRefusal.TheVariants as LoadRefusal;
+
+    ghost from_gives = { λ _ refusal. refusal ≡ LoadRefusal.NoMemory };
+
+    fn from(_error: NoMemory) -> LoadRefusal {
+        LoadRefusal::NoMemory
+    }
+}
+
+impl From<KeeperRefusal> for LoadRefusal {
+    ghost use Rattle.std.specs.Prelude.{◌≡◌};
+    ghost use Rattle.taxii_store.specs.Loading.{load_refusal};
+
+    ghost from_gives = { λ refusal given. given ≡ load_refusal refusal };
+
+    fn from(refusal: KeeperRefusal) -> LoadRefusal {
+        match refusal {
+            KeeperRefusal::Fault => LoadRefusal::KeeperFault,
+            KeeperRefusal::NoMemory => LoadRefusal::NoMemory,
+        }
+    }
+}

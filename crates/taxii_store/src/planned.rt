@@ -1,0 +1,44 @@
+ghost use Rattle.std.specs.Prelude.{◌≡◌};
+
+use crate::AddOutcome;
+use std::marker::Model;
+use taxii_rows::StoredRow;
+
+/// An addition that was planned: what becomes of each object, and the new rows.
+#[derive(Drop)]
+pub struct Planned {
+    pub(crate) mark: u64,
+    pub(crate) last: u64,
+    pub(crate) outcomes: Vec<AddOutcome>,
+    pub(crate) rows: Vec<StoredRow>,
+}
+
+impl Model for Planned {
+    ghost use Rattle.std.specs.Prelude.{◌≡◌};
+    ghost use Rattle.taxii_store.specs.Addition.{mark_after};
+    ghost use Rattle.taxii_store.specs.Planned.{PlannedState, IsSoundPlan};
+    ghost use Rattle.taxii_store.specs.inner.Moving.{planned_of};
+
+    ghost Value = { PlannedState };
+
+    ghost view = { λ planned. planned_of planned.mark planned.outcomes.items planned.rows.items };
+
+    ghost invariant = { λ planned. IsSoundPlan (planned_of planned.mark planned.outcomes.items planned.rows.items)
+        × (planned.last ≡ mark_after planned.mark planned.rows.items) };
+}
+
+impl Planned {
+    /// What becomes of each object, in their order. Takes no memory, as the one below.
+    pub fn outcomes(&self) -> &[AddOutcome]
+        ensures { result.now ≡ self.now.outcomes }
+    {
+        self.outcomes.as_slice()
+    }
+
+    /// The new rows, by date.
+    pub fn rows(&self) -> &[StoredRow]
+        ensures { result.now ≡ self.now.rows }
+    {
+        self.rows.as_slice()
+    }
+}
