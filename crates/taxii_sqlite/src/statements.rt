@@ -1,10 +1,16 @@
 //! What is asked of an open database, whether it is in memory or a file.
 
+ghost use Rattle.std.specs.Prelude.{◌≡◌, OnOk, OnErr};
+ghost use Rattle.sqlite.specs.Held.{state};
+ghost use Rattle.sqlite.specs.State.{HasCleanDisk};
+ghost use Rattle.taxii_sqlite.specs.Transactions.{IsUntouched, IsSettled, GoesOn, StaysUnended};
+
 use crate::failure::Failure;
 use crate::row::{bytes_of, columns_of, date_at, integer_of, read_row};
 use crate::schema::{
     COUNT_EARLY_ROWS, DELETE_ROW, INSERT_ROW, MAKE_TABLES, NEXT_ROW, READ_MARK, WRITE_MARK,
 };
+use sqlite::types::ValueRef;
 use sqlite::{Alter, Connection, Error, Transaction, params};
 use taxii_rows::StoredRow;
 
@@ -21,7 +27,11 @@ pub(crate) fn make_ready<S: Alter>(connection: &mut Connection<S>) -> Result<(),
     }
 }
 
-fn make_tables<S: Alter>(connection: &mut Connection<S>) -> Result<(), Failure> {
+/// Makes the tables where they are absent, and commits; or changes nothing.
+fn make_tables<S: Alter>(connection: &mut Connection<S>) -> Result<(), Failure>
+    ensures ok { HasCleanDisk (state S.Store connection.new) → OnOk result (IsSettled (state S.Store connection.new)) }
+    ensures err { HasCleanDisk (state S.Store connection.new) → OnErr result (IsUntouched (state S.Store connection.old) (state S.Store connection.new)) }
+{
     if !connection.is_autocommit() {
         return Err(Failure::Fault);
     }
@@ -50,60 +60,99 @@ pub(crate) fn read_mark<S: Alter>(connection: &mut Connection<S>) -> Result<u64,
     date_at(&columns, 0)
 }
 
-/// Adds the rows and sets the mark, or changes nothing.
+/// Adds the rows and sets the mark, and commits; or changes nothing.
 pub(crate) fn append<S: Alter>(
     connection: &mut Connection<S>,
     rows: &[StoredRow],
     mark: u64,
-) -> Result<(), Failure> {
+) -> Result<(), Failure>
+    ensures ok { HasCleanDisk (state S.Store connection.new) → OnOk result (IsSettled (state S.Store connection.new)) }
+    ensures err { HasCleanDisk (state S.Store connection.new) → OnErr result (IsUntouched (state S.Store connection.old) (state S.Store connection.new)) }
+{
     if !connection.is_autocommit() {
         return Err(Failure::Fault);
     }
     let mut transaction = connection.transaction();
-    for row in rows {
-        insert_row(&mut transaction, row)?;
-    }
+    insert_rows(&mut transaction, rows)?;
     write_mark(&mut transaction, mark)?;
     transaction.commit()?;
+    Ok(())
+}
+
+/// Removes the rows of these dates, and commits; or changes nothing.
+pub(crate) fn remove<S: Alter>(connection: &mut Connection<S>, dates: &[u64]) -> Result<(), Failure>
+    ensures ok { HasCleanDisk (state S.Store connection.new) → OnOk result (IsSettled (state S.Store connection.new)) }
+    ensures err { HasCleanDisk (state S.Store connection.new) → OnErr result (IsUntouched (state S.Store connection.old) (state S.Store connection.new)) }
+{
+    if !connection.is_autocommit() {
+        return Err(Failure::Fault);
+    }
+    let mut transaction = connection.transaction();
+    delete_rows(&mut transaction, dates)?;
+    transaction.commit()?;
+    Ok(())
+}
+
+fn insert_rows<S: Alter>(
+    transaction: &mut Transaction<'_, S>,
+    rows: &[StoredRow],
+) -> Result<(), Failure>
+    ensures same_reference { transaction.new.conn.ghost_name ≡ transaction.old.conn.ghost_name }
+    ensures inside { GoesOn (state S.Store transaction.old.conn.now) (state S.Store transaction.new.conn.now) }
+    ensures unended { OnOk result (StaysUnended (state S.Store transaction.old.conn.now) (state S.Store transaction.new.conn.now)) }
+{
+    for row in rows {
+        insert_row(transaction, row)?;
+    }
     Ok(())
 }
 
 fn insert_row<S: Alter>(
     transaction: &mut Transaction<'_, S>,
     row: &StoredRow,
-) -> Result<(), Failure> {
+) -> Result<(), Failure>
+    ensures same_reference { transaction.new.conn.ghost_name ≡ transaction.old.conn.ghost_name }
+    ensures inside { GoesOn (state S.Store transaction.old.conn.now) (state S.Store transaction.new.conn.now) }
+    ensures unended { OnOk result (StaysUnended (state S.Store transaction.old.conn.now) (state S.Store transaction.new.conn.now)) }
+{
     let date = integer_of(row.date)?;
     let collection = bytes_of(row.collection);
     let number = bytes_of(row.id.number);
     let columns = columns_of(row, date, &collection, &number);
-    transaction.execute(INSERT_ROW, columns.as_slice())?;
-    Ok(())
+    execute(transaction, INSERT_ROW, columns.as_slice())
 }
 
-fn write_mark<S: Alter>(transaction: &mut Transaction<'_, S>, mark: u64) -> Result<(), Failure> {
-    let mark = integer_of(mark)?;
-    transaction.execute(WRITE_MARK, params![mark])?;
-    Ok(())
-}
-
-/// Removes the rows of these dates, or changes nothing.
-pub(crate) fn remove<S: Alter>(
-    connection: &mut Connection<S>,
-    dates: &[u64],
-) -> Result<(), Failure> {
-    if !connection.is_autocommit() {
-        return Err(Failure::Fault);
-    }
-    let mut transaction = connection.transaction();
+fn delete_rows<S: Alter>(transaction: &mut Transaction<'_, S>, dates: &[u64]) -> Result<(), Failure>
+    ensures same_reference { transaction.new.conn.ghost_name ≡ transaction.old.conn.ghost_name }
+    ensures inside { GoesOn (state S.Store transaction.old.conn.now) (state S.Store transaction.new.conn.now) }
+    ensures unended { OnOk result (StaysUnended (state S.Store transaction.old.conn.now) (state S.Store transaction.new.conn.now)) }
+{
     for date in dates {
-        delete_row(&mut transaction, *date)?;
+        let date = integer_of(*date)?;
+        execute(transaction, DELETE_ROW, params![date])?;
     }
-    transaction.commit()?;
     Ok(())
 }
 
-fn delete_row<S: Alter>(transaction: &mut Transaction<'_, S>, date: u64) -> Result<(), Failure> {
-    let date = integer_of(date)?;
-    transaction.execute(DELETE_ROW, params![date])?;
+fn write_mark<S: Alter>(transaction: &mut Transaction<'_, S>, mark: u64) -> Result<(), Failure>
+    ensures same_reference { transaction.new.conn.ghost_name ≡ transaction.old.conn.ghost_name }
+    ensures inside { GoesOn (state S.Store transaction.old.conn.now) (state S.Store transaction.new.conn.now) }
+    ensures unended { OnOk result (StaysUnended (state S.Store transaction.old.conn.now) (state S.Store transaction.new.conn.now)) }
+{
+    let mark = integer_of(mark)?;
+    execute(transaction, WRITE_MARK, params![mark])
+}
+
+/// Runs a statement of a transaction, which it doesn't end.
+fn execute<S: Alter>(
+    transaction: &mut Transaction<'_, S>,
+    statement: &str,
+    columns: &[ValueRef<'_>],
+) -> Result<(), Failure>
+    ensures same_reference { transaction.new.conn.ghost_name ≡ transaction.old.conn.ghost_name }
+    ensures inside { GoesOn (state S.Store transaction.old.conn.now) (state S.Store transaction.new.conn.now) }
+    ensures unended { OnOk result (StaysUnended (state S.Store transaction.old.conn.now) (state S.Store transaction.new.conn.now)) }
+{
+    transaction.execute(statement, columns)?;
     Ok(())
 }
