@@ -1,6 +1,5 @@
 ghost use Rattle.std.specs.Prelude.{◌≡◌, None, true, false, OnOk, OnErr};
 ghost use Rattle.taxii_rows.specs.KeeperCauses.{KeeperCauses};
-ghost use Rattle.taxii_rows.specs.StoreState.{RiseFrom};
 
 use crate::connection::Database;
 use crate::failure::counted;

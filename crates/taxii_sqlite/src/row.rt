@@ -1,6 +1,5 @@
-ghost use Rattle.std.specs.Prelude.{◌≡◌, ◌≢◌, ◌^◌, ◌≤◌, ℕ, ℤ, pos, Bool, List, map, Err, IfOk, OnErr, IsUtf8};
+ghost use Rattle.std.specs.Prelude.{◌≡◌, ◌≢◌, ◌^◌, ◌≤◌, ℕ, pos, Bool, List, map, Err, IfOk, OnErr};
 ghost use Rattle.std.specs.Int.{w128, from_be_bytes};
-ghost use Rattle.sqlite_value.specs.declared.value.Value.TheVariants.{Int};
 ghost use Rattle.sqlite_value.specs.Order.{column};
 ghost use Rattle.sqlite_value.specs.Value.{owned};
 ghost use Rattle.taxii_rows.specs.declared.stored_row.StoredRow.{StoredRow as WholeRow};
