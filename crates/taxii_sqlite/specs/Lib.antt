@@ -1,0 +1,4 @@
+pub mod KeeperState
+pub mod Failing
+pub mod Columns
+pub mod Transactions

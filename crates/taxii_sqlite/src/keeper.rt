@@ -1,0 +1,95 @@
+ghost use Rattle.std.specs.Prelude.{◌≡◌, None, true, false, OnOk, OnErr};
+ghost use Rattle.taxii_rows.specs.KeeperCauses.{KeeperCauses};
+
+use crate::connection::Database;
+use crate::failure::counted;
+use std::alloc::Global;
+use std::marker::Model;
+use std::rt::HostRuntime;
+use taxii_rows::{Keeper, KeeperRefusal, StoredRow};
+
+/// Rows in a database of SQLite. It tells no rows; contracts see whether it is attached, and its count
+/// of faults.
+#[derive(Drop)]
+pub struct SqliteKeeper {
+    alloc: Global,
+    rt: HostRuntime,
+    database: Database,
+    faults: u64,
+}
+
+impl Model for SqliteKeeper {
+    ghost use Rattle.taxii_sqlite.specs.KeeperState.{KeeperState, is_open};
+
+    ghost Value = { KeeperState };
+
+    ghost view = { λ keeper. record { attached = is_open keeper.database; faults = keeper.faults } };
+}
+
+impl SqliteKeeper {
+    /// A keeper that isn't attached, and has failed in no call yet. Opens nothing and takes no memory.
+    pub fn new(alloc: Global, rt: HostRuntime) -> SqliteKeeper
+        ensures { result ≡ record { attached = false; faults = 0 } }
+    {
+        SqliteKeeper {
+            alloc,
+            rt,
+            database: Database::Closed,
+            faults: 0,
+        }
+    }
+}
+
+impl Keeper for SqliteKeeper {
+    ghost told = { λ _. None };
+
+    ghost name = { λ _. None };
+
+    ghost attached = { λ keeper. keeper.attached };
+
+    ghost faults = { λ keeper. keeper.faults };
+
+    /// Opens the file of this path, or a database in memory where the text is empty, and makes the tables
+    /// where they are absent. A file that holds something else is a fault.
+    fn attach(&mut self, text: &str) -> Result<(), KeeperRefusal>
+        ensures ok { OnOk result (self.new.attached ≡ true) }
+        ensures err { OnErr result (self.new.attached ≡ self.old.attached) }
+        ensures causes { KeeperCauses self.old.faults self.new.faults result }
+    {
+        let opened = Database::open(self.alloc, &self.rt, text);
+        self.database = counted(&mut self.faults, opened)?;
+        Ok(())
+    }
+
+    fn next_after(&mut self, date: u64) -> Result<Option<StoredRow>, KeeperRefusal>
+        ensures attached { self.new.attached ≡ self.old.attached }
+        ensures causes { KeeperCauses self.old.faults self.new.faults result }
+    {
+        let found = self.database.next_after(date);
+        counted(&mut self.faults, found)
+    }
+
+    fn mark(&mut self) -> Result<u64, KeeperRefusal>
+        ensures attached { self.new.attached ≡ self.old.attached }
+        ensures causes { KeeperCauses self.old.faults self.new.faults result }
+    {
+        let mark = self.database.read_mark();
+        counted(&mut self.faults, mark)
+    }
+
+    fn append(&mut self, rows: &[StoredRow], mark: u64) -> Result<(), KeeperRefusal>
+        ensures attached { self.new.attached ≡ self.old.attached }
+        ensures causes { KeeperCauses self.old.faults self.new.faults result }
+    {
+        let done = self.database.append(rows, mark);
+        counted(&mut self.faults, done)
+    }
+
+    fn remove(&mut self, dates: &[u64]) -> Result<(), KeeperRefusal>
+        ensures attached { self.new.attached ≡ self.old.attached }
+        ensures causes { KeeperCauses self.old.faults self.new.faults result }
+    {
+        let done = self.database.remove(dates);
+        counted(&mut self.faults, done)
+    }
+}

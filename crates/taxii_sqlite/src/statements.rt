@@ -1,0 +1,158 @@
+//! What is asked of an open database, whether it is in memory or a file.
+
+ghost use Rattle.std.specs.Prelude.{◌≡◌, OnOk, OnErr};
+ghost use Rattle.sqlite.specs.Held.{state};
+ghost use Rattle.sqlite.specs.State.{HasCleanDisk};
+ghost use Rattle.taxii_sqlite.specs.Transactions.{IsUntouched, IsSettled, GoesOn, StaysUnended};
+
+use crate::failure::Failure;
+use crate::row::{bytes_of, columns_of, date_at, integer_of, read_row};
+use crate::schema::{
+    COUNT_EARLY_ROWS, DELETE_ROW, INSERT_ROW, MAKE_TABLES, NEXT_ROW, READ_MARK, WRITE_MARK,
+};
+use sqlite::types::ValueRef;
+use sqlite::{Alter, Connection, Error, Transaction, params};
+use taxii_rows::StoredRow;
+
+/// Makes the tables where they are absent, and sees that the database is a store: it has a mark, and no
+/// row that `next_after` would never give.
+pub(crate) fn make_ready<S: Alter>(connection: &mut Connection<S>) -> Result<(), Failure> {
+    make_tables(connection)?;
+    let _mark = read_mark(connection)?;
+    let early: i64 = connection.query_row(COUNT_EARLY_ROWS, &[])?.get(0)?;
+    if early == 0 {
+        Ok(())
+    } else {
+        Err(Failure::Fault)
+    }
+}
+
+/// Makes the tables where they are absent, and commits; or changes nothing.
+fn make_tables<S: Alter>(connection: &mut Connection<S>) -> Result<(), Failure>
+    ensures ok { HasCleanDisk (state S.Store connection.new) → OnOk result (IsSettled (state S.Store connection.new)) }
+    ensures err { HasCleanDisk (state S.Store connection.new) → OnErr result (IsUntouched (state S.Store connection.old) (state S.Store connection.new)) }
+{
+    if !connection.is_autocommit() {
+        return Err(Failure::Fault);
+    }
+    let mut transaction = connection.transaction();
+    transaction.execute_batch(MAKE_TABLES)?;
+    transaction.commit()?;
+    Ok(())
+}
+
+/// The first row that is later than the date, or none.
+pub(crate) fn next_after<S: Alter>(
+    connection: &mut Connection<S>,
+    date: u64,
+) -> Result<Option<StoredRow>, Failure> {
+    let date = integer_of(date)?;
+    match connection.query_row(NEXT_ROW, params![date]) {
+        Ok(columns) => Ok(Some(read_row(&columns)?)),
+        Err(Error::QueryReturnedNoRows) => Ok(None),
+        Err(error) => Err(Failure::from(error)),
+    }
+}
+
+/// The last date ever given.
+pub(crate) fn read_mark<S: Alter>(connection: &mut Connection<S>) -> Result<u64, Failure> {
+    let columns = connection.query_row(READ_MARK, &[])?;
+    date_at(&columns, 0)
+}
+
+/// Adds the rows and sets the mark, and commits; or changes nothing.
+pub(crate) fn append<S: Alter>(
+    connection: &mut Connection<S>,
+    rows: &[StoredRow],
+    mark: u64,
+) -> Result<(), Failure>
+    ensures ok { HasCleanDisk (state S.Store connection.new) → OnOk result (IsSettled (state S.Store connection.new)) }
+    ensures err { HasCleanDisk (state S.Store connection.new) → OnErr result (IsUntouched (state S.Store connection.old) (state S.Store connection.new)) }
+{
+    if !connection.is_autocommit() {
+        return Err(Failure::Fault);
+    }
+    let mut transaction = connection.transaction();
+    insert_rows(&mut transaction, rows)?;
+    write_mark(&mut transaction, mark)?;
+    transaction.commit()?;
+    Ok(())
+}
+
+/// Removes the rows of these dates, and commits; or changes nothing.
+pub(crate) fn remove<S: Alter>(connection: &mut Connection<S>, dates: &[u64]) -> Result<(), Failure>
+    ensures ok { HasCleanDisk (state S.Store connection.new) → OnOk result (IsSettled (state S.Store connection.new)) }
+    ensures err { HasCleanDisk (state S.Store connection.new) → OnErr result (IsUntouched (state S.Store connection.old) (state S.Store connection.new)) }
+{
+    if !connection.is_autocommit() {
+        return Err(Failure::Fault);
+    }
+    let mut transaction = connection.transaction();
+    delete_rows(&mut transaction, dates)?;
+    transaction.commit()?;
+    Ok(())
+}
+
+fn insert_rows<S: Alter>(
+    transaction: &mut Transaction<'_, S>,
+    rows: &[StoredRow],
+) -> Result<(), Failure>
+    ensures same_reference { transaction.new.conn.ghost_name ≡ transaction.old.conn.ghost_name }
+    ensures inside { GoesOn (state S.Store transaction.old.conn.now) (state S.Store transaction.new.conn.now) }
+    ensures unended { OnOk result (StaysUnended (state S.Store transaction.old.conn.now) (state S.Store transaction.new.conn.now)) }
+{
+    for row in rows {
+        insert_row(transaction, row)?;
+    }
+    Ok(())
+}
+
+fn insert_row<S: Alter>(
+    transaction: &mut Transaction<'_, S>,
+    row: &StoredRow,
+) -> Result<(), Failure>
+    ensures same_reference { transaction.new.conn.ghost_name ≡ transaction.old.conn.ghost_name }
+    ensures inside { GoesOn (state S.Store transaction.old.conn.now) (state S.Store transaction.new.conn.now) }
+    ensures unended { OnOk result (StaysUnended (state S.Store transaction.old.conn.now) (state S.Store transaction.new.conn.now)) }
+{
+    let date = integer_of(row.date)?;
+    let collection = bytes_of(row.collection);
+    let number = bytes_of(row.id.number);
+    let columns = columns_of(row, date, &collection, &number);
+    execute(transaction, INSERT_ROW, columns.as_slice())
+}
+
+fn delete_rows<S: Alter>(transaction: &mut Transaction<'_, S>, dates: &[u64]) -> Result<(), Failure>
+    ensures same_reference { transaction.new.conn.ghost_name ≡ transaction.old.conn.ghost_name }
+    ensures inside { GoesOn (state S.Store transaction.old.conn.now) (state S.Store transaction.new.conn.now) }
+    ensures unended { OnOk result (StaysUnended (state S.Store transaction.old.conn.now) (state S.Store transaction.new.conn.now)) }
+{
+    for date in dates {
+        let date = integer_of(*date)?;
+        execute(transaction, DELETE_ROW, params![date])?;
+    }
+    Ok(())
+}
+
+fn write_mark<S: Alter>(transaction: &mut Transaction<'_, S>, mark: u64) -> Result<(), Failure>
+    ensures same_reference { transaction.new.conn.ghost_name ≡ transaction.old.conn.ghost_name }
+    ensures inside { GoesOn (state S.Store transaction.old.conn.now) (state S.Store transaction.new.conn.now) }
+    ensures unended { OnOk result (StaysUnended (state S.Store transaction.old.conn.now) (state S.Store transaction.new.conn.now)) }
+{
+    let mark = integer_of(mark)?;
+    execute(transaction, WRITE_MARK, params![mark])
+}
+
+/// Runs a statement of a transaction, which it doesn't end.
+fn execute<S: Alter>(
+    transaction: &mut Transaction<'_, S>,
+    statement: &str,
+    columns: &[ValueRef<'_>],
+) -> Result<(), Failure>
+    ensures same_reference { transaction.new.conn.ghost_name ≡ transaction.old.conn.ghost_name }
+    ensures inside { GoesOn (state S.Store transaction.old.conn.now) (state S.Store transaction.new.conn.now) }
+    ensures unended { OnOk result (StaysUnended (state S.Store transaction.old.conn.now) (state S.Store transaction.new.conn.now)) }
+{
+    transaction.execute(statement, columns)?;
+    Ok(())
+}
