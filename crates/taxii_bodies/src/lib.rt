@@ -1,0 +1,13 @@
+//! The bodies of a TAXII 2.1 server's answers (sections 3.6, 3.7, 4 and 5), as compact JSON with its
+//! names in byte order. Each body is a function of what it tells: its contract names the JSON value.
+#![tactic(auto)]
+
+mod collections;
+mod discovery;
+mod fields;
+mod title;
+mod uuids;
+
+pub use collections::{CollectionInfo, collection_body, collections_body};
+pub use discovery::{discovery_body, root_body};
+pub use title::title_body;
