@@ -1,3 +1,4 @@
 pub mod Title
 pub mod Discovery
 pub mod Collections
+pub mod Envelope

@@ -4,10 +4,12 @@
 
 mod collections;
 mod discovery;
+mod envelope;
 mod fields;
 mod title;
 mod uuids;
 
 pub use collections::{CollectionInfo, collection_body, collections_body};
 pub use discovery::{discovery_body, root_body};
+pub use envelope::envelope_body;
 pub use title::title_body;
