@@ -1,3 +1,5 @@
 pub mod FieldLemmas
 pub mod CollectionLemmas
 pub mod EnvelopeLemmas
+pub mod TimesLemmas
+pub mod PageLemmas

@@ -2,3 +2,7 @@ pub mod Title
 pub mod Discovery
 pub mod Collections
 pub mod Envelope
+pub mod Times
+pub mod Page
+pub mod Manifest
+pub mod Versions

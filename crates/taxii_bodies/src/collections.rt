@@ -3,7 +3,7 @@ ghost use Rattle.serde_json.specs.Written.{compact_text};
 ghost use Rattle.stix_json.specs.DataOf.{data_of};
 ghost use Rattle.taxii_bodies.specs.Collections.{collection_data, collections_data};
 
-use crate::fields::{field, list_field, object_of, object_text, one_text_field, text_field};
+use crate::fields::{list_field, object_of, object_text, one_text_field, text_field, truth_field};
 use crate::uuids::write_uuid;
 use flow_values::{Items, NoMemory, Text};
 use std::alloc::Global;
@@ -55,8 +55,8 @@ fn collection_values(alloc: Global, infos: &[CollectionInfo]) -> Result<Items<Js
 fn collection_value(alloc: Global, info: &CollectionInfo) -> Result<Json, NoMemory>
     ensures { IfOk result (λ value. data_of value ≡ collection_data info.now) }
 {
-    let can_read = field(alloc, "can_read", Json::Bool(info.can_read))?;
-    let can_write = field(alloc, "can_write", Json::Bool(info.can_write))?;
+    let can_read = truth_field(alloc, "can_read", info.can_read)?;
+    let can_write = truth_field(alloc, "can_write", info.can_write)?;
     let mut buffer = [0; 36];
     let id = text_field(alloc, "id", write_uuid(info.id, &mut buffer))?;
     let media_types = one_text_field(alloc, "media_types", STIX_MEDIA_TYPE)?;

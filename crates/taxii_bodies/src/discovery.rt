@@ -2,11 +2,10 @@ ghost use Rattle.std.specs.Prelude.{◌≡◌, IfOk, option_map};
 ghost use Rattle.serde_json.specs.Written.{compact_text};
 ghost use Rattle.taxii_bodies.specs.Discovery.{discovery_data, root_data, root_url as url_under};
 
-use crate::fields::{field, object_text, one_text_field, text_field};
+use crate::fields::{number_field, object_text, one_text_field, text_field};
 use crate::title_body;
 use flow_values::{NoMemory, Text};
 use std::alloc::Global;
-use stix_json::Json;
 
 /// The media type of the server's answers, which names its version of TAXII.
 const TAXII_MEDIA_TYPE: &str = "application/taxii+json;version=2.1";
@@ -14,7 +13,7 @@ const TAXII_MEDIA_TYPE: &str = "application/taxii+json;version=2.1";
 const SERVER_TITLE: &str = "STIX pattern and TAXII server";
 
 /// The most bytes that the body of a request may have.
-const MAX_CONTENT_LENGTH: i64 = 8_388_608;
+const MAX_CONTENT_LENGTH: u64 = 8_388_608;
 
 /// The body of the discovery (section 4.1.1): the server's title, and where its base URL is known the
 /// URL of its one API root, also as the default.
@@ -52,11 +51,7 @@ fn root_url(alloc: Global, base: &str) -> Result<Text, NoMemory>
 pub fn root_body(alloc: Global) -> Result<Text, NoMemory>
     ensures { IfOk result (λ text. text ≡ compact_text root_data) }
 {
-    let length = field(
-        alloc,
-        "max_content_length",
-        Json::Integer(MAX_CONTENT_LENGTH),
-    )?;
+    let length = number_field(alloc, "max_content_length", MAX_CONTENT_LENGTH)?;
     let title = text_field(alloc, "title", "API root")?;
     let versions = one_text_field(alloc, "versions", TAXII_MEDIA_TYPE)?;
     object_text(alloc, vec![in alloc; length, title, versions]?)

@@ -1,5 +1,5 @@
-ghost use Rattle.std.specs.Prelude.{◌≡◌, ◌∷◌, [], IfOk, map};
-ghost use Rattle.serde_json.specs.Data.{string, array, object, item, no_items};
+ghost use Rattle.std.specs.Prelude.{◌≡◌, ◌^◌, ◌<◌, ◌∷◌, [], IfOk, map};
+ghost use Rattle.serde_json.specs.Data.{boolean, unsigned, number as whole, string, array, object, item, no_items};
 ghost use Rattle.serde_json.specs.View.{items_of};
 ghost use Rattle.serde_json.specs.Written.{compact_text};
 ghost use Rattle.stix_json.specs.DataOf.{data_of, field_data, members_of};
@@ -15,6 +15,21 @@ pub(crate) fn field(alloc: Global, name: &str, value: Json) -> Result<Field, NoM
 {
     let name = Text::from_text(alloc, name)?;
     Ok(Field { name, value })
+}
+
+/// A field of `true` or `false`.
+pub(crate) fn truth_field(alloc: Global, name: &str, truth: bool) -> Result<Field, NoMemory>
+    ensures { IfOk result (λ field. field_data field ≡ record { name = name.now; value = boolean truth }) }
+{
+    field(alloc, name, Json::Bool(truth))
+}
+
+/// A field of a number.
+pub(crate) fn number_field(alloc: Global, name: &str, number: u64) -> Result<Field, NoMemory>
+    requires { number < 2 ^ 63 }
+    ensures { IfOk result (λ field. field_data field ≡ record { name = name.now; value = whole (unsigned number) }) }
+{
+    field(alloc, name, Json::Integer(number as i64))
 }
 
 /// A field of a text.

@@ -6,10 +6,16 @@ mod collections;
 mod discovery;
 mod envelope;
 mod fields;
+mod manifest;
+mod page;
+mod times;
 mod title;
 mod uuids;
+mod versions;
 
 pub use collections::{CollectionInfo, collection_body, collections_body};
 pub use discovery::{discovery_body, root_body};
 pub use envelope::envelope_body;
+pub use manifest::manifest_body;
 pub use title::title_body;
+pub use versions::versions_body;
