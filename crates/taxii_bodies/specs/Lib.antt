@@ -6,3 +6,5 @@ pub mod Times
 pub mod Page
 pub mod Manifest
 pub mod Versions
+pub mod Problem
+pub mod Details

@@ -3,19 +3,23 @@
 #![tactic(auto)]
 
 mod collections;
+mod details;
 mod discovery;
 mod envelope;
 mod fields;
 mod manifest;
 mod page;
+mod problem;
 mod times;
 mod title;
 mod uuids;
 mod versions;
 
 pub use collections::{CollectionInfo, collection_body, collections_body};
+pub use details::{Detail, failure_detail, refused_detail, success_detail};
 pub use discovery::{discovery_body, root_body};
 pub use envelope::envelope_body;
 pub use manifest::manifest_body;
+pub use problem::{Problem, problem_body};
 pub use title::title_body;
 pub use versions::versions_body;
