@@ -3,3 +3,4 @@ pub mod CollectionLemmas
 pub mod EnvelopeLemmas
 pub mod TimesLemmas
 pub mod PageLemmas
+pub mod DetailLemmas
