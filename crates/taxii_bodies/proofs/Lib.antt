@@ -4,3 +4,4 @@ pub mod EnvelopeLemmas
 pub mod TimesLemmas
 pub mod PageLemmas
 pub mod DetailLemmas
+pub mod StatusLemmas

@@ -8,3 +8,5 @@ pub mod Manifest
 pub mod Versions
 pub mod Problem
 pub mod Details
+pub mod Status
+pub mod inner
