@@ -12,9 +12,9 @@ pub ok_then : {T E : Type 0} (answer : Result T E) (P Q : T → Type 0) → ((va
 ok_then (Ok value) P Q then holds = then value holds
 ok_then (Err error) P Q then holds = tt
 
-pub whole_time : (object : Data) (instant : ℤ) → IsVersionTime object instant → IsWhole 1000 instant
-whole_time object instant time = let micros = time_whole object instant time in is_whole micros.0 instant micros.1
+pub whole_time : (whole : Data) (instant : ℤ) → IsVersionTime whole instant → IsWhole 1000 instant
+whole_time whole instant time = let micros = time_whole whole instant time in is_whole micros.0 instant micros.1
 
-pub whole_where_found : (object : Data) (found : Option ℤ) → FindsExactly (IsVersionTime object) found → IfSome found (IsWhole 1000)
-whole_where_found object (Some instant) is = whole_time object instant is
-whole_where_found object None none = tt
+pub whole_where_found : (whole : Data) (found : Option ℤ) → FindsExactly (IsVersionTime whole) found → IfSome found (IsWhole 1000)
+whole_where_found whole (Some instant) is = whole_time whole instant is
+whole_where_found whole None none = tt

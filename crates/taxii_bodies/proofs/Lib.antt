@@ -5,3 +5,4 @@ pub mod TimesLemmas
 pub mod PageLemmas
 pub mod DetailLemmas
 pub mod StatusLemmas
+pub mod WritableLemmas

@@ -7,6 +7,7 @@ mod details;
 mod discovery;
 mod envelope;
 mod fields;
+pub mod laws;
 mod manifest;
 mod page;
 mod problem;
