@@ -1,6 +1,8 @@
 pub mod FieldLemmas
 pub mod CollectionLemmas
 pub mod EnvelopeLemmas
+pub mod EnvelopeJsonLemmas
+pub mod NextLemmas
 pub mod TimesLemmas
 pub mod PageLemmas
 pub mod DetailLemmas

@@ -28,15 +28,15 @@ last_ordered total (one ∷ more) ordered = (refl, tt, (refl, ordered, (tt, tt, 
 -- all of them
 members_ordered : (report : StatusReport) (moment : List ℕ) (failures successes : List Data) → ItemsAreOrdered (items_of failures) → ItemsAreOrdered (items_of successes)
     → IsOrdered (object
-        (member (codes "failure_count") (json.number (unsigned report.failure_count))
-        (list_before (codes "failures") failures
-        (member (codes "id") (string (status_id_of report.number))
-        (member (codes "pending_count") (json.number (unsigned 0))
-        (member (codes "request_timestamp") (string moment)
-        (member (codes "status") (string (codes "complete"))
-        (member (codes "success_count") (json.number (unsigned report.success_count))
-        (list_before (codes "successes") successes
-        (member (codes "total_count") (json.number (unsigned (report.success_count + report.failure_count))) no_members))))))))))
+    (member (codes "failure_count") (json.number (unsigned report.failure_count))
+    (list_before (codes "failures") failures
+    (member (codes "id") (string (status_id_of report.number))
+    (member (codes "pending_count") (json.number (unsigned 0))
+    (member (codes "request_timestamp") (string moment)
+    (member (codes "status") (string (codes "complete"))
+    (member (codes "success_count") (json.number (unsigned report.success_count))
+    (list_before (codes "successes") successes
+    (member (codes "total_count") (json.number (unsigned (report.success_count + report.failure_count))) no_members))))))))))
 members_ordered report moment [] successes failed stored =
     let last = last_ordered (report.success_count + report.failure_count) successes stored in
     (refl, tt, (refl, tt, (refl, tt, (refl, tt, (refl, tt, last)))))

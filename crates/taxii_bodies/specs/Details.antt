@@ -39,14 +39,14 @@ IsMomentText moment text = IsDateText (min moment LAST_DATE) text
 
 -- the text is the object's identifier, or the unknown one
 abbrev pub IsIdOrUnknown : Data → List ℕ → Type 0
-IsIdOrUnknown object text =
-    ((id : Id) × HasId object id × (text ≡ canonical_text id)) ⊎ (((id : Id) → ¬ HasId object id) × (text ≡ unknown_id))
+IsIdOrUnknown d text =
+    ((id : Id) × HasId d id × (text ≡ canonical_text id)) ⊎ (((id : Id) → ¬ HasId d id) × (text ≡ unknown_id))
 
 -- the text is that of the version that the object tells, or of that moment
 abbrev pub IsVersionOrMoment : Data → ℕ → List ℕ → Type 0
-IsVersionOrMoment object moment text =
-    ((instant : ℤ) × IsVersionTime object instant × IsToldText instant text)
-    ⊎ (((instant : ℤ) → ¬ IsVersionTime object instant) × IsMomentText moment text)
+IsVersionOrMoment d moment text =
+    ((instant : ℤ) × IsVersionTime d instant × IsToldText instant text)
+    ⊎ (((instant : ℤ) → ¬ IsVersionTime d instant) × IsMomentText moment text)
 
 -- the detail of a row that was stored
 pub record IsSuccessOf (row : StoredRow) (detail : Detail) : Type 0 where
