@@ -1,0 +1,10 @@
+pub mod FieldLemmas
+pub mod CollectionLemmas
+pub mod EnvelopeLemmas
+pub mod EnvelopeJsonLemmas
+pub mod NextLemmas
+pub mod TimesLemmas
+pub mod PageLemmas
+pub mod DetailLemmas
+pub mod StatusLemmas
+pub mod WritableLemmas

@@ -1,0 +1,50 @@
+-- The names of a status are in order, whichever of its lists it has.
+use Rattle.std.proofs.Common.{◌≡◌, ℕ, ◌+◌, List, [], ◌∷◌, refl, rules, Option, Some, None}
+use Rattle.std.specs.Prelude.{map, codes}
+use Rattle.serde_json.specs.Data.{Data, unsigned, string, object, no_members, member}
+use Rattle.serde_json.specs.Data as json
+use Rattle.serde_json.specs.View.{items_of}
+use Rattle.stix_json.specs.Ordered.{IsOrdered, ItemsAreOrdered, MembersAreOrdered}
+use Rattle.taxii_bodies.specs.declared.details.Detail.{Detail}
+use Rattle.taxii_bodies.specs.declared.status.StatusReport.{StatusReport}
+use Rattle.taxii_bodies.specs.Page.{list_before}
+use Rattle.taxii_bodies.specs.Status.{status_id_of, message_before, detail_data, status_data}
+
+told_ordered : (id version : List ℕ) (message : Option (List ℕ))
+    → IsOrdered (object (member (codes "id") (string id) (message_before message (member (codes "version") (string version) no_members))))
+told_ordered id version (Some message) = (refl, tt, (refl, tt, (tt, tt, tt)))
+told_ordered id version None = (refl, tt, (tt, tt, tt))
+
+details_ordered : (details : List Detail) → ItemsAreOrdered (items_of (map detail_data details))
+details_ordered [] = tt
+details_ordered (detail ∷ details) = (told_ordered detail.id detail.version detail.message, details_ordered details)
+
+-- the last members, with a list of successes or without
+last_ordered : (total : ℕ) (successes : List Data) → ItemsAreOrdered (items_of successes)
+    → MembersAreOrdered (member (codes "success_count") (json.number (unsigned 0)) (list_before (codes "successes") successes (member (codes "total_count") (json.number (unsigned total)) no_members)))
+last_ordered total [] ordered = (refl, tt, (tt, tt, tt))
+last_ordered total (one ∷ more) ordered = (refl, tt, (refl, ordered, (tt, tt, tt)))
+
+-- all of them
+members_ordered : (report : StatusReport) (moment : List ℕ) (failures successes : List Data) → ItemsAreOrdered (items_of failures) → ItemsAreOrdered (items_of successes)
+    → IsOrdered (object
+    (member (codes "failure_count") (json.number (unsigned report.failure_count))
+    (list_before (codes "failures") failures
+    (member (codes "id") (string (status_id_of report.number))
+    (member (codes "pending_count") (json.number (unsigned 0))
+    (member (codes "request_timestamp") (string moment)
+    (member (codes "status") (string (codes "complete"))
+    (member (codes "success_count") (json.number (unsigned report.success_count))
+    (list_before (codes "successes") successes
+    (member (codes "total_count") (json.number (unsigned (report.success_count + report.failure_count))) no_members))))))))))
+members_ordered report moment [] successes failed stored =
+    let last = last_ordered (report.success_count + report.failure_count) successes stored in
+    (refl, tt, (refl, tt, (refl, tt, (refl, tt, (refl, tt, last)))))
+members_ordered report moment (one ∷ more) successes failed stored =
+    let last = last_ordered (report.success_count + report.failure_count) successes stored in
+    (refl, tt, (refl, failed, (refl, tt, (refl, tt, (refl, tt, (refl, tt, last))))))
+
+pub status_ordered : (report : StatusReport) (moment : List ℕ) → IsOrdered (status_data report moment)
+status_ordered report moment =
+    members_ordered report moment (map detail_data report.failures) (map detail_data report.successes)
+    (details_ordered report.failures) (details_ordered report.successes)

@@ -1,0 +1,12 @@
+pub mod Title
+pub mod Discovery
+pub mod Collections
+pub mod Envelope
+pub mod Times
+pub mod Page
+pub mod Manifest
+pub mod Versions
+pub mod Problem
+pub mod Details
+pub mod Status
+pub mod inner

@@ -1,0 +1,65 @@
+ghost use Rattle.std.specs.Prelude.{◌≡◌, IfOk, map};
+ghost use Rattle.serde_json.specs.Written.{compact_text};
+ghost use Rattle.stix_json.specs.DataOf.{data_of};
+ghost use Rattle.taxii_bodies.specs.Collections.{collection_data, collections_data};
+
+use crate::fields::{list_field, object_of, object_text, one_text_field, text_field, truth_field};
+use crate::uuids::write_uuid;
+use flow_values::{Items, NoMemory, Text};
+use std::alloc::Global;
+use stix_json::{Json, write_json};
+
+/// The media type of the objects in a collection.
+pub(crate) const STIX_MEDIA_TYPE: &str = "application/stix+json;version=2.1";
+
+/// What a collection says of itself.
+#[derive(Drop)]
+pub struct CollectionInfo {
+    /// The number of its UUID.
+    pub id: u128,
+    /// Its title.
+    pub title: Text,
+    /// Whether a client may read its objects.
+    pub can_read: bool,
+    /// Whether a client may add objects.
+    pub can_write: bool,
+}
+
+/// The body of a collection (section 5.2.1).
+pub fn collection_body(alloc: Global, info: &CollectionInfo) -> Result<Text, NoMemory>
+    ensures { IfOk result (λ text. text ≡ compact_text (collection_data info.now)) }
+{
+    let collection = collection_value(alloc, info)?;
+    write_json(alloc, &collection)
+}
+
+/// The body of the list of collections, in this order (section 5.1.1).
+pub fn collections_body(alloc: Global, infos: &[CollectionInfo]) -> Result<Text, NoMemory>
+    ensures { IfOk result (λ text. text ≡ compact_text (collections_data infos.now)) }
+{
+    let values = collection_values(alloc, infos)?;
+    let collections = list_field(alloc, "collections", values)?;
+    object_text(alloc, vec![in alloc; collections]?)
+}
+
+fn collection_values(alloc: Global, infos: &[CollectionInfo]) -> Result<Items<Json>, NoMemory>
+    ensures { IfOk result (λ values. map data_of values ≡ map collection_data infos.now) }
+{
+    let mut values = Items::with_capacity(alloc, infos.len())?;
+    for info in infos {
+        values.push(collection_value(alloc, info)?)?;
+    }
+    Ok(values)
+}
+
+fn collection_value(alloc: Global, info: &CollectionInfo) -> Result<Json, NoMemory>
+    ensures { IfOk result (λ value. data_of value ≡ collection_data info.now) }
+{
+    let can_read = truth_field(alloc, "can_read", info.can_read)?;
+    let can_write = truth_field(alloc, "can_write", info.can_write)?;
+    let mut buffer = [0; 36];
+    let id = text_field(alloc, "id", write_uuid(info.id, &mut buffer))?;
+    let media_types = one_text_field(alloc, "media_types", STIX_MEDIA_TYPE)?;
+    let title = text_field(alloc, "title", info.title.as_str())?;
+    Ok(object_of(vec![in alloc; can_read, can_write, id, media_types, title]?))
+}

@@ -1,0 +1,58 @@
+ghost use Rattle.std.specs.Prelude.{◌≡◌, IfOk, option_map};
+ghost use Rattle.serde_json.specs.Written.{compact_text};
+ghost use Rattle.taxii_bodies.specs.Discovery.{discovery_data, root_data, root_url as url_under};
+
+use crate::fields::{number_field, object_text, one_text_field, text_field};
+use crate::title_body;
+use flow_values::{NoMemory, Text};
+use std::alloc::Global;
+
+/// The media type of the server's answers, which names its version of TAXII.
+const TAXII_MEDIA_TYPE: &str = "application/taxii+json;version=2.1";
+
+const SERVER_TITLE: &str = "STIX pattern and TAXII server";
+
+/// The most bytes that the body of a request may have.
+const MAX_CONTENT_LENGTH: u64 = 8_388_608;
+
+/// The body of the discovery (section 4.1.1): the server's title, and where its base URL is known the
+/// URL of its one API root, also as the default.
+pub fn discovery_body(alloc: Global, base: Option<&str>) -> Result<Text, NoMemory>
+    ensures { IfOk result
+        (λ text. text ≡ compact_text (discovery_data (option_map (λ url. url.now) base.entry))) }
+{
+    match base {
+        Some(base) => based_body(alloc, base),
+        None => title_body(alloc, SERVER_TITLE),
+    }
+}
+
+/// The same under a base URL.
+fn based_body(alloc: Global, base: &str) -> Result<Text, NoMemory>
+    ensures { IfOk result (λ text. text ≡ compact_text (discovery_data (Some base.now))) }
+{
+    let url = root_url(alloc, base)?;
+    let roots = one_text_field(alloc, "api_roots", url.as_str())?;
+    let default = text_field(alloc, "default", url.as_str())?;
+    let title = text_field(alloc, "title", SERVER_TITLE)?;
+    object_text(alloc, vec![in alloc; roots, default, title]?)
+}
+
+/// The URL of the API root under a base URL.
+fn root_url(alloc: Global, base: &str) -> Result<Text, NoMemory>
+    ensures { IfOk result (λ url. url ≡ url_under base.now) }
+{
+    let mut url = Text::from_text(alloc, base)?;
+    url.push("/api/")?;
+    Ok(url)
+}
+
+/// The body of the API root (section 4.2.1).
+pub fn root_body(alloc: Global) -> Result<Text, NoMemory>
+    ensures { IfOk result (λ text. text ≡ compact_text root_data) }
+{
+    let length = number_field(alloc, "max_content_length", MAX_CONTENT_LENGTH)?;
+    let title = text_field(alloc, "title", "API root")?;
+    let versions = one_text_field(alloc, "versions", TAXII_MEDIA_TYPE)?;
+    object_text(alloc, vec![in alloc; length, title, versions]?)
+}

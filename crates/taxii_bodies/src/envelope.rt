@@ -1,0 +1,101 @@
+ghost use Rattle.std.specs.Prelude.{◌≡◌, ◌∷◌, ◌++◌, None, IfOk, OnOk, map};
+ghost use Rattle.std.specs.List.{last_or, flat_map};
+ghost use Rattle.taxii_rows.specs.StoreState.{dates_of};
+ghost use Rattle.taxii_bodies.specs.Envelope.{next_of as next_behind, next_text, head_text, objects_text, envelope_text};
+
+use flow_values::{NoMemory, Text};
+use std::alloc::Global;
+use taxii_rows::StoredRow;
+
+/// How many bytes stand around the objects at most.
+const AROUND: usize = 64;
+
+/// The body of a page of objects (section 3.7): whether there are more, behind which date the next page
+/// begins, and the objects of the rows in their order, whose bodies are copied as they stand. A page
+/// without rows says that there is no more.
+pub fn envelope_body(alloc: Global, rows: &[&StoredRow], more: bool) -> Result<Text, NoMemory>
+    ensures { IfOk result (λ text. text ≡ envelope_text (map (λ row. row.now) rows.now) more) }
+{
+    let room = rows.iter().fold(AROUND, |room, row| {
+        room.saturating_add(row.body.len()).saturating_add(1)
+    });
+    let mut text = Text::from_string(String::with_capacity(alloc, room)?);
+    push_head(alloc, next_of(rows, more), &mut text)?;
+    push_objects(rows, &mut text)?;
+    text.push("}")?;
+    Ok(text)
+}
+
+/// Behind which date the next page begins, where there is more.
+fn next_of(rows: &[&StoredRow], more: bool) -> Option<u64>
+    ensures { result ≡ next_behind (map (λ row. row.now) rows.now) more }
+{
+    if more { last_date(rows) } else { None }
+}
+
+fn last_date(rows: &[&StoredRow]) -> Option<u64>
+    ensures { result ≡ last_or None (dates_of (map (λ row. row.now) rows.now)) }
+{
+    let last = rows.last()?;
+    Some(last.date)
+}
+
+/// Adds the brace, whether there is more, and where the next page begins.
+fn push_head(alloc: Global, next: Option<u64>, text: &mut Text) -> Result<(), NoMemory>
+    ensures { OnOk result (text.new ≡ text.old ++ head_text next) }
+{
+    match next {
+        Some(date) => push_next(alloc, date, text),
+        None => text.push("{\"more\":false"),
+    }
+}
+
+fn push_next(alloc: Global, date: u64, text: &mut Text) -> Result<(), NoMemory>
+    ensures { OnOk result (text.new ≡ text.old ++ head_text (Some date)) }
+{
+    let digits = next_digits(alloc, date)?;
+    text.push("{\"more\":true,\"next\":\"")?;
+    text.push(digits.as_str())?;
+    text.push("\"")?;
+    Ok(())
+}
+
+/// The date as it is read from a query again.
+fn next_digits(alloc: Global, date: u64) -> Result<Text, NoMemory>
+    ensures { IfOk result (λ digits. digits ≡ next_text date) }
+{
+    let digits = hex::encode(alloc, date.to_be_bytes())?;
+    Ok(Text::from_string(digits))
+}
+
+/// Adds the list of the objects, where there are some.
+fn push_objects(rows: &[&StoredRow], text: &mut Text) -> Result<(), NoMemory>
+    ensures { OnOk result (text.new ≡ text.old ++ objects_text (map (λ row. row.body) (map (λ row. row.now) rows.now))) }
+{
+    match rows.split_first() {
+        Some((first, others)) => push_list(first, others, text),
+        None => Ok(()),
+    }
+}
+
+/// Adds the list of these objects.
+fn push_list(first: &StoredRow, others: &[&StoredRow], text: &mut Text) -> Result<(), NoMemory>
+    ensures { OnOk result (text.new ≡ text.old ++ objects_text (first.now.body ∷ map (λ row. row.body) (map (λ row. row.now) others.now))) }
+{
+    text.push(",\"objects\":[")?;
+    text.push(first.body.as_str())?;
+    push_others(others, text)?;
+    text.push("]")?;
+    Ok(())
+}
+
+/// Adds the bodies of the rows behind the first one.
+fn push_others(rows: &[&StoredRow], text: &mut Text) -> Result<(), NoMemory>
+    ensures { OnOk result (text.new ≡ text.old ++ flat_map (λ row. 44 ∷ row.now.body) rows.now) }
+{
+    for row in rows {
+        text.push(",")?;
+        text.push(row.body.as_str())?;
+    }
+    Ok(())
+}

@@ -1,0 +1,28 @@
+//! The bodies of a TAXII 2.1 server's answers (sections 3.6, 3.7, 4 and 5), as compact JSON with its
+//! names in byte order. Each body is a function of what it tells: its contract names the JSON value.
+#![tactic(auto)]
+
+mod collections;
+mod details;
+mod discovery;
+mod envelope;
+mod fields;
+pub mod laws;
+mod manifest;
+mod page;
+mod problem;
+mod status;
+mod times;
+mod title;
+mod uuids;
+mod versions;
+
+pub use collections::{CollectionInfo, collection_body, collections_body};
+pub use details::{Detail, failure_detail, refused_detail, success_detail};
+pub use discovery::{discovery_body, root_body};
+pub use envelope::envelope_body;
+pub use manifest::manifest_body;
+pub use problem::{Problem, problem_body};
+pub use status::{StatusReport, status_body, status_id};
+pub use title::title_body;
+pub use versions::versions_body;

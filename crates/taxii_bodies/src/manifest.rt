@@ -1,0 +1,50 @@
+ghost use Rattle.std.specs.Prelude.{◌≡◌, IfOk, All, map};
+ghost use Rattle.std.specs.List.{AllZip};
+ghost use Rattle.stix_json.specs.DataOf.{data_of};
+ghost use Rattle.taxii_bodies.specs.Manifest.{IsManifest, IsRecordOf};
+ghost use Rattle.taxii_bodies.specs.Times.{IsWritable};
+
+use crate::collections::STIX_MEDIA_TYPE;
+use crate::fields::{object_of, text_field};
+use crate::page::page_text;
+use crate::times::{date_text, version_text};
+use flow_values::{Items, NoMemory, Text};
+use std::alloc::Global;
+use stix_ids::write_id;
+use stix_json::Json;
+use taxii_rows::StoredRow;
+
+/// The body of a page of a manifest (section 5.3.1): whether there are more, and of each row its date,
+/// its identifier and its version.
+pub fn manifest_body(alloc: Global, rows: &[&StoredRow], more: bool) -> Result<Text, NoMemory>
+    requires { All IsWritable (map (λ row. row.now) rows.now) }
+    ensures { IfOk result (IsManifest (map (λ row. row.now) rows.now) more) }
+{
+    let records = records_of(alloc, rows)?;
+    page_text(alloc, more, "objects", records)
+}
+
+fn records_of(alloc: Global, rows: &[&StoredRow]) -> Result<Items<Json>, NoMemory>
+    requires { All IsWritable (map (λ row. row.now) rows.now) }
+    ensures { IfOk result (λ records. AllZip IsRecordOf (map (λ row. row.now) rows.now) (map data_of records)) }
+{
+    let mut records = Items::with_capacity(alloc, rows.len())?;
+    for row in rows {
+        records.push(record_of(alloc, row)?)?;
+    }
+    Ok(records)
+}
+
+fn record_of(alloc: Global, row: &StoredRow) -> Result<Json, NoMemory>
+    requires { IsWritable row.now }
+    ensures { IfOk result (λ value. IsRecordOf row.now (data_of value)) }
+{
+    let date = date_text(alloc, row.date)?;
+    let date = text_field(alloc, "date_added", date.as_str())?;
+    let id = write_id(alloc, &row.id)?;
+    let id = text_field(alloc, "id", id.as_str())?;
+    let media_type = text_field(alloc, "media_type", STIX_MEDIA_TYPE)?;
+    let version = version_text(alloc, row)?;
+    let version = text_field(alloc, "version", version.as_str())?;
+    Ok(object_of(vec![in alloc; date, id, media_type, version]?))
+}

@@ -1,0 +1,28 @@
+ghost use Rattle.std.specs.Prelude.{◌≡◌, IfOk, map, codes};
+ghost use Rattle.serde_json.specs.Written.{compact_text};
+ghost use Rattle.stix_json.specs.DataOf.{data_of};
+ghost use Rattle.stix_json.specs.Ordered.{IsOrdered};
+ghost use Rattle.taxii_bodies.specs.Page.{page_data};
+
+use crate::fields::{list_field, object_text, truth_field};
+use flow_values::{Items, NoMemory, Text};
+use std::alloc::Global;
+use stix_json::Json;
+
+/// The body of a page: whether there are more, and a list under a name.
+pub(crate) fn page_text(
+    alloc: Global,
+    more: bool,
+    name: &str,
+    values: Items<Json>,
+) -> Result<Text, NoMemory>
+    requires { IsOrdered (page_data more name.now (map data_of values)) }
+    ensures { IfOk result (λ text. text ≡ compact_text (page_data more name.now (map data_of values))) }
+{
+    let more = truth_field(alloc, "more", more)?;
+    if values.is_empty() {
+        return object_text(alloc, vec![in alloc; more]?);
+    }
+    let list = list_field(alloc, name, values)?;
+    object_text(alloc, vec![in alloc; more, list]?)
+}

@@ -1,0 +1,129 @@
+ghost use Rattle.std.specs.Prelude.{◌≡◌, ◌+◌, ◌<◌, ◌^◌, ◌++◌, IfOk, OnOk, map};
+ghost use Rattle.serde_json.specs.Data.{object};
+ghost use Rattle.stix_json.specs.DataOf.{data_of, field_data, members_of};
+ghost use Rattle.taxii_bodies.specs.Status.{status_id_of, detail_data, status_data, IsStatus};
+ghost use Rattle.taxii_bodies.specs.inner.Members.{list_member, middle_members};
+
+use crate::Detail;
+use crate::details::moment_text;
+use crate::fields::{list_field, number_field, object_of, object_text, text_field};
+use crate::uuids::write_uuid;
+use flow_values::{Items, NoMemory, Text};
+use std::alloc::Global;
+use stix_json::{Field, Json};
+
+/// The UUID `00000000-0000-4000-8000-000000000000`, of version 4, which the numbers are added to.
+const FIRST_ID: u128 = 0x4000_8000_0000_0000_0000;
+
+/// How many numbers there are before they begin again.
+const NUMBERS: u64 = 1 << 48;
+
+/// What became of a request to add objects.
+#[derive(Drop)]
+pub struct StatusReport {
+    /// The number of the request.
+    pub number: u64,
+    /// When it came, in microseconds since 1970.
+    pub moment: u64,
+    /// The details of the objects that were stored, or of the first of them.
+    pub successes: Items<Detail>,
+    /// The details of those that were refused, or of the first of them.
+    pub failures: Items<Detail>,
+    /// How many were stored.
+    pub success_count: u64,
+    /// How many were refused.
+    pub failure_count: u64,
+}
+
+/// The identifier of the status of that number, of which the last 48 bits count.
+pub fn status_id(alloc: Global, number: u64) -> Result<Text, NoMemory>
+    ensures { IfOk result (λ id. id ≡ status_id_of number) }
+{
+    let mut buffer = [0; 36];
+    let id = write_uuid(FIRST_ID + u128::from(number % NUMBERS), &mut buffer);
+    Text::from_text(alloc, id)
+}
+
+/// The body of a status (section 4.3.1), which is always complete.
+pub fn status_body(alloc: Global, report: &StatusReport) -> Result<Text, NoMemory>
+    requires { report.now.success_count + report.now.failure_count < 2 ^ 63 }
+    ensures { IfOk result (IsStatus report.now) }
+{
+    let moment = moment_text(alloc, report.moment)?;
+    let fields = status_fields(alloc, report, moment.as_str())?;
+    object_text(alloc, fields)
+}
+
+/// The fields of a status, of the text of its moment.
+fn status_fields(alloc: Global, report: &StatusReport, moment: &str) -> Result<Vec<Field>, NoMemory>
+    requires { report.now.success_count + report.now.failure_count < 2 ^ 63 }
+    ensures { IfOk result
+        (λ fields. object (members_of (map field_data fields.items)) ≡ status_data report.now moment.now) }
+{
+    let failure_count = number_field(alloc, "failure_count", report.failure_count)?;
+    let mut fields = vec![in alloc; failure_count]?;
+    push_details(alloc, "failures", report.failures.as_slice(), &mut fields)?;
+    let mut middle = middle_fields(alloc, report, moment)?;
+    fields.append(&mut middle)?;
+    push_details(alloc, "successes", report.successes.as_slice(), &mut fields)?;
+    let total = report.success_count + report.failure_count;
+    fields.push(number_field(alloc, "total_count", total)?)?;
+    Ok(fields)
+}
+
+/// The fields between the two lists.
+fn middle_fields(alloc: Global, report: &StatusReport, moment: &str) -> Result<Vec<Field>, NoMemory>
+    requires { report.now.success_count < 2 ^ 63 }
+    ensures { IfOk result (λ fields. map field_data fields.items ≡ middle_members report.now moment.now) }
+{
+    let id = status_id(alloc, report.number)?;
+    let id = text_field(alloc, "id", id.as_str())?;
+    let pending_count = number_field(alloc, "pending_count", 0)?;
+    let timestamp = text_field(alloc, "request_timestamp", moment)?;
+    let status = text_field(alloc, "status", "complete")?;
+    let success_count = number_field(alloc, "success_count", report.success_count)?;
+    let fields = vec![in alloc; id, pending_count, timestamp, status, success_count]?;
+    Ok(fields)
+}
+
+/// Adds the field of a list of details, where it isn't empty.
+fn push_details(
+    alloc: Global,
+    name: &str,
+    details: &[Detail],
+    fields: &mut Vec<Field>,
+) -> Result<(), NoMemory>
+    ensures { OnOk result (map field_data fields.new.items
+        ≡ map field_data fields.old.items ++ list_member name.now (map detail_data details.now)) }
+{
+    if details.is_empty() {
+        return Ok(());
+    }
+    let values = detail_values(alloc, details)?;
+    fields.push(list_field(alloc, name, values)?)?;
+    Ok(())
+}
+
+fn detail_values(alloc: Global, details: &[Detail]) -> Result<Items<Json>, NoMemory>
+    ensures { IfOk result (λ values. map data_of values ≡ map detail_data details.now) }
+{
+    let mut values = Items::with_capacity(alloc, details.len())?;
+    for detail in details {
+        values.push(detail_value(alloc, detail)?)?;
+    }
+    Ok(values)
+}
+
+fn detail_value(alloc: Global, detail: &Detail) -> Result<Json, NoMemory>
+    ensures { IfOk result (λ value. data_of value ≡ detail_data detail.now) }
+{
+    let id = text_field(alloc, "id", detail.id.as_str())?;
+    let version = text_field(alloc, "version", detail.version.as_str())?;
+    match &detail.message {
+        Some(message) => {
+            let message = text_field(alloc, "message", message.as_str())?;
+            Ok(object_of(vec![in alloc; id, message, version]?))
+        }
+        None => Ok(object_of(vec![in alloc; id, version]?)),
+    }
+}

@@ -1,0 +1,15 @@
+ghost use Rattle.std.specs.Prelude.{◌≡◌, IfOk};
+ghost use Rattle.serde_json.specs.Written.{compact_text};
+ghost use Rattle.taxii_bodies.specs.Title.{title_data};
+
+use crate::fields::{object_text, text_field};
+use flow_values::{NoMemory, Text};
+use std::alloc::Global;
+
+/// The body of an error: its title (section 3.6.1).
+pub fn title_body(alloc: Global, title: &str) -> Result<Text, NoMemory>
+    ensures { IfOk result (λ text. text ≡ compact_text (title_data title.now)) }
+{
+    let title = text_field(alloc, "title", title)?;
+    object_text(alloc, vec![in alloc; title]?)
+}
