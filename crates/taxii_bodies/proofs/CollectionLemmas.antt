@@ -1,5 +1,5 @@
 -- What collections say of themselves has its names in order.
-use Rattle.std.proofs.Common.{◌≡◌, List, [], ◌∷◌, sym, ap, subst, ◌∙◌, refl, rules}
+use Rattle.std.proofs.Common.{◌≡◌, List, [], ◌∷◌, sym, subst, rules}
 use Rattle.std.specs.Prelude.{map}
 use Rattle.serde_json.specs.View.{items_of}
 use Rattle.stix_json.specs.declared.value.Json.{Json}

@@ -1,5 +1,5 @@
 -- The version that an object tells is a whole number of microseconds, and what holds of a text where there is one.
-use Rattle.std.proofs.Common.{◌≡◌, ℤ, Option, Some, None, Result, Ok, Err, IfOk, sym}
+use Rattle.std.proofs.Common.{ℤ, Option, Some, None, Result, Ok, Err, IfOk}
 use Rattle.std.specs.Prelude.{IfSome}
 use Rattle.flow_values.specs.Answers.{FindsExactly}
 use Rattle.serde_json.specs.Data.{Data}

@@ -1,7 +1,7 @@
 -- The text of an envelope is the compact text of a JSON value, whose objects are those of the rows.
-use Rattle.std.proofs.Common.{◌≡◌, ℕ, zero, suc, ◌+◌, ◌*◌, ◌/◌, ◌%◌, ◌<◌, Bool, false, List, [], ◌∷◌, ◌++◌, length, refl, sym, ap, ◌∙◌, subst, arith, append_assoc, Option, Some, None}
+use Rattle.std.proofs.Common.{◌≡◌, ℕ, zero, suc, ◌/◌, ◌%◌, ◌<◌, Bool, false, List, [], ◌∷◌, ◌++◌, length, refl, sym, ap, ◌∙◌, arith, append_assoc, Option, Some, None}
 use Rattle.std.specs.Prelude.{map, codes, slice_index}
-use Rattle.std.specs.List.{AllZip, AllByRecursion, flat_map, join_with_byte}
+use Rattle.std.specs.List.{AllZip, AllByRecursion, join_with_byte}
 use Rattle.std.specs.Int.{bytes_high_first, byte_at, to_be_bytes, w64}
 use Rattle.hex.specs.Hex.{lower_digits, encode_with, encode_lower}
 use Rattle.json.specs.Print.{escape_byte, escape}

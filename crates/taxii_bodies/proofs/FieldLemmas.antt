@@ -1,7 +1,7 @@
 -- The members that some fields are, from those of each.
 use Rattle.std.proofs.Common.{◌≡◌, ◌≢◌, ℕ, List, [], ◌∷◌, refl, sym, ap, subst, ◌∙◌}
 use Rattle.std.specs.Prelude.{map}
-use Rattle.serde_json.specs.Data.{Data, array, Members, member, no_members}
+use Rattle.serde_json.specs.Data.{array, member, no_members}
 use Rattle.serde_json.specs.View.{items_of}
 use Rattle.stix_json.specs.declared.value.Json.{Json}
 use Rattle.stix_json.specs.declared.value.Field.{Field}

@@ -1,5 +1,5 @@
 -- The names of a status are in order, whichever of its lists it has.
-use Rattle.std.proofs.Common.{◌≡◌, ℕ, ◌+◌, List, [], ◌∷◌, refl, rules, Option, Some, None}
+use Rattle.std.proofs.Common.{ℕ, ◌+◌, List, [], ◌∷◌, refl, Option, Some, None}
 use Rattle.std.specs.Prelude.{map, codes}
 use Rattle.serde_json.specs.Data.{Data, unsigned, string, object, no_members, member}
 use Rattle.serde_json.specs.Data as json

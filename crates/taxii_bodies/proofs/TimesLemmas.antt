@@ -1,5 +1,5 @@
 -- A written time has digits, `-`, `.`, `:`, `T` and `Z`: it is ASCII, and so it is text.
-use Rattle.std.proofs.Common.{ℕ, zero, suc, ◌+◌, ◌<◌, ◌≤◌, ◌/◌, ◌%◌, ℤ, List, [], ◌∷◌, ◌++◌, refl, sym, subst, arith, Result, Ok, Err, MatchResult}
+use Rattle.std.proofs.Common.{ℕ, zero, suc, ◌+◌, ◌<◌, ◌/◌, ◌%◌, ℤ, List, [], ◌∷◌, ◌++◌, refl, sym, subst, arith, Result, Ok, Err, MatchResult}
 use Rattle.std.specs.Prelude.{All, IsUtf8}
 use Rattle.std.specs.Char.{IsAsciiDigit}
 use Rattle.std.specs.Str.{IsAscii}

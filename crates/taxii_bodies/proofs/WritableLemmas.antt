@@ -1,5 +1,5 @@
 -- The instants that a sound row tells lie within the years 0000 to 9999.
-use Rattle.std.proofs.Common.{◌≡◌, ℕ, zero, suc, ◌+◌, ◌-◌, ◌*◌, ◌^◌, ◌<◌, ◌≤◌, ℤ, pos, ◌*ℤ◌, ◌⊎◌, inl, inr, Bool, true, false, List, length, take, get_or, refl, sym, subst, ◌∙◌, arith}
+use Rattle.std.proofs.Common.{◌≡◌, ℕ, zero, suc, ◌+◌, ◌-◌, ◌^◌, ◌<◌, ◌≤◌, ℤ, pos, ◌*ℤ◌, inl, inr, Bool, true, false, List, length, take, get_or, refl, sym, subst, arith}
 use Rattle.std.specs.Prelude.{All}
 use Rattle.std.specs.Bool.{MatchBool}
 use Rattle.std.specs.Char.{IsAsciiDigit}
@@ -11,7 +11,7 @@ use Rattle.jiff_core.specs.declared.civil.date.Date.{Date}
 use Rattle.jiff_core.proofs.DateLemmas.{epoch_day_range}
 use Rattle.jiff_core.proofs.SignedLemmas.{signed_arith}
 use Rattle.stix_times.specs.Instant.{IsInstant}
-use Rattle.stix_times.specs.Timestamp.{Timestamp, IsShaped, HasDay, fraction_nanos, nanos_of_day, nanos_of}
+use Rattle.stix_times.specs.Timestamp.{Timestamp, IsShaped, HasDay, fraction_nanos, nanos_of_day}
 use Rattle.stix_times.specs.Reading.{IsMillisTextOf}
 use Rattle.stix_times.proofs.DayLemmas.{epoch_day-from_zero, instant_bounds}
 use Rattle.stix_times.proofs.FractionLemmas.{value_more, bound_more, scaled_bound}
@@ -19,7 +19,7 @@ use Rattle.taxii_rows.specs.declared.stored_row.StoredRow.{StoredRow}
 use Rattle.taxii_rows.specs.declared.stored_row.TheConstants.{LAST_DATE}
 use Rattle.taxii_rows.specs.declared.type_set.TypeSet.{TypeSet}
 use Rattle.taxii_rows.specs.StoreState.{StoreState}
-use Rattle.taxii_rows.specs.SoundRow.{FitsUnder, Fits, IsSoundRow, IsSoundState}
+use Rattle.taxii_rows.specs.SoundRow.{Fits, IsSoundRow, IsSoundState}
 use Rattle.taxii_rows.specs.Version.{HasVersion, IsVersionTime, IsUndated}
 use Rattle.taxii_bodies.specs.Times.{IsWritable}
 

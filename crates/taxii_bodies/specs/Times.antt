@@ -1,6 +1,6 @@
 -- The texts of dates and versions (STIX 2.1, sections 2.16 and 3.2): timestamps of six digits of a second, or of three where an
 -- object tells its version and no more are needed.
-use Rattle.std.specs.Prelude.{◌≡◌, ℕ, ◌*◌, ◌%◌, ◌==◌, ◌≤◌, ℤ, pos, ◌*ℤ◌, unsigned_abs, List, if◌then◌else◌}
+use Rattle.std.specs.Prelude.{ℕ, ◌*◌, ◌%◌, ◌==◌, ◌≤◌, ℤ, pos, ◌*ℤ◌, unsigned_abs, List, if◌then◌else◌}
 use Rattle.std.specs.Bool.{MatchBool}
 use Rattle.stix_ids.specs.Kind.{IsKind}
 use Rattle.stix_times.specs.Instant.{IsInstant}

@@ -1,5 +1,5 @@
 -- The body of the versions of an object (TAXII 2.1, section 5.8.1).
-use Rattle.std.specs.Prelude.{◌≡◌, ℕ, List, map, codes, Bool}
+use Rattle.std.specs.Prelude.{◌≡◌, ℕ, List, codes, Bool}
 use Rattle.std.specs.List.{AllZip}
 use Rattle.serde_json.specs.Data.{Data, string}
 use Rattle.serde_json.specs.Written.{compact_text}

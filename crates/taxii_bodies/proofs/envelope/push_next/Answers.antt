@@ -1,4 +1,4 @@
-use Rattle.std.proofs.Common.{◌≡◌, ◌++◌, ◌∙◌, ap, List, ℕ}
+use Rattle.std.proofs.Common.{◌++◌, ◌∙◌, ap, List, ℕ}
 use Rattle.std.specs.Prelude.{codes}
 use Rattle.taxii_bodies.specs.Envelope.{next_text}
 use Rattle.taxii_bodies.proofs.EnvelopeLemmas.{three_pushed}

@@ -1,5 +1,5 @@
-use Rattle.std.proofs.Common.{◌≡◌, ◌≢◌, Bool, true, false, List, [], refl, sym, subst, IfOk, ◌↔◌}
-use Rattle.std.specs.Prelude.{IsTrue, map, codes}
+use Rattle.std.proofs.Common.{◌≡◌, ◌≢◌, Bool, true, false, List, [], sym, subst, IfOk, ◌↔◌}
+use Rattle.std.specs.Prelude.{IsTrue, codes}
 use Rattle.serde_json.specs.Data.{boolean, object, Members}
 use Rattle.serde_json.specs.Written.{compact_text}
 use Rattle.stix_json.specs.declared.value.Json.{Json}
