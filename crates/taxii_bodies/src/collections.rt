@@ -1,7 +1,7 @@
 ghost use Rattle.std.specs.Prelude.{◌≡◌, IfOk, map};
 ghost use Rattle.serde_json.specs.Written.{compact_text};
 ghost use Rattle.stix_json.specs.DataOf.{data_of};
-ghost use Rattle.taxii_bodies.specs.Collections.{collection_data, collections_data};
+ghost use Rattle.taxii_bodies.specs.Collections.{collection_data, collections_data, has_name};
 
 use crate::fields::{list_field, object_of, object_text, one_text_field, text_field, truth_field};
 use crate::uuids::write_uuid;
@@ -23,6 +23,16 @@ pub struct CollectionInfo {
     pub can_read: bool,
     /// Whether a client may add objects.
     pub can_write: bool,
+}
+
+impl CollectionInfo {
+    /// Whether the text is the collection's UUID, in hex digits of either case. Takes no memory.
+    pub fn is_named(&self, text: &str) -> bool
+        ensures { result ≡ has_name text.now self.now }
+    {
+        let mut buffer = [0; 36];
+        text.eq_ignore_ascii_case(write_uuid(self.id, &mut buffer))
+    }
 }
 
 /// The body of a collection (section 5.2.1).

@@ -33,7 +33,8 @@ fn next_of(rows: &[&StoredRow], more: bool) -> Option<u64>
     if more { last_date(rows) } else { None }
 }
 
-fn last_date(rows: &[&StoredRow]) -> Option<u64>
+/// The date of the last row, where there is one. Takes no memory.
+pub fn last_date(rows: &[&StoredRow]) -> Option<u64>
     ensures { result ≡ last_or None (dates_of (map (λ row. row.now) rows.now)) }
 {
     let last = rows.last()?;

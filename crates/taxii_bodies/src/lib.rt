@@ -20,7 +20,7 @@ mod versions;
 pub use collections::{CollectionInfo, collection_body, collections_body};
 pub use details::{Detail, failure_detail, refused_detail, success_detail};
 pub use discovery::{discovery_body, root_body};
-pub use envelope::envelope_body;
+pub use envelope::{envelope_body, last_date};
 pub use manifest::manifest_body;
 pub use problem::{Problem, problem_body};
 pub use status::{StatusReport, status_body, status_id};
