@@ -6,13 +6,13 @@
 #![tactic(auto)]
 
 mod answers;
-mod check;
+mod checking;
 mod config;
 mod refusal;
 mod rights;
 
 pub use answers::{bare_answer, body_answer, page_answer, problem_answer};
-pub use check::check;
+pub use checking::check;
 pub use config::Config;
 pub use refusal::Refusal;
 pub use rights::Rights;
