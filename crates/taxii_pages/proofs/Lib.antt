@@ -1,0 +1,3 @@
+mod ToldLemmas
+mod CutLemmas
+mod PageLemmas

@@ -1,0 +1,29 @@
+-- Where a page may begin: the rows that can meet a query by when they were added (TAXII 2.1, section 3.4).
+use Rattle.std.specs.Prelude.{◌≡◌, ℕ, ◌*◌, ◌≤◌, ◌<◌, pos, ◌<ℤ◌, List, ◌++◌, All, codes, IfSome}
+use Rattle.std.specs.List.{Contains}
+use Rattle.taxii_rows.specs.declared.stored_row.StoredRow.{StoredRow}
+use Rattle.taxii_routes.specs.declared.query.Query.{Query}
+
+-- a row of that date was added behind the instant that the query names, and behind where it begins
+pub record IsBehind (query : Query) (date : ℕ) : Type 0 where
+  pub added : IfSome query.added_after (λ instant. instant <ℤ pos (1000 * date))
+  pub next : IfSome query.next (λ after. after < date)
+
+-- so was this row, and the query asks for version 2.1 of the standard
+pub record CanMeet (query : Query) (row : StoredRow) : Type 0 where
+  pub behind : IsBehind query row.date
+  pub specs : IfSome query.specs (λ specs. Contains specs (codes "2.1"))
+
+-- behind some rows that can't meet the query stand these, which can
+pub record AreCandidates (query : Query) (rows candidates : List StoredRow) : Type 0 where
+  pub passed : List StoredRow
+  pub all : rows ≡ passed ++ candidates
+  pub before : All (λ row. ¬ CanMeet query row) passed
+  pub each : All (CanMeet query) candidates
+
+-- behind the rows up to a date stand these, which are later
+pub record IsCutAt (date : ℕ) (rows later : List StoredRow) : Type 0 where
+  pub upto : List StoredRow
+  pub all : rows ≡ upto ++ later
+  pub before : All (λ row. row.date ≤ date) upto
+  pub each : All (λ row. date < row.date) later

@@ -1,0 +1,31 @@
+ghost use Rattle.taxii_rows.specs.StoreState.{dates_of, RiseFrom};
+ghost use Rattle.taxii_pages.specs.inner.Candidates.{AreCandidates, IsCutAt};
+
+use crate::cursor::cursor;
+use crate::meeting::names_text;
+use taxii_routes::Query;
+use taxii_rows::StoredRow;
+use taxii_store::Library;
+
+/// The rows that can meet the query by when they were added, found by halving, and none where it doesn't
+/// ask for the version of the standard that all rows have.
+pub(crate) fn candidates<'a>(library: &'a Library, query: &Query) -> &'a [StoredRow]
+    ensures rise { RiseFrom 1 (dates_of library.now.rows) }
+    ensures candidates { AreCandidates query.now library.now.rows result.now }
+{
+    let rows = library.rows();
+    if names_text(&query.specs, "2.1") {
+        rows_behind(rows, cursor(query))
+    } else {
+        &rows[rows.len()..]
+    }
+}
+
+/// The rows that were added later than the date.
+fn rows_behind(rows: &[StoredRow], date: u64) -> &[StoredRow]
+    requires { RiseFrom 1 (dates_of rows.now) }
+    ensures { IsCutAt date rows.now result.now }
+{
+    let first = rows.partition_point(|row| row.date <= date);
+    &rows[first..]
+}

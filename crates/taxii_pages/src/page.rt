@@ -1,0 +1,54 @@
+ghost use Rattle.std.specs.Prelude.{◌≡◌, map, IfOk, option_map};
+ghost use Rattle.taxii_walks.specs.Page.{page_size as size_of, IsPage};
+
+use crate::candidates::candidates;
+use crate::meeting::meets;
+use flow_values::NoMemory;
+use std::alloc::Global;
+use stix_ids::Id;
+use taxii_routes::Query;
+use taxii_rows::StoredRow;
+use taxii_store::Library;
+
+/// A page of rows (TAXII 2.1, section 3.4).
+#[derive(Drop)]
+pub struct Page<'a> {
+    /// The rows, by date.
+    pub rows: Vec<&'a StoredRow>,
+    /// Whether other rows that meet the query come behind them.
+    pub more: bool,
+}
+
+/// The most rows that a page has.
+const MOST_ROWS: u64 = 100;
+
+/// The first rows, by date, of those in a collection that meet the query, and of that object only where
+/// one is named: at most 100 of them, or as many as the query's limit says where that is less.
+pub fn page_of<'a>(
+    alloc: Global,
+    library: &'a Library,
+    collection: u128,
+    only: Option<&Id>,
+    query: &Query,
+) -> Result<Page<'a>, NoMemory>
+    ensures { IfOk result (λ page. IsPage library.now.rows collection (option_map (λ id. id.now) only.entry) query.now (map (λ row. row.now) page.rows.items) page.more) }
+{
+    let size = page_size(query);
+    let mut rows = Vec::new(alloc);
+    for row in candidates(library, query) {
+        if meets(library, row, collection, only, query) {
+            if rows.len() == size {
+                return Ok(Page { rows, more: true });
+            }
+            rows.push(row)?;
+        }
+    }
+    Ok(Page { rows, more: false })
+}
+
+/// The most rows that a page of the query has.
+fn page_size(query: &Query) -> usize
+    ensures { result ≡ size_of query.now }
+{
+    query.limit.unwrap_or(MOST_ROWS).min(MOST_ROWS) as usize
+}
