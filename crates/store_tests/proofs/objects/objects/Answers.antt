@@ -1,4 +1,4 @@
-use Rattle.std.proofs.Common.{List, [], ◌∷◌, All, sym, subst}
+use Rattle.std.proofs.Common.{[], ◌∷◌, All, sym, subst}
 use Rattle.std.proofs.lemmas.List.Elements.{All-append, All-cons, All-nil}
 use Rattle.taxii_store.specs.Planned.{IsSound}
 use Rattle.store_tests.proofs.objects.objects.Goals as goal

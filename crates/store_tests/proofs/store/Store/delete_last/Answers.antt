@@ -1,4 +1,4 @@
-use Rattle.std.proofs.Common.{ℕ, ◌≤◌, List, [], ◌∷◌, arith, sym, subst}
+use Rattle.std.proofs.Common.{ℕ, List, [], ◌∷◌, arith, sym, subst}
 use Rattle.taxii_rows.specs.StoreState.{RiseFrom}
 use Rattle.store_tests.proofs.store.Store.delete_last.Goals as goal
 
