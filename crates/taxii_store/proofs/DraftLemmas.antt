@@ -9,9 +9,9 @@ use Rattle.taxii_rows.specs.Described.{row_of}
 use Rattle.taxii_rows.specs.SoundRow.{IsSoundRow}
 use Rattle.taxii_rows.specs.StoreState.{StoreState}
 use Rattle.taxii_store.specs.declared.add_outcome.AddOutcome.{AddOutcome}
-use Rattle.taxii_store.specs.Addition.{Adds, IsAddition, first_date}
+use Rattle.taxii_store.specs.Addition.{Adds, IsAddition, date_in, first_date}
 use Rattle.taxii_store.specs.Planned.{IsSound, IsSoundPlan}
-use Rattle.taxii_store.specs.inner.Moving.{CountUp, IsDraft, date_in, moved, moved_outcome, next_date, ahead_at, plan_of}
+use Rattle.taxii_store.specs.inner.Moving.{CountUp, IsDraft, moved, moved_outcome, next_date, ahead_at, plan_of}
 use Rattle.taxii_store.proofs.CountLemmas.{count_pushed, counts_rise, counts_last, counts_within, counts_moved, all_sound_moved}
 use Rattle.taxii_store.proofs.AddsLemmas.{adds_moved, find_among}
 use Rattle.std.specs.Option.{option_or}
