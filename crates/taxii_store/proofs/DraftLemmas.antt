@@ -62,6 +62,7 @@ plan_sound mark moment outcomes new draft =
     record {
       rise = counts_rise (mark + 1) (mark + 1 + ahead) rows (omega arith) counts;
       last = counts_last LAST_DATE (mark + 1 + ahead) mark rows (omega (arith, draft.room)) counts (omega (arith, count, ends));
+      dates = counts_within (mark + 1 + ahead) LAST_DATE rows counts (omega (arith, count, ends));
       rows = all_sound_moved ahead new draft.sound;
     }
 
