@@ -13,9 +13,12 @@ use Rattle.taxii_bodies.specs.Details.{IsSuccessOf}
 use Rattle.taxii_bodies.specs.Status.{status_id_of, IsStatus}
 use Rattle.taxii_posts.specs.declared.posted.Posted.{Posted}
 use Rattle.taxii_posts.specs.declared.posted.TheConstants.{MAX_DETAILS}
-use Rattle.taxii_posts.specs.Posted.{IsPosted}
+use Rattle.taxii_posts.specs.declared.refusal.PostRefusal.TheVariants as post
+use Rattle.taxii_posts.specs.Posted.{IsPosted, IsUnreadable}
 use Rattle.taxii_statuses.specs.Statuses.{next_number, with_status}
-use Rattle.taxii_requests.specs.Answers.{body_answer}
+use Rattle.taxii_bodies.specs.declared.problem.Problem.TheVariants.{BadValue, Repeated, Forbidden, NotFound, NotAcceptable, UnsupportedMediaType, NotJson, NotList, StoreFault, DatesUsedUp}
+use Rattle.taxii_requests.specs.declared.refusal.Refusal.{Refusal}
+use Rattle.taxii_requests.specs.declared.refusal.Refusal.TheVariants.{NotAllowed, Problem, NoMemory}
 use Rattle.taxii_changes.specs.ServerState.{ServerState}
 
 -- the detail is that of the row of an outcome
@@ -53,3 +56,18 @@ pub record LacksDates (before : ServerState) (collection moment : ℕ) (body : L
   pub posted : Posted
   pub posted_is : IsPosted body moment posted
   pub lacks : UsesUpDates before.store collection posted.objects.items
+
+-- why nothing can be added
+abbrev pub CannotAdd : ServerState → ℕ → ℕ → List ℕ → Refusal → Type 0
+CannotAdd before collection moment body (NotAllowed its) = ⊥
+CannotAdd before collection moment body (Problem (BadValue param)) = ⊥
+CannotAdd before collection moment body (Problem (Repeated param)) = ⊥
+CannotAdd before collection moment body (Problem Forbidden) = ⊥
+CannotAdd before collection moment body (Problem NotFound) = ⊥
+CannotAdd before collection moment body (Problem NotAcceptable) = ⊥
+CannotAdd before collection moment body (Problem UnsupportedMediaType) = ⊥
+CannotAdd before collection moment body (Problem NotJson) = IsUnreadable body post.NotJson
+CannotAdd before collection moment body (Problem NotList) = IsUnreadable body post.NotList
+CannotAdd before collection moment body (Problem StoreFault) = ⊥
+CannotAdd before collection moment body (Problem DatesUsedUp) = LacksDates before collection moment body
+CannotAdd before collection moment body NoMemory = ⊥

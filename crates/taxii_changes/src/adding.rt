@@ -6,8 +6,8 @@ ghost use Rattle.taxii_store.specs.Agreement.{Agrees};
 ghost use Rattle.taxii_bodies.specs.declared.problem.Problem.TheVariants as Trouble;
 ghost use Rattle.taxii_requests.specs.declared.refusal.Refusal.TheVariants as Refused;
 ghost use Rattle.taxii_requests.specs.Answers.{body_answer as answer_with};
-ghost use Rattle.taxii_changes.specs.Adding.{IsAdding, with_added};
-ghost use Rattle.taxii_changes.specs.inner.Preparing.{server_of, CannotAdd};
+ghost use Rattle.taxii_changes.specs.Adding.{IsAdding, CannotAdd, with_added};
+ghost use Rattle.taxii_changes.specs.ServerState.{server_of};
 
 use crate::prepared::Prepared;
 use http_frames::{Answer, Status};

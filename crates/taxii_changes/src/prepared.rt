@@ -7,8 +7,8 @@ ghost use Rattle.taxii_bodies.specs.Status.{status_id_of};
 ghost use Rattle.taxii_bodies.specs.declared.problem.Problem.TheVariants as Trouble;
 ghost use Rattle.taxii_requests.specs.declared.refusal.Refusal.TheVariants as Refused;
 ghost use Rattle.taxii_statuses.specs.Statuses.{next_number};
-ghost use Rattle.taxii_changes.specs.Adding.{IsAdding};
-ghost use Rattle.taxii_changes.specs.inner.Preparing.{server_of, CannotAdd};
+ghost use Rattle.taxii_changes.specs.Adding.{IsAdding, CannotAdd};
+ghost use Rattle.taxii_changes.specs.ServerState.{server_of};
 
 use crate::outcomes::report_of;
 use flow_values::Text;

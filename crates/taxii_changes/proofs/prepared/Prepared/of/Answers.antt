@@ -2,7 +2,8 @@ use Rattle.std.proofs.Common.{◌≡◌, ◌⊎◌, inl, inr, ℕ, ◌+◌, ◌<
 use Rattle.taxii_bodies.specs.declared.problem.Problem.TheVariants.{DatesUsedUp}
 use Rattle.taxii_requests.specs.declared.refusal.Refusal.TheVariants.{NoMemory, Problem}
 use Rattle.taxii_store.specs.Addition.{first_date}
-use Rattle.taxii_changes.specs.inner.Preparing.{server_of, CannotAdd}
+use Rattle.taxii_changes.specs.Adding.{CannotAdd}
+use Rattle.taxii_changes.specs.ServerState.{server_of}
 use Rattle.taxii_changes.proofs.AnswerLemmas.{handed_on, as_many}
 use Rattle.taxii_changes.proofs.prepared.Prepared.of.Goals as goal
 
