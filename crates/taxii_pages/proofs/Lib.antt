@@ -1,3 +1,3 @@
-mod ToldLemmas
+mod SettledLemmas
 mod CutLemmas
 mod PageLemmas

@@ -13,7 +13,7 @@ use Rattle.taxii_routes.specs.declared.query.Query.{Query}
 use Rattle.taxii_walks.specs.Meeting.{Meets}
 use Rattle.taxii_walks.specs.Page.{page_size, AreAllWhere, IsPage}
 use Rattle.taxii_pages.specs.inner.Candidates.{CanMeet, AreCandidates}
-use Rattle.taxii_pages.proofs.ToldLemmas.{Told, told_meets, cons_cases}
+use Rattle.taxii_pages.proofs.SettledLemmas.{Settled, settled_meets, cons_cases}
 
 -- ---- what a test leaves of some rows
 
@@ -112,24 +112,24 @@ fits old size new few room grown = elim (cases_lt old size) [
 
 -- ---- the rows that meet a query
 
-abbrev pub answer : {P : Type 0} → Told P → Bool
+abbrev pub answer : {P : Type 0} → Settled P → Bool
 answer (inl holds) = true
 answer (inr never) = false
 
-yes_is : {P : Type 0} (told : Told P) → P → answer told ≡ true
+yes_is : {P : Type 0} (settled : Settled P) → P → answer settled ≡ true
 yes_is (inl holds) p = refl
 yes_is (inr never) p = absurd (never p)
 
-no_is : {P : Type 0} (told : Told P) → ¬ P → answer told ≡ false
+no_is : {P : Type 0} (settled : Settled P) → ¬ P → answer settled ≡ false
 no_is (inl holds) n = absurd (n holds)
 no_is (inr never) n = refl
 
-it_holds : {P : Type 0} (told : Told P) → answer told ≡ true → P
+it_holds : {P : Type 0} (settled : Settled P) → answer settled ≡ true → P
 it_holds (inl holds) is = holds
 it_holds (inr never) is = absurd (false≢true is)
 
 abbrev pub meets_test : List StoredRow → ℕ → Option Id → Query → StoredRow → Bool
-meets_test rows collection only query row = answer (told_meets rows collection only query row)
+meets_test rows collection only query row = answer (settled_meets rows collection only query row)
 
 -- those of some rows that meet a query on a store
 unfoldable pub meeting : List StoredRow → ℕ → Option Id → Query → List StoredRow → List StoredRow
@@ -144,13 +144,13 @@ module _ (rows : List StoredRow) (collection : ℕ) (only : Option Id) (query : 
       → meeting rows collection only query (take (i + 1) later) ≡ meeting rows collection only query (take i later) ++ row ∷ []
   unfolding meeting
   meeting_more later i row within is meets =
-      one_more (meets_test rows collection only query) later i row within is (yes_is (told_meets rows collection only query row) meets)
+      one_more (meets_test rows collection only query) later i row within is (yes_is (settled_meets rows collection only query row) meets)
 
   pub meeting_same : (later : List StoredRow) (i : ℕ) (row : StoredRow) → i < length later → row ≡ get_or later i row → ¬ Meets rows collection only query row
       → meeting rows collection only query (take (i + 1) later) ≡ meeting rows collection only query (take i later)
   unfolding meeting
   meeting_same later i row within is never =
-      none_more (meets_test rows collection only query) later i row within is (no_is (told_meets rows collection only query row) never)
+      none_more (meets_test rows collection only query) later i row within is (no_is (settled_meets rows collection only query row) never)
 
   -- those among all rows are all that meet it
   meeting_all : RiseFrom 1 (dates_of rows) → AreAllWhere (Meets rows collection only query) rows (meeting rows collection only query rows)
@@ -159,14 +159,14 @@ module _ (rows : List StoredRow) (collection : ℕ) (only : Option Id) (query : 
     rise = rise_kept 1 (meets_test rows collection only query) rows rise;
     each = λ row. (
       λ there. let found = from_kept (meets_test rows collection only query) rows row there in
-          (found.0, it_holds (told_meets rows collection only query row) found.1),
-      λ h. in_kept (meets_test rows collection only query) rows row h.0 (yes_is (told_meets rows collection only query row) h.1),
+          (found.0, it_holds (settled_meets rows collection only query row) found.1),
+      λ h. in_kept (meets_test rows collection only query) rows row h.0 (yes_is (settled_meets rows collection only query row) h.1),
     );
   }
 
   -- none of them stands before the candidates
   unmet : (row : StoredRow) → ¬ CanMeet query row → meets_test rows collection only query row ≡ false
-  unmet row never = no_is (told_meets rows collection only query row) (λ meets. never (record {
+  unmet row never = no_is (settled_meets rows collection only query row) (λ meets. never (record {
     behind = record { added = meets.asked.added; next = meets.asked.next };
     specs = meets.asked.specs;
   }))

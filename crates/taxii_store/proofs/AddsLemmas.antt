@@ -2,10 +2,11 @@
 use Rattle.std.proofs.Common.{◌≡◌, ℕ, zero, suc, ℤ, pos, ◌+◌, ◌<◌, ◌≤◌, List, [], ◌∷◌, ◌++◌, length, map, All, Bool, true, false, cond, Option, Some, None, IfSome, is_some, unwrap_or, option_map, MatchOption, refl, sym, ap, subst, ◌∙◌, append_assoc, arith}
 use Rattle.std.specs.Prelude.{nat_lt, ◌&&◌, find}
 use Rattle.std.specs.Ordering.{int_eq}
+use Rattle.std.specs.List.{Contains}
 use Rattle.std.specs.Option.{option_or}
 use Rattle.std.proofs.lemmas.Bool.{lt-ltb, le-ltb}
 use Rattle.std.proofs.lemmas.List.{append-nil, map-append, length-map, length-append}
-use Rattle.std.proofs.lemmas.List.Elements.{All-head, All-tail, All-append, All-cons, All-nil}
+use Rattle.std.proofs.lemmas.List.Elements.{All-head, All-tail, All-append, All-cons, All-nil, All-contains_itself, Contains-append_left, Contains-push}
 use Rattle.std.proofs.lemmas.List.Folds.{find-append}
 use Rattle.taxii_rows.specs.declared.stored_row.StoredRow.{StoredRow}
 use Rattle.taxii_rows.specs.declared.stored_row.TheConstants.{LAST_DATE}
@@ -16,7 +17,7 @@ use Rattle.taxii_rows.specs.StoreState.{StoreState}
 use Rattle.taxii_index.specs.Presence.{agrees, is_same, row_of_same}
 use Rattle.taxii_store.specs.declared.add_outcome.AddOutcome.{AddOutcome}
 use Rattle.taxii_store.specs.declared.add_outcome.AddOutcome.TheVariants.{Added, Present}
-use Rattle.taxii_store.specs.Addition.{Adds, UsesUpDates}
+use Rattle.taxii_store.specs.Addition.{Adds, UsesUpDates, date_in}
 use Rattle.taxii_store.specs.inner.Moving.{moved, moved_date, moved_outcome, next_date, Places, LacksDate}
 
 -- what the first object makes of an addition, where that row makes it present
@@ -222,3 +223,32 @@ adds_moved mark ahead collection date rows fresh (object ∷ objects) outcomes n
         ap (map (moved_outcome mark ahead)) out_is ∙ ap (λ (d : ℕ). Added d ∷ map (moved_outcome mark ahead) others) (moves mark ahead date past),
         ap (map (moved ahead)) new_is ∙ ap (λ (r : StoredRow). r ∷ map (moved ahead) more) (row_moved ahead date collection object),
         behind_row others more (more_rows others more (subst (λ (rs : List StoredRow). Adds collection (date + 1) rs objects others more) (append_assoc rows fresh (row ∷ [])) it)))
+
+-- ---- outcomes and rows
+
+abbrev HasRow : List StoredRow → AddOutcome → Type 0
+HasRow rows outcome = (row : StoredRow) × Contains rows row × (row.date ≡ date_in outcome)
+
+-- each outcome has its row behind an addition
+pub outcomes_have : (collection date : ℕ) (rows : List StoredRow) (objects : List Described) (outcomes : List AddOutcome) (new : List StoredRow)
+    → Adds collection date rows objects outcomes new → All (HasRow (rows ++ new)) outcomes
+outcomes_have collection date rows [] outcomes new adds = subst (All (HasRow (rows ++ new))) (sym adds.0) (All-nil (HasRow (rows ++ new)))
+outcomes_have collection date rows (object ∷ objects) outcomes new adds = next (row_of_same collection object rows)
+    (find_among (is_same collection object) (Contains rows) rows (All-contains_itself rows)) adds
+    (λ others it. outcomes_have collection date rows objects others new it)
+    (λ others more it. outcomes_have collection (date + 1) (rows ++ row ∷ []) objects others more it)
+  where
+    row : StoredRow
+    row = row_of object date collection
+    next : (found : Option StoredRow) → IfSome found (Contains rows) → AddsNext collection date rows object objects outcomes new found
+        → ((others : List AddOutcome) → Adds collection date rows objects others new → All (HasRow (rows ++ new)) others)
+        → ((others : List AddOutcome) (more : List StoredRow) → Adds collection (date + 1) (rows ++ row ∷ []) objects others more → All (HasRow ((rows ++ row ∷ []) ++ more)) others)
+        → All (HasRow (rows ++ new)) outcomes
+    next (Some held) among (others, out_is, it) again behind = subst (All (HasRow (rows ++ new))) (sym out_is)
+        (All-cons (HasRow (rows ++ new)) (Present held.date) others (held, Contains-append_left rows new held among, refl) (again others it))
+    next None among (others, more, out_is, new_is, it) again behind =
+        let all : (rows ++ row ∷ []) ++ more ≡ rows ++ new = append_assoc rows (row ∷ []) more ∙ ap (λ (rs : List StoredRow). rows ++ rs) (sym new_is) in
+        let there = subst (λ (rs : List StoredRow). Contains rs row) all (Contains-append_left (rows ++ row ∷ []) more row (Contains-push rows row)) in
+        subst (All (HasRow (rows ++ new))) (sym out_is)
+            (All-cons (HasRow (rows ++ new)) (Added date) others (row, there, refl)
+                (subst (λ (rs : List StoredRow). All (HasRow rs) others) all (behind others more it)))

@@ -9,9 +9,9 @@ use Rattle.taxii_rows.specs.Described.{row_of}
 use Rattle.taxii_rows.specs.SoundRow.{IsSoundRow}
 use Rattle.taxii_rows.specs.StoreState.{StoreState}
 use Rattle.taxii_store.specs.declared.add_outcome.AddOutcome.{AddOutcome}
-use Rattle.taxii_store.specs.Addition.{Adds, IsAddition, first_date}
+use Rattle.taxii_store.specs.Addition.{Adds, IsAddition, date_in, first_date}
 use Rattle.taxii_store.specs.Planned.{IsSound, IsSoundPlan}
-use Rattle.taxii_store.specs.inner.Moving.{CountUp, IsDraft, date_in, moved, moved_outcome, next_date, ahead_at, plan_of}
+use Rattle.taxii_store.specs.inner.Moving.{CountUp, IsDraft, moved, moved_outcome, next_date, ahead_at, plan_of}
 use Rattle.taxii_store.proofs.CountLemmas.{count_pushed, counts_rise, counts_last, counts_within, counts_moved, all_sound_moved}
 use Rattle.taxii_store.proofs.AddsLemmas.{adds_moved, find_among}
 use Rattle.std.specs.Option.{option_or}
@@ -62,6 +62,7 @@ plan_sound mark moment outcomes new draft =
     record {
       rise = counts_rise (mark + 1) (mark + 1 + ahead) rows (omega arith) counts;
       last = counts_last LAST_DATE (mark + 1 + ahead) mark rows (omega (arith, draft.room)) counts (omega (arith, count, ends));
+      dates = counts_within (mark + 1 + ahead) LAST_DATE rows counts (omega (arith, count, ends));
       rows = all_sound_moved ahead new draft.sound;
     }
 

@@ -9,6 +9,11 @@ use Rattle.taxii_index.specs.Presence.{row_of_same}
 use Rattle.taxii_store.specs.declared.add_outcome.AddOutcome.{AddOutcome}
 use Rattle.taxii_store.specs.declared.add_outcome.AddOutcome.TheVariants.{Added, Present}
 
+-- the date in an outcome
+abbrev pub date_in : AddOutcome → ℕ
+date_in (Added date) = date
+date_in (Present date) = date
+
 -- objects are added in turn behind these rows, the first new one with this date. One that a row makes present has the date of the
 -- first such row. Any other one becomes a row with the next date, which stands behind the others for the objects after it
 abbrev pub Adds : ℕ → ℕ → List StoredRow → List Described → List AddOutcome → List StoredRow → Type 0

@@ -23,4 +23,5 @@ IsSound object = (date collection : ℕ) → IsSoundRow (row_of object date coll
 pub record IsSoundPlan (planned : PlannedState) : Type 0 where
   pub rise : RiseFrom (planned.mark + 1) (dates_of planned.rows)
   pub last : mark_after planned.mark planned.rows ≤ LAST_DATE
+  pub dates : All (λ row. row.date ≤ LAST_DATE) planned.rows
   pub rows : All IsSoundRow planned.rows

@@ -1,4 +1,4 @@
-ghost use Rattle.std.specs.Prelude.{◌≡◌, ◌↔◌, [], true, IsTrue, IfOk, OnOk, OnErr};
+ghost use Rattle.std.specs.Prelude.{◌≡◌, ◌↔◌, [], IsTrue, IsOk, IfOk, OnOk, OnErr};
 ghost use Rattle.std.specs.List.{Contains};
 ghost use Rattle.taxii_rows.specs.Keeper.{without};
 ghost use Rattle.taxii_rows.specs.KeeperCauses.{KeeperCauses};
@@ -52,7 +52,7 @@ impl Library {
         ensures name { K.name keeper.new ≡ K.name keeper.old }
         ensures ok { OnOk result (self.new ≡ without dates.now self.old) }
         ensures err { OnErr result (self.new ≡ self.old) }
-        ensures nothing { dates.now ≡ [] → keeper.new ≡ keeper.old }
+        ensures nothing { dates.now ≡ [] → IsOk result × (keeper.new ≡ keeper.old) }
         ensures causes { KeeperCauses (K.faults keeper.old) (K.faults keeper.new) result }
     {
         if dates.is_empty() {

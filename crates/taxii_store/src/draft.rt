@@ -3,9 +3,9 @@ ghost use Rattle.taxii_rows.specs.declared.stored_row.TheConstants.{LAST_DATE as
 ghost use Rattle.taxii_rows.specs.Described.{row_of};
 ghost use Rattle.taxii_index.specs.Presence.{row_of_same};
 ghost use Rattle.taxii_store.specs.declared.plan_refusal.PlanRefusal.TheVariants.{DatesUsedUp as UsedUp};
-ghost use Rattle.taxii_store.specs.Addition.{Adds, IsAddition, UsesUpDates};
+ghost use Rattle.taxii_store.specs.Addition.{Adds, UsesUpDates, date_in};
 ghost use Rattle.taxii_store.specs.Planned.{IsSound};
-ghost use Rattle.taxii_store.specs.inner.Moving.{IsDraft, Places, LacksDate, date_in, plan_of};
+ghost use Rattle.taxii_store.specs.inner.Moving.{IsDraft, Places, LacksDate, plan_of};
 
 use crate::moved::{first_date, last_of, move_outcomes, move_rows};
 use crate::{AddOutcome, Library, PlanRefusal, Planned};

@@ -8,6 +8,7 @@
 mod add_outcome;
 mod delete;
 mod draft;
+pub mod laws;
 mod library;
 mod load;
 mod load_refusal;

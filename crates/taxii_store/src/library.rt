@@ -1,4 +1,4 @@
-ghost use Rattle.std.specs.Prelude.{◌≡◌, ◌↔◌, IsTrue, option_map, OnOk, OnErr, [], true};
+ghost use Rattle.std.specs.Prelude.{◌≡◌, ◌↔◌, IsTrue, option_map, IsOk, OnOk, OnErr, []};
 ghost use Rattle.std.specs.List.{Contains};
 ghost use Rattle.taxii_rows.specs.Keeper.{row_after as first_later, row_at as first_then, with_rows};
 ghost use Rattle.taxii_rows.specs.KeeperCauses.{KeeperCauses};
@@ -78,7 +78,7 @@ impl Library {
         ensures name { K.name keeper.new ≡ K.name keeper.old }
         ensures ok { OnOk result (self.new ≡ with_rows planned.rows (mark_after planned.mark planned.rows) self.old) }
         ensures err { OnErr result (self.new ≡ self.old) }
-        ensures nothing { planned.rows ≡ [] → keeper.new ≡ keeper.old }
+        ensures nothing { planned.rows ≡ [] → IsOk result × (keeper.new ≡ keeper.old) }
         ensures causes { KeeperCauses (K.faults keeper.old) (K.faults keeper.new) result }
     {
         if planned.rows.is_empty() {

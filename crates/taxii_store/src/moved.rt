@@ -1,7 +1,7 @@
 ghost use Rattle.std.specs.Prelude.{◌≡◌, ◌+◌, ◌≤◌, All, map};
 ghost use Rattle.taxii_rows.specs.declared.stored_row.TheConstants.{LAST_DATE as last_date};
-ghost use Rattle.taxii_store.specs.Addition.{first_date as first_given, mark_after};
-ghost use Rattle.taxii_store.specs.inner.Moving.{moved, moved_date, moved_outcome, date_in};
+ghost use Rattle.taxii_store.specs.Addition.{date_in, first_date as first_given, mark_after};
+ghost use Rattle.taxii_store.specs.inner.Moving.{moved, moved_date, moved_outcome};
 
 use crate::AddOutcome;
 use taxii_rows::{LAST_DATE, StoredRow};

@@ -1,4 +1,5 @@
 ghost use Rattle.std.specs.Prelude.{◌≡◌};
+ghost use Rattle.taxii_store.specs.Planned.{IsSoundPlan};
 
 use crate::AddOutcome;
 use std::marker::Model;
@@ -15,6 +16,7 @@ pub struct Planned {
 
 impl Model for Planned {
     ghost use Rattle.std.specs.Prelude.{◌≡◌};
+ghost use Rattle.taxii_store.specs.Planned.{IsSoundPlan};
     ghost use Rattle.taxii_store.specs.Addition.{mark_after};
     ghost use Rattle.taxii_store.specs.Planned.{PlannedState, IsSoundPlan};
     ghost use Rattle.taxii_store.specs.inner.Moving.{planned_of};
@@ -35,9 +37,10 @@ impl Planned {
         self.outcomes.as_slice()
     }
 
-    /// The new rows, by date.
+    /// The new rows, by date, which is past the mark.
     pub fn rows(&self) -> &[StoredRow]
-        ensures { result.now ≡ self.now.rows }
+        ensures rows { result.now ≡ self.now.rows }
+        ensures sound { IsSoundPlan self.now }
     {
         self.rows.as_slice()
     }

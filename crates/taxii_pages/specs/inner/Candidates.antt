@@ -9,7 +9,7 @@ pub record IsBehind (query : Query) (date : ℕ) : Type 0 where
   pub added : IfSome query.added_after (λ instant. instant <ℤ pos (1000 * date))
   pub next : IfSome query.next (λ after. after < date)
 
--- so was this row, and the query asks for version 2.1 of the standard
+-- the row can meet the query: it was added behind both, and the query takes version 2.1 of the standard, which is that of all rows
 pub record CanMeet (query : Query) (row : StoredRow) : Type 0 where
   pub behind : IsBehind query row.date
   pub specs : IfSome query.specs (λ specs. Contains specs (codes "2.1"))

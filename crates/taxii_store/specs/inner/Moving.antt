@@ -9,7 +9,7 @@ use Rattle.taxii_rows.specs.declared.stored_row.TheConstants.{LAST_DATE}
 use Rattle.taxii_rows.specs.SoundRow.{IsSoundRow}
 use Rattle.taxii_store.specs.declared.add_outcome.AddOutcome.{AddOutcome}
 use Rattle.taxii_store.specs.declared.add_outcome.AddOutcome.TheVariants.{Added, Present}
-use Rattle.taxii_store.specs.Addition.{first_date}
+use Rattle.taxii_store.specs.Addition.{date_in, first_date}
 use Rattle.taxii_store.specs.Planned.{PlannedState}
 
 abbrev pub planned_of : ℕ → List AddOutcome → List StoredRow → PlannedState
@@ -19,11 +19,6 @@ planned_of mark outcomes rows = record { mark = mark; outcomes = outcomes; rows 
 abbrev pub CountUp : ℕ → List StoredRow → Type 0
 CountUp date [] = ⊤
 CountUp date (row ∷ rows) = (row.date ≡ date) × CountUp (date + 1) rows
-
--- the date in an outcome
-abbrev pub date_in : AddOutcome → ℕ
-date_in (Added date) = date
-date_in (Present date) = date
 
 -- the outcomes and the new rows of a draft
 pub record IsDraft (mark : ℕ) (outcomes : List AddOutcome) (new : List StoredRow) : Type 0 where

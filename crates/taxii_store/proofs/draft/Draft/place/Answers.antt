@@ -4,7 +4,8 @@ use Rattle.taxii_rows.specs.declared.stored_row.TheConstants.{LAST_DATE}
 use Rattle.taxii_rows.specs.StoreState.{StoreState}
 use Rattle.taxii_store.specs.declared.add_outcome.AddOutcome.{AddOutcome}
 use Rattle.taxii_store.specs.declared.draft.Draft.{Draft}
-use Rattle.taxii_store.specs.inner.Moving.{IsDraft, date_in}
+use Rattle.taxii_store.specs.inner.Moving.{IsDraft}
+use Rattle.taxii_store.specs.Addition.{date_in}
 use Rattle.taxii_store.proofs.DraftLemmas.{outcome_pushed}
 use Rattle.taxii_store.proofs.draft.Draft.place.Goals.{in-Some, in-None+in_ok-outcome-in-None}
 use Rattle.taxii_store.proofs.draft.Draft.place.Goals as goal

@@ -27,5 +27,6 @@ invariant_of-result c =
     (record {
       rise = subst (λ (rs : List StoredRow). RiseFrom (c.args.mark + 1) (dates_of rs)) (sym rows) plan.rise;
       last = subst (λ (rs : List StoredRow). mark_after c.args.mark rs ≤ LAST_DATE) (sym rows) plan.last;
+      dates = subst (All (λ row. row.date ≤ LAST_DATE)) (sym rows) plan.dates;
       rows = subst (All IsSoundRow) (sym rows) plan.rows;
     }, c.last_of-last.ensures ∙ ap (mark_after c.args.mark) c.deref.ensures.value)

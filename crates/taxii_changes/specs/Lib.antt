@@ -1,0 +1,4 @@
+pub mod ServerState
+pub mod Adding
+pub mod Deleting
+pub mod inner

@@ -1,0 +1,60 @@
+ghost use Rattle.std.specs.Prelude.{◌≡◌, ◌≢◌, ◌⊎◌, ℕ, List, [], IfOk, IfErr, OnErr};
+ghost use Rattle.flow_edges.specs.Faults.{Rose};
+ghost use Rattle.http_frames.specs.declared.status.Status.TheVariants.{Accepted};
+ghost use Rattle.taxii_rows.specs.declared.stored_row.StoredRow.{StoredRow as Row};
+ghost use Rattle.taxii_store.specs.Agreement.{Agrees};
+ghost use Rattle.taxii_bodies.specs.declared.problem.Problem.TheVariants as Trouble;
+ghost use Rattle.taxii_requests.specs.declared.refusal.Refusal.TheVariants as Refused;
+ghost use Rattle.taxii_requests.specs.Answers.{body_answer as answer_with};
+ghost use Rattle.taxii_changes.specs.Adding.{IsAdding, CannotAdd, with_added};
+ghost use Rattle.taxii_changes.specs.ServerState.{server_of};
+
+use crate::prepared::Prepared;
+use http_frames::{Answer, Status};
+use std::alloc::Global;
+use taxii_bodies::Problem;
+use taxii_requests::{Refusal, body_answer};
+use taxii_rows::{Keeper, KeeperRefusal};
+use taxii_statuses::Statuses;
+use taxii_store::Library;
+
+/// Adds the objects in the body of a request, which came at that moment, in microseconds since 1970, to
+/// a collection (TAXII 2.1, section 5.5), and keeps its status. Nothing changes where it is refused:
+/// `NotJson` and `NotList` for the body, `DatesUsedUp` where too few dates are left, `StoreFault` where
+/// the keeper failed. All memory is taken before the keeper is called.
+pub fn add_objects<K: Keeper>(
+    alloc: Global,
+    collection: u128,
+    library: &mut Library,
+    keeper: &mut K,
+    statuses: &mut Statuses,
+    moment: u64,
+    body: &[u8],
+) -> Result<Answer, Refusal>
+    requires agrees { Agrees (K.attached keeper.old) (K.told keeper.old) library.old }
+    ensures agrees { Agrees (K.attached keeper.new) (K.told keeper.new) library.new }
+    ensures name { K.name keeper.new ≡ K.name keeper.old }
+    ensures ok { IfOk result (λ answer. (new : List Row) × (text : List ℕ)
+        × IsAdding (server_of library.old statuses.old) collection moment body.now new text
+        × (answer ≡ answer_with Accepted text)
+        × (server_of library.new statuses.new ≡ with_added new text (server_of library.old statuses.old))) }
+    ensures err { IfErr result (λ refusal. (refusal ≡ Refused.NoMemory)
+        ⊎ (CannotAdd (server_of library.old statuses.old) collection moment body.now refusal
+            ⊎ ((refusal ≡ Refused.Problem Trouble.StoreFault) × ((new : List Row) × (text : List ℕ) × (new ≢ [])
+                × IsAdding (server_of library.old statuses.old) collection moment body.now new text)))) }
+    ensures unchanged { OnErr result ((library.new ≡ library.old) × (statuses.new ≡ statuses.old)) }
+    ensures fault { IfErr result (λ refusal. refusal ≡ Refused.Problem Trouble.StoreFault → Rose (K.faults keeper.old) (K.faults keeper.new)) }
+    ensures quiet { IfOk result (λ _. K.faults keeper.new ≡ K.faults keeper.old) }
+    ensures none { IfErr result (λ refusal. refusal ≢ Refused.Problem Trouble.StoreFault → K.faults keeper.new ≡ K.faults keeper.old) }
+{
+    let prepared = Prepared::of(alloc, collection, library, statuses, moment, body)?;
+    let Prepared { planned, status, body } = prepared;
+    match library.commit_add(keeper, planned) {
+        Ok(()) => {
+            statuses.add(status);
+            Ok(body_answer(Status::Accepted, body))
+        }
+        Err(KeeperRefusal::Fault) => Err(Refusal::Problem(Problem::StoreFault)),
+        Err(KeeperRefusal::NoMemory) => Err(Refusal::NoMemory),
+    }
+}

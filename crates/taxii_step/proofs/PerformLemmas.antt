@@ -1,0 +1,82 @@
+-- What requests do, in the words of one step.
+use Rattle.std.proofs.Common.{◌≡◌, ◌≢◌, ◌⊎◌, inl, inr, ℕ, suc, ◌+◌, List, [], ◌∷◌, ◌++◌, length, filter, not, All, Bool, true, false, cond, Option, Some, None, Result, Ok, Err, refl, sym, ap, subst, ◌∙◌, arith}
+use Rattle.std.specs.Prelude.{IfOk, IfErr, ◌||◌}
+use Rattle.std.specs.List.{Contains, list_any}
+use Rattle.std.proofs.lemmas.Bool.{eq-eqb}
+use Rattle.std.proofs.lemmas.List.{length-append}
+use Rattle.std.proofs.lemmas.List.Elements.{All-contains, filter_passes}
+use Rattle.stix_ids.specs.declared.id.Id.{Id}
+use Rattle.stix_ids.specs.declared.refusal.IdRefusal.{IdRefusal}
+use Rattle.stix_ids.specs.declared.refusal.IdRefusal.TheVariants.{BadUuid, BadKind, NoMemory}
+use Rattle.stix_ids.specs.Identifier.{IsTextOf}
+use Rattle.taxii_routes.specs.declared.query.Query.{Query}
+use Rattle.taxii_rows.specs.declared.stored_row.StoredRow.{StoredRow}
+use Rattle.taxii_rows.specs.StoreState.{StoreState}
+use Rattle.taxii_rows.specs.Keeper.{is_date_in, without}
+use Rattle.http_frames.specs.declared.status.Status.TheVariants.{InternalServerError}
+use Rattle.taxii_bodies.specs.declared.problem.Problem.{Problem as Trouble}
+use Rattle.taxii_bodies.specs.declared.problem.Problem.TheVariants.{BadValue, Repeated, Forbidden, NotFound, NotAcceptable, UnsupportedMediaType, NotJson, NotList, StoreFault, DatesUsedUp}
+use Rattle.taxii_requests.specs.Answers.{status_of}
+use Rattle.taxii_changes.specs.Deleting.{AllowsStandard, AreDeleted}
+
+pub if_err : {T E : Type 0} (answer : Result T E) (P Q : E → Type 0) → ((refusal : E) → P refusal → Q refusal) → IfErr answer P → IfErr answer Q
+if_err (Ok value) P Q to its = tt
+if_err (Err refusal) P Q to its = to refusal its
+
+-- a text that was refused for what it is, is no identifier's
+pub no_identifier : (text : List ℕ) (e bad : IdRefusal) → e ≡ bad → bad ≢ NoMemory
+    → ((id : Id) → IsTextOf text id → (◌≡◌ {A = Result Id IdRefusal} (Err e) (Ok id)) ⊎ (◌≡◌ {A = Result Id IdRefusal} (Err e) (Err NoMemory))) → (id : Id) → ¬ IsTextOf text id
+no_identifier text e bad same other named id is = go (named id is)
+  where
+    go : (◌≡◌ {A = Result Id IdRefusal} (Err e) (Ok id)) ⊎ (◌≡◌ {A = Result Id IdRefusal} (Err e) (Err NoMemory)) → ⊥
+    go (inl read) = cc
+    go (inr none) = other (let none_is : e ≡ NoMemory = cc in sym same ∙ none_is)
+
+pub uuid_is : BadUuid ≢ NoMemory
+uuid_is e = cc
+
+pub kind_is : (at : ℕ) → BadKind at ≢ NoMemory
+kind_is at e = cc
+
+-- rows with others behind them aren't the same
+pub rows_grow : (rows new : List StoredRow) → new ≢ [] → rows ++ new ≢ rows
+rows_grow rows [] some same = some refl
+rows_grow rows (row ∷ new) some same =
+    let count = length-append rows (row ∷ new) in let both = ap length same in absurd (omega (arith, count, both))
+
+-- ---- rows without some are others
+
+first_in : (date : ℕ) (dates : List ℕ) → Contains (date ∷ dates) date
+first_in date dates = (0, omega arith, refl)
+
+is_in : (date : ℕ) (dates : List ℕ) → is_date_in (date ∷ dates) date ≡ true
+is_in date dates = ap (λ (b : Bool). b || is_date_in dates date) (eq-eqb date date refl)
+
+pub rows_go : (store : StoreState) (collection : ℕ) (id : Id) (query : Query) (dates : List ℕ) → AreDeleted store collection id query dates
+    → dates ≢ [] → (without dates store).rows ≢ store.rows
+rows_go store collection id query [] deleted some same = some refl
+rows_go store collection id query (date ∷ dates) deleted some same = some (deleted.none (λ allows.
+    let (row, there, taken, its) = ((deleted.taken allows).each date).0 (first_in date dates) in
+    let stays = λ (one : StoredRow). not (is_date_in (date ∷ dates) one.date) in
+    let passes = All-contains (λ one. stays one ≡ true) store.rows row (subst (All (λ one. stays one ≡ true)) same (filter_passes stays store.rows)) there in
+    let gone : stays row ≡ false = ap (λ (d : ℕ). not (is_date_in (date ∷ dates) d)) its ∙ ap not (is_in date dates) in
+    let clash : true ≡ false = sym passes ∙ gone in absurd (cc clash)))
+
+-- ---- answers
+
+pub if_ok : {T E : Type 0} (answer : Result T E) (P Q : T → Type 0) → ((value : T) → P value → Q value) → IfOk answer P → IfOk answer Q
+if_ok (Ok value) P Q to its = to value its
+if_ok (Err refusal) P Q to its = tt
+
+-- only a fault of the store is answered as an error of the server
+pub is_fault : (problem : Trouble) → status_of problem ≡ InternalServerError → problem ≡ StoreFault
+is_fault (BadValue param) is = absurd (cc)
+is_fault (Repeated param) is = absurd (cc)
+is_fault Forbidden is = absurd (cc)
+is_fault NotFound is = absurd (cc)
+is_fault NotAcceptable is = absurd (cc)
+is_fault UnsupportedMediaType is = absurd (cc)
+is_fault NotJson is = absurd (cc)
+is_fault NotList is = absurd (cc)
+is_fault StoreFault is = refl
+is_fault DatesUsedUp is = absurd (cc)

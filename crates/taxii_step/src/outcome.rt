@@ -1,0 +1,50 @@
+ghost use Rattle.std.specs.Prelude.{◌≡◌, ◌≢◌, ◌⊎◌, IfOk, IfErr, OnErr};
+ghost use Rattle.flow_edges.specs.Faults.{Rose};
+ghost use Rattle.taxii_bodies.specs.declared.problem.Problem.TheVariants as Trouble;
+ghost use Rattle.taxii_requests.specs.declared.refusal.Refusal.TheVariants as Refused;
+ghost use Rattle.taxii_store.specs.Agreement.{Agrees};
+ghost use Rattle.taxii_changes.specs.ServerState.{server_of};
+ghost use Rattle.taxii_step.specs.Step.{IsRefused, IsDone};
+ghost use Rattle.taxii_step.specs.inner.Performing.{RouteChanges};
+
+use crate::perform::perform;
+use http_frames::{Answer, Request};
+use taxii_bodies::Problem;
+use taxii_requests::{Config, Refusal, check};
+use taxii_resources::{allow_of, rights_for};
+use taxii_routes::Route;
+use taxii_rows::Keeper;
+use taxii_statuses::Statuses;
+use taxii_store::Library;
+
+/// What comes of a request to the resource of a route.
+pub(crate) fn outcome<K: Keeper>(
+    config: &Config,
+    library: &mut Library,
+    keeper: &mut K,
+    statuses: &mut Statuses,
+    moment: u64,
+    request: &Request,
+    route: &Route,
+    query: &str,
+) -> Result<Answer, Refusal>
+    requires agrees { Agrees (K.attached keeper.old) (K.told keeper.old) library.old }
+    ensures agrees { Agrees (K.attached keeper.new) (K.told keeper.new) library.new }
+    ensures name { K.name keeper.new ≡ K.name keeper.old }
+    ensures ok { IfOk result (λ answer. IsDone config.now (server_of library.old statuses.old) moment request.now route.now query.now
+        answer (server_of library.new statuses.new)) }
+    ensures err { IfErr result (λ refusal. (refusal ≡ Refused.NoMemory)
+        ⊎ (IsRefused config.now (server_of library.old statuses.old) moment request.now route.now query.now refusal
+            ⊎ ((refusal ≡ Refused.Problem Trouble.StoreFault)
+                × RouteChanges config.now (server_of library.old statuses.old) moment request.now route.now query.now))) }
+    ensures unchanged { OnErr result ((library.new ≡ library.old) × (statuses.new ≡ statuses.old)) }
+    ensures fault { IfErr result (λ refusal. refusal ≡ Refused.Problem Trouble.StoreFault → Rose (K.faults keeper.old) (K.faults keeper.new)) }
+    ensures quiet { IfOk result (λ _. K.faults keeper.new ≡ K.faults keeper.old) }
+    ensures none { IfErr result (λ refusal. refusal ≢ Refused.Problem Trouble.StoreFault → K.faults keeper.new ≡ K.faults keeper.old) }
+{
+    let Some(rights) = rights_for(config, library, statuses, route) else {
+        return Err(Refusal::Problem(Problem::NotFound));
+    };
+    let asked = check(config.alloc, request, query, allow_of(route), rights)?;
+    perform(config, library, keeper, statuses, moment, request, route, asked)
+}

@@ -1,0 +1,150 @@
+ghost use Rattle.std.specs.Prelude.{◌≡◌, ◌≢◌, ◌⊎◌, IfOk, IfErr, OnErr, true};
+ghost use Rattle.flow_edges.specs.Faults.{Rose};
+ghost use Rattle.http_frames.specs.declared.method.Method.TheVariants as Verb;
+ghost use Rattle.taxii_bodies.specs.declared.problem.Problem.TheVariants as Trouble;
+ghost use Rattle.taxii_requests.specs.declared.refusal.Refusal.TheVariants as Refused;
+ghost use Rattle.taxii_requests.specs.declared.rights.Rights.{Rights};
+ghost use Rattle.taxii_requests.specs.Checking.{allows};
+ghost use Rattle.taxii_resources.specs.Finding.{IsFound, allowed_of};
+ghost use Rattle.taxii_store.specs.Agreement.{Agrees};
+ghost use Rattle.taxii_changes.specs.ServerState.{server_of};
+ghost use Rattle.taxii_step.specs.Step.{Posts, CannotPost, Deletes, Does, CannotDo};
+ghost use Rattle.taxii_statuses.specs.Statuses.{StatusesState};
+ghost use Rattle.stix_ids.specs.declared.id.Id.{Id as Identifier};
+ghost use Rattle.stix_ids.specs.Identifier.{IsTextOf};
+ghost use Rattle.taxii_step.specs.inner.Performing.{PostChanges, DeleteChanges, Changes};
+
+use flow_values::NoMemory;
+use http_frames::{Answer, Method, Request};
+use std::alloc::Global;
+use stix_ids::{Id, IdRefusal, read_id};
+use taxii_changes::{add_objects, delete_object};
+use taxii_requests::{Config, Refusal};
+use taxii_resources::read;
+use taxii_routes::{Query, Route};
+use taxii_rows::Keeper;
+use taxii_statuses::Statuses;
+use taxii_store::Library;
+
+/// Adds the objects of a POST.
+pub(crate) fn post<K: Keeper>(
+    config: &Config,
+    library: &mut Library,
+    keeper: &mut K,
+    statuses: &mut Statuses,
+    moment: u64,
+    request: &Request,
+    route: &Route,
+) -> Result<Answer, Refusal>
+    requires agrees { Agrees (K.attached keeper.old) (K.told keeper.old) library.old }
+    requires allowed { allows (allowed_of route.now) Verb.Post ≡ true }
+    requires found { (rights : Rights) × IsFound config.now.collections library.old.rows statuses.old route.now rights }
+    ensures agrees { Agrees (K.attached keeper.new) (K.told keeper.new) library.new }
+    ensures name { K.name keeper.new ≡ K.name keeper.old }
+    ensures ok { IfOk result (λ answer. Posts config.now (server_of library.old statuses.old) moment request.now route.now answer (server_of library.new statuses.new)) }
+    ensures err { IfErr result (λ refusal. (refusal ≡ Refused.NoMemory)
+        ⊎ (CannotPost config.now (server_of library.old statuses.old) moment request.now route.now refusal
+            ⊎ ((refusal ≡ Refused.Problem Trouble.StoreFault) × PostChanges config.now (server_of library.old statuses.old) moment request.now route.now))) }
+    ensures unchanged { OnErr result ((library.new ≡ library.old) × (statuses.new ≡ statuses.old)) }
+    ensures fault { IfErr result (λ refusal. refusal ≡ Refused.Problem Trouble.StoreFault → Rose (K.faults keeper.old) (K.faults keeper.new)) }
+    ensures quiet { IfOk result (λ _. K.faults keeper.new ≡ K.faults keeper.old) }
+    ensures none { IfErr result (λ refusal. refusal ≢ Refused.Problem Trouble.StoreFault → K.faults keeper.new ≡ K.faults keeper.old) }
+{
+    let Route::Objects(id) = route else {
+        unreachable!();
+    };
+    let Some(info) = config.collection(id.as_str()) else {
+        unreachable!();
+    };
+    add_objects(
+        config.alloc,
+        info.id,
+        library,
+        keeper,
+        statuses,
+        moment,
+        request.body.as_slice(),
+    )
+}
+
+/// Deletes the rows of an object that the query of a DELETE picks.
+pub(crate) fn delete<K: Keeper>(
+    config: &Config,
+    library: &mut Library,
+    keeper: &mut K,
+    route: &Route,
+    query: Query,
+) -> Result<Answer, Refusal>
+    requires agrees { Agrees (K.attached keeper.old) (K.told keeper.old) library.old }
+    requires allowed { allows (allowed_of route.now) Verb.Delete ≡ true }
+    requires found { (statuses : StatusesState) × (rights : Rights) × IsFound config.now.collections library.old.rows statuses route.now rights }
+    ensures agrees { Agrees (K.attached keeper.new) (K.told keeper.new) library.new }
+    ensures name { K.name keeper.new ≡ K.name keeper.old }
+    ensures ok { IfOk result (λ answer. (statuses : StatusesState)
+        → Deletes config.now (server_of library.old statuses) route.now query answer (server_of library.new statuses)) }
+    ensures err { IfErr result (λ refusal. (refusal ≡ Refused.NoMemory) ⊎ ((refusal ≡ Refused.Problem Trouble.StoreFault)
+        × ((statuses : StatusesState) → DeleteChanges config.now (server_of library.old statuses) route.now query))) }
+    ensures unchanged { OnErr result (library.new ≡ library.old) }
+    ensures fault { IfErr result (λ refusal. refusal ≡ Refused.Problem Trouble.StoreFault → Rose (K.faults keeper.old) (K.faults keeper.new)) }
+    ensures quiet { IfOk result (λ _. K.faults keeper.new ≡ K.faults keeper.old) }
+    ensures none { IfErr result (λ refusal. refusal ≢ Refused.Problem Trouble.StoreFault → K.faults keeper.new ≡ K.faults keeper.old) }
+{
+    let Route::Object { collection, object } = route else {
+        unreachable!();
+    };
+    let Some(info) = config.collection(collection.as_str()) else {
+        unreachable!();
+    };
+    let id = identifier(config.alloc, object.as_str())?;
+    delete_object(config.alloc, info.id, &id, query, library, keeper)
+}
+
+/// The identifier that a text is.
+fn identifier(alloc: Global, text: &str) -> Result<Id, NoMemory>
+    requires { (id : Identifier) × IsTextOf text.now id }
+    ensures { IfOk result (IsTextOf text.now) }
+{
+    match read_id(alloc, text) {
+        Ok(id) => Ok(id),
+        Err(IdRefusal::NoMemory) => Err(NoMemory),
+        Err(IdRefusal::NoMark) => unreachable!(),
+        Err(IdRefusal::BadUuid) => unreachable!(),
+        Err(IdRefusal::BadKind { .. }) => unreachable!(),
+    }
+}
+
+/// Does what a request asks for against which nothing stands.
+pub(crate) fn perform<K: Keeper>(
+    config: &Config,
+    library: &mut Library,
+    keeper: &mut K,
+    statuses: &mut Statuses,
+    moment: u64,
+    request: &Request,
+    route: &Route,
+    query: Query,
+) -> Result<Answer, Refusal>
+    requires agrees { Agrees (K.attached keeper.old) (K.told keeper.old) library.old }
+    requires allowed { allows (allowed_of route.now) request.now.method ≡ true }
+    requires found { (rights : Rights) × IsFound config.now.collections library.old.rows statuses.old route.now rights }
+    ensures agrees { Agrees (K.attached keeper.new) (K.told keeper.new) library.new }
+    ensures name { K.name keeper.new ≡ K.name keeper.old }
+    ensures ok { IfOk result (λ answer. Does config.now (server_of library.old statuses.old) moment request.now route.now query request.now.method
+        answer (server_of library.new statuses.new)) }
+    ensures err { IfErr result (λ refusal. (refusal ≡ Refused.NoMemory)
+        ⊎ (CannotDo config.now (server_of library.old statuses.old) moment request.now route.now request.now.method refusal
+            ⊎ ((refusal ≡ Refused.Problem Trouble.StoreFault)
+                × Changes config.now (server_of library.old statuses.old) moment request.now route.now query))) }
+    ensures unchanged { OnErr result ((library.new ≡ library.old) × (statuses.new ≡ statuses.old)) }
+    ensures fault { IfErr result (λ refusal. refusal ≡ Refused.Problem Trouble.StoreFault → Rose (K.faults keeper.old) (K.faults keeper.new)) }
+    ensures quiet { IfOk result (λ _. K.faults keeper.new ≡ K.faults keeper.old) }
+    ensures none { IfErr result (λ refusal. refusal ≢ Refused.Problem Trouble.StoreFault → K.faults keeper.new ≡ K.faults keeper.old) }
+{
+    match request.method {
+        Method::Get => read(config, library, statuses, route, query),
+        Method::Post => post(config, library, keeper, statuses, moment, request, route),
+        Method::Delete => delete(config, library, keeper, route, query),
+        Method::Head => unreachable!(),
+        Method::Other => unreachable!(),
+    }
+}
