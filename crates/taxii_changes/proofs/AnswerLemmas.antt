@@ -1,5 +1,5 @@
 -- What holds of a refusal holds of the answer that hands it on; an addition has an outcome for each object.
-use Rattle.std.proofs.Common.{◌≡◌, ◌⊎◌, inl, inr, ℕ, suc, ◌+◌, List, [], ◌∷◌, ◌++◌, length, Option, Some, None, MatchOption, Result, Ok, Err, sym, subst, ap, ◌∙◌}
+use Rattle.std.proofs.Common.{◌≡◌, ℕ, suc, ◌+◌, List, [], ◌∷◌, ◌++◌, length, Option, Some, None, MatchOption, Result, Ok, Err, sym, subst, ap, ◌∙◌}
 use Rattle.std.specs.Prelude.{IfErr, IsErrAnd}
 use Rattle.taxii_rows.specs.declared.stored_row.StoredRow.{StoredRow}
 use Rattle.taxii_rows.specs.declared.described.Described.{Described}
@@ -23,10 +23,10 @@ as_many collection date rows (object ∷ objects) outcomes new adds = next (row_
   where
     next : (found : Option StoredRow)
         → MatchOption found
-            ((others : List AddOutcome) × (more : List StoredRow)
-                × (outcomes ≡ Added date ∷ others) × (new ≡ row_of object date collection ∷ more)
-                × Adds collection (date + 1) (rows ++ row_of object date collection ∷ []) objects others more)
-            (λ row. (others : List AddOutcome) × (outcomes ≡ Present row.date ∷ others) × Adds collection date rows objects others new)
+        ((others : List AddOutcome) × (more : List StoredRow)
+        × (outcomes ≡ Added date ∷ others) × (new ≡ row_of object date collection ∷ more)
+        × Adds collection (date + 1) (rows ++ row_of object date collection ∷ []) objects others more)
+        (λ row. (others : List AddOutcome) × (outcomes ≡ Present row.date ∷ others) × Adds collection date rows objects others new)
         → ((others : List AddOutcome) → Adds collection date rows objects others new → length others ≡ length objects)
         → ((others : List AddOutcome) (more : List StoredRow) → Adds collection (date + 1) (rows ++ row_of object date collection ∷ []) objects others more → length others ≡ length objects)
         → length outcomes ≡ length (object ∷ objects)

@@ -1,11 +1,11 @@
 -- The row of a date among some rows.
-use Rattle.std.proofs.Common.{◌≡◌, ◌⊎◌, inl, inr, ℕ, ◌+◌, ◌≤◌, List, [], ◌∷◌, ◌++◌, All, Bool, true, false, cond, Option, Some, None, IfSome, Result, Ok, Err, IfOk, refl, sym, ap, subst, ◌∙◌, arith, eqb}
+use Rattle.std.proofs.Common.{◌≡◌, inl, inr, ℕ, ◌≤◌, List, [], ◌∷◌, ◌++◌, All, Bool, true, false, cond, Option, Some, None, IfSome, Result, Ok, Err, IfOk, refl, sym, subst, arith}
 use Rattle.std.specs.Prelude.{nat_eq, find}
 use Rattle.std.specs.List.{Contains, AllZip}
 use Rattle.std.proofs.lemmas.Bool.{eqb-true, eq-eqb}
 use Rattle.std.proofs.lemmas.List.Elements.{All-nil, All-cons, All-head, All-tail, All-contains, All-contains_itself, Contains-append_left, Contains-append_right, Contains-append_cases}
 use Rattle.taxii_rows.specs.declared.stored_row.StoredRow.{StoredRow}
-use Rattle.taxii_rows.specs.StoreState.{dates_of, RiseFrom}
+use Rattle.taxii_rows.specs.StoreState.{RiseFrom}
 use Rattle.taxii_rows.specs.Keeper.{row_at}
 use Rattle.taxii_store.specs.declared.add_outcome.AddOutcome.{AddOutcome}
 use Rattle.taxii_store.specs.Addition.{date_in}
@@ -42,7 +42,7 @@ never_is test (row ∷ rows) none = go (test row) refl none (λ behind. never_is
 pub row_found : (date : ℕ) (rows : List StoredRow) (row : StoredRow) → Some row ≡ row_at date rows → Contains rows row × (row.date ≡ date)
 row_found date rows row found =
     let there = subst (λ (one : Option StoredRow). IfSome one (λ r. Contains rows r × (nat_eq r.date date ≡ true))) (sym found)
-        (find_is (λ r. nat_eq r.date date) (Contains rows) rows (All-contains_itself rows)) in
+    (find_is (λ r. nat_eq r.date date) (Contains rows) rows (All-contains_itself rows)) in
     (there.0, eqb-true row.date date there.1)
 
 pub row_missing : (date : ℕ) (rows : List StoredRow) (row : StoredRow) → None ≡ row_at date rows → Contains rows row → row.date ≡ date → ⊥

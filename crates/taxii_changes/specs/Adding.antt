@@ -1,8 +1,6 @@
 -- What a request to add objects does (TAXII 2.1, section 5.5).
-use Rattle.std.specs.Prelude.{◌≡◌, ⊤, ℕ, List, [], ◌++◌, length, take}
+use Rattle.std.specs.Prelude.{◌≡◌, ℕ, List, ◌++◌, length, take}
 use Rattle.std.specs.List.{Contains, AllZip}
-use Rattle.http_frames.specs.declared.answer.Answer.{Answer}
-use Rattle.http_frames.specs.declared.status.Status.TheVariants.{Accepted}
 use Rattle.taxii_rows.specs.declared.stored_row.StoredRow.{StoredRow}
 use Rattle.taxii_rows.specs.Keeper.{with_rows}
 use Rattle.taxii_store.specs.declared.add_outcome.AddOutcome.{AddOutcome}

@@ -1,5 +1,5 @@
 -- What a request to delete an object does (TAXII 2.1, section 5.7).
-use Rattle.std.specs.Prelude.{◌≡◌, ⊤, ℕ, List, [], ◌∷◌, codes, Option, Some, None, unwrap_or, IfSome, IsSomeAnd}
+use Rattle.std.specs.Prelude.{◌≡◌, ℕ, List, [], ◌∷◌, codes, unwrap_or, IfSome}
 use Rattle.std.specs.List.{Contains}
 use Rattle.stix_ids.specs.declared.id.Id.{Id}
 use Rattle.stix_ids.specs.declared.pick.Pick.{Pick}

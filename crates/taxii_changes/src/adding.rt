@@ -40,15 +40,19 @@ pub fn add_objects<K: Keeper>(
         × (server_of library.new statuses.new ≡ with_added new text (server_of library.old statuses.old))) }
     ensures err { IfErr result (λ refusal. (refusal ≡ Refused.NoMemory)
         ⊎ (CannotAdd (server_of library.old statuses.old) collection moment body.now refusal
-            ⊎ ((refusal ≡ Refused.Problem Trouble.StoreFault) × ((new : List Row) × (text : List ℕ) × (new ≢ [])
-                × IsAdding (server_of library.old statuses.old) collection moment body.now new text)))) }
+        ⊎ ((refusal ≡ Refused.Problem Trouble.StoreFault) × ((new : List Row) × (text : List ℕ) × (new ≢ [])
+        × IsAdding (server_of library.old statuses.old) collection moment body.now new text)))) }
     ensures unchanged { OnErr result ((library.new ≡ library.old) × (statuses.new ≡ statuses.old)) }
     ensures fault { IfErr result (λ refusal. refusal ≡ Refused.Problem Trouble.StoreFault → Rose (K.faults keeper.old) (K.faults keeper.new)) }
     ensures quiet { IfOk result (λ _. K.faults keeper.new ≡ K.faults keeper.old) }
     ensures none { IfErr result (λ refusal. refusal ≢ Refused.Problem Trouble.StoreFault → K.faults keeper.new ≡ K.faults keeper.old) }
 {
     let prepared = Prepared::of(alloc, collection, library, statuses, moment, body)?;
-    let Prepared { planned, status, body } = prepared;
+    let Prepared {
+        planned,
+        status,
+        body,
+    } = prepared;
     match library.commit_add(keeper, planned) {
         Ok(()) => {
             statuses.add(status);

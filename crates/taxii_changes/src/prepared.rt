@@ -45,11 +45,23 @@ impl Prepared {
         ensures err { IfErr result (λ refusal. (refusal ≡ Refused.NoMemory) ⊎ CannotAdd (server_of library.now statuses.now) collection moment body.now refusal) }
     {
         let posted = posted_of(alloc, body, moment)?;
-        let Posted { objects, failures, failure_count } = posted;
+        let Posted {
+            objects,
+            failures,
+            failure_count,
+        } = posted;
         let planned = planned_of(library, collection, moment, objects)?;
         outcomes_have_rows();
         let number = statuses.next_number();
-        let report = report_of(alloc, library, &planned, number, moment, failures, failure_count)?;
+        let report = report_of(
+            alloc,
+            library,
+            &planned,
+            number,
+            moment,
+            failures,
+            failure_count,
+        )?;
         let text = status_body(alloc, &report)?;
         let copy = Text::from_text(alloc, text.as_str())?;
         let status = statuses.prepare(copy)?;
@@ -68,7 +80,7 @@ fn posted_of(alloc: Global, body: &[u8], moment: u64) -> Result<Posted, Refusal>
     ensures few { IfOk result (λ posted. length posted.objects.items + posted.failure_count < 2 ^ 63) }
     ensures err { IfErr result (λ refusal. (refusal ≡ Refused.NoMemory)
         ⊎ (((refusal ≡ Refused.Problem Trouble.NotJson) × IsUnreadable body.now Unread.NotJson)
-            ⊎ ((refusal ≡ Refused.Problem Trouble.NotList) × IsUnreadable body.now Unread.NotList))) }
+        ⊎ ((refusal ≡ Refused.Problem Trouble.NotList) × IsUnreadable body.now Unread.NotList))) }
 {
     match read_posted(alloc, body, moment) {
         Ok(posted) => Ok(posted),

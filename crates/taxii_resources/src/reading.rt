@@ -45,7 +45,10 @@ pub fn read(
         Route::Discovery => Ok(read_discovery(config)?),
         Route::Root => Ok(okay(root_body(config.alloc)?)),
         Route::Status(id) => read_status(config, statuses, id.as_str()),
-        Route::Collections => Ok(okay(collections_body(config.alloc, config.collections.as_slice())?)),
+        Route::Collections => Ok(okay(collections_body(
+            config.alloc,
+            config.collections.as_slice(),
+        )?)),
         Route::Collection(id) => read_collection(config, id.as_str()),
         Route::Manifest(id) => read_manifest(config, library, id.as_str(), &query),
         Route::Objects(id) => read_objects(config, library, id.as_str(), &query),

@@ -1,13 +1,12 @@
 -- One step of a server (TAXII 2.1, sections 3 to 5): a request at a moment, its answer, and what the server has after it.
 use Rattle.std.specs.Prelude.{◌≡◌, ◌≢◌, ◌⊎◌, ℕ, List, [], Option, Some, None, unwrap_or}
-use Rattle.flow_edges.specs.Faults.{Rose}
 use Rattle.stix_ids.specs.declared.id.Id.{Id}
 use Rattle.stix_ids.specs.Identifier.{IsTextOf}
 use Rattle.http_frames.specs.declared.answer.Answer.{Answer}
 use Rattle.http_frames.specs.declared.method.Method.{Method}
 use Rattle.http_frames.specs.declared.method.Method.TheVariants.{Get, Head, Post, Delete, Other}
 use Rattle.http_frames.specs.declared.request.Request.{Request}
-use Rattle.http_frames.specs.declared.status.Status.TheVariants.{Okay, Accepted, MethodNotAllowed, InternalServerError}
+use Rattle.http_frames.specs.declared.status.Status.TheVariants.{Okay, Accepted, MethodNotAllowed}
 use Rattle.taxii_routes.specs.declared.query.Query.{Query}
 use Rattle.taxii_routes.specs.declared.route.Route.{Route}
 use Rattle.taxii_routes.specs.declared.route.Route.TheVariants.{Discovery, Root, Status, Collections, Collection, Manifest, Objects, Object, Versions, None as NoRoute}
@@ -44,7 +43,7 @@ Posts config before moment request (Collection id) answer after = ⊥
 Posts config before moment request (Manifest id) answer after = ⊥
 Posts config before moment request (Objects id) answer after =
     (info : CollectionInfo) × Names id config.collections info × (new : List StoredRow) × (text : List ℕ)
-        × IsAdding before info.id moment request.body new text × (answer ≡ body_answer Accepted text) × (after ≡ with_added new text before)
+    × IsAdding before info.id moment request.body new text × (answer ≡ body_answer Accepted text) × (after ≡ with_added new text before)
 Posts config before moment request (Object collection object) answer after = ⊥
 Posts config before moment request (Versions collection object) answer after = ⊥
 Posts config before moment request NoRoute answer after = ⊥
@@ -60,7 +59,7 @@ Deletes config before (Manifest id) query answer after = ⊥
 Deletes config before (Objects id) query answer after = ⊥
 Deletes config before (Object collection object) query answer after =
     (info : CollectionInfo) × Names collection config.collections info × (id : Id) × IsTextOf object id × (dates : List ℕ)
-        × AreDeleted before.store info.id id query dates × (answer ≡ bare_answer Okay None) × (after ≡ without_dates dates before)
+    × AreDeleted before.store info.id id query dates × (answer ≡ bare_answer Okay None) × (after ≡ without_dates dates before)
 Deletes config before (Versions collection object) query answer after = ⊥
 Deletes config before NoRoute query answer after = ⊥
 
@@ -99,8 +98,8 @@ abbrev pub IsRefused : Config → ServerState → ℕ → Request → Route → 
 IsRefused config before moment request route text refusal =
     (IsNoResource config before.store.rows before.statuses route × (refusal ≡ Problem NotFound))
     ⊎ ((rights : Rights) × IsFound config.collections before.store.rows before.statuses route rights
-        × (IsRefusedFor (allowed_of route) rights request text refusal
-            ⊎ (IsFit (allowed_of route) rights request × CannotDo config before moment request route request.method refusal)))
+    × (IsRefusedFor (allowed_of route) rights request text refusal
+    ⊎ (IsFit (allowed_of route) rights request × CannotDo config before moment request route request.method refusal)))
 
 -- the request is done
 pub record IsDone (config : Config) (before : ServerState) (moment : ℕ) (request : Request) (route : Route) (text : List ℕ) (answer : Answer) (after : ServerState) : Type 0 where
@@ -129,8 +128,8 @@ pub record Step (config : Config) (before : ServerState) (moment : ℕ) (request
   pub query : Option (List ℕ)
   pub target_is : IsTargetOf request.target path query
   pub outcome :
-    (((route : Route) → ¬ IsPathOf path route) × (answer ≡ problem_answer NotFound) × (after ≡ before))
-    ⊎ ((route : Route) × IsPathOf path route × RouteStep config before moment request route (unwrap_or query []) answer after)
+      (((route : Route) → ¬ IsPathOf path route) × (answer ≡ problem_answer NotFound) × (after ≡ before))
+      ⊎ ((route : Route) × IsPathOf path route × RouteStep config before moment request route (unwrap_or query []) answer after)
 
 -- the keeper failed in a request whose step changes rows; nothing has changed
 pub record FailsToKeep (config : Config) (before : ServerState) (moment : ℕ) (request : Request) (answer : Answer) (after : ServerState) : Type 0 where

@@ -35,8 +35,8 @@ pub(crate) fn outcome<K: Keeper>(
         answer (server_of library.new statuses.new)) }
     ensures err { IfErr result (λ refusal. (refusal ≡ Refused.NoMemory)
         ⊎ (IsRefused config.now (server_of library.old statuses.old) moment request.now route.now query.now refusal
-            ⊎ ((refusal ≡ Refused.Problem Trouble.StoreFault)
-                × RouteChanges config.now (server_of library.old statuses.old) moment request.now route.now query.now))) }
+        ⊎ ((refusal ≡ Refused.Problem Trouble.StoreFault)
+        × RouteChanges config.now (server_of library.old statuses.old) moment request.now route.now query.now))) }
     ensures unchanged { OnErr result ((library.new ≡ library.old) × (statuses.new ≡ statuses.old)) }
     ensures fault { IfErr result (λ refusal. refusal ≡ Refused.Problem Trouble.StoreFault → Rose (K.faults keeper.old) (K.faults keeper.new)) }
     ensures quiet { IfOk result (λ _. K.faults keeper.new ≡ K.faults keeper.old) }
@@ -46,5 +46,7 @@ pub(crate) fn outcome<K: Keeper>(
         return Err(Refusal::Problem(Problem::NotFound));
     };
     let asked = check(config.alloc, request, query, allow_of(route), rights)?;
-    perform(config, library, keeper, statuses, moment, request, route, asked)
+    perform(
+        config, library, keeper, statuses, moment, request, route, asked,
+    )
 }

@@ -44,7 +44,7 @@ pub(crate) fn post<K: Keeper>(
     ensures ok { IfOk result (λ answer. Posts config.now (server_of library.old statuses.old) moment request.now route.now answer (server_of library.new statuses.new)) }
     ensures err { IfErr result (λ refusal. (refusal ≡ Refused.NoMemory)
         ⊎ (CannotPost config.now (server_of library.old statuses.old) moment request.now route.now refusal
-            ⊎ ((refusal ≡ Refused.Problem Trouble.StoreFault) × PostChanges config.now (server_of library.old statuses.old) moment request.now route.now))) }
+        ⊎ ((refusal ≡ Refused.Problem Trouble.StoreFault) × PostChanges config.now (server_of library.old statuses.old) moment request.now route.now))) }
     ensures unchanged { OnErr result ((library.new ≡ library.old) × (statuses.new ≡ statuses.old)) }
     ensures fault { IfErr result (λ refusal. refusal ≡ Refused.Problem Trouble.StoreFault → Rose (K.faults keeper.old) (K.faults keeper.new)) }
     ensures quiet { IfOk result (λ _. K.faults keeper.new ≡ K.faults keeper.old) }
@@ -133,8 +133,8 @@ pub(crate) fn perform<K: Keeper>(
         answer (server_of library.new statuses.new)) }
     ensures err { IfErr result (λ refusal. (refusal ≡ Refused.NoMemory)
         ⊎ (CannotDo config.now (server_of library.old statuses.old) moment request.now route.now request.now.method refusal
-            ⊎ ((refusal ≡ Refused.Problem Trouble.StoreFault)
-                × Changes config.now (server_of library.old statuses.old) moment request.now route.now query))) }
+        ⊎ ((refusal ≡ Refused.Problem Trouble.StoreFault)
+        × Changes config.now (server_of library.old statuses.old) moment request.now route.now query))) }
     ensures unchanged { OnErr result ((library.new ≡ library.old) × (statuses.new ≡ statuses.old)) }
     ensures fault { IfErr result (λ refusal. refusal ≡ Refused.Problem Trouble.StoreFault → Rose (K.faults keeper.old) (K.faults keeper.new)) }
     ensures quiet { IfOk result (λ _. K.faults keeper.new ≡ K.faults keeper.old) }

@@ -43,7 +43,9 @@ pub fn respond<K: Keeper>(
         Route::None => problem_answer(config.alloc, Problem::NotFound),
         route => {
             let query = query_text(query);
-            respond_at(config, library, keeper, statuses, moment, request, &route, query)
+            respond_at(
+                config, library, keeper, statuses, moment, request, &route, query,
+            )
         }
     }
 }
@@ -73,14 +75,16 @@ fn respond_at<K: Keeper>(
     ensures agrees { Agrees (K.attached keeper.new) (K.told keeper.new) library.new }
     ensures name { K.name keeper.new ≡ K.name keeper.old }
     ensures ok { IfOk result (λ answer. RouteStep config.now (server_of library.old statuses.old) moment request.now route.now query.now
-            answer (server_of library.new statuses.new)
+        answer (server_of library.new statuses.new)
         ⊎ ((answer ≡ answer_to Trouble.StoreFault) × (server_of library.new statuses.new ≡ server_of library.old statuses.old)
-            × RouteChanges config.now (server_of library.old statuses.old) moment request.now route.now query.now)) }
+        × RouteChanges config.now (server_of library.old statuses.old) moment request.now route.now query.now)) }
     ensures err { OnErr result ((library.new ≡ library.old) × (statuses.new ≡ statuses.old)) }
     ensures fault { IfOk result (λ answer. answer.status ≡ Code.InternalServerError → Rose (K.faults keeper.old) (K.faults keeper.new)) }
     ensures quiet { IfOk result (λ answer. answer.status ≢ Code.InternalServerError → K.faults keeper.new ≡ K.faults keeper.old) }
 {
-    match outcome(config, library, keeper, statuses, moment, request, route, query) {
+    match outcome(
+        config, library, keeper, statuses, moment, request, route, query,
+    ) {
         Ok(answer) => Ok(answer),
         Err(Refusal::NotAllowed(allow)) => {
             Ok(bare_answer(Status::MethodNotAllowed, Some(allow)))

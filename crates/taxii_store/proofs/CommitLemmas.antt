@@ -1,5 +1,5 @@
 -- A sound plan may be added to the sound store that it was made for.
-use Rattle.std.proofs.Common.{◌≡◌, ℕ, ◌+◌, ◌-◌, ◌≤◌, List, [], ◌∷◌, ◌++◌, length, take, drop, filter, not, All, Bool, true, false, Option, Some, None, IfSome, refl, sym, ap, subst, ◌∙◌, arith}
+use Rattle.std.proofs.Common.{◌≡◌, ℕ, ◌+◌, ◌-◌, ◌≤◌, List, [], ◌∷◌, ◌++◌, length, take, drop, filter, not, All, Option, Some, None, IfSome, refl, sym, ap, subst, ◌∙◌, arith}
 use Rattle.std.proofs.lemmas.List.{length-append, take_all}
 use Rattle.std.proofs.Math.Seq.{drop-append_seam}
 use Rattle.std.proofs.lemmas.List.Elements.{All-nil, All-cons}
@@ -33,8 +33,8 @@ pub can_commit : LaterLaw → (state : StoreState) (planned : PlannedState) → 
     → CanAppend planned.rows (mark_after planned.mark planned.rows) state
 can_commit later state planned sound plan same =
     later state planned.rows (mark_after planned.mark planned.rows) sound
-        (subst (λ (mark : ℕ). RiseFrom (mark + 1) (dates_of planned.rows)) same plan.rise)
-        (marked_all planned.mark (planned.mark + 1) planned.rows plan.rise)
+    (subst (λ (mark : ℕ). RiseFrom (mark + 1) (dates_of planned.rows)) same plan.rise)
+    (marked_all planned.mark (planned.mark + 1) planned.rows plan.rise)
 
 pub sound_committed : LaterLaw → AddedLaw → (state : StoreState) (planned : PlannedState) → IsSoundState state → IsSoundPlan planned → planned.mark ≡ state.mark
     → IsSoundState (with_rows planned.rows (mark_after planned.mark planned.rows) state)
@@ -48,7 +48,7 @@ rows_behind rows more first all first_is all_is =
     let same = ap length first_is in
     let count = ap length all_is ∙ length-append rows more in
     let behind : drop (length first) all ≡ more =
-        ap (λ (n : ℕ). drop n all) same ∙ ap (drop (length rows)) all_is ∙ drop-append_seam rows more in
+    ap (λ (n : ℕ). drop n all) same ∙ ap (drop (length rows)) all_is ∙ drop-append_seam rows more in
     ap (take (length all - length first)) behind ∙ take_all (length all - length first) more (omega (arith, same, count))
 
 pub if_same : (told : Option StoreState) (P : StoreState → Type 0) (state : StoreState) → IfSome told (λ kept. kept ≡ state) → P state → IfSome told P

@@ -1,5 +1,5 @@
 -- Rows whose dates count up: they rise, and the last of them is as far as there are rows. Moved ones too, and they stay sound.
-use Rattle.std.proofs.Common.{◌≡◌, ◌⊎◌, inl, inr, ℕ, zero, suc, pos, ◌+◌, ◌-◌, ◌<◌, ◌≤◌, List, [], ◌∷◌, ◌++◌, length, get_or, map, All, Bool, true, false, cond, refl, subst, arith}
+use Rattle.std.proofs.Common.{◌≡◌, inl, inr, ℕ, zero, suc, pos, ◌+◌, ◌≤◌, List, [], ◌∷◌, ◌++◌, length, get_or, map, All, Bool, true, false, cond, refl, subst, arith}
 use Rattle.std.specs.Bool.{MatchBool}
 use Rattle.std.proofs.lemmas.List.Elements.{All-nil, All-cons, All-map, All-weaker}
 use Rattle.serde_json.specs.Data.{Data}
@@ -9,7 +9,7 @@ use Rattle.taxii_rows.specs.declared.type_set.TypeSet.{TypeSet}
 use Rattle.taxii_rows.specs.declared.type_set.TypeSet.TheVariants.{First, Second}
 use Rattle.taxii_rows.specs.StoreState.{dates_of, RiseFrom}
 use Rattle.taxii_rows.specs.Version.{HasVersion, IsUndated}
-use Rattle.taxii_rows.specs.SoundRow.{FitsUnder, Fits, IsRowOf, IsSoundRow}
+use Rattle.taxii_rows.specs.SoundRow.{Fits, IsSoundRow}
 use Rattle.taxii_store.specs.Addition.{mark_after}
 use Rattle.taxii_store.specs.inner.Moving.{CountUp, moved}
 
@@ -46,7 +46,7 @@ counts_moved date ahead (row ∷ rows) counts =
 fits_moved : (set : TypeSet) (row : StoredRow) (ahead : ℕ) (d : Data) (dated : Bool)
     → MatchBool dated (HasVersion set d row.version) (IsUndated set d × (row.version ≡ pos row.date))
     → MatchBool dated (HasVersion set d (cond dated row.version (pos (row.date + ahead))))
-        (IsUndated set d × (cond dated row.version (pos (row.date + ahead)) ≡ pos (row.date + ahead)))
+    (IsUndated set d × (cond dated row.version (pos (row.date + ahead)) ≡ pos (row.date + ahead)))
 fits_moved set row ahead d true fits = fits
 fits_moved set row ahead d false fits = (fits.0, refl)
 

@@ -1,5 +1,5 @@
 -- The dates that a deletion takes out of the first rows of a store.
-use Rattle.std.proofs.Common.{◌≡◌, ◌⊎◌, inl, inr, ℕ, zero, suc, ◌+◌, ◌<◌, ◌≤◌, List, [], ◌∷◌, ◌++◌, length, take, get_or, All, refl, sym, ap, subst, ◌∙◌, arith}
+use Rattle.std.proofs.Common.{◌≡◌, ◌⊎◌, inl, inr, ℕ, zero, suc, ◌+◌, ◌<◌, ◌≤◌, List, [], ◌∷◌, ◌++◌, length, take, get_or, All, sym, ap, subst, ◌∙◌, arith}
 use Rattle.std.specs.List.{Contains}
 use Rattle.std.proofs.Math.Seq.{take-suc}
 use Rattle.std.proofs.lemmas.List.Elements.{All-head, All-tail, All-weaker, All-contains_itself, Contains-append_left, Contains-append_cases, Contains-push, Contains-push_cases}
@@ -67,15 +67,15 @@ pub taken_more : (rows : List StoredRow) (collection : ℕ) (id : Id) (picks : L
 taken_more rows collection id picks i row dates rise within its taken here =
     let more = take-suc rows i row within ∙ ap (λ (r : StoredRow). take i rows ++ r ∷ []) (sym its) in
     let earlier = λ (date : ℕ) (there : Contains dates date).
-        let (held, among, _, is) = taken.before date there in
-        subst (λ (n : ℕ). n < row.date) is (subst (λ (r : StoredRow). held.date < r.date) (sym its) (later_date 1 rows i row held rise within among)) in record {
+    let (held, among, _, is) = taken.before date there in
+    subst (λ (n : ℕ). n < row.date) is (subst (λ (r : StoredRow). held.date < r.date) (sym its) (later_date 1 rows i row held rise within among)) in record {
       rise = dates_pushed 1 row.date dates taken.rise
           (subst (λ (r : StoredRow). 1 ≤ r.date) (sym its) (at_least 1 rows i row rise within))
           (all_from (λ one. one < row.date) dates earlier);
       before = λ date there. elim (Contains-push_cases dates row.date date there) [
         | inl held ↦
-          let (one, among, its_taken, is) = taken.before date held in
-          (one, subst (λ (rs : List StoredRow). Contains rs one) (sym more) (Contains-append_left (take i rows) (row ∷ []) one among), its_taken, is)
+            let (one, among, its_taken, is) = taken.before date held in
+            (one, subst (λ (rs : List StoredRow). Contains rs one) (sym more) (Contains-append_left (take i rows) (row ∷ []) one among), its_taken, is)
         | inr same ↦ (row, subst (λ (rs : List StoredRow). Contains rs row) (sym more) (Contains-push (take i rows) row), here, same)
       ];
       all = λ one there its_taken. elim (Contains-push_cases (take i rows) row one (subst (λ (rs : List StoredRow). Contains rs one) more there)) [
@@ -91,8 +91,8 @@ taken_same rows collection id picks i row dates within its taken never =
     let more = take-suc rows i row within ∙ ap (λ (r : StoredRow). take i rows ++ r ∷ []) (sym its) in record {
       rise = taken.rise;
       before = λ date there.
-        let (one, among, its_taken, is) = taken.before date there in
-        (one, subst (λ (rs : List StoredRow). Contains rs one) (sym more) (Contains-append_left (take i rows) (row ∷ []) one among), its_taken, is);
+          let (one, among, its_taken, is) = taken.before date there in
+          (one, subst (λ (rs : List StoredRow). Contains rs one) (sym more) (Contains-append_left (take i rows) (row ∷ []) one among), its_taken, is);
       all = λ one there its_taken. elim (Contains-push_cases (take i rows) row one (subst (λ (rs : List StoredRow). Contains rs one) more there)) [
         | inl held ↦ taken.all one held its_taken
         | inr same ↦ absurd (never (subst (IsTaken rows collection id picks) (sym same) its_taken))

@@ -1,5 +1,5 @@
 -- Drafts: with one more row, with one more outcome, and as a plan.
-use Rattle.std.proofs.Common.{◌≡◌, ℕ, ◌+◌, ◌-◌, ◌<◌, ◌≤◌, List, [], ◌∷◌, ◌++◌, length, map, All, max, min, Option, Some, None, IfSome, option_map, refl, sym, ap, subst, ◌∙◌, arith}
+use Rattle.std.proofs.Common.{◌≡◌, ℕ, ◌+◌, ◌<◌, ◌≤◌, List, [], ◌∷◌, ◌++◌, length, map, All, Option, Some, None, IfSome, option_map, refl, sym, ap, subst, ◌∙◌, arith}
 use Rattle.std.proofs.lemmas.List.{append-nil, length-append, length-map}
 use Rattle.std.proofs.lemmas.List.Elements.{All-append, All-cons, All-nil, All-weaker}
 use Rattle.taxii_rows.specs.declared.stored_row.StoredRow.{StoredRow}
@@ -71,7 +71,7 @@ pub object_pushed : (mark : ℕ) (outcomes : List AddOutcome) (new : List Stored
     → IsDraft mark outcomes (new ++ row ∷ [])
 object_pushed mark outcomes new object date collection row draft sound its next within =
     subst (λ (r : StoredRow). IsDraft mark outcomes (new ++ r ∷ [])) (sym its)
-        (row_pushed mark outcomes new (row_of object date collection) draft next within (sound date collection))
+    (row_pushed mark outcomes new (row_of object date collection) draft next within (sound date collection))
 
 -- the addition that a draft is, at a moment
 pub plan_adds : (state : StoreState) (collection moment : ℕ) (objects : List Described) (outcomes : List AddOutcome) (new : List StoredRow)
@@ -84,7 +84,7 @@ plan_adds state collection moment objects outcomes new held draft adds =
     let count : length rows ≡ length new = length-map new (moved ahead) in
     let (begins, ends) = ahead_is state.mark moment new draft.room in
     let fresh : Adds collection (state.mark + 1) (state.rows ++ []) objects outcomes new =
-        subst (λ (rs : List StoredRow). Adds collection (state.mark + 1) rs objects outcomes new) (sym (append-nil state.rows)) adds in
+    subst (λ (rs : List StoredRow). Adds collection (state.mark + 1) rs objects outcomes new) (sym (append-nil state.rows)) adds in
     let later = adds_moved state.mark ahead collection (state.mark + 1) state.rows [] objects outcomes new held (All-nil (λ (row : StoredRow). state.mark < row.date)) (omega arith) fresh in
     let own = subst (λ (rs : List StoredRow). Adds collection (state.mark + 1 + ahead) rs objects (map (moved_outcome state.mark ahead) outcomes) rows) (append-nil state.rows) later in
     let first = subst (λ (date : ℕ). Adds collection date state.rows objects (map (moved_outcome state.mark ahead) outcomes) rows) begins own in record {
@@ -98,7 +98,7 @@ pub rows_movable : (mark moment : ℕ) (outcomes : List AddOutcome) (new : List 
 rows_movable mark moment outcomes new draft =
     let (begins, ends) = ahead_is mark moment new draft.room in
     All-weaker (λ row. row.date ≤ mark + length new) (λ row. row.date + ahead_at mark moment new ≤ LAST_DATE) (λ row within. omega (arith, ends, within)) new
-        (counts_within (mark + 1) (mark + length new) new draft.dates (omega arith))
+    (counts_within (mark + 1) (mark + length new) new draft.dates (omega arith))
 
 -- ---- the date of the row that makes an object present
 
@@ -153,4 +153,4 @@ date_known state collection object outcomes new date marked last draft is =
     let behind = counts_within (state.mark + 1) LAST_DATE new draft.dates (omega (arith, draft.room)) in
     let all = All-append Dated state.rows new held behind in
     subst (λ (d : Option ℕ). IfSome d (λ n. n ≤ LAST_DATE)) (sym is)
-        (if_date (row_of_same collection object (state.rows ++ new)) (λ n. n ≤ LAST_DATE) (find_among (is_same collection object) Dated (state.rows ++ new) all))
+    (if_date (row_of_same collection object (state.rows ++ new)) (λ n. n ≤ LAST_DATE) (find_among (is_same collection object) Dated (state.rows ++ new) all))

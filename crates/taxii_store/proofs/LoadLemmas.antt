@@ -1,11 +1,11 @@
 -- Rows that are read one after the other: how far a store is read, and what is behind that.
-use Rattle.std.proofs.Common.{◌≡◌, ◌⊎◌, inl, inr, ℕ, ◌+◌, ◌-◌, ◌<◌, ◌≤◌, List, [], ◌∷◌, ◌++◌, length, All, Bool, true, false, cond, Option, Some, None, IfSome, MatchOption, refl, sym, ap, subst, ◌∙◌, append_assoc, arith}
+use Rattle.std.proofs.Common.{◌≡◌, ◌⊎◌, inl, inr, ℕ, ◌+◌, ◌<◌, ◌≤◌, List, [], ◌∷◌, ◌++◌, All, Bool, true, false, cond, Option, Some, None, IfSome, MatchOption, refl, sym, ap, subst, ◌∙◌, append_assoc, arith}
 use Rattle.std.specs.Prelude.{nat_lt, find}
 use Rattle.std.specs.List.{Contains}
 use Rattle.std.specs.Option.{option_or}
 use Rattle.std.proofs.lemmas.Bool.{ltb-true, ltb-false, lt-ltb, le-ltb}
-use Rattle.std.proofs.lemmas.List.{append-nil, map-append}
-use Rattle.std.proofs.lemmas.List.Elements.{All-nil, All-cons, All-append, All-head, All-tail, All-weaker, All-contains, Contains-append_left, Contains-append_right, Contains-append_cases, Contains-push}
+use Rattle.std.proofs.lemmas.List.{append-nil}
+use Rattle.std.proofs.lemmas.List.Elements.{All-nil, All-cons, All-append, All-head, All-tail, All-weaker, All-contains, Contains-append_left, Contains-append_cases, Contains-push}
 use Rattle.std.proofs.lemmas.List.Folds.{find-append}
 use Rattle.taxii_rows.specs.declared.stored_row.StoredRow.{StoredRow}
 use Rattle.taxii_rows.specs.declared.stored_row.TheConstants.{LAST_DATE}
@@ -13,8 +13,8 @@ use Rattle.taxii_rows.specs.StoreState.{StoreState, dates_of, RiseFrom}
 use Rattle.taxii_rows.specs.Keeper.{row_after}
 use Rattle.taxii_store.specs.declared.load_refusal.LoadRefusal.{LoadRefusal}
 use Rattle.taxii_store.specs.declared.load_refusal.LoadRefusal.TheVariants.{KeeperFault, BadRow, NoMemory as OutOfMemory}
-use Rattle.taxii_store.specs.Loading.{IsFit, AreFitUpTo, IsBadAfter}
-use Rattle.taxii_store.specs.inner.Reading.{AreFit, IsBadNext}
+use Rattle.taxii_store.specs.Loading.{IsFit, IsBadAfter}
+use Rattle.taxii_store.specs.inner.Reading.{IsBadNext}
 
 -- rows that were read, up to that date
 pub record AreGood (mark after : ℕ) (rows : List StoredRow) : Type 0 where
@@ -147,8 +147,8 @@ pub bad_next : (state : StoreState) (after mark : ℕ) (found : Option StoredRow
     → ¬ MatchOption found (mark ≤ LAST_DATE) (λ row. (after < row.date) × IsFit mark row) → IsBadNext state after
 bad_next state after mark found same is unfit =
     go (row_after after state.rows) (passes (λ row. nat_lt after row.date) state.rows)
-        (subst (λ (m : ℕ). ¬ MatchOption (row_after after state.rows) (m ≤ LAST_DATE) (λ row. (after < row.date) × IsFit m row)) (sym same)
-            (subst (λ (f : Option StoredRow). ¬ MatchOption f (mark ≤ LAST_DATE) (λ row. (after < row.date) × IsFit mark row)) is unfit))
+    (subst (λ (m : ℕ). ¬ MatchOption (row_after after state.rows) (m ≤ LAST_DATE) (λ row. (after < row.date) × IsFit m row)) (sym same)
+    (subst (λ (f : Option StoredRow). ¬ MatchOption f (mark ≤ LAST_DATE) (λ row. (after < row.date) × IsFit mark row)) is unfit))
   where
     go : (f : Option StoredRow) → IfSome f (λ row. nat_lt after row.date ≡ true)
         → ¬ MatchOption f (state.mark ≤ LAST_DATE) (λ row. (after < row.date) × IsFit state.mark row)
@@ -181,4 +181,4 @@ pub bad_told : (told : Option StoreState) (mark after at : ℕ) (rows : List Sto
 bad_told None mark after at rows marked good read here bad = tt
 bad_told (Some state) mark after at rows marked good read here bad =
     subst (IsBadAfter state) (sym here)
-        (bad_after state after rows (subst (λ (m : ℕ). AreGood m after rows) (sym marked.0) good) read bad)
+    (bad_after state after rows (subst (λ (m : ℕ). AreGood m after rows) (sym marked.0) good) read bad)

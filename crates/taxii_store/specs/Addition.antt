@@ -20,8 +20,8 @@ abbrev pub Adds : ℕ → ℕ → List StoredRow → List Described → List Add
 Adds collection date rows [] outcomes new = (outcomes ≡ []) × (new ≡ [])
 Adds collection date rows (object ∷ objects) outcomes new = MatchOption (row_of_same collection object rows)
     ((others : List AddOutcome) × (more : List StoredRow)
-        × (outcomes ≡ Added date ∷ others) × (new ≡ row_of object date collection ∷ more)
-        × Adds collection (date + 1) (rows ++ row_of object date collection ∷ []) objects others more)
+    × (outcomes ≡ Added date ∷ others) × (new ≡ row_of object date collection ∷ more)
+    × Adds collection (date + 1) (rows ++ row_of object date collection ∷ []) objects others more)
     (λ row. (others : List AddOutcome) × (outcomes ≡ Present row.date ∷ others) × Adds collection date rows objects others new)
 
 -- the date of the first of so many new rows: the moment, but past every date given, and early enough that the others have dates too

@@ -94,12 +94,7 @@ impl Draft {
     }
 
     /// The date of the first row that makes the object present.
-    fn date_of_same(
-        &self,
-        library: &Library,
-        collection: u128,
-        object: &Described,
-    ) -> Option<u64>
+    fn date_of_same(&self, library: &Library, collection: u128, object: &Described) -> Option<u64>
         requires { IsDraft library.now.mark self.now.outcomes self.now.added }
         ensures date { result ≡ option_map (λ row. row.date) (row_of_same collection object.now (library.now.rows ++ self.now.added)) }
         ensures known { IfSome result (λ date. date ≤ last_date) }

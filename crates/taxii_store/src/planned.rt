@@ -16,7 +16,6 @@ pub struct Planned {
 
 impl Model for Planned {
     ghost use Rattle.std.specs.Prelude.{◌≡◌};
-ghost use Rattle.taxii_store.specs.Planned.{IsSoundPlan};
     ghost use Rattle.taxii_store.specs.Addition.{mark_after};
     ghost use Rattle.taxii_store.specs.Planned.{PlannedState, IsSoundPlan};
     ghost use Rattle.taxii_store.specs.inner.Moving.{planned_of};

@@ -1,5 +1,5 @@
 -- What a change would have done where the keeper failed.
-use Rattle.std.specs.Prelude.{◌≡◌, ◌≢◌, ℕ, List}
+use Rattle.std.specs.Prelude.{◌≢◌, ℕ, List}
 use Rattle.http_frames.specs.declared.answer.Answer.{Answer}
 use Rattle.http_frames.specs.declared.request.Request.{Request}
 use Rattle.taxii_routes.specs.declared.query.Query.{Query}

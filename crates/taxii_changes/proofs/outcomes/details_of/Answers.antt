@@ -2,7 +2,6 @@ use Rattle.std.proofs.Common.{◌≡◌, ℕ, suc, ◌+◌, List, [], ◌∷◌,
 use Rattle.std.specs.List.{AllZip}
 use Rattle.std.proofs.Math.Seq.{take-suc}
 use Rattle.taxii_store.specs.declared.add_outcome.AddOutcome.{AddOutcome}
-use Rattle.taxii_bodies.specs.declared.details.Detail.{Detail}
 use Rattle.taxii_changes.specs.Adding.{IsSuccess}
 use Rattle.taxii_changes.proofs.RowLemmas.{zip_more}
 use Rattle.taxii_changes.proofs.outcomes.details_of.Goals as goal
@@ -15,5 +14,5 @@ loop-outcome-preserved c =
     let next : suc index ≡ index + 1 = omega arith in
     let longer = sym (ap (λ (n : ℕ). take n outcomes) (sym next) ∙ take-suc outcomes index _ c.loop-outcome-test.true) in
     subst (λ (os : List AddOutcome). AllZip R os c.push.new.self) longer
-        (subst (AllZip R (take index outcomes ++ get_or outcomes index _ ∷ [])) (sym c.in_ok-push.ensures.ok)
-            (zip_more R (take index outcomes) c.loop-outcome.details (get_or outcomes index _) c.in_ok-detail_of.field-0 c.loop-outcome.invariant c.in_ok-detail_of.ensures))
+    (subst (AllZip R (take index outcomes ++ get_or outcomes index _ ∷ [])) (sym c.in_ok-push.ensures.ok)
+    (zip_more R (take index outcomes) c.loop-outcome.details (get_or outcomes index _) c.in_ok-detail_of.field-0 c.loop-outcome.invariant c.in_ok-detail_of.ensures))

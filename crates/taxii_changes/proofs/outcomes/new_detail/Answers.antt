@@ -1,4 +1,4 @@
-use Rattle.std.proofs.Common.{◌≡◌, ℕ, ◌+◌, ◌≤◌, List, All, Some, None, sym, ap, subst, ◌∙◌, arith}
+use Rattle.std.proofs.Common.{◌≡◌, ℕ, ◌+◌, ◌≤◌, List, Some, None, sym, ap, subst, ◌∙◌, arith}
 use Rattle.std.proofs.lemmas.List.Elements.{All-contains}
 use Rattle.taxii_rows.specs.declared.stored_row.StoredRow.{StoredRow}
 use Rattle.taxii_rows.specs.declared.stored_row.TheConstants.{LAST_DATE}
@@ -11,7 +11,7 @@ use Rattle.taxii_changes.proofs.outcomes.new_detail.Goals as goal
 pub row_at-requires : goal.row_at-requires
 row_at-requires c =
     subst (λ (rows : List StoredRow). RiseFrom 1 (dates_of rows)) (sym c.rows-rows.ensures.rows)
-        (rise_from_1 (c.args.planned.now.mark + 1) (dates_of c.args.planned.now.rows) (omega arith) c.rows-rows.ensures.sound.rise)
+    (rise_from_1 (c.args.planned.now.mark + 1) (dates_of c.args.planned.now.rows) (omega arith) c.rows-rows.ensures.sound.rise)
 
 pub success_detail-requires : goal.success_detail-requires
 success_detail-requires c =
@@ -20,7 +20,7 @@ success_detail-requires c =
     let there = (row_found c.date_of.result rows c.in-Some.row.now found).0 in
     let plan = c.rows-rows.ensures.sound in
     c.sound_rows_are_writable.ensures.row c.in-Some.row.now (All-contains IsSoundRow rows c.in-Some.row.now plan.rows there)
-        (All-contains (λ row. row.date ≤ LAST_DATE) rows c.in-Some.row.now plan.dates there)
+    (All-contains (λ row. row.date ≤ LAST_DATE) rows c.in-Some.row.now plan.dates there)
 
 pub unreachable-requires : goal.unreachable-requires
 unreachable-requires c =

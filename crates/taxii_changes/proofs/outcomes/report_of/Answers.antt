@@ -12,7 +12,7 @@ returns c =
     let slice = c.outcomes-outcomes.ensures in
     let least : c.min.result ≡ min MAX_DETAILS (length c.outcomes-outcomes.result.now) = omega (arith, c.min.ensures) in
     let first : take c.min.result c.outcomes-outcomes.result.now ≡ take MAX_DETAILS outcomes =
-        ap (λ (n : ℕ). take n c.outcomes-outcomes.result.now) least ∙ take_min MAX_DETAILS c.outcomes-outcomes.result.now ∙ ap (take MAX_DETAILS) slice in
+    ap (λ (n : ℕ). take n c.outcomes-outcomes.result.now) least ∙ take_min MAX_DETAILS c.outcomes-outcomes.result.now ∙ ap (take MAX_DETAILS) slice in
     record {
       number_is = refl;
       moment_is = refl;

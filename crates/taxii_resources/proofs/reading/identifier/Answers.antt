@@ -1,4 +1,4 @@
-use Rattle.std.proofs.Common.{◌≡◌, inr, refl}
+use Rattle.std.proofs.Common.{inr, refl}
 use Rattle.stix_ids.specs.declared.refusal.IdRefusal.TheVariants.{BadUuid, BadKind}
 use Rattle.taxii_resources.proofs.ResourceLemmas.{no_identifier, uuid_is, kind_is}
 use Rattle.taxii_resources.proofs.reading.identifier.Goals as goal

@@ -29,15 +29,22 @@ returns-clause-err g c =
     let named : Names collection config.collections info = ap (λ (text : List ℕ). collection_named text config.collections) (sym c.as_str.ensures) ∙ sym c.in-Some.ensures in
     let its = subst (λ (text : List ℕ). IsTextOf text id) c.as_str-2.ensures c.in_ok-id.ensures in
     let Says = λ (route : Route). IfErr c.delete_object.result (λ refusal. (refusal ≡ NoMemory)
-        ⊎ ((refusal ≡ Problem StoreFault) × ((statuses : StatusesState) → DeleteChanges config (server_of store statuses) route query))) in
+    ⊎ ((refusal ≡ Problem StoreFault) × ((statuses : StatusesState) → DeleteChanges config (server_of store statuses) route query))) in
     subst Says (sym c.in-Object.is) (if_err c.delete_object.result
-        (λ refusal. (refusal ≡ NoMemory) ⊎ ((refusal ≡ Problem StoreFault) × ((dates : List ℕ) × (dates ≢ []) × AreDeleted store info.id id query dates)))
-        (λ refusal. (refusal ≡ NoMemory) ⊎ ((refusal ≡ Problem StoreFault)
-            × ((statuses : StatusesState) → DeleteChanges config (server_of store statuses) (Object collection object) query)))
-        (λ refusal why. elim why [
-          | inl none ↦ inl none
-          | inr fault ↦
-            let (dates, some, deleted) = fault.1 in
-            inr (fault.0, λ statuses. (bare_answer Okay None, without_dates dates (server_of store statuses),
-              (info, named, id, its, dates, deleted, refl, refl), rows_go store info.id id query dates deleted some))
-        ]) c.delete_object.ensures.err)
+    (λ refusal. (refusal ≡ NoMemory) ⊎ ((refusal ≡ Problem StoreFault) × ((dates : List ℕ) × (dates ≢ []) × AreDeleted store info.id id query dates)))
+    (λ refusal. (refusal ≡ NoMemory) ⊎ ((refusal ≡ Problem StoreFault)
+    × ((statuses : StatusesState) → DeleteChanges config (server_of store statuses) (Object collection object) query)))
+    (λ refusal why. elim why [
+      | inl none ↦ inl none
+      | inr fault ↦
+          let (dates, some, deleted) = fault.1 in
+          inr (
+            fault.0,
+            λ statuses. (
+              bare_answer Okay None,
+              without_dates dates (server_of store statuses),
+              (info, named, id, its, dates, deleted, refl, refl),
+              rows_go store info.id id query dates deleted some,
+            ),
+          )
+    ]) c.delete_object.ensures.err)

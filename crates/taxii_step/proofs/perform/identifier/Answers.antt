@@ -9,4 +9,4 @@ unreachable-requires-in-Err-BadUuid c =
 pub unreachable-requires-in-Err-BadKind : goal.unreachable-requires-in-Err-BadKind
 unreachable-requires-in-Err-BadKind c =
     no_identifier c.args.text.now c.in-Err-BadKind.field-0 (BadKind c.in-Err-BadKind.field-0-0) c.in-Err-BadKind.field-0-is (kind_is c.in-Err-BadKind.field-0-0) c.in-Err-BadKind.ensures.named
-        c.requires.0 c.requires.1
+    c.requires.0 c.requires.1

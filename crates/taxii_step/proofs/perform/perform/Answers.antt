@@ -20,14 +20,14 @@ returns-in-Delete-clause-err g c =
     let route = c.args.route.now in
     let query = c.args.query in
     let Says = λ (method : Method). IfErr c.delete.result (λ refusal. (refusal ≡ NoMemory)
-        ⊎ (CannotDo config before c.args.moment request route method refusal
-            ⊎ ((refusal ≡ Problem StoreFault) × ChangesBy (Does config before c.args.moment request route query method) before))) in
+    ⊎ (CannotDo config before c.args.moment request route method refusal
+    ⊎ ((refusal ≡ Problem StoreFault) × ChangesBy (Does config before c.args.moment request route query method) before))) in
     subst Says (sym c.in-Delete.is) (if_err c.delete.result
-        (λ refusal. (refusal ≡ NoMemory) ⊎ ((refusal ≡ Problem StoreFault) × ((statuses : StatusesState) → DeleteChanges config (server_of store statuses) route query)))
-        (λ refusal. (refusal ≡ NoMemory)
-            ⊎ (CannotDo config before c.args.moment request route Delete refusal
-                ⊎ ((refusal ≡ Problem StoreFault) × ChangesBy (Does config before c.args.moment request route query Delete) before)))
-        (λ refusal why. elim why [
-          | inl none ↦ inl none
-          | inr fault ↦ inr (inr (fault.0, fault.1 c.args.statuses.now))
-        ]) c.delete.ensures.err)
+    (λ refusal. (refusal ≡ NoMemory) ⊎ ((refusal ≡ Problem StoreFault) × ((statuses : StatusesState) → DeleteChanges config (server_of store statuses) route query)))
+    (λ refusal. (refusal ≡ NoMemory)
+    ⊎ (CannotDo config before c.args.moment request route Delete refusal
+    ⊎ ((refusal ≡ Problem StoreFault) × ChangesBy (Does config before c.args.moment request route query Delete) before)))
+    (λ refusal why. elim why [
+      | inl none ↦ inl none
+      | inr fault ↦ inr (inr (fault.0, fault.1 c.args.statuses.now))
+    ]) c.delete.ensures.err)

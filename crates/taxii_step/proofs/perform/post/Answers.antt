@@ -1,4 +1,4 @@
-use Rattle.std.proofs.Common.{◌≡◌, ◌≢◌, ◌⊎◌, inl, inr, ℕ, List, [], Some, refl, sym, ap, subst, ◌∙◌}
+use Rattle.std.proofs.Common.{◌≡◌, ◌≢◌, ◌⊎◌, inl, inr, ℕ, List, [], refl, sym, ap, subst, ◌∙◌}
 use Rattle.std.specs.Prelude.{IfErr}
 use Rattle.http_frames.specs.declared.status.Status.TheVariants.{Accepted}
 use Rattle.taxii_routes.specs.declared.route.Route.{Route}
@@ -27,20 +27,26 @@ returns-clause-err g c =
     let body = c.as_slice.result.now in
     let named : Names id config.collections info = ap (λ (text : List ℕ). collection_named text config.collections) (sym c.as_str.ensures) ∙ sym c.in-Some.ensures in
     let Says = λ (route : Route). IfErr c.add_objects.result (λ refusal. (refusal ≡ NoMemory)
-        ⊎ (CannotPost config before moment request route refusal ⊎ ((refusal ≡ Problem StoreFault) × PostChanges config before moment request route))) in
+    ⊎ (CannotPost config before moment request route refusal ⊎ ((refusal ≡ Problem StoreFault) × PostChanges config before moment request route))) in
     subst Says (sym c.in-Objects.is) (if_err c.add_objects.result
-        (λ refusal. (refusal ≡ NoMemory) ⊎ (CannotAdd before info.id moment body refusal
-            ⊎ ((refusal ≡ Problem StoreFault) × ((new : List StoredRow) × (text : List ℕ) × (new ≢ []) × IsAdding before info.id moment body new text))))
-        (λ refusal. (refusal ≡ NoMemory) ⊎ (CannotPost config before moment request (Objects id) refusal
-            ⊎ ((refusal ≡ Problem StoreFault) × PostChanges config before moment request (Objects id))))
-        (λ refusal why. elim why [
-          | inl none ↦ inl none
-          | inr other ↦ elim other [
-            | inl cannot ↦ inr (inl (info, named, subst (λ (bytes : List ℕ). CannotAdd before info.id moment bytes refusal) c.as_slice.ensures cannot))
-            | inr fault ↦
-              let (new, text, some, adding) = fault.1 in
-              inr (inr (fault.0, (body_answer Accepted text, with_added new text before,
+    (λ refusal. (refusal ≡ NoMemory) ⊎ (CannotAdd before info.id moment body refusal
+    ⊎ ((refusal ≡ Problem StoreFault) × ((new : List StoredRow) × (text : List ℕ) × (new ≢ []) × IsAdding before info.id moment body new text))))
+    (λ refusal. (refusal ≡ NoMemory) ⊎ (CannotPost config before moment request (Objects id) refusal
+    ⊎ ((refusal ≡ Problem StoreFault) × PostChanges config before moment request (Objects id))))
+    (λ refusal why. elim why [
+      | inl none ↦ inl none
+      | inr other ↦ elim other [
+        | inl cannot ↦ inr (inl (info, named, subst (λ (bytes : List ℕ). CannotAdd before info.id moment bytes refusal) c.as_slice.ensures cannot))
+        | inr fault ↦
+            let (new, text, some, adding) = fault.1 in
+            inr (inr (
+              fault.0,
+              (
+                body_answer Accepted text,
+                with_added new text before,
                 (info, named, new, text, subst (λ (bytes : List ℕ). IsAdding before info.id moment bytes new text) c.as_slice.ensures adding, refl, refl),
-                rows_grow before.store.rows new some)))
-          ]
-        ]) c.add_objects.ensures.err)
+                rows_grow before.store.rows new some,
+              ),
+            ))
+      ]
+    ]) c.add_objects.ensures.err)

@@ -1,8 +1,7 @@
-use Rattle.std.proofs.Common.{◌≡◌, ◌≢◌, ◌⊎◌, inl, inr, ℕ, List, [], Option, unwrap_or, option_map, sym, ap, subst, ◌∙◌}
+use Rattle.std.proofs.Common.{◌≡◌, ◌⊎◌, inl, inr, ℕ, List, [], unwrap_or, option_map, subst}
 use Rattle.http_frames.specs.declared.answer.Answer.{Answer}
 use Rattle.taxii_bodies.specs.declared.problem.Problem.TheVariants.{StoreFault}
 use Rattle.taxii_requests.specs.Answers.{problem_answer}
-use Rattle.taxii_routes.specs.declared.route.Route.{Route}
 use Rattle.taxii_routes.specs.Route.{IsPathOf}
 use Rattle.taxii_routes.specs.Target.{IsTargetOf}
 use Rattle.taxii_changes.specs.ServerState.{ServerState, server_of}
@@ -25,22 +24,22 @@ returns-in_default g c =
     let path_is : IsPathOf path route = c.in_ok-route.ensures.found c.in_default.not-None in
     let text : c.query_text-query.result.now ≡ unwrap_or query [] = c.query_text-query.ensures in
     let steps = λ (answer : Answer) (now : ServerState) (step : RouteStep config before moment request route c.query_text-query.result.now answer now).
-        let its = subst (λ (t : List ℕ). RouteStep config before moment request route t answer now) text step in
-        let whole : Step config before moment request answer now = record { path = path; query = query; target_is = target; outcome = inr (route, path_is, its) } in
-        whole in
+    let its = subst (λ (t : List ℕ). RouteStep config before moment request route t answer now) text step in
+    let whole : Step config before moment request answer now = record { path = path; query = query; target_is = target; outcome = inr (route, path_is, its) } in
+    whole in
     let ensures = c.respond_at.ensures in
     record {
       agrees = ensures.agrees;
       name = ensures.name;
       ok = if_ok c.respond_at.result
           (λ answer. RouteStep config before moment request route c.query_text-query.result.now answer after
-            ⊎ ((answer ≡ problem_answer StoreFault) × (after ≡ before) × RouteChanges config before moment request route c.query_text-query.result.now))
+          ⊎ ((answer ≡ problem_answer StoreFault) × (after ≡ before) × RouteChanges config before moment request route c.query_text-query.result.now))
           (λ answer. Step config before moment request answer after ⊎ FailsToKeep config before moment request answer after)
           (λ answer came. elim came [
             | inl step ↦ inl (steps answer after step)
             | inr fault ↦
-              let (wanted, changed, done, rows) = fault.2 in
-              inr (record { answer_is = fault.0; unchanged = fault.1; wanted = wanted; changed = changed; step = steps wanted changed (inr done); rows = rows })
+                let (wanted, changed, done, rows) = fault.2 in
+                inr (record { answer_is = fault.0; unchanged = fault.1; wanted = wanted; changed = changed; step = steps wanted changed (inr done); rows = rows })
           ]) ensures.ok;
       err = ensures.err;
       fault = ensures.fault;

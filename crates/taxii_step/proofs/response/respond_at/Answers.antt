@@ -11,6 +11,6 @@ pub returns-in-Err-Problem-clause-fault : goal.returns-in-Err-Problem-clause-fau
 returns-in-Err-Problem-clause-fault g c =
     let problem = c.in-Err-Problem.problem in
     if_ok c.problem_answer.result (λ answer. answer ≡ problem_answer problem)
-        (λ answer. answer.status ≡ InternalServerError → Rose (g.K.Keeper.faults c.args.keeper.now) (g.K.Keeper.faults c.outcome.new.keeper))
-        (λ answer its failed. c.in-Err-Problem.ensures.fault (c.in-Err-Problem.field-0-is ∙ ap Problem (is_fault problem (sym (ap (λ (one : Answer). one.status) its) ∙ failed))))
-        c.problem_answer.ensures
+    (λ answer. answer.status ≡ InternalServerError → Rose (g.K.Keeper.faults c.args.keeper.now) (g.K.Keeper.faults c.outcome.new.keeper))
+    (λ answer its failed. c.in-Err-Problem.ensures.fault (c.in-Err-Problem.field-0-is ∙ ap Problem (is_fault problem (sym (ap (λ (one : Answer). one.status) its) ∙ failed))))
+    c.problem_answer.ensures

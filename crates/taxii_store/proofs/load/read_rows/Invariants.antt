@@ -1,4 +1,4 @@
-use Rattle.std.proofs.Common.{◌≡◌, ◌-◌, true, IfSome}
+use Rattle.std.proofs.Common.{◌≡◌, ◌-◌, IfSome}
 use Rattle.taxii_rows.specs.declared.stored_row.TheConstants.{LAST_DATE}
 use Rattle.taxii_store.proofs.LoadLemmas.{AreGood, IsReadTo}
 use Rattle.taxii_store.proofs.load.read_rows.Given as goal

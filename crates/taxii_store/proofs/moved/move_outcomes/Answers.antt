@@ -1,4 +1,4 @@
-use Rattle.std.proofs.Common.{◌≡◌, ◌<◌, length, get_or, slice_set, ap, ◌∙◌, arith}
+use Rattle.std.proofs.Common.{◌<◌, length, get_or, slice_set, ap, ◌∙◌, arith}
 use Rattle.std.proofs.lemmas.List.Edits.{map_over_more}
 use Rattle.taxii_store.specs.inner.Moving.{moved_outcome}
 use Rattle.taxii_store.proofs.CountLemmas.{get_or_again}

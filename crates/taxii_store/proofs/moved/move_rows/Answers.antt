@@ -1,4 +1,4 @@
-use Rattle.std.proofs.Common.{◌≡◌, ◌<◌, length, slice_set, ap, sym, ◌∙◌, arith}
+use Rattle.std.proofs.Common.{◌<◌, length, slice_set, ap, sym, ◌∙◌, arith}
 use Rattle.std.proofs.lemmas.List.Edits.{map_over_more}
 use Rattle.taxii_store.specs.inner.Moving.{moved}
 use Rattle.taxii_store.proofs.moved.move_rows.Goals as goal

@@ -1,6 +1,5 @@
-use Rattle.std.proofs.Common.{◌≡◌, ◌⊎◌, inl, inr, ℕ, ◌+◌, ◌<◌, length, sym, subst, ◌∙◌, arith}
-use Rattle.taxii_bodies.specs.declared.problem.Problem.TheVariants.{DatesUsedUp}
-use Rattle.taxii_requests.specs.declared.refusal.Refusal.TheVariants.{NoMemory, Problem}
+use Rattle.std.proofs.Common.{◌≡◌, ◌⊎◌, inl, inr, length, sym, subst, ◌∙◌, arith}
+use Rattle.taxii_requests.specs.declared.refusal.Refusal.TheVariants.{NoMemory}
 use Rattle.taxii_store.specs.Addition.{first_date}
 use Rattle.taxii_changes.specs.Adding.{CannotAdd}
 use Rattle.taxii_changes.specs.ServerState.{server_of}
@@ -11,13 +10,13 @@ pub returns-in_err-planned-clause-err : goal.returns-in_err-planned-clause-err
 returns-in_err-planned-clause-err c =
     let state = server_of c.args.library.now c.args.statuses.now in
     handed_on c.from_residual-in_err-planned.result c.in_err-planned.field-0.0
-        (λ refusal. (refusal ≡ NoMemory) ⊎ CannotAdd state c.args.collection c.args.moment c.args.body.now refusal)
-        c.from_residual-in_err-planned.ensures.1
-        (elim c.in_err-planned.ensures.err [
-          | inl none ↦ inl none
-          | inr used ↦ inr (subst (CannotAdd state c.args.collection c.args.moment c.args.body.now) (sym used.0)
-              (record { posted = c.in_ok-posted.posted; posted_is = c.in_ok-posted.ensures.ok; lacks = used.1 }))
-        ])
+    (λ refusal. (refusal ≡ NoMemory) ⊎ CannotAdd state c.args.collection c.args.moment c.args.body.now refusal)
+    c.from_residual-in_err-planned.ensures.1
+    (elim c.in_err-planned.ensures.err [
+      | inl none ↦ inl none
+      | inr used ↦ inr (subst (CannotAdd state c.args.collection c.args.moment c.args.body.now) (sym used.0)
+          (record { posted = c.in_ok-posted.posted; posted_is = c.in_ok-posted.ensures.ok; lacks = used.1 }))
+    ])
 
 pub report_of-requires : goal.report_of-requires
 report_of-requires c = record {

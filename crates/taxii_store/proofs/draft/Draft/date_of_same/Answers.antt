@@ -1,4 +1,4 @@
-use Rattle.std.proofs.Common.{◌≡◌, ◌∙◌, Option, ap, subst, ℕ, option_map}
+use Rattle.std.proofs.Common.{◌∙◌, ap, subst, option_map}
 use Rattle.taxii_rows.specs.declared.stored_row.StoredRow.{StoredRow}
 use Rattle.taxii_rows.specs.SoundRow.{IsSoundState}
 use Rattle.taxii_rows.specs.StoreState.{StoreState}
@@ -16,8 +16,8 @@ returns-in-Some-clause-known c =
     let sound = subst IsSoundState c.library.view_is c.library.invariant in
     let found = c.date_in_rows-held.ensures ∙ ap (λ (state : StoreState). option_map (λ (row : StoredRow). row.date) (row_of_same c.args.collection c.args.object.now state.rows)) c.library.view_is in
     date_known c.args.library.now c.args.collection c.args.object.now c.args.self.now.outcomes c.args.self.now.added c.date_in_rows-held.result
-        sound.marked sound.last c.requires
-        (date_held c.args.collection c.args.object.now c.args.library.now.rows c.args.self.now.added c.date_in_rows-held.result _ found c.in-Some.is)
+    sound.marked sound.last c.requires
+    (date_held c.args.collection c.args.object.now c.args.library.now.rows c.args.self.now.added c.date_in_rows-held.result _ found c.in-Some.is)
 
 pub returns-in-None-clause-date : goal.returns-in-None-clause-date
 returns-in-None-clause-date c =
@@ -29,5 +29,5 @@ returns-in-None-clause-known c =
     let sound = subst IsSoundState c.library.view_is c.library.invariant in
     let found = c.date_in_rows-held.ensures ∙ ap (λ (state : StoreState). option_map (λ (row : StoredRow). row.date) (row_of_same c.args.collection c.args.object.now state.rows)) c.library.view_is in
     date_known c.args.library.now c.args.collection c.args.object.now c.args.self.now.outcomes c.args.self.now.added c.date_in_rows.result
-        sound.marked sound.last c.requires
-        (date_added c.args.collection c.args.object.now c.args.library.now.rows c.args.self.now.added c.date_in_rows-held.result c.date_in_rows.result found c.date_in_rows.ensures c.in-None.is)
+    sound.marked sound.last c.requires
+    (date_added c.args.collection c.args.object.now c.args.library.now.rows c.args.self.now.added c.date_in_rows-held.result c.date_in_rows.result found c.date_in_rows.ensures c.in-None.is)

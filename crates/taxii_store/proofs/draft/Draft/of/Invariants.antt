@@ -1,4 +1,4 @@
-use Rattle.std.proofs.Common.{◌≡◌, ◌++◌, All}
+use Rattle.std.proofs.Common.{All}
 use Rattle.taxii_store.specs.Planned.{IsSound}
 use Rattle.taxii_store.specs.inner.Moving.{IsDraft}
 use Rattle.taxii_store.proofs.AddsLemmas.{GoesOn}

@@ -1,5 +1,4 @@
 use Rattle.std.proofs.Common.{ℕ, List, ◌≤◌, ap, subst, sym}
-use Rattle.taxii_rows.specs.declared.stored_row.StoredRow.{StoredRow}
 use Rattle.taxii_rows.specs.declared.stored_row.TheConstants.{LAST_DATE}
 use Rattle.taxii_rows.specs.StoreState.{StoreState}
 use Rattle.taxii_store.specs.declared.add_outcome.AddOutcome.{AddOutcome}
@@ -19,12 +18,12 @@ returns-clause-draft c =
     let mark = ap (λ (state : StoreState). state.mark) c.library.view_is in
     subst Goal (sym c.in_ok-push.ensures.ok) (elim c.match-date_of_same.branch [
       | in-Some w ↦
-        let draft = subst (of_draft c.args.library.now.mark) (sym w.self-is) c.requires.draft in
-        outcome_pushed c.args.library.now.mark c.match-date_of_same.self.outcomes c.match-date_of_same.self.added c.match-date_of_same.outcome draft
-            (subst (λ (one : AddOutcome). date_in one ≤ LAST_DATE) (sym w.outcome-is) w.in-Some.ensures.known)
+          let draft = subst (of_draft c.args.library.now.mark) (sym w.self-is) c.requires.draft in
+          outcome_pushed c.args.library.now.mark c.match-date_of_same.self.outcomes c.match-date_of_same.self.added c.match-date_of_same.outcome draft
+          (subst (λ (one : AddOutcome). date_in one ≤ LAST_DATE) (sym w.outcome-is) w.in-Some.ensures.known)
       | in-None+in_ok-outcome-in-None w ↦
-        let there = subst (λ (m : ℕ). IsDraft m w.add.new.self.outcomes w.add.new.self.added) mark w.in_ok-outcome-in-None.ensures.draft in
-        let draft = subst (of_draft c.args.library.now.mark) (sym w.self-is) there in
-        outcome_pushed c.args.library.now.mark c.match-date_of_same.self.outcomes c.match-date_of_same.self.added c.match-date_of_same.outcome draft
-            (subst (λ (one : AddOutcome). date_in one ≤ LAST_DATE) (sym w.outcome-is) w.in_ok-outcome-in-None.ensures.known)
+          let there = subst (λ (m : ℕ). IsDraft m w.add.new.self.outcomes w.add.new.self.added) mark w.in_ok-outcome-in-None.ensures.draft in
+          let draft = subst (of_draft c.args.library.now.mark) (sym w.self-is) there in
+          outcome_pushed c.args.library.now.mark c.match-date_of_same.self.outcomes c.match-date_of_same.self.added c.match-date_of_same.outcome draft
+          (subst (λ (one : AddOutcome). date_in one ≤ LAST_DATE) (sym w.outcome-is) w.in_ok-outcome-in-None.ensures.known)
     ])

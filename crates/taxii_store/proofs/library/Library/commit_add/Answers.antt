@@ -1,9 +1,8 @@
-use Rattle.std.proofs.Common.{◌≡◌, ℕ, List, ◌++◌, ap, sym, subst, ◌∙◌}
+use Rattle.std.proofs.Common.{ℕ, List, ap, sym, subst, ◌∙◌}
 use Rattle.taxii_rows.specs.declared.stored_row.StoredRow.{StoredRow}
 use Rattle.taxii_rows.specs.SoundRow.{IsSoundState}
 use Rattle.taxii_rows.specs.StoreState.{StoreState}
 use Rattle.taxii_rows.specs.Keeper.{CanAppend, with_rows}
-use Rattle.taxii_store.specs.Addition.{mark_after}
 use Rattle.taxii_store.specs.Planned.{PlannedState}
 use Rattle.taxii_store.specs.inner.Moving.{planned_of}
 use Rattle.taxii_store.proofs.CommitLemmas.{can_commit, sound_committed, rows_behind, if_same}
@@ -23,11 +22,11 @@ append-requires-2-clause-later g c =
     let same = ap (λ (p : PlannedState). p.mark) c.planned.view_is ∙ c.requires.mark ∙ sym (ap (λ (s : StoreState). s.mark) c.self.view_is) in
     let can = can_commit c.later_rows.ensures state planned c.self.invariant c.planned.invariant.0 same in
     let behind = rows_behind c.self.inside.rows c.planned.inside.rows.items c.as_slice-length.result.now c.as_slice.result.now
-        c.as_slice-length.ensures.rows (c.as_slice.ensures.rows ∙ c.in_ok-append.ensures.ok) in
+    c.as_slice-length.ensures.rows (c.as_slice.ensures.rows ∙ c.in_ok-append.ensures.ok) in
     let last = subst (λ (mark : ℕ). CanAppend c.planned.inside.rows.items mark state) (sym c.planned.invariant.1) can in
     if_same (g.K.Keeper.told c.args.keeper.now) _ c.args.self.now c.requires.agrees.told_is
-        (subst (CanAppend _ c.planned.inside.last) c.self.view_is
-            (subst (λ (rows : List StoredRow). CanAppend rows c.planned.inside.last state) (sym behind) last))
+    (subst (CanAppend _ c.planned.inside.last) c.self.view_is
+    (subst (λ (rows : List StoredRow). CanAppend rows c.planned.inside.last state) (sym behind) last))
 
 pub invariant_of-self-in-Ok : goal.invariant_of-self-in-Ok
 invariant_of-self-in-Ok g c =
@@ -36,4 +35,4 @@ invariant_of-self-in-Ok g c =
     let same = ap (λ (p : PlannedState). p.mark) c.planned.view_is ∙ c.requires.mark ∙ sym (ap (λ (s : StoreState). s.mark) c.self.view_is) in
     let sound = sound_committed c.later_rows.ensures c.sound_states.ensures.added state planned c.self.invariant c.planned.invariant.0 same in
     subst (λ (rows : List StoredRow). IsSoundState (record { rows = rows; mark = c.planned.inside.last })) (sym c.in_ok-append.ensures.ok)
-        (subst (λ (mark : ℕ). IsSoundState (with_rows c.planned.inside.rows.items mark state)) (sym c.planned.invariant.1) sound)
+    (subst (λ (mark : ℕ). IsSoundState (with_rows c.planned.inside.rows.items mark state)) (sym c.planned.invariant.1) sound)

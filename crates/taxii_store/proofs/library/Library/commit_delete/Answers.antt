@@ -1,9 +1,8 @@
-use Rattle.std.proofs.Common.{◌≡◌, List, ap, sym, subst, ◌∙◌, arith}
+use Rattle.std.proofs.Common.{List, ap, sym, subst, ◌∙◌}
 use Rattle.std.proofs.lemmas.Bool.{eqb-true}
 use Rattle.std.proofs.lemmas.List.{nil_from_length}
 use Rattle.taxii_rows.specs.declared.stored_row.StoredRow.{StoredRow}
 use Rattle.taxii_rows.specs.SoundRow.{IsSoundState}
-use Rattle.taxii_rows.specs.StoreState.{StoreState}
 use Rattle.taxii_store.proofs.CommitLemmas.{none_taken}
 use Rattle.taxii_store.proofs.library.Library.commit_delete.Goals as goal
 
@@ -15,4 +14,4 @@ returns-then-is_empty-clause-ok g c =
 pub invariant_of-self : goal.invariant_of-self
 invariant_of-self g c =
     subst (λ (rows : List StoredRow). IsSoundState (record { rows = rows; mark = c.self.inside.mark })) (sym c.remove-2.ensures)
-        (c.sound_states.ensures.removed (record { rows = c.self.inside.rows; mark = c.self.inside.mark }) c.args.dates.now c.self.invariant)
+    (c.sound_states.ensures.removed (record { rows = c.self.inside.rows; mark = c.self.inside.mark }) c.args.dates.now c.self.invariant)

@@ -1,4 +1,4 @@
-use Rattle.std.proofs.Common.{ℕ, List, ap, sym, subst, ◌∙◌}
+use Rattle.std.proofs.Common.{ap, sym, subst, ◌∙◌}
 use Rattle.taxii_rows.specs.SoundRow.{IsSoundState}
 use Rattle.taxii_rows.specs.StoreState.{StoreState}
 use Rattle.taxii_store.specs.Addition.{IsAddition}
@@ -13,5 +13,5 @@ returns-clause-ok c =
     let sound = subst IsSoundState c.self.view_is c.self.invariant in
     let planned = c.planned_at.ensures ∙ ap (λ (state : StoreState). plan_of state.mark c.args.moment draft.outcomes draft.added) c.self.view_is in
     subst (λ (plan : PlannedState). IsAddition c.args.self.now c.args.collection c.args.moment c.args.objects.items plan.outcomes plan.rows) (sym planned)
-        (plan_adds c.args.self.now c.args.collection c.args.moment c.args.objects.items draft.outcomes draft.added
-            sound.marked c.in_ok-draft.ensures.draft c.in_ok-draft.ensures.ok)
+    (plan_adds c.args.self.now c.args.collection c.args.moment c.args.objects.items draft.outcomes draft.added
+    sound.marked c.in_ok-draft.ensures.draft c.in_ok-draft.ensures.ok)

@@ -1,4 +1,4 @@
-use Rattle.std.proofs.Common.{◌≡◌, ℕ, suc, ◌+◌, ◌<◌, ◌≤◌, List, length, take, get_or, Bool, IsTrue, sym, ap, subst, ◌∙◌, arith}
+use Rattle.std.proofs.Common.{◌≡◌, ℕ, suc, ◌+◌, ◌<◌, ◌≤◌, List, length, take, get_or, IsTrue, sym, ap, subst, ◌∙◌, arith}
 use Rattle.std.proofs.lemmas.List.{take_all}
 use Rattle.taxii_rows.specs.declared.stored_row.StoredRow.{StoredRow}
 use Rattle.taxii_rows.specs.SoundRow.{IsSoundState}
@@ -18,16 +18,16 @@ loop-row-preserved c =
     let sound = subst IsSoundState c.self.view_is c.self.invariant in
     let next : suc index ≡ index + 1 = omega arith in
     subst (λ (n : ℕ). AreTakenFrom rows c.args.collection c.args.id.now c.args.picks.now (take n rows) c.if-is_taken.dates) next
-        (elim c.if-is_taken.branch [
-          | then-is_taken+in_ok-push w ↦
-            subst (AreTakenFrom rows c.args.collection c.args.id.now c.args.picks.now (take (suc index) rows)) (sym (w.dates-is ∙ w.in_ok-push.ensures.ok))
-                (taken_more rows c.args.collection c.args.id.now c.args.picks.now index row c.loop-row.dates sound.rise within its c.loop-row.invariant
-                    (c.is_taken.ensures.0 w.if-is_taken.true))
-          | else-is_taken w ↦
-            subst (AreTakenFrom rows c.args.collection c.args.id.now c.args.picks.now (take (suc index) rows)) (sym w.dates-is)
-                (taken_same rows c.args.collection c.args.id.now c.args.picks.now index row c.loop-row.dates within its c.loop-row.invariant
-                    (λ taken. let wrong = subst IsTrue w.if-is_taken.false (c.is_taken.ensures.1 taken) in absurd (cc wrong)))
-        ])
+    (elim c.if-is_taken.branch [
+      | then-is_taken+in_ok-push w ↦
+          subst (AreTakenFrom rows c.args.collection c.args.id.now c.args.picks.now (take (suc index) rows)) (sym (w.dates-is ∙ w.in_ok-push.ensures.ok))
+          (taken_more rows c.args.collection c.args.id.now c.args.picks.now index row c.loop-row.dates sound.rise within its c.loop-row.invariant
+          (c.is_taken.ensures.0 w.if-is_taken.true))
+      | else-is_taken w ↦
+          subst (AreTakenFrom rows c.args.collection c.args.id.now c.args.picks.now (take (suc index) rows)) (sym w.dates-is)
+          (taken_same rows c.args.collection c.args.id.now c.args.picks.now index row c.loop-row.dates within its c.loop-row.invariant
+          (λ taken. let wrong = subst IsTrue w.if-is_taken.false (c.is_taken.ensures.1 taken) in absurd (cc wrong)))
+    ])
 
 pub returns : goal.returns
 returns c =
@@ -35,4 +35,4 @@ returns c =
     let slice : c.as_slice-row-items.result.now ≡ rows = c.as_slice-row-items.ensures.rows ∙ ap (λ (state : StoreState). state.rows) c.self.view_is in
     let whole : length rows ≤ c.loop-row.row-index = subst (λ (rs : List StoredRow). length rs ≤ c.loop-row.row-index) slice c.loop-row-test.false in
     all_taken rows c.args.collection c.args.id.now c.args.picks.now c.loop-row.dates
-        (subst (λ (rs : List StoredRow). AreTakenFrom rows c.args.collection c.args.id.now c.args.picks.now rs c.loop-row.dates) (take_all c.loop-row.row-index rows whole) c.loop-row.invariant)
+    (subst (λ (rs : List StoredRow). AreTakenFrom rows c.args.collection c.args.id.now c.args.picks.now rs c.loop-row.dates) (take_all c.loop-row.row-index rows whole) c.loop-row.invariant)
