@@ -1,10 +1,10 @@
 -- Bytes that are written piece by piece: what is done, and what is left to do.
-use Rattle.std.proofs.Common.{◌≡◌, ℕ, ◌<◌, List, [], ◌∷◌, ◌++◌, Option, Some, None, length, take, drop, refl, sym, ap, ◌∙◌, arith, append_assoc, length-append, length-drop, ◌-◌, ◌+◌, get_or, add-one, Bor}
+use Rattle.std.proofs.Common.{◌≡◌, ℕ, ◌<◌, ◌≤◌, List, [], ◌∷◌, ◌++◌, Option, Some, None, length, take, drop, refl, sym, ap, ◌∙◌, arith, append_assoc, length-append, length-drop, ◌-◌, ◌+◌, get_or, add-one, Bor}
 use Rattle.std.proofs.lemmas.List.{append-nil, take-append-drop, take-append-le}
 use Rattle.std.proofs.lemmas.Grind.{flat_map-append}
 use Rattle.std.proofs.Math.Seq.{take-append_seam, take-length, take-append-add, take-suc}
-use Rattle.std.specs.Prelude.{Result, Ok, Err, IsErr}
-use Rattle.flow_edges.specs.Flow.{written_with, WritesPrefix, WritesWhole, joined}
+use Rattle.std.specs.Prelude.{Result, Ok, Err, IsErr, OnErr}
+use Rattle.flow_edges.specs.Flow.{written_with, WritesPrefix, WritesPart, WritesWhole, joined}
 
 pub written_with-written_with : (a b : List ℕ) (w : Option (List ℕ)) → written_with b (written_with a w) ≡ written_with (a ++ b) w
 written_with-written_with a b None = refl
@@ -49,6 +49,13 @@ part_way-prefix all rest before now later way same = (
   same ∙ way.written ∙ ap (λ done. written_with done before) (sym (ap (take (length way.done)) way.cut ∙ take-append_seam way.done rest)),
 )
 
+pub part_way-part : (all rest : List ℕ) (before now later : Option (List ℕ)) → 0 < length rest → IsPartWay all rest before now → later ≡ now → WritesPart all before later
+part_way-part all rest before now later some way same = (
+  length way.done,
+  omega (arith, ap length way.cut, length-append way.done rest, some),
+  same ∙ way.written ∙ ap (λ done. written_with done before) (sym (ap (take (length way.done)) way.cut ∙ take-append_seam way.done rest)),
+)
+
 -- ---- several pieces
 
 pub joined-step : (pieces : List (Bor (List ℕ))) (i : ℕ) (d : Bor (List ℕ)) → i < length pieces → joined (take (i + 1) pieces) ≡ joined (take i pieces) ++ (get_or pieces i d).now
@@ -60,22 +67,56 @@ joined-step pieces i d within =
 pub joined-split : (pieces : List (Bor (List ℕ))) (i : ℕ) → joined pieces ≡ joined (take i pieces) ++ joined (drop i pieces)
 joined-split pieces i = ap joined (sym (take-append-drop i pieces)) ∙ flat_map-append (λ (p : Bor (List ℕ)). p.now) (take i pieces) (drop i pieces)
 
--- a prefix of a piece after the pieces before it is a prefix of all
-pub prefix-joined : (pieces : List (Bor (List ℕ))) (i : ℕ) (d : Bor (List ℕ)) (before mid now : Option (List ℕ)) → i < length pieces
-    → mid ≡ written_with (joined (take i pieces)) before → WritesPrefix (get_or pieces i d).now mid now → WritesPrefix (joined pieces) before now
-prefix-joined pieces i d before mid now within done prefix =
+-- the first bytes of a piece after the pieces before it are the first bytes of all
+pub first-joined : (pieces : List (Bor (List ℕ))) (i : ℕ) (d : Bor (List ℕ)) (before mid now : Option (List ℕ)) (n : ℕ) → i < length pieces
+    → mid ≡ written_with (joined (take i pieces)) before → n ≤ length (get_or pieces i d).now → now ≡ written_with (take n (get_or pieces i d).now) mid
+    → now ≡ written_with (take (length (joined (take i pieces)) + n) (joined pieces)) before
+first-joined pieces i d before mid now n within done short more =
     let piece = (get_or pieces i d).now in
     let front = joined (take i pieces) in
     let back = joined (drop (i + 1) pieces) in
     let split : joined pieces ≡ front ++ (piece ++ back) =
     joined-split pieces (i + 1) ∙ ap (λ some. some ++ back) (joined-step pieces i d within) ∙ append_assoc front piece back in
-    let n = prefix.0 in
     let cut : take (length front + n) (joined pieces) ≡ front ++ take n piece =
-    ap (take (length front + n)) split ∙ take-append-add front (piece ++ back) n ∙ ap (λ some. front ++ some) (take-append-le n piece back prefix.1) in (
-      length front + n,
-      omega (arith, ap length split, length-append front (piece ++ back), length-append piece back, prefix.1),
-      prefix.2 ∙ ap (λ w. written_with (take n piece) w) done ∙ written_with-written_with front (take n piece) before ∙ ap (λ some. written_with some before) (sym cut),
+    ap (take (length front + n)) split ∙ take-append-add front (piece ++ back) n ∙ ap (λ some. front ++ some) (take-append-le n piece back short) in
+    more ∙ ap (λ w. written_with (take n piece) w) done ∙ written_with-written_with front (take n piece) before ∙ ap (λ some. written_with some before) (sym cut)
+
+-- the pieces together are as long as the parts of them
+pub length-joined : (pieces : List (Bor (List ℕ))) (i : ℕ) (d : Bor (List ℕ)) → i < length pieces
+    → length (joined pieces) ≡ length (joined (take i pieces)) + (length (get_or pieces i d).now + length (joined (drop (i + 1) pieces)))
+length-joined pieces i d within =
+    let piece = (get_or pieces i d).now in
+    let front = joined (take i pieces) in
+    let back = joined (drop (i + 1) pieces) in
+    omega (
+      arith,
+      ap length (joined-split pieces (i + 1) ∙ ap (λ some. some ++ back) (joined-step pieces i d within) ∙ append_assoc front piece back),
+      length-append front (piece ++ back),
+      length-append piece back,
     )
+
+-- a prefix of a piece after the pieces before it is a prefix of all
+pub prefix-joined : (pieces : List (Bor (List ℕ))) (i : ℕ) (d : Bor (List ℕ)) (before mid now : Option (List ℕ)) → i < length pieces
+    → mid ≡ written_with (joined (take i pieces)) before → WritesPrefix (get_or pieces i d).now mid now → WritesPrefix (joined pieces) before now
+prefix-joined pieces i d before mid now within done prefix = (
+  length (joined (take i pieces)) + prefix.0,
+  omega (arith, length-joined pieces i d within, prefix.1),
+  first-joined pieces i d before mid now prefix.0 within done prefix.1 prefix.2,
+)
+
+-- less than a piece after the pieces before it is less than all
+pub part-joined : (pieces : List (Bor (List ℕ))) (i : ℕ) (d : Bor (List ℕ)) (before mid now : Option (List ℕ)) → i < length pieces
+    → mid ≡ written_with (joined (take i pieces)) before → WritesPart (get_or pieces i d).now mid now → WritesPart (joined pieces) before now
+part-joined pieces i d before mid now within done part = (
+  length (joined (take i pieces)) + part.0,
+  omega (arith, length-joined pieces i d within, part.1),
+  first-joined pieces i d before mid now part.0 within done (omega (arith, part.1)) part.2,
+)
+
+-- a call that hands a fault on has written a part
+pub when_err : {T E : Type 0} (P : Type 0) (answer : Result T E) → P → OnErr answer P
+when_err P (Ok done) holds = tt
+when_err P (Err fault) holds = holds
 
 -- a call that hands a fault on has written a prefix
 pub writes_whole-err : {T E : Type 0} (bytes : List ℕ) (before now : Option (List ℕ)) (answer : Result T E) → IsErr answer → WritesPrefix bytes before now

@@ -1,7 +1,16 @@
 -- Bytes that come from a source and go to a sink. What is left and what is written is told by some objects alone: `None` claims nothing.
-use Rattle.std.specs.Prelude.{◌≡◌, ℕ, ◌≤◌, List, [], ◌++◌, length, take, drop, Option, option_map, IfSome, Result, MatchResult}
+use Rattle.std.specs.Prelude.{◌≡◌, ℕ, ◌≤◌, ◌<◌, List, [], ◌++◌, length, take, drop, Option, None, option_map, IfSome, Result, MatchResult}
 use Rattle.std.specs.Borrow.{Bor}
 use Rattle.std.specs.List.{flat_map}
+
+-- what an object tells of the side that a call doesn't touch: of a link, what reads are to its writes, and writes to its reads
+pub record OtherSide : Type 0 where
+  pub bytes : Option (List ℕ)
+  pub faults : ℕ
+
+-- an object with one side alone
+abbrev pub no_other_side : OtherSide
+no_other_side = record { bytes = None; faults = 0 }
 
 -- the bytes that are left after n of them were taken
 abbrev pub left_after : ℕ → Option (List ℕ) → Option (List ℕ)
@@ -26,6 +35,10 @@ TakesAtMost most left now = (n : ℕ) × (n ≤ most) × (now ≡ left_after n l
 -- a prefix of the bytes was written after what was there
 abbrev pub WritesPrefix : List ℕ → Option (List ℕ) → Option (List ℕ) → Type 0
 WritesPrefix bytes before now = (n : ℕ) × (n ≤ length bytes) × (now ≡ written_with (take n bytes) before)
+
+-- fewer than all of the bytes were written after what was there
+abbrev pub WritesPart : List ℕ → Option (List ℕ) → Option (List ℕ) → Type 0
+WritesPart bytes before now = (n : ℕ) × (n < length bytes) × (now ≡ written_with (take n bytes) before)
 
 -- what the answer of a call says that writes bytes whole: all of them were written, or a prefix of them and a fault
 abbrev pub WritesWhole : {T E : Type 0} → List ℕ → Option (List ℕ) → Option (List ℕ) → Result T E → Type 0

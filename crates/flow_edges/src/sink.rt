@@ -1,6 +1,6 @@
 ghost use Rattle.std.specs.Prelude.{◌≡◌, ℕ, ◌≤◌, ◌<◌, List, Option, length, take, IfOk, OnErr};
 ghost use Rattle.flow_edges.specs.Faults.{Causes};
-ghost use Rattle.flow_edges.specs.Flow.{written_with, WritesWhole};
+ghost use Rattle.flow_edges.specs.Flow.{written_with, WritesWhole, WritesPart, OtherSide, no_other_side};
 
 use flow_values::Fault;
 
@@ -12,6 +12,9 @@ pub trait Sink {
     /// How many calls failed.
     ghost faults: { Self → ℕ };
 
+    /// The bytes to read and the count of failed reads, where it is a source as well.
+    ghost other: { Self → OtherSide } = { λ _. no_other_side };
+
     /// Writes the first bytes of the piece, and answers how many: of a piece that isn't empty one at
     /// least. A `Fault` has written none, and is counted; no other call is.
     fn write(&mut self, piece: &[u8]) -> Result<usize, Fault>
@@ -19,14 +22,17 @@ pub trait Sink {
         ensures written { IfOk result (λ n. written self.new ≡ written_with (take n piece.now) (written self.old)) }
         ensures some { IfOk result (λ n. 0 < length piece.now → 0 < n) }
         ensures err { OnErr result (written self.new ≡ written self.old) }
-        ensures causes { Causes (faults self.old) (faults self.new) result };
+        ensures causes { Causes (faults self.old) (faults self.new) result }
+        ensures unread { other self.new ≡ other self.old };
 }
 
 /// Writes all of the bytes, by as many writes as that takes and no empty one. After a `Fault` a prefix
 /// of them was written, and nothing is tried again. Takes no memory.
 pub fn write_whole<S: Sink>(sink: &mut S, bytes: &[u8]) -> Result<(), Fault>
     ensures text { WritesWhole bytes.now (S.written sink.old) (S.written sink.new) result }
+    ensures part { OnErr result (WritesPart bytes.now (S.written sink.old) (S.written sink.new)) }
     ensures causes { Causes (S.faults sink.old) (S.faults sink.new) result }
+    ensures unread { S.other sink.new ≡ S.other sink.old }
 {
     let mut rest = bytes;
     while !rest.is_empty() {

@@ -1,7 +1,7 @@
 ghost use Rattle.std.specs.Prelude.{◌≡◌, ℕ, ◌≤◌, ◌<◌, List, Option, Ok, length, take, IfOk, OnErr};
 ghost use Rattle.flow_edges.specs.declared.source.TheConstants.{MAX_READ};
 ghost use Rattle.flow_edges.specs.Faults.{Causes};
-ghost use Rattle.flow_edges.specs.Flow.{left_after, IsNextOf, IsAtEnd};
+ghost use Rattle.flow_edges.specs.Flow.{left_after, IsNextOf, IsAtEnd, OtherSide, no_other_side};
 
 use flow_values::Fault;
 
@@ -16,6 +16,9 @@ pub trait Source {
     /// How many calls failed.
     ghost faults: { Self → ℕ };
 
+    /// The bytes written and the count of failed writes, where it is a sink as well.
+    ghost other: { Self → OtherSide } = { λ _. no_other_side };
+
     /// Takes the next bytes into the front of the buffer, which isn't empty, and answers how many: 0
     /// only at the end of the bytes. A `Fault` has taken none, and is counted; no other call is.
     ///
@@ -28,5 +31,6 @@ pub trait Source {
         ensures rest { IfOk result (λ n. left self.new ≡ left_after n (left self.old)) }
         ensures end { result ≡ Ok 0 → IsAtEnd (left self.old) }
         ensures err { OnErr result (left self.new ≡ left self.old) }
-        ensures causes { Causes (faults self.old) (faults self.new) result };
+        ensures causes { Causes (faults self.old) (faults self.new) result }
+        ensures unwritten { other self.new ≡ other self.old };
 }

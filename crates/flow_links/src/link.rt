@@ -1,5 +1,14 @@
+ghost use Rattle.std.specs.Prelude.{◌≡◌};
+ghost use Rattle.flow_edges.specs.Flow.{OtherSide};
+
 use flow_edges::{Sink, Source};
 
 /// A connection to a peer: bytes come from it and go to it. A read and a write have the contracts of
 /// `Source` and `Sink`, and each of the two counts its own faults.
-pub trait Link: Source + Sink {}
+pub trait Link: Source + Sink {
+    /// What a read leaves as it is: what was written.
+    ghost unwritten: { (link : Self) → Self.Source.other link ≡ record { bytes = Self.written link; faults = Self.Sink.faults link } };
+
+    /// What a write leaves as it is: what is there to be read.
+    ghost unread: { (link : Self) → Self.Sink.other link ≡ record { bytes = Self.left link; faults = Self.Source.faults link } };
+}

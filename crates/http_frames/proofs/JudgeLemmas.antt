@@ -1,5 +1,5 @@
 -- Which of the conditions of a head decides, and what a session keeps.
-use Rattle.std.proofs.Common.{◌≡◌, ℕ, ◌+◌, ◌<◌, ◌≤◌, Bool, true, false, ◌||◌, not, ◌==◌, if◌then◌else◌, codes, map, Bor, List, [], ◌++◌, length, take, drop, inr, length-take, length-append, length-drop, Option, Some, None, refl, sym, ap, subst, ◌∙◌, arith, nat_lt}
+use Rattle.std.proofs.Common.{rules, ◌≡◌, ℕ, ◌+◌, ◌<◌, ◌≤◌, Bool, true, false, ◌||◌, not, ◌==◌, if◌then◌else◌, codes, map, Bor, List, [], ◌++◌, length, take, drop, inl, inr, length-take, length-append, length-drop, Option, Some, None, refl, sym, ap, subst, ◌∙◌, arith, nat_lt}
 use Rattle.std.specs.List.{list_all}
 use Rattle.std.specs.Str.{is_utf8}
 use Rattle.std.proofs.lemmas.List.{append-nil}
@@ -7,7 +7,9 @@ use Rattle.std.proofs.lemmas.Bool.Decides.{Decides-eqb}
 use Rattle.http_frames.specs.declared.refusal.Refusal.{Refusal}
 use Rattle.http_frames.specs.declared.refusal.Refusal.TheVariants.{BadRequest, LengthRequired, BodyTooLarge, TransferCoding}
 use Rattle.http_frames.specs.Fields.{HeadParts, values, first_length, states, body_length, lacks_host, has_bad_text, has_bad_text_in, has_coding, has_bad_length, lacks_length}
-use Rattle.http_frames.specs.Frames.{refusal_of, Accepts}
+use Rattle.http_frames.specs.declared.frame.Frame.TheVariants.{More}
+use Rattle.http_frames.specs.declared.frame.TheConstants.{MAX_HEAD}
+use Rattle.http_frames.specs.Frames.{refusal_of, Accepts, IsFirstFrame}
 use Rattle.http_frames.specs.inner.Searching.{IsMore, Wants}
 use Rattle.http_frames.proofs.ValueLemmas.{all_of}
 use Rattle.http_frames.proofs.FrameLemmas.{wants_body}
@@ -137,3 +139,25 @@ same_room {S} lent items len most all room =
 pub wants_now : (greatest : ℕ) (bytes : List ℕ) (wanted : ℕ) → Wants greatest bytes wanted → length bytes < wanted → IsMore greatest bytes
 wants_now greatest bytes wanted wants short =
     subst (IsMore greatest) (append-nil bytes) (wants [] (omega (arith, ap length (append-nil bytes))))
+
+-- ---- how much may be wanted
+
+no_large : (a b c d e f : Bool) → pick a b c d e f ≡ None → f ≡ false
+no_large a b c d e false is = refl
+no_large true b c d e true is = absurd (cc is)
+no_large false true c d e true is = absurd (cc is)
+no_large false false true d e true is = absurd (cc is)
+no_large false false false true e true is = absurd (cc is)
+no_large false false false false true true is = absurd (cc is)
+no_large false false false false false true is = absurd (cc is)
+
+not_lt : (n m : ℕ) → nat_lt n m ≡ false → m ≤ n
+not_lt n m is = Prim.search rules
+
+small_body : (g : ℕ) (h : HeadParts) → refusal_of g h ≡ None → body_length h ≤ g
+small_body g h fine = not_lt g (body_length h) (no_large (lacks_host h) (has_bad_text h) (has_coding h) (has_bad_length h) (lacks_length h) (nat_lt g (body_length h)) fine)
+
+pub few_bytes : (greatest : ℕ) (bytes rest : List ℕ) → IsFirstFrame greatest bytes More rest → length bytes < MAX_HEAD + greatest
+few_bytes greatest bytes rest (inl head, same) = let room = head.room in omega (arith, room)
+few_bytes greatest bytes rest (inr body, same) =
+    let small = small_body greatest body.parts body.accepts.fine in omega (arith, small, body.short, body.accepts.head.fits)

@@ -1,6 +1,6 @@
 -- The bytes of an answer (RFC 9112, sections 4 to 6; RFC 9110, sections 8.6 and 10.2.1; TAXII 2.1, section 3.1).
-use Rattle.std.specs.Prelude.{◌≡◌, ℕ, ◌*◌, ◌≤◌, Bool, if◌then◌else◌, ⊤, List, [], ◌++◌, length, codes, decimal, pos, Option, Some, None, option_map, IfSome, Result}
-use Rattle.flow_edges.specs.Flow.{WritesWhole}
+use Rattle.std.specs.Prelude.{◌≡◌, ℕ, ◌*◌, ◌≤◌, Bool, if◌then◌else◌, ⊤, List, [], ◌++◌, length, codes, decimal, pos, Option, Some, None, option_map, IfSome, Result, OnErr}
+use Rattle.flow_edges.specs.Flow.{WritesWhole, WritesPart}
 use Rattle.stix_times.specs.Writing.{IsTextOfDigits}
 use Rattle.http_frames.specs.declared.answer.Allow.{Allow}
 use Rattle.http_frames.specs.declared.answer.Allow.TheVariants.{Get, GetPost, GetDelete}
@@ -111,11 +111,12 @@ pub record HasDates (answer : Answer) : Type 0 where
   pub first : IfSome answer.first (λ micros. micros ≤ MAX_DATE)
   pub last : IfSome answer.last (λ micros. micros ≤ MAX_DATE)
 
--- what a call says that writes an answer: its text was written, or a prefix of it and a fault
+-- what a call says that writes an answer: its text was written, or less than all of it and a fault
 pub record WritesAnswer {T E : Type 0} (answer : Answer) (close : Bool) (before now : Option (List ℕ)) (result : Result T E) : Type 0 where
   pub text : List ℕ
   pub text_is : IsAnswerText answer close text
   pub writes : WritesWhole text before now result
+  pub part : OnErr result (WritesPart text before now)
 
 -- the status of a refusal
 abbrev pub status_of : Refusal → Status

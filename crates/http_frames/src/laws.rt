@@ -1,7 +1,8 @@
 //! What follows from the definitions: the contracts are the laws, and the functions do next to nothing.
 
-ghost use Rattle.std.specs.Prelude.{◌≡◌, ◌≢◌, ◌<◌, ◌++◌, ℕ, List, length, Bool};
+ghost use Rattle.std.specs.Prelude.{◌≡◌, ◌≢◌, ◌<◌, ◌+◌, ◌++◌, ℕ, List, length, Bool};
 ghost use Rattle.http_frames.specs.declared.frame.Frame.{Frame};
+ghost use Rattle.http_frames.specs.declared.frame.TheConstants.{MAX_HEAD};
 ghost use Rattle.http_frames.specs.declared.request.Request.{Request};
 ghost use Rattle.http_frames.specs.declared.answer.Answer.{Answer};
 ghost use Rattle.http_frames.specs.Frames.{IsFirstFrame};
@@ -28,6 +29,12 @@ pub fn later_bytes_change_nothing()
 pub fn requests_take_bytes()
     ensures { (greatest : ℕ) (bytes : List ℕ) (request : Request) (rest : List ℕ)
         → IsFirstFrame greatest bytes (Frame.Request request) rest → length rest < length bytes }
+{}
+
+/// More is wanted only where fewer bytes are there than a head and a body may have together.
+pub fn few_bytes_want_more()
+    ensures { (greatest : ℕ) (bytes rest : List ℕ) → IsFirstFrame greatest bytes Frame.More rest
+        → length bytes < MAX_HEAD + greatest }
 {}
 
 /// An answer has at most one text.

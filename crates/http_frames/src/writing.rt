@@ -1,6 +1,6 @@
-ghost use Rattle.std.specs.Prelude.{◌++◌, true};
+ghost use Rattle.std.specs.Prelude.{◌≡◌, ◌++◌, true, OnErr};
 ghost use Rattle.flow_edges.specs.Faults.{Causes};
-ghost use Rattle.flow_edges.specs.Flow.{WritesWhole};
+ghost use Rattle.flow_edges.specs.Flow.{WritesWhole, WritesPart};
 ghost use Rattle.http_frames.specs.Answers.{HasDates, WritesAnswer, no_memory_answer};
 
 use crate::Answer;
@@ -20,6 +20,7 @@ pub fn write_answer<S: Sink>(answer: &Answer, close: bool, sink: &mut S) -> Resu
     requires dates { HasDates answer.now }
     ensures text { WritesAnswer answer.now close (S.written sink.old) (S.written sink.new) result }
     ensures causes { Causes (S.faults sink.old) (S.faults sink.new) result }
+    ensures unread { S.other sink.new ≡ S.other sink.old }
 {
     let head = HeadText::of(answer, close);
     match &answer.body {
@@ -31,7 +32,9 @@ pub fn write_answer<S: Sink>(answer: &Answer, close: bool, sink: &mut S) -> Resu
 /// Writes a head and its body: by one write, as far as the sink takes it, where both fit the buffer.
 fn write_with_body<S: Sink>(head: HeadText, body: &[u8], sink: &mut S) -> Result<(), Fault>
     ensures text { WritesWhole (head ++ body.now) (S.written sink.old) (S.written sink.new) result }
+    ensures part { OnErr result (WritesPart (head ++ body.now) (S.written sink.old) (S.written sink.new)) }
     ensures causes { Causes (S.faults sink.old) (S.faults sink.new) result }
+    ensures unread { S.other sink.new ≡ S.other sink.old }
 {
     let mut text = head;
     if body.len() > text.room() {
@@ -46,6 +49,7 @@ fn write_with_body<S: Sink>(head: HeadText, body: &[u8], sink: &mut S) -> Result
 pub fn write_no_memory<S: Sink>(sink: &mut S) -> Result<(), Fault>
     ensures text { WritesAnswer no_memory_answer true (S.written sink.old) (S.written sink.new) result }
     ensures causes { Causes (S.faults sink.old) (S.faults sink.new) result }
+    ensures unread { S.other sink.new ≡ S.other sink.old }
 {
     write_whole(sink, NO_MEMORY)
 }

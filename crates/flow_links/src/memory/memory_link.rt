@@ -1,4 +1,4 @@
-ghost use Rattle.std.specs.Prelude.{◌≡◌, ◌≤◌, ◌<◌, ◌-◌, ◌↔◌, [], Ok, Some, true, length, take, drop, min, IsErr, IfOk, OnErr, ◌||◌, nat_le};
+ghost use Rattle.std.specs.Prelude.{◌≡◌, ◌≤◌, ◌<◌, ◌-◌, ◌↔◌, [], Ok, Some, refl, true, length, take, drop, min, IsErr, IfOk, OnErr, ◌||◌, nat_le};
 ghost use Rattle.flow_edges.specs.Faults.{counted, Causes};
 ghost use Rattle.flow_edges.specs.Flow.{left_after, IsNextOf, IsAtEnd, written_with};
 ghost use Rattle.flow_edges.specs.Memory.{is_failing};
@@ -60,6 +60,8 @@ impl Source for MemoryLink {
 
     ghost faults = { λ link. link.source.faults };
 
+    ghost other = { λ link. record { bytes = Some link.sink.written; faults = link.sink.faults } };
+
     fn read(&mut self, buffer: &mut [u8]) -> Result<usize, Fault>
         requires room { 0 < length buffer.now }
 
@@ -88,6 +90,8 @@ impl Sink for MemoryLink {
 
     ghost faults = { λ link. link.sink.faults };
 
+    ghost other = { λ link. record { bytes = Some link.source.left; faults = link.source.faults } };
+
     fn write(&mut self, piece: &[u8]) -> Result<usize, Fault>
         ensures within { IfOk result (λ n. n ≤ length piece.now) }
         ensures written { IfOk result (λ n. Some self.new.sink.written ≡ written_with (take n piece.now) (Some self.old.sink.written)) }
@@ -106,4 +110,8 @@ impl Sink for MemoryLink {
     }
 }
 
-impl Link for MemoryLink {}
+impl Link for MemoryLink {
+    ghost unwritten = { λ _. refl };
+
+    ghost unread = { λ _. refl };
+}

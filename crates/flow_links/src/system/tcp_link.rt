@@ -1,4 +1,4 @@
-ghost use Rattle.std.specs.Prelude.{◌≡◌, ◌≤◌, ◌<◌, None, length, IfOk};
+ghost use Rattle.std.specs.Prelude.{◌≡◌, ◌≤◌, ◌<◌, None, refl, length, IfOk};
 ghost use Rattle.std.specs.Io.KnownBytes.{ReadConsumes, WriteAppends};
 ghost use Rattle.flow_edges.specs.Faults.{Causes};
 
@@ -50,6 +50,8 @@ impl<S: Read + Write> Source for TcpLink<S> {
 
     ghost faults = { λ link. link.read_faults };
 
+    ghost other = { λ link. record { bytes = None; faults = link.write_faults } };
+
     /// One read of the stream, whose answer is handed on; an error is a `Fault`.
     fn read(&mut self, buffer: &mut [u8]) -> Result<usize, Fault>
         ensures within { IfOk result (λ n. n ≤ length buffer.old) }
@@ -69,6 +71,8 @@ impl<S: Read + Write> Sink for TcpLink<S> {
 
     ghost faults = { λ link. link.write_faults };
 
+    ghost other = { λ link. record { bytes = None; faults = link.read_faults } };
+
     /// One write of the stream, whose answer is handed on; an error, and a write of nothing, is a `Fault`.
     fn write(&mut self, piece: &[u8]) -> Result<usize, Fault>
         ensures within { IfOk result (λ n. n ≤ length piece.now) }
@@ -85,4 +89,8 @@ impl<S: Read + Write> Sink for TcpLink<S> {
     }
 }
 
-impl<S: Read + Write> Link for TcpLink<S> {}
+impl<S: Read + Write> Link for TcpLink<S> {
+    ghost unwritten = { λ _. refl };
+
+    ghost unread = { λ _. refl };
+}

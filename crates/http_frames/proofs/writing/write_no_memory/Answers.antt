@@ -9,4 +9,5 @@ returns-clause-text g c = record {
   text = _;
   text_is = record { first = None; last = None; first_is = tt; last_is = tt; text_is = refl };
   writes = c.write_whole.ensures.text;
+  part = c.write_whole.ensures.part;
 }
