@@ -7,7 +7,7 @@ use Rattle.std.proofs.lemmas.List.{length-append}
 use Rattle.std.proofs.lemmas.List.Elements.{All-contains, filter_passes}
 use Rattle.stix_ids.specs.declared.id.Id.{Id}
 use Rattle.stix_ids.specs.declared.refusal.IdRefusal.{IdRefusal}
-use Rattle.stix_ids.specs.declared.refusal.IdRefusal.TheVariants.{BadUuid, BadKind, NoMemory}
+use Rattle.stix_ids.specs.declared.refusal.IdRefusal.TheVariants.{BadUuid, BadKind, NoMemory as WantOfMemory}
 use Rattle.stix_ids.specs.Identifier.{IsTextOf}
 use Rattle.taxii_routes.specs.declared.query.Query.{Query}
 use Rattle.taxii_rows.specs.declared.stored_row.StoredRow.{StoredRow}
@@ -16,7 +16,11 @@ use Rattle.taxii_rows.specs.Keeper.{is_date_in, without}
 use Rattle.http_frames.specs.declared.status.Status.TheVariants.{InternalServerError}
 use Rattle.taxii_bodies.specs.declared.problem.Problem.{Problem as Trouble}
 use Rattle.taxii_bodies.specs.declared.problem.Problem.TheVariants.{BadValue, Repeated, Forbidden, NotFound, NotAcceptable, UnsupportedMediaType, NotJson, NotList, StoreFault, DatesUsedUp}
+use Rattle.http_frames.specs.declared.answer.Answer.{Answer}
 use Rattle.taxii_requests.specs.Answers.{status_of}
+use Rattle.taxii_requests.specs.declared.refusal.Refusal.{Refusal}
+use Rattle.taxii_requests.specs.declared.refusal.Refusal.TheVariants.{NotAllowed, Problem, NoMemory}
+use Rattle.taxii_step.specs.Step.{IsAnswerTo}
 use Rattle.taxii_changes.specs.Deleting.{AreDeleted}
 
 pub if_err : {T E : Type 0} (answer : Result T E) (P Q : E → Type 0) → ((refusal : E) → P refusal → Q refusal) → IfErr answer P → IfErr answer Q
@@ -24,18 +28,18 @@ if_err (Ok value) P Q to its = tt
 if_err (Err refusal) P Q to its = to refusal its
 
 -- a text that was refused for what it is, is no identifier's
-pub no_identifier : (text : List ℕ) (e bad : IdRefusal) → e ≡ bad → bad ≢ NoMemory
-    → ((id : Id) → IsTextOf text id → (◌≡◌ {A = Result Id IdRefusal} (Err e) (Ok id)) ⊎ (◌≡◌ {A = Result Id IdRefusal} (Err e) (Err NoMemory))) → (id : Id) → ¬ IsTextOf text id
+pub no_identifier : (text : List ℕ) (e bad : IdRefusal) → e ≡ bad → bad ≢ WantOfMemory
+    → ((id : Id) → IsTextOf text id → (◌≡◌ {A = Result Id IdRefusal} (Err e) (Ok id)) ⊎ (◌≡◌ {A = Result Id IdRefusal} (Err e) (Err WantOfMemory))) → (id : Id) → ¬ IsTextOf text id
 no_identifier text e bad same other named id is = go (named id is)
   where
-    go : (◌≡◌ {A = Result Id IdRefusal} (Err e) (Ok id)) ⊎ (◌≡◌ {A = Result Id IdRefusal} (Err e) (Err NoMemory)) → ⊥
+    go : (◌≡◌ {A = Result Id IdRefusal} (Err e) (Ok id)) ⊎ (◌≡◌ {A = Result Id IdRefusal} (Err e) (Err WantOfMemory)) → ⊥
     go (inl read) = cc
-    go (inr none) = other (let none_is : e ≡ NoMemory = cc in sym same ∙ none_is)
+    go (inr none) = other (let none_is : e ≡ WantOfMemory = cc in sym same ∙ none_is)
 
-pub uuid_is : BadUuid ≢ NoMemory
+pub uuid_is : BadUuid ≢ WantOfMemory
 uuid_is e = cc
 
-pub kind_is : (at : ℕ) → BadKind at ≢ NoMemory
+pub kind_is : (at : ℕ) → BadKind at ≢ WantOfMemory
 kind_is at e = cc
 
 -- rows with others behind them aren't the same
@@ -80,3 +84,12 @@ is_fault NotJson is = absurd (cc)
 is_fault NotList is = absurd (cc)
 is_fault StoreFault is = refl
 is_fault DatesUsedUp is = absurd (cc)
+
+pub fault_answered : (refusal : Refusal) (answer : Answer) → IsAnswerTo refusal answer → answer.status ≡ InternalServerError → refusal ≡ Problem StoreFault
+fault_answered (NotAllowed its) answer is failed = absurd (let e = sym (ap (λ (one : Answer). one.status) is) ∙ failed in cc e)
+fault_answered (Problem problem) answer is failed = ap Problem (is_fault problem (sym (ap (λ (one : Answer). one.status) is) ∙ failed))
+fault_answered NoMemory answer is failed = absurd is
+
+pub other_answered : (refusal : Refusal) (answer : Answer) → IsAnswerTo refusal answer → answer.status ≢ InternalServerError → refusal ≢ Problem StoreFault
+other_answered refusal answer is other fault =
+    let told = subst (λ (one : Refusal). IsAnswerTo one answer) fault is in other (ap (λ (one : Answer). one.status) told)

@@ -1,17 +1,21 @@
-ghost use Rattle.std.specs.Prelude.{◌≡◌, ◌≢◌, ◌⊎◌, ◌≤◌, [], IfOk, OnErr, option_map, unwrap_or};
+ghost use Rattle.std.specs.Prelude.{◌≡◌, ◌≢◌, ◌⊎◌, ◌≤◌, [], IfOk, IsOk, OnErr, option_map, unwrap_or};
 ghost use Rattle.flow_edges.specs.Faults.{Rose};
 ghost use Rattle.http_frames.specs.declared.status.Status.TheVariants as Code;
+ghost use Rattle.http_frames.specs.Answers.{HasDates};
 ghost use Rattle.taxii_bodies.specs.declared.problem.Problem.TheVariants as Trouble;
-ghost use Rattle.taxii_requests.specs.Answers.{problem_answer as answer_to};
+ghost use Rattle.taxii_requests.specs.Answers as spec;
+ghost use Rattle.taxii_requests.specs.declared.refusal.Refusal.TheVariants as Refused;
 ghost use Rattle.taxii_store.specs.Agreement.{Agrees};
 ghost use Rattle.taxii_changes.specs.ServerState.{server_of};
-ghost use Rattle.taxii_step.specs.Step.{RouteStep, Step, FailsToKeep};
+ghost use Rattle.taxii_step.specs.Step.{IsAnswerTo, RouteStep, Step, FailsToKeep};
 ghost use Rattle.taxii_step.specs.inner.Performing.{RouteChanges};
 
 use crate::outcome::outcome;
 use flow_values::NoMemory;
 use http_frames::{Answer, Request, Status};
+use std::alloc::Global;
 use taxii_bodies::Problem;
+use taxii_pages::laws::rows_of_pages;
 use taxii_requests::{Config, Refusal, bare_answer, problem_answer};
 use taxii_routes::{Route, split_target};
 use taxii_rows::Keeper;
@@ -20,7 +24,8 @@ use taxii_store::Library;
 
 /// Answers a request that came at a moment, in microseconds since 1970. A POST adds objects and keeps
 /// its status, a DELETE takes rows away, and nothing else changes anything. Where the keeper failed the
-/// answer is 500 and nothing has changed; nor has it where memory ran out.
+/// answer is 500 and nothing has changed; nor has it where memory ran out, and then the keeper didn't
+/// fail. The dates of an answer lie before the year 10000.
 pub fn respond<K: Keeper>(
     config: &Config,
     library: &mut Library,
@@ -37,6 +42,8 @@ pub fn respond<K: Keeper>(
     ensures err { OnErr result ((library.new ≡ library.old) × (statuses.new ≡ statuses.old)) }
     ensures fault { IfOk result (λ answer. answer.status ≡ Code.InternalServerError → Rose (K.faults keeper.old) (K.faults keeper.new)) }
     ensures quiet { IfOk result (λ answer. answer.status ≢ Code.InternalServerError → K.faults keeper.new ≡ K.faults keeper.old) }
+    ensures none { OnErr result (K.faults keeper.new ≡ K.faults keeper.old) }
+    ensures dates { IfOk result HasDates }
 {
     let (path, query) = split_target(request.target.as_str());
     match config.routes.route(path)? {
@@ -76,20 +83,37 @@ fn respond_at<K: Keeper>(
     ensures name { K.name keeper.new ≡ K.name keeper.old }
     ensures ok { IfOk result (λ answer. RouteStep config.now (server_of library.old statuses.old) moment request.now route.now query.now
         answer (server_of library.new statuses.new)
-        ⊎ ((answer ≡ answer_to Trouble.StoreFault) × (server_of library.new statuses.new ≡ server_of library.old statuses.old)
+        ⊎ ((answer ≡ spec.problem_answer Trouble.StoreFault) × (server_of library.new statuses.new ≡ server_of library.old statuses.old)
         × RouteChanges config.now (server_of library.old statuses.old) moment request.now route.now query.now)) }
     ensures err { OnErr result ((library.new ≡ library.old) × (statuses.new ≡ statuses.old)) }
     ensures fault { IfOk result (λ answer. answer.status ≡ Code.InternalServerError → Rose (K.faults keeper.old) (K.faults keeper.new)) }
     ensures quiet { IfOk result (λ answer. answer.status ≢ Code.InternalServerError → K.faults keeper.new ≡ K.faults keeper.old) }
+    ensures none { OnErr result (K.faults keeper.new ≡ K.faults keeper.old) }
+    ensures dates { IfOk result HasDates }
 {
+    rows_of_pages();
+    library.rows();
+    // The text of the keeper's fault is there before the keeper is called, so that a change that the
+    // keeper refused is never told as want of memory.
+    let store_fault = problem_answer(config.alloc, Problem::StoreFault)?;
     match outcome(
         config, library, keeper, statuses, moment, request, route, query,
     ) {
         Ok(answer) => Ok(answer),
-        Err(Refusal::NotAllowed(allow)) => {
-            Ok(bare_answer(Status::MethodNotAllowed, Some(allow)))
-        }
-        Err(Refusal::Problem(problem)) => problem_answer(config.alloc, problem),
-        Err(Refusal::NoMemory) => Err(NoMemory),
+        Err(refusal) => answer_to(config.alloc, refusal, store_fault),
+    }
+}
+
+/// The answer to a refusal. That to the keeper's fault is there already.
+fn answer_to(alloc: Global, refusal: Refusal, store_fault: Answer) -> Result<Answer, NoMemory>
+    requires { store_fault ≡ spec.problem_answer Trouble.StoreFault }
+    ensures ok { IfOk result (IsAnswerTo refusal) }
+    ensures there { refusal ≡ Refused.Problem Trouble.StoreFault → IsOk result }
+{
+    match refusal {
+        Refusal::NotAllowed(allow) => Ok(bare_answer(Status::MethodNotAllowed, Some(allow))),
+        Refusal::Problem(Problem::StoreFault) => Ok(store_fault),
+        Refusal::Problem(problem) => problem_answer(alloc, problem),
+        Refusal::NoMemory => Err(NoMemory),
     }
 }

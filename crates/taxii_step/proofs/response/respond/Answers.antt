@@ -44,4 +44,6 @@ returns-in_default g c =
       err = ensures.err;
       fault = ensures.fault;
       quiet = ensures.quiet;
+      none = ensures.none;
+      dates = ensures.dates;
     }
