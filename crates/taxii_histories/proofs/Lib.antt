@@ -1,0 +1,6 @@
+mod DatedLemmas
+mod AddedLemmas
+mod StepLemmas
+mod ServedLemmas
+mod AnswerLemmas
+mod VisitLemmas

@@ -1,0 +1,35 @@
+//! What follows from the definitions: the contracts are the laws, and the functions do next to nothing.
+
+ghost use Rattle.std.specs.Prelude.{List};
+ghost use Rattle.taxii_requests.specs.declared.config.Config.{Config};
+ghost use Rattle.taxii_changes.specs.ServerState.{ServerState};
+ghost use Rattle.taxii_walks.specs.History.{IsDated, IsHistory};
+ghost use Rattle.taxii_histories.specs.Exchanges.{Exchange, HasServed};
+ghost use Rattle.taxii_histories.specs.Visits.{WalksSkipNoRow};
+
+use stix_ids::laws::one_identifier;
+use taxii_routes::laws::{one_query, one_route, one_target};
+use taxii_walks::laws::{one_page, walks_skip_no_row};
+
+/// Whatever requests a server serves, its store goes through additions and deletions alone. So a walk
+/// may go on over a restart, which leaves the store as it is.
+pub fn requests_make_history()
+    ensures history { (config : Config) (before after : ServerState) (exchanges : List Exchange)
+        → HasServed config before exchanges after → IsHistory before.store after.store }
+    ensures dated { (config : Config) (before after : ServerState) (exchanges : List Exchange)
+        → HasServed config before exchanges after → IsDated before.store → IsDated after.store }
+{}
+
+/// Every walk among the requests that a server served gives each row that was asked for and is still
+/// stored at the last page, once each, in the order of dates.
+pub fn walks_among_requests_skip_no_row()
+    ensures { (config : Config) (before after : ServerState) (exchanges : List Exchange)
+        → IsDated before.store → HasServed config before exchanges after → WalksSkipNoRow config exchanges }
+{
+    one_target();
+    one_route();
+    one_query();
+    one_identifier();
+    one_page();
+    walks_skip_no_row();
+}
