@@ -1,0 +1,127 @@
+-- One request: its exchange, and what it asks of the clock and of the keeper.
+use Rattle.std.proofs.Common.{◌≡◌, ◌≢◌, ◌⊎◌, inl, inr, ℕ, zero, suc, List, [], ◌∷◌, Bool, true, false, ◌||◌, Option, Some, IfSome, Result, Ok, Err, IsErr, MatchResult, refl, sym, ap, ◌∙◌, subst, arith}
+use Rattle.std.specs.Prelude.{slice_get}
+use Rattle.flow_edges.specs.Faults.{Rose}
+use Rattle.flow_edges.specs.Flow.{written_with, WritesPart}
+use Rattle.flow_links.specs.Moments.{IsNext, GoesOn}
+use Rattle.http_frames.specs.declared.answer.Answer.{Answer}
+use Rattle.http_frames.specs.declared.request.Request.{Request}
+use Rattle.http_frames.specs.declared.status.Status.{Status}
+use Rattle.http_frames.specs.declared.status.Status.TheVariants.{InternalServerError}
+use Rattle.http_frames.specs.Answers.{IsAnswerText, no_memory_answer}
+use Rattle.taxii_requests.specs.declared.config.Config.{Config}
+use Rattle.taxii_rows.specs.StoreState.{StoreState}
+use Rattle.taxii_statuses.specs.Statuses.{StatusesState}
+use Rattle.taxii_changes.specs.ServerState.{ServerState, server_of}
+use Rattle.taxii_step.specs.Step.{Step, FailsToKeep}
+use Rattle.taxii_histories.specs.Exchanges.{Course, IsExchange}
+use Rattle.taxii_histories.specs.Exchanges.Course.{Stepped, KeeperFailed, OutOfMemory}
+use Rattle.taxii_connections.specs.Outside.{Outside, GivesMoments, RoseBy}
+use Rattle.taxii_connections.specs.Connections.{Pass, is_out_of_memory}
+use Rattle.taxii_connections.specs.inner.Answering.{Answers}
+
+-- what a call says of the keeper's count: it rose where the status is 500, and nowhere else
+pub record TellsFault (status : Status) (before now : ℕ) : Type 0 where
+  pub fault : status ≡ InternalServerError → Rose before now
+  pub quiet : status ≢ InternalServerError → now ≡ before
+
+-- a count never falls
+tells-later : (status : Status) (before now : ℕ) → TellsFault status before now → RoseBy 0 before now
+tells-later InternalServerError before now tells = omega (arith, tells.fault refl)
+tells-later status before now tells = omega (arith, tells.quiet (λ is. absurd (cc is)))
+
+-- the next moment alone
+moments-one : (moment : ℕ) (before now : ℕ → Option ℕ) → IsNext before moment → GoesOn before now → GivesMoments (moment ∷ []) before now
+moments-one moment before now next goes_on = record { given = given; goes_on = goes_on }
+  where
+    given : (n told : ℕ) → slice_get (moment ∷ []) n ≡ Some told → IfSome (before n) (λ its. told ≡ its)
+    given zero told is = subst (λ (m : ℕ). IfSome (before 0) (λ its. m ≡ its)) (cc is) next
+    given (suc n) told is = absurd (cc is)
+
+-- what was written of an answer to a request
+abbrev pub Writes : {E : Type 0} → Bool → List ℕ → Option (List ℕ) → Option (List ℕ) → Result Bool E → Type 0
+Writes close text written now result =
+    MatchResult result (λ closes. (closes ≡ close) × (now ≡ written_with text written)) (λ _. WritesPart text written now)
+
+-- an exchange, with what it asks of the clock and of the keeper
+pub record Exchanged (config : Config) (before : ServerState) (moment : ℕ) (request : Request) (outside now : Outside) (out_of_memory : Bool) (answer : Answer) (after : ServerState) : Type 0 where
+  pub course : Course
+  pub memory : is_out_of_memory course ≡ out_of_memory
+  pub its : IsExchange config (record { before = before; moment = moment; request = request; course = course; answer = answer; after = after })
+  pub passes : Pass (record { before = before; moment = moment; request = request; course = course; answer = answer; after = after } ∷ []) outside now
+
+-- a step, or a fault of the keeper
+pub exchanged-answer : {config : Config} {before : ServerState} {moment : ℕ} {request : Request} {outside now : Outside} {answer : Answer} {after : ServerState}
+    → Step config before moment request answer after ⊎ FailsToKeep config before moment request answer after
+    → IsNext outside.moments moment → GoesOn outside.moments now.moments → TellsFault answer.status outside.faults now.faults
+    → Exchanged config before moment request outside now false answer after
+exchanged-answer {moment = moment} {outside = outside} {now = now} {answer = answer} (inl step) next goes_on tells = record {
+  course = Stepped;
+  memory = refl;
+  its = step;
+  passes = record { moments = moments-one moment outside.moments now.moments next goes_on; faults = tells-later answer.status outside.faults now.faults tells };
+}
+exchanged-answer {moment = moment} {outside = outside} {now = now} (inr fails) next goes_on tells = record {
+  course = KeeperFailed;
+  memory = refl;
+  its = fails;
+  passes = record {
+    moments = moments-one moment outside.moments now.moments next goes_on;
+    faults = tells.fault (ap (λ (its : Answer). its.status) fails.answer_is);
+  };
+}
+
+-- want of memory, where nothing has changed
+pub exchanged-no_memory : {config : Config} {before : ServerState} {moment : ℕ} {request : Request} {outside now : Outside} {after : ServerState}
+    → after ≡ before → IsNext outside.moments moment → GoesOn outside.moments now.moments → now.faults ≡ outside.faults
+    → Exchanged config before moment request outside now true no_memory_answer after
+exchanged-no_memory {moment = moment} {outside = outside} {now = now} same next goes_on quiet = record {
+  course = OutOfMemory;
+  memory = refl;
+  its = (refl, same);
+  passes = record { moments = moments-one moment outside.moments now.moments next goes_on; faults = omega (arith, quiet) };
+}
+
+-- nothing has changed
+pub same_state : {library library_now : StoreState} {statuses statuses_now : StatusesState} → (library_now ≡ library) × (statuses_now ≡ statuses)
+    → server_of library_now statuses_now ≡ server_of library statuses
+same_state (same, same_statuses) = rw (same, same_statuses) refl
+
+-- whether the connection ends after an answer
+pub closes-asked : (asked last close : Bool) → asked ≡ true → close ≡ asked → close ≡ (asked || false || last)
+closes-asked true last close asks is = is
+closes-asked false last close asks is = absurd (cc asks)
+
+pub closes-last : (asked last close : Bool) → asked ≡ false → close ≡ last → close ≡ (asked || false || last)
+closes-last true last close asks is = absurd (cc asks)
+closes-last false last close asks is = is
+
+pub closes-no_memory : (asked last : Bool) → true ≡ (asked || true || last)
+closes-no_memory true last = refl
+closes-no_memory false last = refl
+
+-- an exchange whose answer was written, or less than all of it
+pub answers : {E : Type 0} {config : Config} {before : ServerState} {moment : ℕ} {request : Request} {is_last : Bool} {outside now : Outside}
+    {out_of_memory : Bool} {answer : Answer} {after : ServerState} {close : Bool} {text : List ℕ} {written written_now : Option (List ℕ)} {result : Result Bool E}
+    → Exchanged config before moment request outside now out_of_memory answer after
+    → close ≡ (request.close || out_of_memory || is_last) → IsAnswerText answer close text → Writes close text written written_now result
+    → Answers config before request is_last outside now written written_now result after
+answers {before = before} {moment = moment} {request = request} {is_last = is_last} {answer = answer} {after = after} {close = close} {text = text} exchanged close_is text_is writes = record {
+  exchange = record { before = before; moment = moment; request = request; course = exchanged.course; answer = answer; after = after };
+  its = exchanged.its;
+  request_is = refl;
+  before_is = refl;
+  after_is = refl;
+  passes = exchanged.passes;
+  close = close;
+  close_is = close_is ∙ ap (λ (memory : Bool). request.close || memory || is_last) (sym exchanged.memory);
+  text = text;
+  text_is = text_is;
+  writes = writes;
+}
+
+-- a fault is passed on
+pub writes-err : {E : Type 0} (close : Bool) (text : List ℕ) (written now : Option (List ℕ)) (result : Result Bool E)
+    → IsErr result → WritesPart text written now → Writes close text written now result
+writes-err close text written now (Ok closes) failed part = absurd (cc failed)
+writes-err close text written now (Err fault) failed part = part

@@ -1,0 +1,4 @@
+pub mod Server
+pub mod Outside
+pub mod Connections
+pub mod inner

@@ -1,0 +1,54 @@
+ghost use Rattle.std.specs.Prelude.{◌≡◌};
+ghost use Rattle.flow_edges.specs.Faults.{Causes};
+ghost use Rattle.taxii_store.specs.Agreement.{Agrees};
+ghost use Rattle.taxii_connections.specs.Server.{state_of};
+ghost use Rattle.taxii_connections.specs.inner.Answering.{Answers};
+
+use crate::Server;
+use flow_links::{Clock, Link};
+use flow_values::{Fault, NoMemory};
+use http_frames::{Request, write_answer, write_no_memory};
+use taxii_rows::Keeper;
+use taxii_step::respond;
+
+/// Answers a request at the clock's next moment, and whether the connection ends then. Where memory ran
+/// out it says so and ends.
+pub(crate) fn answer<K: Keeper, L: Link, C: Clock>(
+    server: &mut Server,
+    keeper: &mut K,
+    clock: &mut C,
+    request: &Request,
+    is_last: bool,
+    link: &mut L,
+) -> Result<bool, Fault>
+    requires agrees { Agrees (K.attached keeper.old) (K.told keeper.old) server.old.library }
+    ensures agrees { Agrees (K.attached keeper.new) (K.told keeper.new) server.new.library }
+    ensures name { K.name keeper.new ≡ K.name keeper.old }
+    ensures config { server.new.config ≡ server.old.config }
+    ensures answers { Answers server.old.config (state_of server.old) request.now is_last
+        (record { moments = C.moments clock.old; faults = K.faults keeper.old }) (record { moments = C.moments clock.new; faults = K.faults keeper.new })
+        (L.written link.old) (L.written link.new) result (state_of server.new) }
+    ensures causes { Causes (L.Sink.faults link.old) (L.Sink.faults link.new) result }
+    ensures unread { L.Sink.other link.new ≡ L.Sink.other link.old }
+{
+    let moment = clock.now();
+    let answer = respond(
+        &server.config,
+        &mut server.library,
+        keeper,
+        &mut server.statuses,
+        moment,
+        request,
+    );
+    match answer {
+        Ok(answer) => {
+            let close = request.close || is_last;
+            write_answer(&answer, close, link)?;
+            Ok(close)
+        }
+        Err(NoMemory) => {
+            write_no_memory(link)?;
+            Ok(true)
+        }
+    }
+}

@@ -1,0 +1,18 @@
+//! One connection of a TAXII 2.1 server: the requests of its bytes are answered in turn, until one asks
+//! for the end, the peer sends no more, or its bytes are refused (RFC 9112, sections 9.3 and 9.6).
+//!
+//! A link that fails ends its own connection and no other. Where memory runs out an answer says so that
+//! takes none, and nothing has changed.
+#![tactic(auto)]
+
+mod answering;
+mod connection;
+mod farewell;
+mod link_end;
+mod pause;
+mod receiver;
+mod server;
+
+pub use connection::{MAX_BODY, MAX_REQUESTS, serve_link};
+pub use link_end::LinkEnd;
+pub use server::Server;
