@@ -1,0 +1,42 @@
+-- A server behind its door: callers are served one after the other, each from what the one before left.
+use Rattle.std.specs.Prelude.{◌≡◌, ◌⊎◌, ℕ, ◌≤◌, List, [], ◌∷◌, ◌++◌, length, map, Option, Some, IfSome}
+use Rattle.std.specs.List.{flat_map}
+use Rattle.flow_links.specs.Doors.{DoorState, Changes}
+use Rattle.taxii_requests.specs.declared.config.Config.{Config}
+use Rattle.taxii_changes.specs.ServerState.{ServerState}
+use Rattle.taxii_histories.specs.Exchanges.{Exchange}
+use Rattle.taxii_connections.specs.declared.link_end.LinkEnd.{LinkEnd}
+use Rattle.taxii_connections.specs.Outside.{LinkView}
+use Rattle.taxii_connections.specs.Connections.{Connection}
+use Rattle.taxii_server.specs.declared.served.Served.{Served}
+
+-- a caller: the link as the door gave it and as it was handed back, what was asked and answered over it, and how that ended
+pub record Caller (L : Type 0) : Type 0 where
+  pub given : L
+  pub finished : L
+  pub exchanges : List Exchange
+  pub end : LinkEnd
+
+-- all that was asked and answered
+abbrev pub exchanges_of : {L : Type 0} → List (Caller L) → List Exchange
+exchanges_of callers = flat_map (λ caller. caller.exchanges) callers
+
+-- each caller had its connection, from what the one before left
+abbrev pub HaveConnections : {L : Type 0} → (L → LinkView) → Config → ServerState → List (Caller L) → ServerState → Type 0
+HaveConnections view config before [] after = after ≡ before
+HaveConnections view config before (caller ∷ callers) after = (middle : ServerState)
+    × Connection config before (view caller.given) (view caller.finished) caller.exchanges caller.end middle
+    × HaveConnections view config middle callers after
+
+-- the door listens at the port; the links to come were given, and handed back, in order
+abbrev pub PassThrough : {L : Type 0} → ℕ → List (Caller L) → Option (DoorState L) → Option (DoorState L) → Type 0
+PassThrough port callers before now = Changes (λ state now.
+    (state.coming ≡ map (λ caller. caller.given) callers ++ now.coming)
+    × (now.finished ≡ state.finished ++ map (λ caller. caller.finished) callers)
+    × (now.port ≡ Some port)
+    × (now.given ≡ state.given)) before now
+
+-- so many callers were served as were asked for, or no further one is to come, as far as the door tells
+abbrev pub IsWholeOf : {L : Type 0} → ℕ → List (Caller L) → Option (DoorState L) → Served → Type 0
+IsWholeOf many callers now served = (served.connections ≡ length callers) × (served.requests ≡ length (exchanges_of callers))
+    × (length callers ≤ many) × ((length callers ≡ many) ⊎ IfSome now (λ state. state.coming ≡ []))
