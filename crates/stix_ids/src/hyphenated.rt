@@ -3,6 +3,23 @@ ghost use Rattle.stix_ids.specs.Uuid.{IsUuidOf, IsUuid, uuid_text};
 
 use uuid::Uuid;
 
+/// How many bytes a UUID has in hyphenated form.
+const UUID_LENGTH: usize = 36;
+
+/// The number of the UUID that a text is in hyphenated form (RFC 4122, section 3), in digits of either
+/// case. Takes no memory.
+pub fn read_uuid(text: &str) -> Option<u128>
+    ensures some { IfSome result (IsUuidOf text.now) }
+    ensures none { IfNone result (¬ IsUuid text.now) }
+{
+    let bytes = text.as_bytes();
+    if bytes.len() == UUID_LENGTH {
+        read_number(bytes)
+    } else {
+        None
+    }
+}
+
 /// The number of the UUID that 36 bytes are in hyphenated form, in digits of either case.
 pub(crate) fn read_number(bytes: &[u8]) -> Option<u128>
     requires { length bytes.now ≡ 36 }

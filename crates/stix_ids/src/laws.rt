@@ -4,6 +4,13 @@ ghost use Rattle.std.specs.Prelude.{◌≡◌, ℕ, List};
 ghost use Rattle.stix_ids.specs.declared.id.Id.{Id};
 ghost use Rattle.stix_ids.specs.Kind.{IsLongestKindPrefix};
 ghost use Rattle.stix_ids.specs.Identifier.{IsTextOf, IsCanonicalTextOf};
+ghost use Rattle.stix_ids.specs.Uuid.{IsUuidOf};
+
+/// A text is the UUID of at most one number.
+pub fn one_uuid()
+    ensures { (text : List ℕ) (first second : ℕ) → IsUuidOf text first → IsUuidOf text second
+        → first ≡ second }
+{}
 
 /// A text names at most one identifier.
 pub fn one_identifier()

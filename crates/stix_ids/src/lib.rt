@@ -13,6 +13,7 @@ mod reading;
 mod refusal;
 mod writing;
 
+pub use hyphenated::read_uuid;
 pub use id::Id;
 pub use kind::read_kind;
 pub use parts::Parts;

@@ -50,7 +50,7 @@ impl Keeper for SqliteKeeper {
     ghost faults = { λ keeper. keeper.faults };
 
     /// Opens the file of this path, or a database in memory where the text is empty, and makes the tables
-    /// where they are absent. A file that holds something else is a fault.
+    /// where they are absent. A file that is no database is a fault; the other tables of one stay.
     fn attach(&mut self, text: &str) -> Result<(), KeeperRefusal>
         ensures ok { OnOk result (self.new.attached ≡ true) }
         ensures err { OnErr result (self.new.attached ≡ self.old.attached) }
