@@ -156,7 +156,7 @@ lay_lines() {
     done > "$to/args"
     login a 0 0 > "$to/stdin"
     case $text in
-      usage) refused 2 'usage: stix_command (match | check | show | make) WORDS' ;;
+      usage) refused 2 'usage: stix_command (match | check | show | serve | make) WORDS' ;;
       [1-9]' '*) refused "${text%% *}" "${text#* }" ;;
       *) printf '%s\n' "$text" > "$to/stdout" ;;
     esac

@@ -1,6 +1,6 @@
 -- Command lines and what `clap` finds in their words: that the words ask for a request is that `clap` takes them and its rows ask for it.
 use Rattle.std.proofs.lemmas.Bool.{false≢true}
-use Rattle.std.proofs.Common.{◌≡◌, ◌≤◌, ℕ, Bool, true, false, if◌then◌else◌, List, [], ◌∷◌, length, Option, Some, None, unwrap_or, slice_get, String, codes, bytes_eq, inl, inr, refl, sym, ap, ◌∙◌, subst, arith}
+use Rattle.std.proofs.Common.{◌≡◌, ◌≤◌, ℕ, Bool, true, false, ◌||◌, if◌then◌else◌, List, [], ◌∷◌, length, Option, Some, None, unwrap_or, slice_get, String, codes, bytes_eq, inl, inr, refl, sym, ap, ◌∙◌, subst, arith}
 use Rattle.std.specs.declared.alloc.Global.{Global}
 use Rattle.std.proofs.lemmas.Str.{IsUtf8-string_bytes}
 use Rattle.clap.specs.Faults.{fault_of}
@@ -11,16 +11,19 @@ use Rattle.clap.specs.declared.error.kind.ErrorKind.TheVariants.{OutOfMemory}
 use Rattle.clap.specs.Simple.{subcommand_of}
 use Rattle.clap.specs.Walk.{Row, first_of, one_of}
 use Rattle.command_line.specs.Parts.{Part, positions}
-use Rattle.command_line.specs.CommandLines.{Check, IsCalledWith, IsCommandLine, IsFlag, IsNumberIn, IsNumberOr, Make, Match, PlainRequest, Show, flags_of, texts, values_of}
+use Rattle.command_line.specs.CommandLines.{AreCollectionsOf, Check, IsBase, IsCalledWith, IsCommandLine, IsFile, IsFlag, IsNumberIn, IsNumberOf, IsNumberOr, IsServeLine, IsValueOrNone, Make, Match, PlainRequest, PlainService, Serve, Show, flags_of, texts, values_of}
 use Rattle.match_generator.specs.declared.log.TheConstants.{MAX_SEED, MAX_COUNT}
-use Rattle.command_line.specs.declared.numbers.TheConstants.{DEFAULT_CAP, MAX_CAP}
-use Rattle.command_line.specs.inner.Forms.{Form, check_form, program_app, make_form, match_form, show_form}
-use Rattle.command_line.specs.inner.Rows.{command_name, IsAskedBy, IsAskedIn, IsCapText, IsFlagText, IsMatchIn, IsNumberText}
+use Rattle.command_line.specs.declared.numbers.TheConstants.{DEFAULT_CAP, MAX_CAP, MAX_CONNECTIONS, MAX_PORT}
+use Rattle.command_line.specs.inner.Forms.{Form, check_form, collection_names, program_app, make_form, match_form, serve_form, show_form}
+use Rattle.command_line.specs.inner.Rows.{command_name, IsAskedBy, IsAskedIn, IsCapText, IsFlagText, IsMatchIn, IsNumberText, IsServeIn, IsTextOrNone, words_at}
 use Rattle.command_line.proofs.HasLemmas.{Text, differ, has, or_false, same_text}
 use Rattle.command_line.proofs.PartRowsLemmas.{word_rows}
 use Rattle.command_line.proofs.CutLemmas.{AreUtf8}
 use Rattle.command_line.proofs.LevelLemmas.{Fits, IsTaken, Tells, command_rows, flag_text, level_from, level_to}
-use Rattle.command_line.proofs.LineLemmas.{Known, called_of, is_check, is_make, is_match, is_show, line_fault, line_rows, sound_of}
+use Rattle.command_line.proofs.LineLemmas.{Known, called_of, is_check, is_make, is_match, is_serve, is_show, line_fault, line_rows, sound_of}
+use Rattle.command_line.proofs.CollectionLemmas.{as_many, same_collections}
+use Rattle.command_line.proofs.WordsLemmas.{words_back, words_same}
+use Rattle.command_line.proofs.FormLemmas.{positions_distinct}
 
 -- the words of a program are UTF-8
 pub texts_utf8 : (words : List (String Global)) → AreUtf8 (texts words)
@@ -97,6 +100,44 @@ both_of (a ∷ b ∷ c ∷ words) few = absurd (omega arith)
 number_text : (least most : ℕ) (o : Option Text) (text : Text) (number : ℕ) → o ≡ Some text → IsNumberText least most o number → IsNumberIn least most text number
 number_text least most o text number e h = subst (λ (t : Option Text). IsNumberText least most t number) e h
 
+-- a number and a text that an option names
+of_once : (least most : ℕ) (values : List Text) (number : ℕ) → IsNumberOf least most values number → length values ≤ 1
+of_once least most [] number h = absurd h
+of_once least most (value ∷ []) number h = omega arith
+of_once least most (value ∷ other ∷ values) number h = absurd h
+
+of_to : (least most : ℕ) (values : List Text) (number : ℕ) (o : Option Text) → length values ≤ 1 → o ≡ slice_get values 0 → IsNumberText least most o number → IsNumberOf least most values number
+of_to least most [] number o few e h = subst (λ (t : Option Text). IsNumberText least most t number) e h
+of_to least most (value ∷ []) number o few e h = subst (λ (t : Option Text). IsNumberText least most t number) e h
+of_to least most (value ∷ other ∷ values) number o few e h = absurd (omega arith)
+
+of_from : (least most : ℕ) (values : List Text) (number : ℕ) (o : Option Text) → o ≡ slice_get values 0 → IsNumberOf least most values number → IsNumberText least most o number
+of_from least most [] number o e h = absurd h
+of_from least most (value ∷ []) number o e h = subst (λ (t : Option Text). IsNumberText least most t number) (sym e) h
+of_from least most (value ∷ other ∷ values) number o e h = absurd h
+
+module _ (IsForm : Text → Type 0) where
+  value_once : (values : List Text) (given : Option Text) → IsValueOrNone IsForm values given → length values ≤ 1
+  value_once [] given h = omega arith
+  value_once (value ∷ []) given h = omega arith
+  value_once (value ∷ other ∷ values) given h = absurd h
+
+  value_to : (values : List Text) (given o : Option Text) → length values ≤ 1 → o ≡ slice_get values 0 → IsTextOrNone IsForm o given → IsValueOrNone IsForm values given
+  value_to [] given o few e h = subst (λ (t : Option Text). IsTextOrNone IsForm t given) e h
+  value_to (value ∷ []) given o few e h = subst (λ (t : Option Text). IsTextOrNone IsForm t given) e h
+  value_to (value ∷ other ∷ values) given o few e h = absurd (omega arith)
+
+  value_from : (values : List Text) (given o : Option Text) → o ≡ slice_get values 0 → IsValueOrNone IsForm values given → IsTextOrNone IsForm o given
+  value_from [] given o e h = subst (λ (t : Option Text). IsTextOrNone IsForm t given) (sym e) h
+  value_from (value ∷ []) given o e h = subst (λ (t : Option Text). IsTextOrNone IsForm t given) (sym e) h
+  value_from (value ∷ other ∷ values) given o e h = absurd h
+
+-- the words of the collections
+words_are : (parts : List Part) (rows : List Row) → Tells serve_form parts rows → length (positions parts) ≤ length collection_names → words_at collection_names rows ≡ positions parts
+words_are parts rows tells few =
+    words_same collection_names rows (word_rows collection_names (positions parts)) tells.words
+    ∙ words_back collection_names (positions parts) (positions_distinct serve_form (sound_of is_serve)) few
+
 abbrev pub Found : Type 0
 Found = Option (Text × List Row)
 
@@ -143,6 +184,23 @@ line_of _ is_make words rest parts rows line taken tells (Make seed count) asked
       seed_is = number_text 0 MAX_SEED (first_of (codes "seed") rows) two.seed seed (tells.words (codes "seed") refl ∙ two.seed_is) asked.1.seed_is;
       count_is = number_text 1 MAX_COUNT (first_of (codes "count") rows) two.count count (tells.words (codes "count") refl ∙ two.count_is) asked.1.count_is;
     }
+line_of _ is_serve words rest parts rows line taken tells (Serve service) asked =
+    let serve : IsServeIn rows service = asked.1 in
+    let named = words_are parts rows tells taken.fits.all in
+    let all : AreCollectionsOf (positions parts) service.collections = subst (λ (ws : List Text). AreCollectionsOf ws service.collections) named serve.collections_are in
+    record {
+      parts = parts;
+      called = record { rest = rest; line = line; are_parts = taken.are_parts };
+      port_is = of_to 1 MAX_PORT (values_of (codes "port") parts) service.port (first_of (codes "port") rows) (taken.fits.valued (codes "port") refl) (tells.valued (codes "port") refl) serve.port_is;
+      connections_is = of_to 1 MAX_CONNECTIONS (values_of (codes "connections") parts) service.connections (first_of (codes "connections") rows) (taken.fits.valued (codes "connections") refl)
+          (tells.valued (codes "connections") refl) serve.connections_is;
+      store_is = value_to IsFile (values_of (codes "store") parts) service.store (first_of (codes "store") rows) (taken.fits.valued (codes "store") refl) (tells.valued (codes "store") refl) serve.store_is;
+      base_is = value_to IsBase (values_of (codes "base") parts) service.base (first_of (codes "base") rows) (taken.fits.valued (codes "base") refl) (tells.valued (codes "base") refl) serve.base_is;
+      collections_are = all;
+      some = serve.some;
+      few = omega (arith, as_many (positions parts) service.collections all, taken.fits.all);
+      differ = serve.differ;
+    }
 line_of form known words rest parts rows line taken tells request asked = differ form.name (command_name request) refl asked.0
 
 pub asked_to : (words : List Text) → AreUtf8 words → fault_of program_app words ≡ [] → (command : Text) (rows : List Row) → subcommand_of program_app words ≡ Some (command, rows)
@@ -184,6 +242,21 @@ taken_by form known words parts called fits =
       found = rw called.line (line_rows form known called.rest);
       tells = level.1;
     }
+
+-- no option of a `serve` is repeated
+serve_once : {words : List Text} {service : PlainService} (line : IsServeLine words service) (name : Text) → has name serve_form.options.valued ≡ true → length (values_of name line.parts) ≤ 1
+serve_once {words} {service} line name h = go (bytes_eq (codes "port") name) (bytes_eq (codes "connections") name) (bytes_eq (codes "store") name) (bytes_eq (codes "base") name) refl refl refl refl h
+  where
+    at : (other : Text) → bytes_eq other name ≡ true → length (values_of other line.parts) ≤ 1 → length (values_of name line.parts) ≤ 1
+    at other t once = subst (λ (n : Text). length (values_of n line.parts) ≤ 1) (same_text other name t) once
+
+    go : (a b c d : Bool) → bytes_eq (codes "port") name ≡ a → bytes_eq (codes "connections") name ≡ b → bytes_eq (codes "store") name ≡ c → bytes_eq (codes "base") name ≡ d
+        → (a || (b || (c || (d || false)))) ≡ true → length (values_of name line.parts) ≤ 1
+    go true b c d p q r s h = at (codes "port") p (of_once 1 MAX_PORT (values_of (codes "port") line.parts) service.port line.port_is)
+    go false true c d p q r s h = at (codes "connections") q (of_once 1 MAX_CONNECTIONS (values_of (codes "connections") line.parts) service.connections line.connections_is)
+    go false false true d p q r s h = at (codes "store") r (value_once IsFile (values_of (codes "store") line.parts) service.store line.store_is)
+    go false false false true p q r s h = at (codes "base") s (value_once IsBase (values_of (codes "base") line.parts) service.base line.base_is)
+    go false false false false p q r s h = absurd (false≢true h)
 
 pub asked_from : (words : List Text) (request : PlainRequest) → IsCommandLine words request → Asked words request
 asked_from words (Match whole most pattern) line =
@@ -234,6 +307,28 @@ asked_from words (Make seed count) line =
       };
       whole = tt;
     }
+asked_from words (Serve service) line =
+    let counted = as_many (positions line.parts) service.collections line.collections_are in
+    let few : length (positions line.parts) ≤ length collection_names = omega (arith, counted, line.few) in
+    let fits : Fits serve_form line.parts = record { flags = λ name h. no_name name h; valued = λ name h. serve_once line name h; all = few } in
+    let taken = taken_by serve_form is_serve words line.parts line.called fits in
+    let named = words_are line.parts taken.rows taken.tells few in
+    record {
+      quiet = taken.quiet;
+      rows = taken.rows;
+      found = taken.found;
+      asked = record {
+        port_is = of_from 1 MAX_PORT (values_of (codes "port") line.parts) service.port (first_of (codes "port") taken.rows) (taken.tells.valued (codes "port") refl) line.port_is;
+        connections_is = of_from 1 MAX_CONNECTIONS (values_of (codes "connections") line.parts) service.connections (first_of (codes "connections") taken.rows)
+            (taken.tells.valued (codes "connections") refl) line.connections_is;
+        store_is = value_from IsFile (values_of (codes "store") line.parts) service.store (first_of (codes "store") taken.rows) (taken.tells.valued (codes "store") refl) line.store_is;
+        base_is = value_from IsBase (values_of (codes "base") line.parts) service.base (first_of (codes "base") taken.rows) (taken.tells.valued (codes "base") refl) line.base_is;
+        collections_are = subst (λ (ws : List Text). AreCollectionsOf ws service.collections) (sym named) line.collections_are;
+        some = line.some;
+        differ = line.differ;
+      };
+      whole = tt;
+    }
 
 -- what some rows ask for is one thing
 same_flag : (a b : Bool) → text_of a ≡ text_of b → a ≡ b
@@ -253,6 +348,19 @@ same_number : (least most : ℕ) (o : Option Text) (a b : ℕ) → IsNumberText 
 same_number least most None a b h g = absurd h
 same_number least most (Some text) a b h g = sym h.value ∙ g.value
 
+same_given : (IsForm : Text → Type 0) (o a b : Option Text) → IsTextOrNone IsForm o a → IsTextOrNone IsForm o b → a ≡ b
+same_given IsForm None a b h g = h ∙ sym g
+same_given IsForm (Some text) a b h g = h.0 ∙ sym g.0
+
+same_service : (rows : List Row) (a b : PlainService) → IsServeIn rows a → IsServeIn rows b → a ≡ b
+same_service rows a b h g =
+    let ports = same_number 1 MAX_PORT (first_of (codes "port") rows) a.port b.port h.port_is g.port_is in
+    let connections = same_number 1 MAX_CONNECTIONS (first_of (codes "connections") rows) a.connections b.connections h.connections_is g.connections_is in
+    let stores = same_given IsFile (first_of (codes "store") rows) a.store b.store h.store_is g.store_is in
+    let bases = same_given IsBase (first_of (codes "base") rows) a.base b.base h.base_is g.base_is in
+    let collections = same_collections (words_at collection_names rows) a.collections b.collections h.collections_are g.collections_are in
+    λ i. record { port = ports i; connections = connections i; store = stores i; base = bases i; collections = collections i }
+
 same_request : (rows : List Row) (a b : PlainRequest) → command_name a ≡ command_name b → IsAskedBy rows a → IsAskedBy rows b → WholeIs rows a → WholeIs rows b → a ≡ b
 same_request rows (Match whole most pattern) (Match whole' most' pattern') e h g w v =
     let texts_same : text_of whole ≡ text_of whole' = same_text_of whole whole' (sym w ∙ v) in
@@ -266,6 +374,7 @@ same_request rows (Make seed count) (Make seed' count') e h g w v =
     let seeds_same = same_number 0 MAX_SEED (first_of (codes "seed") rows) seed seed' h.seed_is g.seed_is in
     let counts_same = same_number 1 MAX_COUNT (first_of (codes "count") rows) count count' h.count_is g.count_is in
     cc
+same_request rows (Serve service) (Serve service') e h g w v = ap Serve (same_service rows service service' h g)
 same_request rows a b e h g w v = differ (command_name a) (command_name b) refl e
 
 pub one_request : (words : List Text) (first second : PlainRequest) → IsCommandLine words first → IsCommandLine words second → first ≡ second

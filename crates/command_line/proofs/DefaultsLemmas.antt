@@ -28,16 +28,16 @@ fold_options [] rest rows = refl
 fold_options (name ∷ names) rest rows =
     ap (λ (rs : List Row). fold with_default rs (map built_option names ++ rest)) (same_both (has_row name rows) rows) ∙ fold_options names rest rows
 
-fold_positions : (n : ℕ) (names : List Text) (rows : List Row) → fold with_default rows (built_positions n names) ≡ rows
-fold_positions n [] rows = refl
-fold_positions n (name ∷ names) rows =
-    ap (λ (rs : List Row). fold with_default rs (built_positions (suc n) names)) (same_both (has_row name rows) rows) ∙ fold_positions (suc n) names rows
+fold_positions : (needed : Bool) (n : ℕ) (names : List Text) (rows : List Row) → fold with_default rows (built_positions needed n names) ≡ rows
+fold_positions needed n [] rows = refl
+fold_positions needed n (name ∷ names) rows =
+    ap (λ (rs : List Row). fold with_default rs (built_positions needed (suc n) names)) (same_both (has_row name rows) rows) ∙ fold_positions needed (suc n) names rows
 
 pub fold_rules : (form : Form) (rows : List Row) → fold with_default rows (built_rules form) ≡ fold with_default rows (map built_flag form.options.flags)
 fold_rules form rows =
-    fold-append with_default rows (map built_flag form.options.flags) (map built_option form.options.valued ++ built_positions 1 form.positions)
-    ∙ fold_options form.options.valued (built_positions 1 form.positions) (fold with_default rows (map built_flag form.options.flags))
-    ∙ fold_positions 1 form.positions (fold with_default rows (map built_flag form.options.flags))
+    fold-append with_default rows (map built_flag form.options.flags) (map built_option form.options.valued ++ built_positions form.needs_all 1 form.positions)
+    ∙ fold_options form.options.valued (built_positions form.needs_all 1 form.positions) (fold with_default rows (map built_flag form.options.flags))
+    ∙ fold_positions form.needs_all 1 form.positions (fold with_default rows (map built_flag form.options.flags))
 
 -- a flag's default, where it has a row and where it has none
 flag_kept : (name : Text) (rows : List Row) → has_row name rows ≡ true → with_default rows (built_flag name) ≡ rows
@@ -106,20 +106,20 @@ unfolding defaults_fault
 quiet_defaults f each [] rest after rows = after rows
 quiet_defaults f each (x ∷ names) rest after rows = rw (each rows x) (quiet_defaults f each names rest after (with_default rows (f x)))
 
-quiet_positions : (n : ℕ) (names : List Text) (rows : List Row) → defaults_fault rows (built_positions n names) ≡ []
+quiet_positions : (needed : Bool) (n : ℕ) (names : List Text) (rows : List Row) → defaults_fault rows (built_positions needed n names) ≡ []
 unfolding defaults_fault
-quiet_positions n [] rows = refl
-quiet_positions n (x ∷ names) rows = rw (position_default (has_row x rows)) (quiet_positions (suc n) names (with_default rows (built_position n x)))
+quiet_positions needed n [] rows = refl
+quiet_positions needed n (x ∷ names) rows = rw (position_default (has_row x rows)) (quiet_positions needed (suc n) names (with_default rows (built_position needed n x)))
   where
-    position_default : (b : Bool) → default_fault rows (built_position n x) ≡ []
+    position_default : (b : Bool) → default_fault rows (built_position needed n x) ≡ []
     position_default b = same_both _ []
 
 pub no_defaults_fault : (form : Form) (rows : List Row) → defaults_fault rows (built_rules form) ≡ []
 no_defaults_fault form rows =
-    quiet_defaults built_flag (λ rs x. same_both _ []) form.options.flags (map built_option form.options.valued ++ built_positions 1 form.positions)
-    (λ rs. quiet_defaults built_option (λ ss x. same_both _ []) form.options.valued (built_positions 1 form.positions) (λ ss. quiet_positions 1 form.positions ss) rs) rows
+    quiet_defaults built_flag (λ rs x. same_both _ []) form.options.flags (map built_option form.options.valued ++ built_positions form.needs_all 1 form.positions)
+    (λ rs. quiet_defaults built_option (λ ss x. same_both _ []) form.options.valued (built_positions form.needs_all 1 form.positions) (λ ss. quiet_positions form.needs_all 1 form.positions ss) rs) rows
 
--- what is wanted: each position
+-- what is wanted: each position, or none
 abbrev wants : List Row → Rule → Bool
 wants rows a = a.required && not (is_given a.id rows)
 
@@ -131,15 +131,23 @@ wants_options : (rows : List Row) (names : List Text) (rest : List Rule) → lis
 wants_options rows [] rest = refl
 wants_options rows (x ∷ names) rest = wants_options rows names rest
 
-wants_positions : (rows : List Row) (n : ℕ) (names : List Text) → list_any (wants rows) (built_positions n names) ≡ list_any (λ name. not (is_given name rows)) names
-wants_positions rows n [] = refl
-wants_positions rows n (x ∷ names) = ap (λ (b : Bool). not (is_given x rows) || b) (wants_positions rows (suc n) names)
+wants_needed : (rows : List Row) (n : ℕ) (names : List Text) → list_any (wants rows) (built_positions true n names) ≡ list_any (λ name. not (is_given name rows)) names
+wants_needed rows n [] = refl
+wants_needed rows n (x ∷ names) = ap (λ (b : Bool). not (is_given x rows) || b) (wants_needed rows (suc n) names)
 
-pub wants_rules : (form : Form) (rows : List Row) → list_any (wants rows) (built_rules form) ≡ list_any (λ name. not (is_given name rows)) form.positions
+wants_free : (rows : List Row) (n : ℕ) (names : List Text) → list_any (wants rows) (built_positions false n names) ≡ false
+wants_free rows n [] = refl
+wants_free rows n (x ∷ names) = wants_free rows (suc n) names
+
+wants_positions : (needed : Bool) (rows : List Row) (n : ℕ) (names : List Text) → list_any (wants rows) (built_positions needed n names) ≡ (needed && list_any (λ name. not (is_given name rows)) names)
+wants_positions true rows n names = wants_needed rows n names
+wants_positions false rows n names = wants_free rows n names
+
+pub wants_rules : (form : Form) (rows : List Row) → list_any (wants rows) (built_rules form) ≡ (form.needs_all && list_any (λ name. not (is_given name rows)) form.positions)
 wants_rules form rows =
-    wants_flags rows form.options.flags (map built_option form.options.valued ++ built_positions 1 form.positions)
-    ∙ wants_options rows form.options.valued (built_positions 1 form.positions)
-    ∙ wants_positions rows 1 form.positions
+    wants_flags rows form.options.flags (map built_option form.options.valued ++ built_positions form.needs_all 1 form.positions)
+    ∙ wants_options rows form.options.valued (built_positions form.needs_all 1 form.positions)
+    ∙ wants_positions form.needs_all rows 1 form.positions
 
 pub any_same : (f g : Text → Bool) (names : List Text) → ((x : Text) → has x names ≡ true → f x ≡ g x) → list_any f names ≡ list_any g names
 any_same f g [] same = refl

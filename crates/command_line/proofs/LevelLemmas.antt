@@ -1,6 +1,6 @@
 -- One command of the line: `clap` takes the words behind it just where they have parts that fit, and then its rows say what the parts say.
 use Rattle.std.proofs.lemmas.Bool.{false≢true}
-use Rattle.std.proofs.Common.{◌≡◌, ◌↔◌, ◌≤◌, Bool, true, false, not, ◌&&◌, ◌||◌, if◌then◌else◌, List, [], ◌∷◌, map, length, fold, Option, Some, None, option_and_then, slice_get, codes, bytes_eq, refl, sym, ap, ◌∙◌, subst, arith, le_antisymm}
+use Rattle.std.proofs.Common.{◌≡◌, ◌↔◌, ◌≤◌, ℕ, Bool, true, false, not, ◌&&◌, ◌||◌, if◌then◌else◌, List, [], ◌∷◌, map, length, fold, Option, Some, None, option_and_then, slice_get, codes, bytes_eq, refl, sym, ap, ◌∙◌, subst, arith, le_antisymm}
 use Rattle.std.specs.List.{list_any}
 use Rattle.std.proofs.lemmas.List.{length-map}
 use Rattle.clap.specs.Kinds.{Kinds, or_else}
@@ -22,11 +22,20 @@ use Rattle.command_line.proofs.CutLemmas.{AreUtf8, walk_to}
 use Rattle.command_line.proofs.PartRowsLemmas.{AreNamed, first_named, fresh_from, fresh_once, has_named, named_of, row_at, rows_named, rows_of_flags, rows_of_values, rows_of_words, word_once, word_rows}
 use Rattle.command_line.proofs.DefaultsLemmas.{all_given_from, all_given_to, any_same, default_row, fold_rules, no_defaults_fault, row_with_defaults, wants_rules}
 
+-- so many words are positions of the command: all, or as many as there are at most
+abbrev pub AreCounted : Bool → ℕ → ℕ → Type 0
+AreCounted true count wanted = count ≡ wanted
+AreCounted false count wanted = count ≤ wanted
+
+counted_few : (needed : Bool) (count wanted : ℕ) → AreCounted needed count wanted → count ≤ wanted
+counted_few true count wanted h = omega (arith, h)
+counted_few false count wanted h = h
+
 -- no option is repeated, and no position is missing or surplus
 pub record Fits (form : Form) (parts : List Part) : Type 0 where
   pub flags : (name : Text) → has name form.options.flags ≡ true → length (flags_of name parts) ≤ 1
   pub valued : (name : Text) → has name form.options.valued ≡ true → length (values_of name parts) ≤ 1
-  pub all : length (positions parts) ≡ length form.positions
+  pub all : AreCounted form.needs_all (length (positions parts)) (length form.positions)
 
 -- a flag's text
 abbrev pub flag_text : List Text → Text
@@ -131,11 +140,11 @@ module _ (form : Form) (sound : is_sound_form form ≡ true) (parts : List Part)
   }
 
   -- which positions are missing
-  missing : list_any (λ a. a.required && not (is_given a.id final)) (built_rules form) ≡ list_any (λ name. not (is_given name (word_rows form.positions (positions parts)))) form.positions
-  missing = wants_rules form final ∙ any_same (λ name. not (is_given name final)) (λ name. not (is_given name (word_rows form.positions (positions parts)))) form.positions
-      (λ name h. ap (λ (o : Option Row). not (option_map_or (λ r. explicit_source r.source) o false)) (row_of_word name h))
+  missing : list_any (λ a. a.required && not (is_given a.id final)) (built_rules form) ≡ (form.needs_all && list_any (λ name. not (is_given name (word_rows form.positions (positions parts)))) form.positions)
+  missing = wants_rules form final ∙ ap (λ (b : Bool). form.needs_all && b) (any_same (λ name. not (is_given name final)) (λ name. not (is_given name (word_rows form.positions (positions parts)))) form.positions
+      (λ name h. ap (λ (o : Option Row). not (option_map_or (λ r. explicit_source r.source) o false)) (row_of_word name h)))
 
-  fits_from : Fresh [] own → length (positions parts) ≡ length form.positions → Fits form parts
+  fits_from : Fresh [] own → AreCounted form.needs_all (length (positions parts)) (length form.positions) → Fits form parts
   fits_from fresh all = record {
     flags = λ name h. omega (arith, (fresh_once name [] own fresh).0, ap length (flag_rows name h), length-map (flags_of name parts) flag_row);
     valued = λ name h. omega (arith, (fresh_once name [] own fresh).0, ap length (value_rows name h), length-map (values_of name parts) (value_row name));
@@ -151,18 +160,28 @@ module _ (form : Form) (sound : is_sound_form form ≡ true) (parts : List Part)
       go name false false h g = omega (arith, ap length (other_rows name h g), word_once name form.positions (positions parts) (positions_distinct form sound))
 
   -- the last checks
-  check_quiet : (check_fault (leaf form) final false ≡ []) ↔ (list_any (λ name. not (is_given name (word_rows form.positions (positions parts)))) form.positions ≡ false)
+  check_quiet : (check_fault (leaf form) final false ≡ []) ↔ ((form.needs_all && list_any (λ name. not (is_given name (word_rows form.positions (positions parts)))) form.positions) ≡ false)
   check_quiet = rw missing (last _)
     where
       last : (b : Bool) → ((if b then MissingRequiredArgument ∷ [] else []) ≡ []) ↔ (b ≡ false)
       last true = (λ h. absurd (cc), λ h. absurd (false≢true (sym h)))
       last false = (λ h. refl, λ h. refl)
 
-  all_to : check_fault (leaf form) final false ≡ [] → length (positions parts) ≤ length form.positions → length (positions parts) ≡ length form.positions
-  all_to quiet few = le_antisymm few (all_given_to form.positions (positions parts) (positions_distinct form sound) (check_quiet.0 quiet))
+  all_to : check_fault (leaf form) final false ≡ [] → length (positions parts) ≤ length form.positions → AreCounted form.needs_all (length (positions parts)) (length form.positions)
+  all_to quiet few = go form.needs_all (check_quiet.0 quiet)
+    where
+      go : (needed : Bool) → (needed && list_any (λ name. not (is_given name (word_rows form.positions (positions parts)))) form.positions) ≡ false
+          → AreCounted needed (length (positions parts)) (length form.positions)
+      go true given = le_antisymm few (all_given_to form.positions (positions parts) (positions_distinct form sound) given)
+      go false given = few
 
-  all_from : length (positions parts) ≡ length form.positions → check_fault (leaf form) final false ≡ []
-  all_from all = check_quiet.1 (all_given_from form.positions (positions parts) (positions_distinct form sound) (omega (arith, all)))
+  all_from : AreCounted form.needs_all (length (positions parts)) (length form.positions) → check_fault (leaf form) final false ≡ []
+  all_from all = check_quiet.1 (go form.needs_all all)
+    where
+      go : (needed : Bool) → AreCounted needed (length (positions parts)) (length form.positions)
+          → (needed && list_any (λ name. not (is_given name (word_rows form.positions (positions parts)))) form.positions) ≡ false
+      go true all = all_given_from form.positions (positions parts) (positions_distinct form sound) (omega (arith, all))
+      go false all = refl
 
 -- the mistakes of a command in the words behind it
 abbrev pub command_fault : Form → List Text → Kinds
@@ -190,7 +209,7 @@ module _ (form : Form) (sound : is_sound_form form ≡ true) (words : List Text)
   pub level_from : (parts : List Part) → IsTaken form words parts → (command_fault form words ≡ []) × Tells form parts (command_rows form words)
   level_from parts taken =
       let named = named_of form.options taken.are_parts in
-      let done = walk_from form sound taken.are_parts [] None 0 form.positions refl refl (omega (arith, taken.fits.all)) (fresh_of form sound parts named taken.fits) in
+      let done = walk_from form sound taken.are_parts [] None 0 form.positions refl refl (counted_few form.needs_all _ _ taken.fits.all) (fresh_of form sound parts named taken.fits) in
       let rows : command_rows form words ≡ fold with_default (part_rows form.positions parts) (built_rules form)
       = ap (λ (rs : List Row). fold with_default rs (built_rules form)) done.ends in (
         (level_quiet _ _ _ _).1 (

@@ -10,5 +10,8 @@ pub mod PartRowsLemmas
 pub mod DefaultsLemmas
 pub mod LevelLemmas
 pub mod LineLemmas
+pub mod CollectionLemmas
+pub mod WordsLemmas
+pub mod DistinctLemmas
 pub mod CommandLinesLemmas
 pub mod FoundLemmas

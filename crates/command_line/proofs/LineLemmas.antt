@@ -5,7 +5,7 @@ use Rattle.clap.specs.Kinds.{Kinds, or_else}
 use Rattle.clap.specs.Faults.{defaults_fault, fault_of, flags_fault, turn_fault, walk_fault}
 use Rattle.clap.specs.Simple.{Shape, built, label_of, names_of, subcommand_of}
 use Rattle.clap.specs.Walk.{Names, Walk, answers_to, idle, nothing_held, subcommand_met, walk, walk_from, walked}
-use Rattle.command_line.specs.inner.Forms.{Form, check_form, program_app, make_form, match_form, show_form}
+use Rattle.command_line.specs.inner.Forms.{Form, check_form, program_app, make_form, match_form, serve_form, show_form}
 use Rattle.command_line.proofs.HasLemmas.{Text, same_text}
 use Rattle.command_line.proofs.FormLemmas.{is_sound_form}
 use Rattle.command_line.proofs.LexerLemmas.{Look, look, dashes, alone, with_value, short, plain, plain_word_is}
@@ -20,12 +20,14 @@ pub data Known : Form → Type 0 where
   is_check : Known check_form
   is_show : Known show_form
   is_make : Known make_form
+  is_serve : Known serve_form
 
 pub sound_of : {form : Form} → Known form → is_sound_form form ≡ true
 sound_of is_match = refl
 sound_of is_check = refl
 sound_of is_show = refl
 sound_of is_make = refl
+sound_of is_serve = refl
 
 abbrev program_shape : Shape
 program_shape = (built program_app).top
@@ -48,6 +50,7 @@ known_command is_match = record { goes = refl; quiet = refl; found = refl }
 known_command is_check = record { goes = refl; quiet = refl; found = refl }
 known_command is_show = record { goes = refl; quiet = refl; found = refl }
 known_command is_make = record { goes = refl; quiet = refl; found = refl }
+known_command is_serve = record { goes = refl; quiet = refl; found = refl }
 
 -- the words behind a command are kept for it
 met_quiet : (name : Text) (before words : List Text) → walk_fault program_shape program_names (met name before) words ≡ []
@@ -97,9 +100,10 @@ short_first x xs utf8 d l s m q =
 
 -- a first word that is no command
 module _ (word : Text) (words : List Text) (no_match : bytes_eq (codes "match") word ≡ false) (no_check : bytes_eq (codes "check") word ≡ false)
-    (no_show : bytes_eq (codes "show") word ≡ false) (no_make : bytes_eq (codes "make") word ≡ false) where
+    (no_show : bytes_eq (codes "show") word ≡ false) (no_make : bytes_eq (codes "make") word ≡ false)
+    (no_serve : bytes_eq (codes "serve") word ≡ false) where
   none_met : subcommand_met program_names idle word ≡ None
-  none_met = rw (no_match, no_check, no_show, no_make) refl
+  none_met = rw (no_match, no_check, no_show, no_make, no_serve) refl
 
   abbrev Turn : Type 0
   Turn = turn_fault program_shape program_names (walk_from nothing_held) word ≡ []
@@ -144,12 +148,13 @@ pub called_of : (words : List Text) → AreUtf8 words → fault_of program_app w
 unfolding walked walk_fault defaults_fault
 called_of [] utf8 h = absurd (cc)
 called_of (word ∷ words) utf8 h =
-    go (bytes_eq (codes "match") word) (bytes_eq (codes "check") word) (bytes_eq (codes "show") word) (bytes_eq (codes "make") word) refl refl refl refl
+    go (bytes_eq (codes "match") word) (bytes_eq (codes "check") word) (bytes_eq (codes "show") word) (bytes_eq (codes "make") word) (bytes_eq (codes "serve") word) refl refl refl refl refl
   where
-    go : (a b c d : Bool) → bytes_eq (codes "match") word ≡ a → bytes_eq (codes "check") word ≡ b → bytes_eq (codes "show") word ≡ c → bytes_eq (codes "make") word ≡ d
-        → Called (word ∷ words)
-    go true b c d p q r s = called_as match_form is_match word words utf8.1 p h
-    go false true c d p q r s = called_as check_form is_check word words utf8.1 q h
-    go false false true d p q r s = called_as show_form is_show word words utf8.1 r h
-    go false false false true p q r s = called_as make_form is_make word words utf8.1 s h
-    go false false false false p q r s = absurd (no_command word words p q r s utf8.0 (look word) h)
+    go : (a b c d e : Bool) → bytes_eq (codes "match") word ≡ a → bytes_eq (codes "check") word ≡ b → bytes_eq (codes "show") word ≡ c → bytes_eq (codes "make") word ≡ d
+        → bytes_eq (codes "serve") word ≡ e → Called (word ∷ words)
+    go true b c d e p q r s t = called_as match_form is_match word words utf8.1 p h
+    go false true c d e p q r s t = called_as check_form is_check word words utf8.1 q h
+    go false false true d e p q r s t = called_as show_form is_show word words utf8.1 r h
+    go false false false true e p q r s t = called_as make_form is_make word words utf8.1 s h
+    go false false false false true p q r s t = called_as serve_form is_serve word words utf8.1 t h
+    go false false false false false p q r s t = absurd (no_command word words p q r s t utf8.0 (look word) h)

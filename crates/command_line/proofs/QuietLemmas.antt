@@ -62,7 +62,7 @@ module _ (form : Form) (sound : is_sound_form form ≡ true) where
   -- what is left of the positions after k of them
   pub record Left (k : ℕ) (name : Text) (left : List Text) : Type 0 where
     pub few : k < 1000
-    pub next : arg_by_index (built_rules form) (1 + k) ≡ Some (built_position (1 + k) name)
+    pub next : arg_by_index (built_rules form) (1 + k) ≡ Some (built_position form.needs_all (1 + k) name)
     pub after : drop (suc k) form.positions ≡ left
     pub stands_there : has name form.positions ≡ true
 
@@ -71,24 +71,24 @@ module _ (form : Form) (sound : is_sound_form form ≡ true) where
       let first = drop_first form.positions k name left e in
       record {
         few = omega (arith, first.0, few_positions form sound);
-        next = index_after form k ∙ ap (λ (l : List Text). option_map (built_position (1 + k)) (slice_get l 0)) e;
+        next = index_after form k ∙ ap (λ (l : List Text). option_map (built_position form.needs_all (1 + k)) (slice_get l 0)) e;
         after = first.1;
         stands_there = first.2;
       }
 
   pub none_left : (k : ℕ) → drop k form.positions ≡ [] → arg_by_index (built_rules form) (1 + k) ≡ None
-  none_left k e = index_after form k ∙ ap (λ (l : List Text). option_map (built_position (1 + k)) (slice_get l 0)) e
+  none_left k e = index_after form k ∙ ap (λ (l : List Text). option_map (built_position form.needs_all (1 + k)) (slice_get l 0)) e
 
   pub position_settles : (rows : List Row) (name word : Text) → has name form.positions ≡ true → Settles form rows (Some (name, word ∷ [])) ↔ (has_row name rows ≡ false)
   position_settles rows name word h =
       let found = id_position form name (position_no_flag form sound name h) (position_no_option form sound name h) h in
-      rw found.1 (position_quiet found.0 name word rows)
+      rw found.1 (position_quiet form.needs_all found.0 name word rows)
 
   pub position_rows : (rows : List Row) (name word : Text) → has name form.positions ≡ true → has_row name rows ≡ false
       → rows_with form rows (Some (name, word ∷ [])) ≡ rows ++ value_row name word ∷ []
   position_rows rows name word h fresh =
       let found = id_position form name (position_no_flag form sound name h) (position_no_option form sound name h) h in
-      rw found.1 (used_position found.0 name word rows fresh)
+      rw found.1 (used_position form.needs_all found.0 name word rows fresh)
 
   pub option_found : (name : Text) → has name form.options.valued ≡ true → arg_by_id (built_rules form) name ≡ Some (built_option name)
   option_found name h = id_option form name (option_no_flag form sound name h) h

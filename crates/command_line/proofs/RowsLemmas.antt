@@ -55,8 +55,8 @@ used_flag name rows h = absent_again name (codes "true") rows h
 pub used_option : (name value : Text) (rows : List Row) → has_row name rows ≡ false → used (built_option name) (value ∷ []) rows ≡ rows ++ value_row name value ∷ []
 used_option name value rows h = absent_again name value rows h
 
-pub used_position : (n : ℕ) (name value : Text) (rows : List Row) → has_row name rows ≡ false → used (built_position n name) (value ∷ []) rows ≡ rows ++ value_row name value ∷ []
-used_position n name value rows h = absent_again name value rows h
+pub used_position : (needed : Bool) (n : ℕ) (name value : Text) (rows : List Row) → has_row name rows ≡ false → used (built_position needed n name) (value ∷ []) rows ≡ rows ++ value_row name value ∷ []
+used_position needed n name value rows h = absent_again name value rows h
 
 -- a use is no mistake just where the name has no row yet
 conflict : (b : Bool) → (or_else (if b && not false then ArgumentConflict ∷ [] else []) [] ≡ []) ↔ (b ≡ false)
@@ -69,8 +69,8 @@ flag_quiet name rows = conflict (has_row name rows)
 pub option_quiet : (name value : Text) (rows : List Row) → (use_fault false (built_option name) (value ∷ []) rows ≡ []) ↔ (has_row name rows ≡ false)
 option_quiet name value rows = conflict (has_row name rows)
 
-pub position_quiet : (n : ℕ) (name value : Text) (rows : List Row) → (use_fault false (built_position n name) (value ∷ []) rows ≡ []) ↔ (has_row name rows ≡ false)
-position_quiet n name value rows = conflict (has_row name rows)
+pub position_quiet : (needed : Bool) (n : ℕ) (name value : Text) (rows : List Row) → (use_fault false (built_position needed n name) (value ∷ []) rows ≡ []) ↔ (has_row name rows ≡ false)
+position_quiet needed n name value rows = conflict (has_row name rows)
 
 -- a list of kinds that is made of two is empty where both are
 pub both_quiet : (a b : Kinds) → (or_else a b ≡ []) ↔ ((a ≡ []) × (b ≡ []))

@@ -104,21 +104,21 @@ index_fits k few = omega arith
 
 -- a word behind `--`, or one that is no option
 module _ (form : Form) (rows : List Row) (pending : Pending) (k : ℕ) (few : k < 1000) (name : Text)
-    (next : arg_by_index (built_rules form) (1 + k) ≡ Some (built_position (1 + k) name)) where
+    (next : arg_by_index (built_rules form) (1 + k) ≡ Some (built_position form.needs_all (1 + k) name)) where
   pub step_trailing : (waiting : Waiting) (word : Text)
       → Steps form (stands rows pending waiting (1 + k) true) word (stands (rows_with form rows pending) (Some (name, word ∷ [])) idle (1 + suc k) true) (Settles form rows pending)
   unfolding walked
   step_trailing waiting word = record {
-    walks = rw (next, and_false (is_pending (built_position (1 + k) name) pending), index_fits k few) refl;
-    quiet_when = rw (next, and_false (is_pending (built_position (1 + k) name) pending)) (λ h. h, λ h. h);
+    walks = rw (next, and_false (is_pending (built_position form.needs_all (1 + k) name) pending), index_fits k few) refl;
+    quiet_when = rw (next, and_false (is_pending (built_position form.needs_all (1 + k) name) pending)) (λ h. h, λ h. h);
   }
 
   pub step_position : (word : Text) → IsPlainWord word
       → Steps form (stands rows pending idle (1 + k) false) word (stands (rows_with form rows pending) (Some (name, word ∷ [])) idle (1 + suc k) false) (Settles form rows pending)
   unfolding walked
   step_position word p = record {
-    walks = rw (p.not_dashes, p.not_long, p.not_short, next, and_false (is_pending (built_position (1 + k) name) pending), index_fits k few) refl;
-    quiet_when = rw (p.not_dashes, p.not_long, p.not_short, next, and_false (is_pending (built_position (1 + k) name) pending)) (λ h. h, λ h. h);
+    walks = rw (p.not_dashes, p.not_long, p.not_short, next, and_false (is_pending (built_position form.needs_all (1 + k) name) pending), index_fits k few) refl;
+    quiet_when = rw (p.not_dashes, p.not_long, p.not_short, next, and_false (is_pending (built_position form.needs_all (1 + k) name) pending)) (λ h. h, λ h. h);
   }
 
 -- the value of an option whose name stood alone

@@ -1,10 +1,14 @@
 -- The command lines of the program: for each command, which words ask for it with which values.
-use Rattle.std.specs.Prelude.{◌≡◌, ◌≤◌, ℕ, List, [], ◌∷◌, length, map, codes, Bool, true, false, String, string_bytes, bytes_eq, if◌then◌else◌}
+use Rattle.std.specs.Prelude.{◌≡◌, ◌≢◌, ◌≤◌, ◌⊎◌, ⊤, ℕ, List, [], ◌∷◌, ◌++◌, length, map, codes, Bool, true, false, Option, Some, None, String, string_bytes, bytes_eq, nat_eq, if◌then◌else◌}
+use Rattle.std.specs.List.{IsDistinct}
 use Rattle.std.specs.Str.Parse.{IsNumeral, digits_value}
 use Rattle.std.specs.declared.alloc.Global.{Global}
 use Rattle.command_line.specs.Parts.{Part, Flag, Valued, Position, Options, AreParts, positions}
 use Rattle.match_generator.specs.declared.log.TheConstants.{MAX_SEED, MAX_COUNT}
-use Rattle.command_line.specs.declared.numbers.TheConstants.{DEFAULT_CAP, MAX_CAP}
+use Rattle.stix_ids.specs.Uuid.{IsUuidOf}
+use Rattle.command_line.specs.declared.numbers.TheConstants.{DEFAULT_CAP, MAX_CAP, MAX_PORT, MAX_CONNECTIONS}
+use Rattle.command_line.specs.declared.collections.TheConstants.{MAX_COLLECTIONS, MAX_TITLE}
+use Rattle.command_line.specs.declared.base.TheConstants.{MAX_BASE}
 
 -- the texts of the words
 abbrev pub texts : List (String Global) → List (List ℕ)
@@ -86,12 +90,90 @@ pub record IsMakeLine (words : List (List ℕ)) (seed count : ℕ) : Type 0 wher
   pub seed_is : IsNumberIn 0 MAX_SEED seed_text seed
   pub count_is : IsNumberIn 1 MAX_COUNT count_text count
 
+-- the number that an option names, which may not be missing
+abbrev pub IsNumberOf : ℕ → ℕ → List (List ℕ) → ℕ → Type 0
+IsNumberOf least most [] number = ⊥
+IsNumberOf least most (text ∷ []) number = IsNumberIn least most text number
+IsNumberOf least most (text ∷ other ∷ texts) number = ⊥
+
+-- the value of that form that an option names, or none where it isn't there
+abbrev pub IsValueOrNone : (List ℕ → Type 0) → List (List ℕ) → Option (List ℕ) → Type 0
+IsValueOrNone IsForm [] given = given ≡ None
+IsValueOrNone IsForm (value ∷ []) given = (given ≡ Some value) × IsForm value
+IsValueOrNone IsForm (value ∷ other ∷ values) given = ⊥
+
+-- a file's name
+abbrev pub IsFile : List ℕ → Type 0
+IsFile name = name ≢ []
+
+-- a URL of the web, as `http://localhost:8080`, which doesn't end in `/`
+pub record IsBase (url : List ℕ) : Type 0 where
+  pub scheme : (rest : List ℕ) × ((url ≡ codes "http://" ++ rest) ⊎ (url ≡ codes "https://" ++ rest))
+  pub short : length url ≤ MAX_BASE
+  pub open_ended : (front : List ℕ) → url ≢ front ++ codes "/"
+
+-- what a client may do with a collection: `r`, read its objects; `w`, add objects; `rw`, both
+abbrev pub AreRights : List ℕ → Bool → Bool → Type 0
+AreRights text true false = text ≡ codes "r"
+AreRights text false true = text ≡ codes "w"
+AreRights text true true = text ≡ codes "rw"
+AreRights text false false = ⊥
+
+-- a collection that is to be served
+pub record PlainCollection : Type 0 where
+  pub id : ℕ
+  pub can_read : Bool
+  pub can_write : Bool
+  pub title : List ℕ
+
+-- UUID:RIGHTS:TITLE
+pub record IsCollectionOf (word : List ℕ) (collection : PlainCollection) : Type 0 where
+  pub uuid : List ℕ
+  pub rights : List ℕ
+  pub word_is : word ≡ uuid ++ (codes ":" ++ (rights ++ (codes ":" ++ collection.title)))
+  pub id_is : IsUuidOf uuid collection.id
+  pub rights_are : AreRights rights collection.can_read collection.can_write
+  pub titled : 1 ≤ length collection.title
+  pub short : length collection.title ≤ MAX_TITLE
+
+-- each word is the collection at its place
+abbrev pub AreCollectionsOf : List (List ℕ) → List PlainCollection → Type 0
+AreCollectionsOf [] [] = ⊤
+AreCollectionsOf [] (collection ∷ collections) = ⊥
+AreCollectionsOf (word ∷ words) [] = ⊥
+AreCollectionsOf (word ∷ words) (collection ∷ collections) = IsCollectionOf word collection × AreCollectionsOf words collections
+
+-- what is to be served: at which port, how many connections, from which file and under which URL, and which collections
+pub record PlainService : Type 0 where
+  pub port : ℕ
+  pub connections : ℕ
+  pub store : Option (List ℕ)
+  pub base : Option (List ℕ)
+  pub collections : List PlainCollection
+
+abbrev pub serve_options : Options
+serve_options = record { flags = []; valued = codes "port" ∷ codes "connections" ∷ codes "store" ∷ codes "base" ∷ [] }
+
+-- serve --port P --connections N [--store FILE] [--base URL] COLLECTION...
+pub record IsServeLine (words : List (List ℕ)) (service : PlainService) : Type 0 where
+  pub parts : List Part
+  pub called : IsCalledWith (codes "serve") serve_options words parts
+  pub port_is : IsNumberOf 1 MAX_PORT (values_of (codes "port") parts) service.port
+  pub connections_is : IsNumberOf 1 MAX_CONNECTIONS (values_of (codes "connections") parts) service.connections
+  pub store_is : IsValueOrNone IsFile (values_of (codes "store") parts) service.store
+  pub base_is : IsValueOrNone IsBase (values_of (codes "base") parts) service.base
+  pub collections_are : AreCollectionsOf (positions parts) service.collections
+  pub some : 1 ≤ length service.collections
+  pub few : length service.collections ≤ MAX_COLLECTIONS
+  pub differ : IsDistinct nat_eq (map (λ collection. collection.id) service.collections)
+
 -- what words ask for, without where it lies in memory
 pub data PlainRequest : Type 0 where
   Match : (whole : Bool) (cap : ℕ) (pattern : List ℕ) → PlainRequest
   Check : PlainRequest
   Show : (pattern : List ℕ) → PlainRequest
   Make : (seed count : ℕ) → PlainRequest
+  Serve : (service : PlainService) → PlainRequest
 
 -- the words are a command line, and ask for that
 abbrev pub IsCommandLine : List (List ℕ) → PlainRequest → Type 0
@@ -99,3 +181,4 @@ IsCommandLine words (Match whole cap pattern) = IsMatchLine words whole cap patt
 IsCommandLine words Check = IsCheckLine words
 IsCommandLine words (Show pattern) = IsShowLine words pattern
 IsCommandLine words (Make seed count) = IsMakeLine words seed count
+IsCommandLine words (Serve service) = IsServeLine words service

@@ -1,7 +1,24 @@
 -- What words ask for, from the code's request.
+use Rattle.std.specs.Prelude.{map, option_map}
+use Rattle.command_line.specs.declared.request.CollectionRequest.{CollectionRequest}
 use Rattle.command_line.specs.declared.request.Request.{Request}
 use Rattle.command_line.specs.declared.request.Request.TheVariants as request
-use Rattle.command_line.specs.CommandLines.{PlainRequest, Match, Check, Show, Make}
+use Rattle.command_line.specs.declared.request.ServeRequest.{ServeRequest}
+use Rattle.command_line.specs.CommandLines.{PlainCollection, PlainService, PlainRequest, Match, Check, Show, Make, Serve}
+
+-- the collection, without where it lies in memory
+abbrev pub plain_collection : CollectionRequest → PlainCollection
+plain_collection asked = record { id = asked.id; can_read = asked.can_read; can_write = asked.can_write; title = asked.title.now }
+
+-- what is to be served, without where it lies in memory
+abbrev pub plain_service : ServeRequest → PlainService
+plain_service asked = record {
+  port = asked.port;
+  connections = asked.connections;
+  store = option_map (λ file. file.now) asked.store;
+  base = option_map (λ url. url.now) asked.base;
+  collections = map plain_collection asked.collections;
+}
 
 -- the request, without where it lies in memory
 abbrev pub plain_request : Request → PlainRequest
@@ -9,3 +26,4 @@ plain_request (request.Match wanted) = Match wanted.whole wanted.cap wanted.patt
 plain_request request.Check = Check
 plain_request (request.Show pattern) = Show pattern.now
 plain_request (request.Make seed count) = Make seed count
+plain_request (request.Serve service) = Serve (plain_service service)

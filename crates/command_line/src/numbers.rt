@@ -9,6 +9,12 @@ pub const DEFAULT_CAP: u32 = 200_000;
 /// The greatest such number that they may name.
 pub const MAX_CAP: u32 = 1_000_000;
 
+/// The greatest port.
+pub const MAX_PORT: u32 = 65_535;
+
+/// The greatest number of connections that may be asked for.
+pub const MAX_CONNECTIONS: u32 = 4_294_967_295;
+
 /// The number of a text, if it has one in the range.
 pub(crate) fn number_in(text: &str, least: u32, most: u32) -> Option<u32>
     ensures { (number : ℕ) → (result ≡ Some number) ↔ IsNumberIn least most text.now number }

@@ -1,11 +1,13 @@
 //! The program's commands, as `clap` parses them.
 
-ghost use Rattle.std.specs.Prelude.{◌≡◌, IfOk, false};
+ghost use Rattle.std.specs.Prelude.{◌≡◌, IfOk, map, true, false};
 ghost use Rattle.clap.specs.Words.{app_of, rule_of, with_rule, with_subcommand, FailsBy, fault_of, subcommand_of, subcommand_rows_of};
 ghost use Rattle.clap.specs.declared.builder.command.Command.TheViews.{out-Command as fields_of};
 ghost use Rattle.command_line.specs.CommandLines.{texts};
-ghost use Rattle.command_line.specs.inner.Forms.{flag_rule, option_rule, position_rule, command_of, bare_app, program_app, match_form, check_form, show_form, make_form};
+ghost use Rattle.command_line.specs.inner.Forms.{flag_rule, option_rule, position_rule, with_positions, command_of};
+ghost use Rattle.command_line.specs.inner.Forms.{bare_app, program_app, match_form, check_form, show_form, make_form, serve_form};
 
+use crate::serve::COLLECTION_NAMES;
 use clap::{Arg, ArgAction, ArgMatches, Command, Error};
 use std::alloc::{AllocError, Global};
 
@@ -27,10 +29,18 @@ fn option<'a>(alloc: Global, name: &'a str) -> Arg<'a>
 
 /// A position, which may not be missing.
 fn position<'a>(alloc: Global, name: &'a str) -> Arg<'a>
-    ensures rule { rule_of result ≡ position_rule name.entry.now }
+    ensures rule { rule_of result ≡ position_rule true name.entry.now }
     ensures local { result.global ≡ false }
 {
     Arg::new(alloc, name).required(true)
+}
+
+/// A position, which may be missing.
+fn free_position<'a>(alloc: Global, name: &'a str) -> Arg<'a>
+    ensures rule { rule_of result ≡ position_rule false name.entry.now }
+    ensures local { result.global ≡ false }
+{
+    Arg::new(alloc, name)
 }
 
 /// The command with one more option or position.
@@ -43,6 +53,24 @@ fn with_arg<'a>(command: Command<'a>, arg: Arg<'a>) -> Result<Command<'a>, Alloc
 {
     let command = command.arg(arg)?;
     Ok(command)
+}
+
+/// The command with positions that may be missing.
+fn with_free_positions<'a>(
+    alloc: Global,
+    command: Command<'a>,
+    names: &'a [&'a str],
+) -> Result<Command<'a>, AllocError>
+    requires { (fields_of command).has_globals ≡ false }
+    ensures app { IfOk result (λ r. app_of r
+        ≡ with_positions (app_of command.entry) (map (λ name. name.now) names.entry.now)) }
+    ensures local { IfOk result (λ r. (fields_of r).has_globals ≡ false) }
+{
+    let mut longer = command;
+    for name in names {
+        longer = with_arg(longer, free_position(alloc, name))?;
+    }
+    Ok(longer)
 }
 
 /// The program with one more command.
@@ -102,6 +130,17 @@ fn make_command<'a>(alloc: Global) -> Result<Command<'a>, AllocError>
     Ok(command)
 }
 
+fn serve_command<'a>(alloc: Global) -> Result<Command<'a>, AllocError>
+    ensures app { IfOk result (λ c. app_of c ≡ command_of serve_form) }
+    ensures local { IfOk result (λ c. (fields_of c).has_globals ≡ false) }
+{
+    let command = with_arg(Command::new(alloc, "serve"), option(alloc, "port"))?;
+    let command = with_arg(command, option(alloc, "connections"))?;
+    let command = with_arg(command, option(alloc, "store"))?;
+    let command = with_arg(command, option(alloc, "base"))?;
+    with_free_positions(alloc, command, &COLLECTION_NAMES)
+}
+
 /// The program with its commands.
 fn program<'a>(alloc: Global) -> Result<Command<'a>, AllocError>
     ensures { IfOk result (λ c. app_of c ≡ program_app) }
@@ -110,6 +149,7 @@ fn program<'a>(alloc: Global) -> Result<Command<'a>, AllocError>
     let program = with_command(program, check_command(alloc))?;
     let program = with_command(program, show_command(alloc)?)?;
     let program = with_command(program, make_command(alloc)?)?;
+    let program = with_command(program, serve_command(alloc)?)?;
     Ok(program)
 }
 

@@ -1,6 +1,6 @@
 //! A request from words.
 
-ghost use Rattle.std.specs.Prelude.{◌≡◌, ◌↔◌, ℕ, List, Bool, IfErr, IfNone, IfOk, IfSome, Some, option_copied};
+ghost use Rattle.std.specs.Prelude.{◌≡◌, ◌≢◌, ◌↔◌, ℕ, List, Bool, IfErr, IfNone, IfOk, IfSome, Some, codes, option_copied};
 ghost use Rattle.clap.specs.Words.{first_of, kind_of, one_of};
 ghost use Rattle.clap.specs.declared.error.kind.ErrorKind.TheVariants.{OutOfMemory};
 ghost use Rattle.command_line.specs.CommandLines.{texts, PlainRequest, IsCommandLine};
@@ -10,8 +10,10 @@ ghost use Rattle.command_line.specs.inner.Rows.{IsAskedIn, IsCapText, IsFlagText
 use crate::numbers::{DEFAULT_CAP, MAX_CAP, number_in};
 use crate::parser::parse;
 use crate::request::{MatchRequest, Request, WordsRefusal};
+use crate::serve::serve_in;
 use clap::error::ErrorKind;
 use clap::{ArgMatches, Error};
+use flow_values::NoMemory;
 use match_generator::{MAX_COUNT, MAX_SEED};
 use std::alloc::Global;
 
@@ -29,9 +31,10 @@ pub fn read_words<'a>(alloc: Global, words: &'a [String]) -> Result<Request<'a>,
     let Some((command, values)) = matches.subcommand() else {
         return Err(WordsRefusal::NoLine);
     };
-    match request_in(command, values) {
-        Some(request) => Ok(request),
-        None => Err(WordsRefusal::NoLine),
+    match request_in(alloc, command, values) {
+        Ok(Some(request)) => Ok(request),
+        Ok(None) => Err(WordsRefusal::NoLine),
+        Err(_) => Err(WordsRefusal::NoMemory),
     }
 }
 
@@ -47,10 +50,31 @@ fn refusal_of(error: &Error) -> WordsRefusal
 }
 
 /// What a command asks for by its values.
-fn request_in<'a>(command: &str, values: &ArgMatches<'a>) -> Option<Request<'a>>
+fn request_in<'a>(
+    alloc: Global,
+    command: &str,
+    values: &ArgMatches<'a>,
+) -> Result<Option<Request<'a>>, NoMemory>
+    ensures some { IfOk result (λ found. IfSome found
+        (λ request. IsAskedIn command.now (rows_in values.now) (plain_request request))) }
+    ensures none { IfOk result (λ found. IfNone found ((request : PlainRequest)
+        → ¬ IsAskedIn command.now (rows_in values.now) request)) }
+{
+    if command == "serve" {
+        match serve_in(alloc, values)? {
+            Some(service) => Ok(Some(Request::Serve(service))),
+            None => Ok(None),
+        }
+    } else {
+        Ok(other_request_in(command, values))
+    }
+}
+
+/// What a command other than `serve` asks for by its values.
+fn other_request_in<'a>(command: &str, values: &ArgMatches<'a>) -> Option<Request<'a>>
     ensures some { IfSome result
         (λ request. IsAskedIn command.now (rows_in values.now) (plain_request request)) }
-    ensures none { IfNone result ((request : PlainRequest)
+    ensures none { command.now ≢ codes "serve" → IfNone result ((request : PlainRequest)
         → ¬ IsAskedIn command.now (rows_in values.now) request) }
 {
     match command {
@@ -105,8 +129,8 @@ fn make_in(values: &ArgMatches<'_>) -> Option<(u32, u32)>
     Some((seed, count))
 }
 
-/// The number of a position.
-fn number_of(values: &ArgMatches<'_>, name: &str, least: u32, most: u32) -> Option<u32>
+/// The number of an option or a position.
+pub(crate) fn number_of(values: &ArgMatches<'_>, name: &str, least: u32, most: u32) -> Option<u32>
     ensures { (number : ℕ) → (result ≡ Some number)
         ↔ IsNumberText least most (first_of name.now (rows_in values.now)) number }
 {
@@ -115,7 +139,7 @@ fn number_of(values: &ArgMatches<'_>, name: &str, least: u32, most: u32) -> Opti
 }
 
 /// The value of an option or a position.
-fn value_of<'a>(values: &ArgMatches<'a>, name: &str) -> Option<&'a str>
+pub(crate) fn value_of<'a>(values: &ArgMatches<'a>, name: &str) -> Option<&'a str>
     ensures { option_copied result ≡ first_of name.now (rows_in values.now) }
 {
     values.get_str(name)

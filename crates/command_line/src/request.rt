@@ -1,7 +1,9 @@
 //! What words may ask for.
 
+use flow_values::Items;
+
 /// What the words ask for.
-#[derive(Clone, Copy, Debug)]
+#[derive(Debug, Drop)]
 pub enum Request<'a> {
     /// `match [--whole] [--cap N] PATTERN`
     Match(MatchRequest<'a>),
@@ -19,6 +21,8 @@ pub enum Request<'a> {
         /// How many objects it has.
         count: u32,
     },
+    /// `serve --port P --connections N [--store FILE] [--base URL] COLLECTION...`
+    Serve(ServeRequest<'a>),
 }
 
 /// What a `match` is to do.
@@ -30,6 +34,34 @@ pub struct MatchRequest<'a> {
     pub cap: u64,
     /// The text of the pattern.
     pub pattern: &'a str,
+}
+
+/// What a `serve` is to do.
+#[derive(Debug, Drop)]
+pub struct ServeRequest<'a> {
+    /// The port to listen at.
+    pub port: u16,
+    /// How many connections to serve.
+    pub connections: u32,
+    /// The file that keeps the rows. Without one they are kept in memory.
+    pub store: Option<&'a str>,
+    /// The URL that the server has, without `/` at its end.
+    pub base: Option<&'a str>,
+    /// The collections, in this order. No two have one identifier.
+    pub collections: Items<CollectionRequest<'a>>,
+}
+
+/// A collection that is to be served.
+#[derive(Clone, Copy, Debug)]
+pub struct CollectionRequest<'a> {
+    /// The number of its UUID.
+    pub id: u128,
+    /// Whether a client may read its objects.
+    pub can_read: bool,
+    /// Whether a client may add objects.
+    pub can_write: bool,
+    /// Its title.
+    pub title: &'a str,
 }
 
 /// Why words ask for nothing.

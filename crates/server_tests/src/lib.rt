@@ -1,4 +1,4 @@
-//! The unit tests of the floors under the server, while no command reaches them.
+//! The unit tests of the floors under the server: forms in memory, sockets, frames in pieces, rows, whole servers.
 #![tactic(auto)]
 
 #[cfg(test)]
@@ -8,8 +8,8 @@ mod frames;
 #[cfg(test)]
 mod lists;
 #[cfg(test)]
-mod requests;
-#[cfg(test)]
 mod rows;
+#[cfg(test)]
+mod serving;
 #[cfg(test)]
 mod sockets;

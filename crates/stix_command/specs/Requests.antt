@@ -2,7 +2,7 @@
 use Rattle.std.specs.Prelude.{◌≡◌, ℕ, List, Bool, true, false}
 use Rattle.match_input.specs.declared.mode.Mode.{Mode}
 use Rattle.match_input.specs.declared.mode.Mode.TheVariants.{Lines, Whole}
-use Rattle.command_line.specs.CommandLines.{PlainRequest, Match, Check, Show, Make, IsCommandLine}
+use Rattle.command_line.specs.CommandLines.{PlainRequest, PlainService, Match, Check, Show, Make, Serve, IsCommandLine}
 
 -- how the input is cut into bundles: `--whole` says that it is one
 abbrev pub mode_of : Bool → Mode
@@ -32,3 +32,7 @@ IsShowLine words pattern = IsCommandLine words (Show pattern)
 -- make SEED COUNT
 abbrev pub IsMakeLine : List (List ℕ) → ℕ → ℕ → Type 0
 IsMakeLine words seed count = IsCommandLine words (Make seed count)
+
+-- serve --port P --connections N [--store FILE] [--base URL] COLLECTION...
+abbrev pub IsServeLine : List (List ℕ) → PlainService → Type 0
+IsServeLine words service = IsCommandLine words (Serve service)

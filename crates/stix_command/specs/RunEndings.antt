@@ -1,5 +1,5 @@
 -- What stands when the program ended, by the command that it ran and how that ended.
-use Rattle.std.specs.Prelude.{◌≡◌, ◌⊎◌, ℕ, List, Option, codes}
+use Rattle.std.specs.Prelude.{◌≡◌, ◌⊎◌, ⊤, ℕ, List, Option, codes}
 use Rattle.flow_edges.specs.Faults.{Rose}
 use Rattle.flow_edges.specs.Flow.{written_with, WritesPrefix}
 use Rattle.pattern_types.specs.declared.pattern.Pattern.{Pattern}
@@ -21,9 +21,12 @@ use Rattle.stix_command.specs.declared.showing.ShowEnding.TheVariants as showing
 use Rattle.stix_command.specs.declared.ending.Ending.{Ending}
 use Rattle.stix_command.specs.declared.making.MakeEnding.{MakeEnding}
 use Rattle.stix_command.specs.declared.making.MakeEnding.TheVariants as making
-use Rattle.stix_command.specs.declared.ending.Ending.TheVariants.{Match, Check, Show, Make, Usage, NoMemory}
-use Rattle.command_line.specs.CommandLines.{PlainRequest, IsCommandLine}
-use Rattle.stix_command.specs.Requests.{MatchTask, IsMatchLine, IsShowLine, IsCheckLine, IsMakeLine}
+use Rattle.stix_command.specs.declared.ending.Ending.TheVariants.{Match, Check, Show, Make, Serve, Usage, NoMemory}
+use Rattle.command_line.specs.CommandLines.{PlainRequest, PlainService, IsCommandLine}
+use Rattle.taxii_service.specs.declared.ending.ServeEnding.{ServeEnding}
+use Rattle.taxii_service.specs.declared.ending.ServeEnding.TheVariants as serving
+use Rattle.taxii_service.specs.ServeEndings.{IsEarly, serve_status, serve_reason}
+use Rattle.stix_command.specs.Requests.{MatchTask, IsMatchLine, IsShowLine, IsCheckLine, IsMakeLine, IsServeLine}
 use Rattle.stix_command.specs.Streams.{Streams, AreUntouched}
 use Rattle.stix_command.specs.MatchEndings.{IsUnread, EndsMatch, match_status, IsMatchReason}
 use Rattle.stix_command.specs.CheckEndings.{EndsCheck, check_status, IsCheckReason}
@@ -60,12 +63,19 @@ pub record RunsMake (words : List (List ℕ)) (before after : Streams) (ending :
   pub make_ends : EndsMake seed count before.written after.written ending
   pub unread : after.left ≡ before.left
 
+-- the words are `serve` with a service; nothing was read. What stands around the server then, `run` says in a clause of its own
+pub record RunsServe (words : List (List ℕ)) (before after : Streams) : Type 0 where
+  pub service : PlainService
+  pub command : IsServeLine words service
+  pub unread : after.left ≡ before.left
+
 -- what an ending says of the words and the streams
 abbrev pub EndsRun : List (List ℕ) → Streams → Streams → Ending → Type 0
 EndsRun words before after (Match ending) = RunsMatch words before after ending
 EndsRun words before after (Check ending) = RunsCheck words before after ending
 EndsRun words before after (Show ending) = RunsShow words before after ending
 EndsRun words before after (Make ending) = RunsMake words before after ending
+EndsRun words before after (Serve ending) = RunsServe words before after
 EndsRun words before after Usage = IsNoCommand words × AreUntouched before after
 EndsRun words before after NoMemory = AreUntouched before after
 
@@ -74,6 +84,7 @@ status_of (Match ending) = match_status ending
 status_of (Check ending) = check_status ending
 status_of (Show ending) = show_status ending
 status_of (Make ending) = make_status ending
+status_of (Serve ending) = serve_status ending
 status_of Usage = 2
 status_of NoMemory = 1
 
@@ -83,7 +94,8 @@ IsReasonOf (Match ending) text = IsMatchReason ending text
 IsReasonOf (Check ending) text = IsCheckReason ending text
 IsReasonOf (Show ending) text = IsShowReason ending text
 IsReasonOf (Make ending) text = IsMakeReason ending text
-IsReasonOf Usage text = text ≡ codes "usage: stix_command (match | check | show | make) WORDS\n"
+IsReasonOf (Serve ending) text = text ≡ serve_reason ending
+IsReasonOf Usage text = text ≡ codes "usage: stix_command (match | check | show | serve | make) WORDS\n"
 IsReasonOf NoMemory text = text ≡ codes "out of memory\n"
 
 -- the run ended by a fault of the input, and of the output
@@ -92,7 +104,34 @@ IsReadFault ending = (ending ≡ Match (matching.Ended match_end.ReadFault)) ⊎
 
 abbrev pub IsWriteFault : Ending → Type 0
 IsWriteFault ending = (ending ≡ Match (matching.Ended match_end.WriteFault)) ⊎ (ending ≡ Check checking.WriteFault)
-    ⊎ (ending ≡ Show showing.WriteFault) ⊎ (ending ≡ Make making.WriteFault)
+    ⊎ (ending ≡ Show showing.WriteFault) ⊎ (ending ≡ Make making.WriteFault) ⊎ (ending ≡ Serve serving.WriteFault)
+
+-- and of the door, and of the store while it was read
+abbrev pub IsDoorFault : Ending → Type 0
+IsDoorFault ending = ending ≡ Serve serving.DoorFault
+
+abbrev pub IsStoreFault : Ending → Type 0
+IsStoreFault ending = ending ≡ Serve serving.StoreFault
+
+-- no caller was served: the command isn't `serve`, or it ended before the door was opened
+abbrev pub IsUnserved : Ending → Type 0
+IsUnserved (Match ending) = ⊤
+IsUnserved (Check ending) = ⊤
+IsUnserved (Show ending) = ⊤
+IsUnserved (Make ending) = ⊤
+IsUnserved (Serve ending) = IsEarly ending
+IsUnserved Usage = ⊤
+IsUnserved NoMemory = ⊤
+
+-- so a `serve` ended; want of memory for its words is one of its own
+abbrev pub EndsServing : Ending → ServeEnding → Type 0
+EndsServing (Match other) ending = ⊥
+EndsServing (Check other) ending = ⊥
+EndsServing (Show other) ending = ⊥
+EndsServing (Make other) ending = ⊥
+EndsServing (Serve its) ending = its ≡ ending
+EndsServing Usage ending = ⊥
+EndsServing NoMemory ending = ending ≡ serving.NoMemory
 
 -- the words are `match` with a text that is read as no pattern
 pub record RefusesMatch (words : List (List ℕ)) : Type 0 where

@@ -8,6 +8,7 @@ use crate::reasons::write_no_memory;
 use crate::showing::ShowEnding;
 use flow_edges::{Sink, write_whole};
 use flow_values::Fault;
+use taxii_service::ServeEnding;
 
 /// How the program ends: how its command did, or that the words are none.
 #[derive(Debug, Drop)]
@@ -16,6 +17,7 @@ pub enum Ending {
     Check(CheckEnding),
     Show(ShowEnding),
     Make(MakeEnding),
+    Serve(ServeEnding),
     /// The words are no command line.
     Usage,
     /// Memory ran out while the words were read.
@@ -35,6 +37,7 @@ impl Ending {
             Ending::Check(ending) => ending.status(),
             Ending::Show(ending) => ending.status(),
             Ending::Make(ending) => ending.status(),
+            Ending::Serve(ending) => ending.status(),
             Ending::Usage => 2,
             Ending::NoMemory => 1,
         }
@@ -50,9 +53,10 @@ impl Ending {
             Ending::Check(ending) => ending.write_reason(reasons),
             Ending::Show(ending) => ending.write_reason(reasons),
             Ending::Make(ending) => ending.write_reason(reasons),
+            Ending::Serve(ending) => ending.write_reason(reasons),
             Ending::Usage => write_whole(
                 reasons,
-                b"usage: stix_command (match | check | show | make) WORDS\n",
+                b"usage: stix_command (match | check | show | serve | make) WORDS\n",
             ),
             Ending::NoMemory => write_no_memory(reasons),
         }

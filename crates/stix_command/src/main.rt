@@ -1,4 +1,4 @@
-//! The program `stix_command`: STIX 2.1 patterns matched against observed data.
+//! The program `stix_command`: STIX 2.1 patterns matched against observed data, and a TAXII 2.1 server.
 #![tactic(auto)]
 
 mod checking;
@@ -16,10 +16,12 @@ mod verdict_text;
 
 use crate::reasons::write_no_memory;
 use flow_edges::{ReadSource, WriteSink};
+use flow_links::{SystemClock, TcpDoor};
 use std::alloc::Global;
 use std::io::ErrorKind;
 use std::process::ExitCode;
 use std::{env, io};
+use taxii_sqlite::SqliteKeeper;
 
 /// The words after the program's name.
 fn words(rt: &HostRuntime) -> io::Result<Vec<String>> {
@@ -43,6 +45,15 @@ fn main(rt: HostRuntime) -> ExitCode {
         // A word that isn't UTF-8 is no command line, as no words are.
         Err(_) => Vec::new(rt.alloc()),
     };
-    let status = run::run(rt.alloc(), &words, &mut input, &mut output, &mut reasons);
+    let status = run::run(
+        rt.alloc(),
+        &words,
+        &mut input,
+        &mut output,
+        &mut reasons,
+        &mut TcpDoor::new(&rt),
+        &mut SqliteKeeper::new(rt.alloc(), rt),
+        &mut SystemClock::new(&rt),
+    );
     ExitCode::from(status)
 }

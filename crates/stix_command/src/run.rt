@@ -1,9 +1,11 @@
 ghost use Rattle.std.specs.Prelude.{◌≡◌, ◌≢◌, ◌⊎◌, ℕ, List};
 ghost use Rattle.flow_edges.specs.Faults.{Rose};
-ghost use Rattle.command_line.specs.CommandLines.{texts};
-ghost use Rattle.stix_command.specs.Requests.{MatchTask, IsMatchLine, IsShowLine, IsMakeLine};
+ghost use Rattle.command_line.specs.CommandLines.{texts, PlainService};
+ghost use Rattle.taxii_service.specs.declared.ending.ServeEnding.{ServeEnding};
+ghost use Rattle.taxii_service.specs.ServeEndings.{EndsServe, serve_status, serve_reason};
+ghost use Rattle.stix_command.specs.Requests.{MatchTask, IsMatchLine, IsShowLine, IsMakeLine, IsServeLine};
 ghost use Rattle.stix_command.specs.Streams.{streams};
-ghost use Rattle.stix_command.specs.RunEndings.{status_of, IsReasonOf, IsNoCommand, RefusesPattern, EndsRun, IsReadFault, IsWriteFault, WritesReason, Ends, ListsBindings, TellsNumbers};
+ghost use Rattle.stix_command.specs.RunEndings.{status_of, IsReasonOf, IsNoCommand, RefusesPattern, EndsRun, IsReadFault, IsWriteFault, IsDoorFault, IsStoreFault, IsUnserved, EndsServing, WritesReason, Ends, ListsBindings, TellsNumbers};
 
 use crate::checking::check;
 use crate::ending::Ending;
@@ -13,14 +15,20 @@ use crate::showing::show;
 use command_line::laws::one_request;
 use command_line::{Request, WordsRefusal, read_words};
 use flow_edges::{Sink, Source};
+use flow_links::{Clock, Door};
 use std::alloc::Global;
+use taxii_rows::Keeper;
+use taxii_service::serve;
 
 /// Does what the words ask for.
-fn obey<I: Source, O: Sink>(
+fn obey<I: Source, O: Sink, D: Door, K: Keeper, C: Clock>(
     alloc: Global,
     words: &[String],
     input: &mut I,
     output: &mut O,
+    door: &mut D,
+    keeper: &mut K,
+    clock: &mut C,
 ) -> Ending
     ensures end { EndsRun (texts words.now) (streams (I.left input.old) (O.written output.old))
         (streams (I.left input.new) (O.written output.new)) result }
@@ -31,6 +39,16 @@ fn obey<I: Source, O: Sink>(
     ensures read_quiet { ¬ IsReadFault result → I.faults input.new ≡ I.faults input.old }
     ensures write_failed { IsWriteFault result → Rose (O.faults output.old) (O.faults output.new) }
     ensures write_quiet { ¬ IsWriteFault result → O.faults output.new ≡ O.faults output.old }
+    ensures serving { (service : PlainService) → IsServeLine (texts words.now) service → (ending : ServeEnding) × EndsServing result ending
+        × EndsServe (λ link. record { left = D.Link.left link; written = D.Link.written link; read_faults = D.Link.Source.faults link; write_faults = D.Link.Sink.faults link }) service
+        (record { door = D.told door.old; rows = K.told keeper.old; name = K.name keeper.old; written = O.written output.old; around = record { moments = C.moments clock.old; faults = K.faults keeper.old } })
+        (record { door = D.told door.new; rows = K.told keeper.new; name = K.name keeper.new; written = O.written output.new; around = record { moments = C.moments clock.new; faults = K.faults keeper.new } }) ending }
+    ensures served_unread { (service : PlainService) → IsServeLine (texts words.now) service → input.new ≡ input.old }
+    ensures unserved { IsUnserved result → (door.new ≡ door.old) × (clock.new ≡ clock.old) × (K.told keeper.new ≡ K.told keeper.old) }
+    ensures others { ((service : PlainService) → ¬ IsServeLine (texts words.now) service) → (door.new ≡ door.old) × (clock.new ≡ clock.old) × (keeper.new ≡ keeper.old) }
+    ensures door_failed { IsDoorFault result → Rose (D.faults door.old) (D.faults door.new) }
+    ensures door_quiet { ¬ IsDoorFault result → D.faults door.new ≡ D.faults door.old }
+    ensures store_failed { IsStoreFault result → Rose (K.faults keeper.old) (K.faults keeper.new) }
 {
     one_request();
     match read_words(alloc, words) {
@@ -40,6 +58,9 @@ fn obey<I: Source, O: Sink>(
         Ok(Request::Check) => Ending::Check(check(alloc, input, output)),
         Ok(Request::Show { pattern }) => Ending::Show(show(alloc, pattern, output)),
         Ok(Request::Make { seed, count }) => Ending::Make(make(alloc, seed, count, output)),
+        Ok(Request::Serve(request)) => {
+            Ending::Serve(serve(alloc, &request, output, door, keeper, clock))
+        }
         Err(WordsRefusal::NoLine) => Ending::Usage,
         Err(WordsRefusal::NoMemory) => Ending::NoMemory,
     }
@@ -56,14 +77,20 @@ fn obey<I: Source, O: Sink>(
 /// | 4 | where a line is refused, the first such one; and where a bundle that is checked has breaks |
 /// | 5, 6 | only where the input, the output counted a fault, and at each fault of theirs |
 /// | 7 | where more is live than the cap allows, at the first such observation |
+/// | 8 | only where the door counted a fault, and at each fault of its own |
+/// | 9 | only where the keeper counted a fault while its rows were read |
+/// | 10 | exactly where the keeper has a row that is bad, the first such one |
 ///
 /// On `reasons` the reason is told in one line. A failing write there changes nothing else.
-pub fn run<I: Source, O: Sink, E: Sink>(
+pub fn run<I: Source, O: Sink, E: Sink, D: Door, K: Keeper, C: Clock>(
     alloc: Global,
     words: &[String],
     input: &mut I,
     output: &mut O,
     reasons: &mut E,
+    door: &mut D,
+    keeper: &mut K,
+    clock: &mut C,
 ) -> u8
     ensures ends { Ends (texts words.now) (streams (I.left input.old) (O.written output.old))
         (streams (I.left input.new) (O.written output.new)) result
@@ -72,6 +99,11 @@ pub fn run<I: Source, O: Sink, E: Sink>(
         → ListsBindings task (streams (I.left input.old) (O.written output.old)) (streams (I.left input.new) (O.written output.new)) }
     ensures making { result ≡ 0 → (seed count : ℕ) → IsMakeLine (texts words.now) seed count
         → TellsNumbers seed count (streams (I.left input.old) (O.written output.old)) (streams (I.left input.new) (O.written output.new)) }
+    ensures serving { (service : PlainService) → IsServeLine (texts words.now) service → (ending : ServeEnding) × (result ≡ serve_status ending)
+        × EndsServe (λ link. record { left = D.Link.left link; written = D.Link.written link; read_faults = D.Link.Source.faults link; write_faults = D.Link.Sink.faults link }) service
+        (record { door = D.told door.old; rows = K.told keeper.old; name = K.name keeper.old; written = O.written output.old; around = record { moments = C.moments clock.old; faults = K.faults keeper.old } })
+        (record { door = D.told door.new; rows = K.told keeper.new; name = K.name keeper.new; written = O.written output.new; around = record { moments = C.moments clock.new; faults = K.faults keeper.new } }) ending
+        × WritesReason (serve_reason ending) (E.written reasons.old) (E.written reasons.new) (E.faults reasons.old) (E.faults reasons.new) }
     ensures usage { result ≡ 2 → IsNoCommand (texts words.now) }
     ensures no_line { IsNoCommand (texts words.now) → (result ≡ 2) ⊎ (result ≡ 1) }
     ensures pattern { result ≡ 3 → RefusesPattern (texts words.now) }
@@ -79,13 +111,19 @@ pub fn run<I: Source, O: Sink, E: Sink>(
     ensures untouched { (result ≡ 2) ⊎ (result ≡ 3) → (input.new ≡ input.old) × (output.new ≡ output.old) }
     ensures unread { (pattern : List ℕ) → IsShowLine (texts words.now) pattern → input.new ≡ input.old }
     ensures made_unread { (seed count : ℕ) → IsMakeLine (texts words.now) seed count → input.new ≡ input.old }
+    ensures served_unread { (service : PlainService) → IsServeLine (texts words.now) service → input.new ≡ input.old }
+    ensures unserved { result ≢ 0 → result ≢ 6 → result ≢ 8 → (door.new ≡ door.old) × (clock.new ≡ clock.old) × (K.told keeper.new ≡ K.told keeper.old) }
+    ensures others { ((service : PlainService) → ¬ IsServeLine (texts words.now) service) → (door.new ≡ door.old) × (clock.new ≡ clock.old) × (keeper.new ≡ keeper.old) }
     ensures read_fault { result ≡ 5 → Rose (I.faults input.old) (I.faults input.new) }
     ensures read_quiet { result ≢ 5 → I.faults input.new ≡ I.faults input.old }
     ensures write_fault { result ≡ 6 → Rose (O.faults output.old) (O.faults output.new) }
     ensures write_quiet { result ≢ 6 → O.faults output.new ≡ O.faults output.old }
+    ensures door_fault { result ≡ 8 → Rose (D.faults door.old) (D.faults door.new) }
+    ensures door_quiet { result ≢ 8 → D.faults door.new ≡ D.faults door.old }
+    ensures store_fault { result ≡ 9 → Rose (K.faults keeper.old) (K.faults keeper.new) }
 {
     one_request();
-    let ending = obey(alloc, words, input, output);
+    let ending = obey(alloc, words, input, output, door, keeper, clock);
     finish(&ending, reasons)
 }
 

@@ -1,16 +1,18 @@
 -- What each command takes, and the program with its commands as `clap` has it.
-use Rattle.std.specs.Prelude.{ℕ, List, [], ◌∷◌, ◌++◌, map, Some, true, codes}
+use Rattle.std.specs.Prelude.{ℕ, List, [], ◌∷◌, ◌++◌, map, Bool, true, false, Some, codes}
 use Rattle.clap.specs.Words.{App, Rule, new_app, new_rule, with_subcommand}
 use Rattle.clap.specs.Simple.{Shape, new_shape, on_top}
 use Rattle.clap.specs.declared.builder.action.ArgAction.TheVariants.{SetTrue}
 use Rattle.command_line.specs.Parts.{Options}
-use Rattle.command_line.specs.CommandLines.{match_options, no_options}
+use Rattle.command_line.specs.CommandLines.{match_options, no_options, serve_options}
+use Rattle.command_line.specs.declared.serve.TheConstants.{COLLECTION_NAMES}
 
--- a command: its name, its options, and its positions, none of which may be missing
+-- a command: its name, its options, its positions, and whether none of those may be missing
 pub record Form : Type 0 where
   pub name : List ℕ
   pub options : Options
   pub positions : List (List ℕ)
+  pub needs_all : Bool
 
 -- an option that stands alone
 abbrev pub flag_rule : List ℕ → Rule
@@ -20,12 +22,16 @@ flag_rule name = record (new_rule name) { long = Some name; action = Some SetTru
 abbrev pub option_rule : List ℕ → Rule
 option_rule name = record (new_rule name) { long = Some name }
 
--- a position
-abbrev pub position_rule : List ℕ → Rule
-position_rule name = record (new_rule name) { required = true }
+-- a position, and whether it may not be missing
+abbrev pub position_rule : Bool → List ℕ → Rule
+position_rule needed name = record (new_rule name) { required = needed }
+
+-- the command with positions that may be missing
+abbrev pub with_positions : App → List (List ℕ) → App
+with_positions app names = on_top (λ shape. record shape { rules = shape.rules ++ map (position_rule false) names }) app
 
 abbrev pub rules_of_form : Form → List Rule
-rules_of_form form = map flag_rule form.options.flags ++ (map option_rule form.options.valued ++ map position_rule form.positions)
+rules_of_form form = map flag_rule form.options.flags ++ (map option_rule form.options.valued ++ map (position_rule form.needs_all) form.positions)
 
 -- the command as `clap` has it
 abbrev pub command_of : Form → App
@@ -42,16 +48,23 @@ without_extras shape = record shape {
 }
 
 abbrev pub match_form : Form
-match_form = record { name = codes "match"; options = match_options; positions = codes "pattern" ∷ [] }
+match_form = record { name = codes "match"; options = match_options; positions = codes "pattern" ∷ []; needs_all = true }
 
 abbrev pub check_form : Form
-check_form = record { name = codes "check"; options = no_options; positions = [] }
+check_form = record { name = codes "check"; options = no_options; positions = []; needs_all = true }
 
 abbrev pub show_form : Form
-show_form = record { name = codes "show"; options = no_options; positions = codes "pattern" ∷ [] }
+show_form = record { name = codes "show"; options = no_options; positions = codes "pattern" ∷ []; needs_all = true }
 
 abbrev pub make_form : Form
-make_form = record { name = codes "make"; options = no_options; positions = codes "seed" ∷ codes "count" ∷ [] }
+make_form = record { name = codes "make"; options = no_options; positions = codes "seed" ∷ codes "count" ∷ []; needs_all = true }
+
+-- the positions of `serve`: a collection each
+abbrev pub collection_names : List (List ℕ)
+collection_names = map (λ name. name.now) COLLECTION_NAMES
+
+abbrev pub serve_form : Form
+serve_form = record { name = codes "serve"; options = serve_options; positions = collection_names; needs_all = false }
 
 -- the program with no command yet
 abbrev pub bare_app : App
@@ -62,4 +75,4 @@ with_form app form = with_subcommand app (command_of form).top
 
 -- the program with its commands
 abbrev pub program_app : App
-program_app = with_form (with_form (with_form (with_form bare_app match_form) check_form) show_form) make_form
+program_app = with_form (with_form (with_form (with_form (with_form bare_app match_form) check_form) show_form) make_form) serve_form

@@ -1,10 +1,12 @@
 -- What a command asks for, by the rows that `clap` found for it.
-use Rattle.std.specs.Prelude.{◌≡◌, ℕ, List, Bool, true, false, Option, Some, None, codes}
+use Rattle.std.specs.Prelude.{◌≡◌, ◌≤◌, ℕ, List, [], ◌∷◌, map, length, Bool, true, false, Option, Some, None, codes, nat_eq}
+use Rattle.std.specs.List.{IsDistinct}
 use Rattle.clap.specs.Words.{Row, first_of, found_of, one_of, rows_of}
 use Rattle.clap.specs.declared.parser.matches.ArgMatches.{ArgMatches}
-use Rattle.command_line.specs.CommandLines.{IsNumberIn, PlainRequest, Match, Check, Show, Make}
+use Rattle.command_line.specs.CommandLines.{AreCollectionsOf, IsBase, IsFile, IsNumberIn, PlainRequest, PlainService, Match, Check, Show, Make, Serve}
 use Rattle.match_generator.specs.declared.log.TheConstants.{MAX_SEED, MAX_COUNT}
-use Rattle.command_line.specs.declared.numbers.TheConstants.{DEFAULT_CAP, MAX_CAP}
+use Rattle.command_line.specs.declared.numbers.TheConstants.{DEFAULT_CAP, MAX_CAP, MAX_CONNECTIONS, MAX_PORT}
+use Rattle.command_line.specs.inner.Forms.{collection_names}
 
 -- the rows that a parse found
 abbrev pub rows_in : ArgMatches → List Row
@@ -33,12 +35,37 @@ pub record IsMakeIn (rows : List Row) (seed count : ℕ) : Type 0 where
   pub seed_is : IsNumberText 0 MAX_SEED (first_of (codes "seed") rows) seed
   pub count_is : IsNumberText 1 MAX_COUNT (first_of (codes "count") rows) count
 
+-- a text of that form that is there, or none
+abbrev pub IsTextOrNone : (List ℕ → Type 0) → Option (List ℕ) → Option (List ℕ) → Type 0
+IsTextOrNone IsForm None given = given ≡ None
+IsTextOrNone IsForm (Some text) given = (given ≡ Some text) × IsForm text
+
+-- the word, if there is one, and then the words
+abbrev pub with_word : Option (List ℕ) → List (List ℕ) → List (List ℕ)
+with_word None words = words
+with_word (Some word) words = word ∷ words
+
+-- the words at the positions of those names, in turn
+abbrev pub words_at : List (List ℕ) → List Row → List (List ℕ)
+words_at [] rows = []
+words_at (name ∷ names) rows = with_word (first_of name rows) (words_at names rows)
+
+pub record IsServeIn (rows : List Row) (service : PlainService) : Type 0 where
+  pub port_is : IsNumberText 1 MAX_PORT (first_of (codes "port") rows) service.port
+  pub connections_is : IsNumberText 1 MAX_CONNECTIONS (first_of (codes "connections") rows) service.connections
+  pub store_is : IsTextOrNone IsFile (first_of (codes "store") rows) service.store
+  pub base_is : IsTextOrNone IsBase (first_of (codes "base") rows) service.base
+  pub collections_are : AreCollectionsOf (words_at collection_names rows) service.collections
+  pub some : 1 ≤ length service.collections
+  pub differ : IsDistinct nat_eq (map (λ collection. collection.id) service.collections)
+
 -- the command of a request
 abbrev pub command_name : PlainRequest → List ℕ
 command_name (Match whole cap pattern) = codes "match"
 command_name Check = codes "check"
 command_name (Show pattern) = codes "show"
 command_name (Make seed count) = codes "make"
+command_name (Serve service) = codes "serve"
 
 -- these rows ask for it
 abbrev pub IsAskedBy : List Row → PlainRequest → Type 0
@@ -46,6 +73,7 @@ IsAskedBy rows (Match whole cap pattern) = IsMatchIn rows whole cap pattern
 IsAskedBy rows Check = Unit {0}
 IsAskedBy rows (Show pattern) = first_of (codes "pattern") rows ≡ Some pattern
 IsAskedBy rows (Make seed count) = IsMakeIn rows seed count
+IsAskedBy rows (Serve service) = IsServeIn rows service
 
 -- that command, with these rows, asks for it
 abbrev pub IsAskedIn : List ℕ → List Row → PlainRequest → Type 0

@@ -16,17 +16,17 @@ returns-in_default-clause-no_line c = λ is request line.
     let asked = asked_from (texts c.args.words.now) request line in
     not_entered (out-ArgMatches c.in-Ok.matches).subcommand _ _ (c.in-Ok.ensures.matches ∙ asked.found) c.in_default.ensures.rows
 
-pub returns-in-Some-request_in-clause-ok : goal.returns-in-Some-request_in-clause-ok
-returns-in-Some-request_in-clause-ok c =
+pub returns-in-Ok-Some-clause-ok : goal.returns-in-Ok-Some-clause-ok
+returns-in-Ok-Some-clause-ok c =
     let command = c.in-Some.command.now in
     let rows = rows_of (found_of c.in-Some.values.now) in
     let entered = entered_as (out-ArgMatches c.in-Ok.matches).subcommand command rows c.in-Some.ensures.name c.in-Some.ensures.rows in
     asked_to (texts c.args.words.now) (texts_utf8 c.args.words.now) c.in-Ok.ensures.exact command rows (sym c.in-Ok.ensures.matches ∙ entered)
-    (plain_request c.in-Some-request_in.request) c.in-Some-request_in.ensures.some
+    (plain_request c.in-Ok-Some.request) (rw c.in-Ok-Some.field-0-is at c.in-Ok-Some.ensures.some)
 
-pub returns-clause-no_line : goal.returns-clause-no_line
-returns-clause-no_line c = λ is.
+pub returns-in-Ok-None-clause-no_line : goal.returns-in-Ok-None-clause-no_line
+returns-in-Ok-None-clause-no_line c = λ is.
     let command = c.in-Some.command.now in
     let rows = rows_of (found_of c.in-Some.values.now) in
     let entered = entered_as (out-ArgMatches c.in-Ok.matches).subcommand command rows c.in-Some.ensures.name c.in-Some.ensures.rows in
-    none_asked (texts c.args.words.now) command rows (sym c.in-Ok.ensures.matches ∙ entered) c.in-None.ensures.none
+    none_asked (texts c.args.words.now) command rows (sym c.in-Ok.ensures.matches ∙ entered) (rw c.in-Ok-None.field-0-is at c.in-Ok-None.ensures.none)

@@ -1,5 +1,5 @@
 use Rattle.std.proofs.Common.{◌≡◌, ◌⊎◌, ℕ, subst, sym, ◌∙◌}
-use Rattle.stix_command.proofs.RunEndingsLemmas.{usage-run, no_line-run, pattern-run, refused-run, listing-run, making-run, read_fault-status, write_fault-status}
+use Rattle.stix_command.proofs.RunEndingsLemmas.{usage-run, no_line-run, pattern-run, refused-run, listing-run, making-run, read_fault-status, write_fault-status, door_fault-status, store_fault-status, unserved-status, serving-status, serving-reason}
 use Rattle.stix_command.proofs.run.run.Goals as goal
 
 pub returns-clause-ends : goal.returns-clause-ends
@@ -43,3 +43,27 @@ returns-clause-write_fault g c = λ is. c.obey-ending.ensures.write_failed ((wri
 
 pub returns-clause-write_quiet : goal.returns-clause-write_quiet
 returns-clause-write_quiet g c = λ isn't. c.obey-ending.ensures.write_quiet (λ fault. isn't (c.finish.ensures.status ∙ (write_fault-status _).1 fault))
+
+pub returns-clause-serving : goal.returns-clause-serving
+returns-clause-serving g c = λ service line.
+    let ends = c.obey-ending.ensures.serving service line in
+    (
+      ends.0,
+      c.finish.ensures.status ∙ serving-status _ ends.0 ends.1,
+      ends.2,
+      subst (λ (text : List ℕ). WritesReason text (g.E.Sink.written c.args.reasons.now) (g.E.Sink.written c.reasons.new) (g.E.Sink.faults c.args.reasons.now) (g.E.Sink.faults c.reasons.new))
+      (serving-reason _ ends.0 _ ends.1 c.finish.ensures.reason.1) c.finish.ensures.reason.2,
+    )
+
+pub returns-clause-unserved : goal.returns-clause-unserved
+returns-clause-unserved g c = λ done failed shut. c.obey-ending.ensures.unserved
+    (unserved-status _ (λ is. done (c.finish.ensures.status ∙ is)) (λ is. failed (c.finish.ensures.status ∙ is)) (λ is. shut (c.finish.ensures.status ∙ is)))
+
+pub returns-clause-door_fault : goal.returns-clause-door_fault
+returns-clause-door_fault g c = λ is. c.obey-ending.ensures.door_failed ((door_fault-status _).0 (sym c.finish.ensures.status ∙ is))
+
+pub returns-clause-door_quiet : goal.returns-clause-door_quiet
+returns-clause-door_quiet g c = λ isn't. c.obey-ending.ensures.door_quiet (λ fault. isn't (c.finish.ensures.status ∙ (door_fault-status _).1 fault))
+
+pub returns-clause-store_fault : goal.returns-clause-store_fault
+returns-clause-store_fault g c = λ is. c.obey-ending.ensures.store_failed (store_fault-status _ (sym c.finish.ensures.status ∙ is))

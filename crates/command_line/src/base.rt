@@ -1,0 +1,36 @@
+//! The URL that a server has.
+
+ghost use Rattle.std.specs.Prelude.{◌≡◌, ◌↔◌, ◌⊎◌, ◌++◌, ℕ, List, codes, true};
+ghost use Rattle.command_line.specs.CommandLines.{IsBase};
+
+/// How many bytes a URL has at most.
+pub const MAX_BASE: usize = 256;
+
+/// Whether the text is the URL of a server.
+pub(crate) fn is_base(url: &str) -> bool
+    ensures { (result ≡ true) ↔ IsBase url.now }
+{
+    has_scheme(url) && url.len() <= MAX_BASE && !ends_in_slash(url)
+}
+
+/// Whether the text begins as a URL of the web.
+fn has_scheme(text: &str) -> bool
+    ensures { (result ≡ true) ↔ ((rest : List ℕ)
+        × ((text.now ≡ codes "http://" ++ rest) ⊎ (text.now ≡ codes "https://" ++ rest))) }
+{
+    begins_with(text, "http://") || begins_with(text, "https://")
+}
+
+/// Whether the text begins so.
+fn begins_with(text: &str, front: &str) -> bool
+    ensures { (result ≡ true) ↔ ((rest : List ℕ) × (text.now ≡ front.now ++ rest)) }
+{
+    text.starts_with(front)
+}
+
+/// Whether the text ends in `/`.
+fn ends_in_slash(text: &str) -> bool
+    ensures { (result ≡ true) ↔ ((front : List ℕ) × (text.now ≡ front ++ codes "/")) }
+{
+    text.ends_with('/')
+}

@@ -1,0 +1,52 @@
+-- What a server is that a command line asks for, and how callers are served by it.
+use Rattle.std.specs.Prelude.{◌≡◌, ℕ, List, [], map, Option, Some, None, IfSome}
+use Rattle.flow_links.specs.Doors.{DoorState}
+use Rattle.taxii_rows.specs.StoreState.{StoreState}
+use Rattle.taxii_rows.specs.SoundRow.{IsSoundState}
+use Rattle.taxii_bodies.specs.declared.collections.CollectionInfo.{CollectionInfo}
+use Rattle.taxii_requests.specs.declared.config.Config.{Config}
+use Rattle.taxii_statuses.specs.Statuses.{no_statuses}
+use Rattle.taxii_changes.specs.ServerState.{ServerState, server_of}
+use Rattle.taxii_histories.specs.Visits.{WalksSkipNoRow}
+use Rattle.taxii_connections.specs.Outside.{LinkView, Outside}
+use Rattle.taxii_connections.specs.Connections.{Pass}
+use Rattle.taxii_server.specs.Serving.{Caller, exchanges_of, HaveConnections}
+use Rattle.command_line.specs.CommandLines.{PlainCollection, PlainService}
+
+-- what the server says of a collection that is asked for
+abbrev pub info_of : PlainCollection → CollectionInfo
+info_of asked = record { id = asked.id; title = asked.title; can_read = asked.can_read; can_write = asked.can_write }
+
+-- the server serves what is asked for
+pub record IsConfigOf (service : PlainService) (config : Config) : Type 0 where
+  pub base : config.base ≡ service.base
+  pub collections : config.collections ≡ map info_of service.collections
+
+-- the name under which a store is opened: nothing, where it is in memory
+abbrev pub store_name : Option (List ℕ) → List ℕ
+store_name None = []
+store_name (Some file) = file
+
+-- what stands around a server at one moment: its door, what the keeper tells of its rows and of its name, what is written on the output,
+-- and the clock and the keeper's count of faults
+pub record Places (L : Type 0) : Type 0 where
+  pub door : Option (DoorState L)
+  pub rows : Option StoreState
+  pub name : Option (List ℕ)
+  pub written : Option (List ℕ)
+  pub around : Outside
+
+-- these callers were served: the server that is asked for began with the keeper's rows and no statuses; each caller had its connection, from
+-- what the one before left; the keeper has the rows of the last state; and no walk among the requests skips a row
+pub record Serves {L : Type 0} (view : L → LinkView) (service : PlainService) (before after : Places L) (callers : List (Caller L)) : Type 0 where
+  pub config : Config
+  pub config_is : IsConfigOf service config
+  pub store : StoreState
+  pub loaded : IfSome before.rows (λ rows. store ≡ rows)
+  pub sound : IsSoundState store
+  pub named : IfSome before.rows (λ _. after.name ≡ Some (store_name service.store))
+  pub last : ServerState
+  pub connections : HaveConnections view config (server_of store no_statuses) callers last
+  pub kept : IfSome after.rows (λ rows. rows ≡ last.store)
+  pub pass : Pass (exchanges_of callers) before.around after.around
+  pub walks : WalksSkipNoRow config (exchanges_of callers)
