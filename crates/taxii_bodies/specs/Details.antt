@@ -19,13 +19,13 @@ abbrev pub at_path : List ℕ → List ℕ → List ℕ
 at_path name [] = name
 at_path name (byte ∷ path) = name ++ (codes " at " ++ byte ∷ path)
 
--- why an entry is no JSON value
+-- why an entry is no JSON value: the name of the rule alone, since it has no object whose path could be told
 abbrev pub refusal_message : JsonRefusal → List ℕ
 refusal_message NotJson = codes "NotJson"
-refusal_message (TooDeep path) = at_path (codes "TooDeep") path
-refusal_message (NotWhole path) = at_path (codes "NotWhole") path
-refusal_message (Null path) = at_path (codes "Null") path
-refusal_message (OutOfRange path) = at_path (codes "OutOfRange") path
+refusal_message (TooDeep path) = codes "TooDeep"
+refusal_message (NotWhole path) = codes "NotWhole"
+refusal_message (Null path) = codes "Null"
+refusal_message (OutOfRange path) = codes "OutOfRange"
 refusal_message NotList = codes "NotList"
 refusal_message NoMemory = codes "out of memory"
 

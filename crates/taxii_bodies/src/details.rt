@@ -145,13 +145,19 @@ fn message_at(alloc: Global, name: &str, path: &str) -> Result<Text, NoMemory>
 fn refusal_text(alloc: Global, refusal: &JsonRefusal) -> Result<Text, NoMemory>
     ensures { IfOk result (λ text. text ≡ refusal_message refusal.now) }
 {
+    Text::from_text(alloc, refusal_name(refusal))
+}
+
+fn refusal_name(refusal: &JsonRefusal) -> &'static str
+    ensures { result.now ≡ refusal_message refusal.now }
+{
     match refusal {
-        JsonRefusal::NotJson => Text::from_text(alloc, "NotJson"),
-        JsonRefusal::TooDeep { path } => message_at(alloc, "TooDeep", path.as_str()),
-        JsonRefusal::NotWhole { path } => message_at(alloc, "NotWhole", path.as_str()),
-        JsonRefusal::Null { path } => message_at(alloc, "Null", path.as_str()),
-        JsonRefusal::OutOfRange { path } => message_at(alloc, "OutOfRange", path.as_str()),
-        JsonRefusal::NotList => Text::from_text(alloc, "NotList"),
-        JsonRefusal::NoMemory => Text::from_text(alloc, "out of memory"),
+        JsonRefusal::NotJson => "NotJson",
+        JsonRefusal::TooDeep { .. } => "TooDeep",
+        JsonRefusal::NotWhole { .. } => "NotWhole",
+        JsonRefusal::Null { .. } => "Null",
+        JsonRefusal::OutOfRange { .. } => "OutOfRange",
+        JsonRefusal::NotList => "NotList",
+        JsonRefusal::NoMemory => "out of memory",
     }
 }

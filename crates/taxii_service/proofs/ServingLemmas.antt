@@ -1,7 +1,6 @@
 -- What stands around a server when it ends, from what its parts say.
-use Rattle.std.proofs.Common.{◌≡◌, ◌⊎◌, ℕ, List, [], Option, Some, None, option_map, IfSome, refl, sym, ap, subst, ◌∙◌}
+use Rattle.std.proofs.Common.{◌≡◌, ℕ, List, Option, Some, None, option_map, IfSome, refl, sym, subst}
 use Rattle.flow_edges.specs.Flow.{written_with}
-use Rattle.flow_links.specs.Doors.{Stays}
 use Rattle.taxii_rows.specs.StoreState.{StoreState}
 use Rattle.taxii_rows.specs.SoundRow.{IsSoundState}
 use Rattle.taxii_requests.specs.declared.config.Config.{Config}
@@ -11,7 +10,6 @@ use Rattle.taxii_store.specs.Loading.{IsBadAfter}
 use Rattle.taxii_store.specs.declared.load_refusal.LoadRefusal.{LoadRefusal}
 use Rattle.taxii_store.specs.declared.load_refusal.LoadRefusal.TheVariants as refused
 use Rattle.taxii_walks.specs.History.{IsDated}
-use Rattle.taxii_histories.specs.Exchanges.{HasServed}
 use Rattle.taxii_histories.specs.Visits.{WalksSkipNoRow}
 use Rattle.taxii_connections.specs.Outside.{LinkView}
 use Rattle.taxii_connections.specs.Connections.{Pass}

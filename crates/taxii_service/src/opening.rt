@@ -77,7 +77,10 @@ fn base_of(alloc: Global, request: &ServeRequest<'_>) -> Result<Option<Text>, No
     }
 }
 
-fn infos_of(alloc: Global, asked: &[CollectionRequest<'_>]) -> Result<Items<CollectionInfo>, NoMemory>
+fn infos_of(
+    alloc: Global,
+    asked: &[CollectionRequest<'_>],
+) -> Result<Items<CollectionInfo>, NoMemory>
     ensures { IfOk result (λ infos. infos ≡ map info_of (map plain_collection asked.now)) }
 {
     let mut infos = Items::with_capacity(alloc, asked.len())?;

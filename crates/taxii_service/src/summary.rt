@@ -1,6 +1,6 @@
-ghost use Rattle.std.specs.Prelude.{◌≡◌, ◌++◌, codes, OnOk, OnErr};
+ghost use Rattle.std.specs.Prelude.{◌++◌, codes, OnErr};
 ghost use Rattle.flow_edges.specs.Faults.{Causes};
-ghost use Rattle.flow_edges.specs.Flow.{written_with, WritesPart};
+ghost use Rattle.flow_edges.specs.Flow.{WritesWhole, WritesPart};
 ghost use Rattle.taxii_service.specs.ServeEndings.{summary_text};
 
 use flow_edges::{Sink, write_pieces};
@@ -10,8 +10,8 @@ use taxii_server::Served;
 
 /// Writes what a server did, as `connections 2 requests 5` and a line feed.
 pub(crate) fn write_summary<O: Sink>(served: Served, output: &mut O) -> Result<(), Fault>
-    ensures ok { OnOk result (O.written output.new ≡ written_with (summary_text served) (O.written output.old)) }
-    ensures err { OnErr result (WritesPart (summary_text served) (O.written output.old) (O.written output.new)) }
+    ensures text { WritesWhole (summary_text served) (O.written output.old) (O.written output.new) result }
+    ensures part { OnErr result (WritesPart (summary_text served) (O.written output.old) (O.written output.new)) }
     ensures causes { Causes (O.faults output.old) (O.faults output.new) result }
 {
     let mut buffer = Buffer::new();
@@ -23,8 +23,8 @@ pub(crate) fn write_summary<O: Sink>(served: Served, output: &mut O) -> Result<(
 
 /// The same, of the texts of both counts.
 fn write_counts<O: Sink>(connections: &str, requests: &str, output: &mut O) -> Result<(), Fault>
-    ensures ok { OnOk result (O.written output.new ≡ written_with (codes "connections " ++ (connections.now ++ (codes " requests " ++ (requests.now ++ codes "\n")))) (O.written output.old)) }
-    ensures err { OnErr result (WritesPart (codes "connections " ++ (connections.now ++ (codes " requests " ++ (requests.now ++ codes "\n")))) (O.written output.old) (O.written output.new)) }
+    ensures text { WritesWhole (codes "connections " ++ (connections.now ++ (codes " requests " ++ (requests.now ++ codes "\n")))) (O.written output.old) (O.written output.new) result }
+    ensures part { OnErr result (WritesPart (codes "connections " ++ (connections.now ++ (codes " requests " ++ (requests.now ++ codes "\n")))) (O.written output.old) (O.written output.new)) }
     ensures causes { Causes (O.faults output.old) (O.faults output.new) result }
 {
     write_pieces(
