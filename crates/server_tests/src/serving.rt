@@ -18,19 +18,24 @@ const MOMENT: u64 = 1_623_283_200_000_000;
 const COLLECTION: u128 = 0x91a7_b528_80eb_42ed_a74d_c6fb_d5a2_6116;
 
 /// Adds an identity, asks for all objects, and deletes the identity.
-const CHANGES: &str = "POST /api/collections/91a7b528-80eb-42ed-a74d-c6fbd5a26116/objects/ HTTP/1.1\r\nHost: h\r\nContent-Type: application/taxii+json\r\nContent-Length: 194\r\n\r\n{\"objects\":[{\"created\":\"2021-06-10T00:00:00.000Z\",\"id\":\"identity--00000000-0000-4000-8000-000000000001\",\"modified\":\"2021-06-10T00:00:00.000Z\",\"name\":\"N\",\"spec_version\":\"2.1\",\"type\":\"identity\"}]}GET /api/collections/91a7b528-80eb-42ed-a74d-c6fbd5a26116/objects/ HTTP/1.1\r\nHost: h\r\n\r\nDELETE /api/collections/91a7b528-80eb-42ed-a74d-c6fbd5a26116/objects/identity--00000000-0000-4000-8000-000000000001/ HTTP/1.1\r\nHost: h\r\n\r\n";
+const CHANGES: &str =
+    "POST /api/collections/91a7b528-80eb-42ed-a74d-c6fbd5a26116/objects/ HTTP/1.1\r\nHost: h\r\nContent-Type: application/taxii+json\r\nContent-Length: 194\r\n\r\n{\"objects\":[{\"created\":\"2021-06-10T00:00:00.000Z\",\"id\":\"identity--00000000-0000-4000-8000-000000000001\",\"modified\":\"2021-06-10T00:00:00.000Z\",\"name\":\"N\",\"spec_version\":\"2.1\",\"type\":\"identity\"}]}GET /api/collections/91a7b528-80eb-42ed-a74d-c6fbd5a26116/objects/ HTTP/1.1\r\nHost: h\r\n\r\nDELETE /api/collections/91a7b528-80eb-42ed-a74d-c6fbd5a26116/objects/identity--00000000-0000-4000-8000-000000000001/ HTTP/1.1\r\nHost: h\r\n\r\n";
 
 /// Asks for all objects behind the first two of `MOMENT`.
-const GOES_ON: &str = "GET /api/collections/91a7b528-80eb-42ed-a74d-c6fbd5a26116/objects/?match[version]=all&next=0005c45e12818001 HTTP/1.1\r\nHost: h\r\n\r\n";
+const GOES_ON: &str =
+    "GET /api/collections/91a7b528-80eb-42ed-a74d-c6fbd5a26116/objects/?match[version]=all&next=0005c45e12818001 HTTP/1.1\r\nHost: h\r\n\r\n";
 
 /// Adds an artifact, of which an equal one may be there.
-const ARTIFACT: &str = "POST /api/collections/91a7b528-80eb-42ed-a74d-c6fbd5a26116/objects/ HTTP/1.1\r\nHost: h\r\nContent-Type: application/taxii+json\r\nContent-Length: 146\r\n\r\n{\"objects\":[{\"id\":\"artifact--00000000-0000-4000-8000-000000000001\",\"modified\":\"2021-06-10T00:00:00.000Z\",\"payload_bin\":\"AA==\",\"type\":\"artifact\"}]}";
+const ARTIFACT: &str =
+    "POST /api/collections/91a7b528-80eb-42ed-a74d-c6fbd5a26116/objects/ HTTP/1.1\r\nHost: h\r\nContent-Type: application/taxii+json\r\nContent-Length: 146\r\n\r\n{\"objects\":[{\"id\":\"artifact--00000000-0000-4000-8000-000000000001\",\"modified\":\"2021-06-10T00:00:00.000Z\",\"payload_bin\":\"AA==\",\"type\":\"artifact\"}]}";
 
 const DISCOVERY: &str = "GET /taxii2/ HTTP/1.1\r\nHost: h\r\n\r\n";
 
-const DISCOVERED: &str = "HTTP/1.1 200 OK\r\nContent-Type: application/taxii+json;version=2.1\r\nContent-Length: 41\r\n\r\n{\"title\":\"STIX pattern and TAXII server\"}";
+const DISCOVERED: &str =
+    "HTTP/1.1 200 OK\r\nContent-Type: application/taxii+json;version=2.1\r\nContent-Length: 41\r\n\r\n{\"title\":\"STIX pattern and TAXII server\"}";
 
-const STORE_FAULT: &str = "HTTP/1.1 500 Internal Server Error\r\nContent-Type: application/taxii+json;version=2.1\r\nContent-Length: 23\r\n\r\n{\"title\":\"store fault\"}";
+const STORE_FAULT: &str =
+    "HTTP/1.1 500 Internal Server Error\r\nContent-Type: application/taxii+json;version=2.1\r\nContent-Length: 23\r\n\r\n{\"title\":\"store fault\"}";
 
 /// The calls that fail, by their numbers from 1.
 #[derive(Clone, Copy)]
@@ -49,6 +54,7 @@ const NONE: Failing<'static> = Failing {
 };
 
 /// What is left when a server ends.
+#[derive(Drop)]
 struct Left {
     ending: ServeEnding,
     door: MemoryDoor,
@@ -91,12 +97,7 @@ fn served(
     })
 }
 
-fn link(
-    alloc: Global,
-    text: &str,
-    reads: &[u64],
-    writes: &[u64],
-) -> Result<MemoryLink, NoMemory> {
+fn link(alloc: Global, text: &str, reads: &[u64], writes: &[u64]) -> Result<MemoryLink, NoMemory> {
     let bytes = listed(alloc, text.as_bytes())?;
     let reads = listed(alloc, reads)?;
     MemoryLink::new(alloc, bytes, 100, reads, 10_000, listed(alloc, writes)?)
@@ -125,7 +126,10 @@ fn holds(bytes: &[u8], part: &[u8]) -> bool {
 fn a_link_that_fails_ends_alone(rt: HostRuntime) -> Result<(), Fail> {
     let alloc = rt.alloc();
     let whole = served(alloc, &mut no_rows(alloc, 0, &[])?, CHANGES, MOMENT, NONE)?;
-    assert_eq!(rt; whole.output.bytes(), b"connections 2 requests 4\n".as_slice());
+    assert_eq!(rt;
+        whole.output.bytes(),
+        b"connections 2 requests 4\n".as_slice()
+    );
     for failing in 1u64..40 {
         let numbers = [failing];
         let reads = Failing {
@@ -164,7 +168,10 @@ fn a_keeper_that_fails_keeps_its_rows(rt: HostRuntime) -> Result<(), Fail> {
         assert_eq!(rt; (failing, keeper.rows().len()), (failing, rows));
         let begins = heard(&left, 0).starts_with(STORE_FAULT.as_bytes());
         let ends = heard(&left, 0).ends_with(STORE_FAULT.as_bytes());
-        assert_eq!(rt; (failing, begins, ends), (failing, failing == 4, failing == 5));
+        assert_eq!(rt;
+            (failing, begins, ends),
+            (failing, failing == 4, failing == 5)
+        );
     }
     Ok(())
 }
@@ -178,7 +185,13 @@ fn a_door_and_an_output_fail(rt: HostRuntime) -> Result<(), Fail> {
             door: &numbers,
             ..NONE
         };
-        let left = served(alloc, &mut no_rows(alloc, 0, &[])?, DISCOVERY, MOMENT, faults)?;
+        let left = served(
+            alloc,
+            &mut no_rows(alloc, 0, &[])?,
+            DISCOVERY,
+            MOMENT,
+            faults,
+        )?;
         assert_eq!(rt; left.ending.status(), 8);
         assert_eq!(rt; left.door.finished().len(), callers);
         assert!(rt; left.output.bytes().is_empty());
@@ -187,7 +200,13 @@ fn a_door_and_an_output_fail(rt: HostRuntime) -> Result<(), Fail> {
         output: &[1],
         ..NONE
     };
-    let left = served(alloc, &mut no_rows(alloc, 0, &[])?, DISCOVERY, MOMENT, faults)?;
+    let left = served(
+        alloc,
+        &mut no_rows(alloc, 0, &[])?,
+        DISCOVERY,
+        MOMENT,
+        faults,
+    )?;
     assert_eq!(rt; left.ending.status(), 6);
     assert_eq!(rt; heard(&left, 1), DISCOVERED.as_bytes());
     Ok(())
@@ -211,7 +230,13 @@ fn dates_go_on_behind_the_mark(rt: HostRuntime) -> Result<(), Fail> {
     assert!(rt; heard(&left, 0).starts_with(b"HTTP/1.1 503 Service Unavailable\r\n"));
     assert!(rt; keeper.rows().is_empty());
     // A mark past the last date.
-    let left = served(alloc, &mut no_rows(alloc, u64::MAX, &[])?, CHANGES, MOMENT, NONE)?;
+    let left = served(
+        alloc,
+        &mut no_rows(alloc, u64::MAX, &[])?,
+        CHANGES,
+        MOMENT,
+        NONE,
+    )?;
     assert_eq!(rt; left.ending, ServeEnding::BadRow { after: 0 });
     Ok(())
 }
@@ -219,7 +244,8 @@ fn dates_go_on_behind_the_mark(rt: HostRuntime) -> Result<(), Fail> {
 #[test]
 fn a_row_of_a_type_that_was_unknown_is_served(rt: HostRuntime) -> Result<(), Fail> {
     let alloc = rt.alloc();
-    let body = r#"{"id":"artifact--00000000-0000-4000-8000-000000000001","modified":"2021-06-10T00:00:00.000Z","payload_bin":"AA==","type":"artifact"}"#;
+    let body =
+        r#"{"id":"artifact--00000000-0000-4000-8000-000000000001","modified":"2021-06-10T00:00:00.000Z","payload_bin":"AA==","type":"artifact"}"#;
     for (mark, ending) in [(MOMENT, 0u8), (MOMENT - 1, 10)] {
         let mut rows = Items::new(alloc);
         rows.push(StoredRow {
@@ -238,7 +264,10 @@ fn a_row_of_a_type_that_was_unknown_is_served(rt: HostRuntime) -> Result<(), Fai
         let left = served(alloc, &mut keeper, ARTIFACT, MOMENT, NONE)?;
         assert_eq!(rt; left.ending.status(), ending);
         assert_eq!(rt; keeper.rows().len(), 1);
-        assert_eq!(rt; holds(heard(&left, 0), b"\"version\":\"2021-06-10T00:00:00.000Z\""), ending == 0);
+        assert_eq!(rt;
+            holds(heard(&left, 0), b"\"version\":\"2021-06-10T00:00:00.000Z\""),
+            ending == 0
+        );
     }
     Ok(())
 }

@@ -1,5 +1,5 @@
 -- What the status of a run says of its words and its streams.
-use Rattle.std.proofs.Common.{◌≡◌, ◌↔◌, ◌⊎◌, ◌≤◌, ℕ, List, [], ◌∷◌, Bool, true, false, Option, Some, None, inl, inr, refl, sym, ap, subst, ◌∙◌, arith, codes}
+use Rattle.std.proofs.Common.{◌≡◌, ◌↔◌, ◌⊎◌, ◌≤◌, ℕ, List, [], Bool, false, inl, inr, refl, sym, ap, subst, ◌∙◌, arith}
 use Rattle.match_log.specs.declared.end.MatchEnd.TheVariants as end
 use Rattle.stix_command.specs.declared.verdict.Verdict.TheVariants as verdict
 use Rattle.stix_command.specs.declared.matching.MatchEnding.{MatchEnding}

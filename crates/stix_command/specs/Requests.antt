@@ -2,7 +2,7 @@
 use Rattle.std.specs.Prelude.{◌≡◌, ℕ, List, Bool, true, false}
 use Rattle.match_input.specs.declared.mode.Mode.{Mode}
 use Rattle.match_input.specs.declared.mode.Mode.TheVariants.{Lines, Whole}
-use Rattle.command_line.specs.CommandLines.{PlainRequest, PlainService, Match, Check, Show, Make, Serve, IsCommandLine}
+use Rattle.command_line.specs.CommandLines.{PlainService, Match, Check, Show, Make, Serve, IsCommandLine}
 
 -- how the input is cut into bundles: `--whole` says that it is one
 abbrev pub mode_of : Bool → Mode

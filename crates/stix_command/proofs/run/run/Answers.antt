@@ -1,4 +1,5 @@
-use Rattle.std.proofs.Common.{◌≡◌, ◌⊎◌, ℕ, subst, sym, ◌∙◌}
+use Rattle.std.proofs.Common.{◌≡◌, ◌⊎◌, ℕ, List, subst, sym, ◌∙◌}
+use Rattle.stix_command.specs.RunEndings.{WritesReason}
 use Rattle.stix_command.proofs.RunEndingsLemmas.{usage-run, no_line-run, pattern-run, refused-run, listing-run, making-run, read_fault-status, write_fault-status, door_fault-status, store_fault-status, unserved-status, serving-status, serving-reason}
 use Rattle.stix_command.proofs.run.run.Goals as goal
 
@@ -46,13 +47,12 @@ returns-clause-write_quiet g c = λ isn't. c.obey-ending.ensures.write_quiet (λ
 
 pub returns-clause-serving : goal.returns-clause-serving
 returns-clause-serving g c = λ service line.
-    let ends = c.obey-ending.ensures.serving service line in
-    (
+    let ends = c.obey-ending.ensures.serving service line in (
       ends.0,
       c.finish.ensures.status ∙ serving-status _ ends.0 ends.1,
       ends.2,
-      subst (λ (text : List ℕ). WritesReason text (g.E.Sink.written c.args.reasons.now) (g.E.Sink.written c.reasons.new) (g.E.Sink.faults c.args.reasons.now) (g.E.Sink.faults c.reasons.new))
-      (serving-reason _ ends.0 _ ends.1 c.finish.ensures.reason.1) c.finish.ensures.reason.2,
+      subst (λ (text : List ℕ). WritesReason text (g.E.Sink.written c.args.reasons.now) (g.E.Sink.written c.finish.new.reasons) (g.E.Sink.faults c.args.reasons.now) (g.E.Sink.faults c.finish.new.reasons))
+          (serving-reason _ ends.0 _ ends.1 c.finish.ensures.reason.1) c.finish.ensures.reason.2,
     )
 
 pub returns-clause-unserved : goal.returns-clause-unserved
