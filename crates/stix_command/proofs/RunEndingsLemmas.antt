@@ -24,7 +24,7 @@ use Rattle.stix_command.specs.MatchEndings.{IsUnread, EndsMatch, IsPatternRefusa
 use Rattle.stix_command.specs.CheckEndings.{check_status}
 use Rattle.stix_command.specs.ShowEndings.{EndsShow, show_status}
 use Rattle.stix_command.specs.MakeEndings.{EndsMake, make_status}
-use Rattle.stix_command.specs.RunEndings.{status_of, IsNoCommand, EndsRun, RefusesMatch, RefusesShow, RefusesPattern, IsReasonOf, IsReadFault, IsWriteFault, IsDoorFault, IsStoreFault, IsUnserved, EndsServing, ListsBindings, TellsNumbers}
+use Rattle.stix_command.specs.RunEndings.{status_of, IsNoCommand, EndsRun, RefusesMatch, RefusesShow, RefusesPattern, IsReasonOf, IsReadFault, IsWriteFault, IsDoorFault, IsStoreFault, IsWithoutCallers, EndsServing, ListsBindings, TellsNumbers}
 
 -- words ask for one thing at most
 abbrev pub OneRequest : Type 0
@@ -454,7 +454,7 @@ store_fault-status Usage is = absurd (omega arith)
 store_fault-status NoMemory is = absurd (omega arith)
 
 -- no caller was served at the other statuses
-pub unserved-status : (ending : Ending) → ¬ (status_of ending ≡ 0) → ¬ (status_of ending ≡ 6) → ¬ (status_of ending ≡ 8) → IsUnserved ending
+pub unserved-status : (ending : Ending) → ¬ (status_of ending ≡ 0) → ¬ (status_of ending ≡ 6) → ¬ (status_of ending ≡ 8) → IsWithoutCallers ending
 unserved-status (Match ending) done failed shut = tt
 unserved-status (Check ending) done failed shut = tt
 unserved-status (Show ending) done failed shut = tt

@@ -114,14 +114,14 @@ abbrev pub IsStoreFault : Ending → Type 0
 IsStoreFault ending = ending ≡ Serve serving.StoreFault
 
 -- no caller was served: the command isn't `serve`, or it ended before the door was opened
-abbrev pub IsUnserved : Ending → Type 0
-IsUnserved (Match ending) = ⊤
-IsUnserved (Check ending) = ⊤
-IsUnserved (Show ending) = ⊤
-IsUnserved (Make ending) = ⊤
-IsUnserved (Serve ending) = IsEarly ending
-IsUnserved Usage = ⊤
-IsUnserved NoMemory = ⊤
+abbrev pub IsWithoutCallers : Ending → Type 0
+IsWithoutCallers (Match ending) = ⊤
+IsWithoutCallers (Check ending) = ⊤
+IsWithoutCallers (Show ending) = ⊤
+IsWithoutCallers (Make ending) = ⊤
+IsWithoutCallers (Serve ending) = IsEarly ending
+IsWithoutCallers Usage = ⊤
+IsWithoutCallers NoMemory = ⊤
 
 -- so a `serve` ended; want of memory for its words is one of its own
 abbrev pub EndsServing : Ending → ServeEnding → Type 0

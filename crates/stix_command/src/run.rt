@@ -5,7 +5,7 @@ ghost use Rattle.taxii_service.specs.declared.ending.ServeEnding.{ServeEnding};
 ghost use Rattle.taxii_service.specs.ServeEndings.{EndsServe, serve_status, serve_reason};
 ghost use Rattle.stix_command.specs.Requests.{MatchTask, IsMatchLine, IsShowLine, IsMakeLine, IsServeLine};
 ghost use Rattle.stix_command.specs.Streams.{streams};
-ghost use Rattle.stix_command.specs.RunEndings.{status_of, IsReasonOf, IsNoCommand, RefusesPattern, EndsRun, IsReadFault, IsWriteFault, IsDoorFault, IsStoreFault, IsUnserved, EndsServing, WritesReason, Ends, ListsBindings, TellsNumbers};
+ghost use Rattle.stix_command.specs.RunEndings.{status_of, IsReasonOf, IsNoCommand, RefusesPattern, EndsRun, IsReadFault, IsWriteFault, IsDoorFault, IsStoreFault, IsWithoutCallers, EndsServing, WritesReason, Ends, ListsBindings, TellsNumbers};
 
 use crate::checking::check;
 use crate::ending::Ending;
@@ -44,11 +44,12 @@ fn obey<I: Source, O: Sink, D: Door, K: Keeper, C: Clock>(
         (record { door = D.told door.old; rows = K.told keeper.old; name = K.name keeper.old; written = O.written output.old; around = record { moments = C.moments clock.old; faults = K.faults keeper.old } })
         (record { door = D.told door.new; rows = K.told keeper.new; name = K.name keeper.new; written = O.written output.new; around = record { moments = C.moments clock.new; faults = K.faults keeper.new } }) ending }
     ensures served_unread { (service : PlainService) → IsServeLine (texts words.now) service → input.new ≡ input.old }
-    ensures unserved { IsUnserved result → (door.new ≡ door.old) × (clock.new ≡ clock.old) × (K.told keeper.new ≡ K.told keeper.old) }
+    ensures unserved { IsWithoutCallers result → (door.new ≡ door.old) × (clock.new ≡ clock.old) × (K.told keeper.new ≡ K.told keeper.old) }
     ensures others { ((service : PlainService) → ¬ IsServeLine (texts words.now) service) → (door.new ≡ door.old) × (clock.new ≡ clock.old) × (keeper.new ≡ keeper.old) }
     ensures door_failed { IsDoorFault result → Rose (D.faults door.old) (D.faults door.new) }
     ensures door_quiet { ¬ IsDoorFault result → D.faults door.new ≡ D.faults door.old }
     ensures store_failed { IsStoreFault result → Rose (K.faults keeper.old) (K.faults keeper.new) }
+    ensures store_quiet { IsWithoutCallers result → ¬ IsStoreFault result → K.faults keeper.new ≡ K.faults keeper.old }
 {
     one_request();
     match read_words(alloc, words) {
@@ -121,6 +122,7 @@ pub fn run<I: Source, O: Sink, E: Sink, D: Door, K: Keeper, C: Clock>(
     ensures door_fault { result ≡ 8 → Rose (D.faults door.old) (D.faults door.new) }
     ensures door_quiet { result ≢ 8 → D.faults door.new ≡ D.faults door.old }
     ensures store_fault { result ≡ 9 → Rose (K.faults keeper.old) (K.faults keeper.new) }
+    ensures store_quiet { result ≢ 0 → result ≢ 6 → result ≢ 8 → result ≢ 9 → K.faults keeper.new ≡ K.faults keeper.old }
 {
     one_request();
     let ending = obey(alloc, words, input, output, door, keeper, clock);

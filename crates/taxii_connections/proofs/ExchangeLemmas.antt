@@ -25,11 +25,6 @@ pub record TellsFault (status : Status) (before now : ℕ) : Type 0 where
   pub fault : status ≡ InternalServerError → Rose before now
   pub quiet : status ≢ InternalServerError → now ≡ before
 
--- a count never falls
-tells-later : (status : Status) (before now : ℕ) → TellsFault status before now → RoseBy 0 before now
-tells-later InternalServerError before now tells = omega (arith, tells.fault refl)
-tells-later status before now tells = omega (arith, tells.quiet (λ is. absurd (cc is)))
-
 -- the next moment alone
 moments-one : (moment : ℕ) (before now : ℕ → Option ℕ) → IsNext before moment → GoesOn before now → GivesMoments (moment ∷ []) before now
 moments-one moment before now next goes_on = record { given = given; goes_on = goes_on }
@@ -50,24 +45,31 @@ pub record Exchanged (config : Config) (before : ServerState) (moment : ℕ) (re
   pub its : IsExchange config (record { before = before; moment = moment; request = request; course = course; answer = answer; after = after })
   pub passes : Pass (record { before = before; moment = moment; request = request; course = course; answer = answer; after = after } ∷ []) outside now
 
+-- what a law of steps says
+abbrev pub NoStepTellsAStoreFault : Type 0
+NoStepTellsAStoreFault = (config : Config) (before : ServerState) (moment : ℕ) (request : Request) (answer : Answer) (after : ServerState)
+    → Step config before moment request answer after → answer.status ≢ InternalServerError
+
 -- a step, or a fault of the keeper
-pub exchanged-answer : {config : Config} {before : ServerState} {moment : ℕ} {request : Request} {outside now : Outside} {answer : Answer} {after : ServerState}
+pub exchanged-answer : NoStepTellsAStoreFault → {config : Config} {before : ServerState} {moment : ℕ} {request : Request} {outside now : Outside} {answer : Answer} {after : ServerState}
     → Step config before moment request answer after ⊎ FailsToKeep config before moment request answer after
     → IsNext outside.moments moment → GoesOn outside.moments now.moments → TellsFault answer.status outside.faults now.faults
     → Exchanged config before moment request outside now false answer after
-exchanged-answer {moment = moment} {outside = outside} {now = now} {answer = answer} (inl step) next goes_on tells = record {
-  course = Stepped;
-  memory = refl;
-  its = step;
-  passes = record { moments = moments-one moment outside.moments now.moments next goes_on; faults = tells-later answer.status outside.faults now.faults tells };
-}
-exchanged-answer {moment = moment} {outside = outside} {now = now} (inr fails) next goes_on tells = record {
+exchanged-answer law {moment = moment} {outside = outside} {now = now} (inl step) next goes_on tells =
+    let quiet = tells.quiet (law _ _ _ _ _ _ step) in record {
+      course = Stepped;
+      memory = refl;
+      its = step;
+      passes = record { moments = moments-one moment outside.moments now.moments next goes_on; faults = omega (arith, quiet); quiet = λ none. quiet };
+    }
+exchanged-answer law {moment = moment} {outside = outside} {now = now} (inr fails) next goes_on tells = record {
   course = KeeperFailed;
   memory = refl;
   its = fails;
   passes = record {
     moments = moments-one moment outside.moments now.moments next goes_on;
     faults = tells.fault (ap (λ (its : Answer). its.status) fails.answer_is);
+    quiet = λ none. absurd (cc none);
   };
 }
 
@@ -79,7 +81,7 @@ exchanged-no_memory {moment = moment} {outside = outside} {now = now} same next 
   course = OutOfMemory;
   memory = refl;
   its = (refl, same);
-  passes = record { moments = moments-one moment outside.moments now.moments next goes_on; faults = omega (arith, quiet) };
+  passes = record { moments = moments-one moment outside.moments now.moments next goes_on; faults = omega (arith, quiet); quiet = λ none. quiet };
 }
 
 -- nothing has changed

@@ -1,5 +1,5 @@
 -- What stands outside of a server, in turn: links, moments of the clock, faults of the keeper.
-use Rattle.std.proofs.Common.{◌≡◌, ℕ, zero, suc, ◌+◌, List, [], ◌∷◌, ◌++◌, length, Option, Some, IfSome, sym, ap, ◌∙◌, subst, add-zero, arith, length-append}
+use Rattle.std.proofs.Common.{◌≡◌, ℕ, zero, suc, ◌+◌, List, [], ◌∷◌, ◌++◌, length, Option, Some, IfSome, refl, sym, ap, ◌∙◌, subst, add-zero, arith, length-append}
 use Rattle.std.proofs.lemmas.List.{map-append}
 use Rattle.std.specs.Prelude.{slice_get}
 use Rattle.flow_edges.specs.Flow.{OtherSide}
@@ -49,10 +49,13 @@ rose_by-then first later before middle now rose behind = omega arith
 -- ---- both
 
 pub pass-none : (before : Outside) → Pass [] before before
-pass-none before = record { moments = moments-none before.moments; faults = omega arith }
+pass-none before = record { moments = moments-none before.moments; faults = omega arith; quiet = λ none. refl }
 
 pub pass-then : (first later : List Exchange) (before middle now : Outside) → Pass first before middle → Pass later middle now → Pass (first ++ later) before now
 pass-then first later before middle now pass behind = record {
   moments = rw map-append (moments-then _ _ _ _ _ pass.moments behind.moments);
   faults = rw keeper_faults-append (rose_by-then _ _ _ _ _ pass.faults behind.faults);
+  quiet = λ none.
+      let both : keeper_faults first + keeper_faults later ≡ 0 = sym (keeper_faults-append first later) ∙ none in
+      behind.quiet (omega (arith, both)) ∙ pass.quiet (omega (arith, both));
 }

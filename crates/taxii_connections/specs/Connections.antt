@@ -125,7 +125,9 @@ pub record Connection (config : Config) (before : ServerState) (link_before link
   pub farewell_is : IsFarewell rest farewell
   pub ends : Ends end link_before link_now rest exchanges farewell
 
--- what requests ask of the clock and of the keeper: each takes the next moment, and each fault of the keeper was counted
+-- what requests ask of the clock and of the keeper: each takes the next moment; each fault of the keeper was counted, and where there was none
+-- the count stays
 pub record Pass (exchanges : List Exchange) (before now : Outside) : Type 0 where
   pub moments : GivesMoments (map (λ e. e.moment) exchanges) before.moments now.moments
   pub faults : RoseBy (keeper_faults exchanges) before.faults now.faults
+  pub quiet : keeper_faults exchanges ≡ 0 → now.faults ≡ before.faults

@@ -9,6 +9,7 @@ use flow_links::{Clock, Link};
 use flow_values::{Fault, NoMemory};
 use http_frames::{Request, write_answer, write_no_memory};
 use taxii_rows::Keeper;
+use taxii_step::laws::no_step_tells_a_store_fault;
 use taxii_step::respond;
 
 /// Answers a request at the clock's next moment, and whether the connection ends then. Where memory ran
@@ -31,6 +32,7 @@ pub(crate) fn answer<K: Keeper, L: Link, C: Clock>(
     ensures causes { Causes (L.Sink.faults link.old) (L.Sink.faults link.new) result }
     ensures unread { L.Sink.other link.new ≡ L.Sink.other link.old }
 {
+    no_step_tells_a_store_fault();
     let moment = clock.now();
     let answer = respond(
         &server.config,

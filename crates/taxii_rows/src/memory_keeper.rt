@@ -72,7 +72,8 @@ impl MemoryKeeper {
 
     /// The rows, by date.
     pub fn rows(&self) -> &[StoredRow]
-        ensures { result.now ≡ self.now.state.rows }
+        ensures rows { result.now ≡ self.now.state.rows }
+        ensures rise { RiseFrom 1 (dates_of result.now) }
     {
         self.rows.as_slice()
     }

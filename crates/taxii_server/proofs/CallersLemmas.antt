@@ -78,12 +78,16 @@ pass_join xs ys a b d first second = record {
   moments = subst (λ (ms : List ℕ). GivesMoments ms a.moments d.moments) (sym (map-append (λ (e : Exchange). e.moment) xs ys))
       (moments_join (map (λ e. e.moment) xs) (map (λ e. e.moment) ys) a.moments b.moments d.moments first.moments second.moments);
   faults = subst (λ (n : ℕ). RoseBy n a.faults d.faults) (sym (faults_join xs ys)) (rose_join (keeper_faults xs) (keeper_faults ys) a.faults b.faults d.faults first.faults second.faults);
+  quiet = λ none.
+      let both : keeper_faults xs + keeper_faults ys ≡ 0 = sym (faults_join xs ys) ∙ none in
+      second.quiet (omega (arith, both)) ∙ first.quiet (omega (arith, both));
 }
 
 pub no_pass : (outside : Outside) → Pass [] outside outside
 no_pass outside = record {
   moments = record { given = λ n moment is. absurd (cc is); goes_on = λ n. ap outside.moments (omega arith) };
   faults = omega arith;
+  quiet = λ none. refl;
 }
 
 -- ---- the door

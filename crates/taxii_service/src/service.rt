@@ -34,6 +34,7 @@ pub fn serve<O: Sink, D: Door, K: Keeper, C: Clock>(
     ensures door_fault { result ≡ ServeEnding.DoorFault → Rose (D.faults door.old) (D.faults door.new) }
     ensures door_quiet { result ≢ ServeEnding.DoorFault → D.faults door.new ≡ D.faults door.old }
     ensures store_fault { result ≡ ServeEnding.StoreFault → Rose (K.faults keeper.old) (K.faults keeper.new) }
+    ensures store_quiet { IsEarly result → result ≢ ServeEnding.StoreFault → K.faults keeper.new ≡ K.faults keeper.old }
     ensures write_fault { result ≡ ServeEnding.WriteFault → Rose (O.faults output.old) (O.faults output.new) }
     ensures write_quiet { result ≢ ServeEnding.WriteFault → O.faults output.new ≡ O.faults output.old }
 {

@@ -1,2 +1,1 @@
-mod DateLemmas
-mod PerformLemmas
+mod AnswerLemmas

@@ -2,6 +2,7 @@
 //! moment and the request, to the answer and what the store and the statuses are after it.
 #![tactic(auto)]
 
+pub mod laws;
 mod outcome;
 mod perform;
 mod response;

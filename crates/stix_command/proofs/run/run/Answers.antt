@@ -1,5 +1,6 @@
-use Rattle.std.proofs.Common.{◌≡◌, ◌⊎◌, ℕ, List, subst, sym, ◌∙◌}
-use Rattle.stix_command.specs.RunEndings.{WritesReason}
+use Rattle.std.proofs.Common.{◌≡◌, ◌⊎◌, ℕ, List, subst, sym, ap, ◌∙◌}
+use Rattle.stix_command.specs.declared.ending.Ending.{Ending}
+use Rattle.stix_command.specs.RunEndings.{status_of, WritesReason}
 use Rattle.stix_command.proofs.RunEndingsLemmas.{usage-run, no_line-run, pattern-run, refused-run, listing-run, making-run, read_fault-status, write_fault-status, door_fault-status, store_fault-status, unserved-status, serving-status, serving-reason}
 use Rattle.stix_command.proofs.run.run.Goals as goal
 
@@ -58,6 +59,11 @@ returns-clause-serving g c = λ service line.
 pub returns-clause-unserved : goal.returns-clause-unserved
 returns-clause-unserved g c = λ done failed shut. c.obey-ending.ensures.unserved
     (unserved-status _ (λ is. done (c.finish.ensures.status ∙ is)) (λ is. failed (c.finish.ensures.status ∙ is)) (λ is. shut (c.finish.ensures.status ∙ is)))
+
+pub returns-clause-store_quiet : goal.returns-clause-store_quiet
+returns-clause-store_quiet g c = λ done failed shut kept. c.obey-ending.ensures.store_quiet
+    (unserved-status _ (λ is. done (c.finish.ensures.status ∙ is)) (λ is. failed (c.finish.ensures.status ∙ is)) (λ is. shut (c.finish.ensures.status ∙ is)))
+    (λ fault. kept (c.finish.ensures.status ∙ ap (λ (ending : Ending). status_of ending) fault))
 
 pub returns-clause-door_fault : goal.returns-clause-door_fault
 returns-clause-door_fault g c = λ is. c.obey-ending.ensures.door_failed ((door_fault-status _).0 (sym c.finish.ensures.status ∙ is))

@@ -1,0 +1,15 @@
+//! What follows from the definitions: the contracts are the laws, and the functions do nothing.
+
+ghost use Rattle.std.specs.Prelude.{◌≢◌, ℕ};
+ghost use Rattle.http_frames.specs.declared.answer.Answer.{Answer};
+ghost use Rattle.http_frames.specs.declared.request.Request.{Request};
+ghost use Rattle.http_frames.specs.declared.status.Status.TheVariants as Code;
+ghost use Rattle.taxii_requests.specs.declared.config.Config.{Config};
+ghost use Rattle.taxii_changes.specs.ServerState.{ServerState};
+ghost use Rattle.taxii_step.specs.Step.{Step};
+
+/// No step answers 500: where a server does, its keeper failed.
+pub fn no_step_tells_a_store_fault()
+    ensures { (config : Config) (before : ServerState) (moment : ℕ) (request : Request) (answer : Answer) (after : ServerState)
+        → Step config before moment request answer after → answer.status ≢ Code.InternalServerError }
+{}
