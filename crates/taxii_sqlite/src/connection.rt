@@ -1,30 +1,32 @@
 ghost use Rattle.std.specs.Prelude.{◌≡◌, true, IfOk};
+ghost use Rattle.taxii_rows.specs.StoreState.{RiseFrom};
 ghost use Rattle.taxii_sqlite.specs.KeeperState.{is_open};
 
 use crate::failure::Failure;
-use crate::statements;
-use sqlite::{Connection, File, FileStore, MemStore};
+use crate::{memory, statements};
+use flow_values::Items;
+use sqlite::{Connection, File, FileStore};
 use std::alloc::Global;
 use std::rt::HostRuntime;
-use taxii_rows::StoredRow;
+use taxii_rows::{Keeper, MemoryKeeper, StoredRow};
 
-/// The database of a keeper. One that is closed fails each call.
+/// What a keeper has its rows in. One that is closed fails each call.
 #[derive(Drop)]
 pub(crate) enum Database {
     Closed,
-    Memory(Connection<MemStore>),
+    Memory(MemoryKeeper),
     Disk(Connection<FileStore<File>>),
 }
 
 impl Database {
-    /// Opens the database of this path, or one in memory where the path is empty, and makes it ready.
+    /// Opens the database of this path and makes it ready; or begins without rows, in memory, where the
+    /// path is empty.
     pub(crate) fn open(alloc: Global, rt: &HostRuntime, path: &str) -> Result<Database, Failure>
         ensures { IfOk result (λ database. is_open database ≡ true) }
     {
         if path.is_empty() {
-            let mut connection = Connection::open_in_memory(alloc)?;
-            statements::make_ready(&mut connection)?;
-            return Ok(Database::Memory(connection));
+            let rows = MemoryKeeper::new(alloc, Items::new(alloc), 0, Items::new(alloc));
+            return Ok(Database::Memory(rows));
         }
         let mut connection = Connection::open(rt, path)?;
         statements::make_ready(&mut connection)?;
@@ -37,7 +39,7 @@ impl Database {
     {
         match self {
             Database::Closed => Err(Failure::Fault),
-            Database::Memory(connection) => statements::next_after(connection, date),
+            Database::Memory(keeper) => Ok(keeper.next_after(date)?),
             Database::Disk(connection) => statements::next_after(connection, date),
         }
     }
@@ -48,7 +50,7 @@ impl Database {
     {
         match self {
             Database::Closed => Err(Failure::Fault),
-            Database::Memory(connection) => statements::read_mark(connection),
+            Database::Memory(keeper) => Ok(keeper.mark()?),
             Database::Disk(connection) => statements::read_mark(connection),
         }
     }
@@ -59,18 +61,19 @@ impl Database {
     {
         match self {
             Database::Closed => Err(Failure::Fault),
-            Database::Memory(connection) => statements::append(connection, rows, mark),
+            Database::Memory(keeper) => memory::append(keeper, rows, mark),
             Database::Disk(connection) => statements::append(connection, rows, mark),
         }
     }
 
-    /// Removes the rows of these dates, or changes nothing.
+    /// Removes the rows of these dates, which rise, or changes nothing.
     pub(crate) fn remove(&mut self, dates: &[u64]) -> Result<(), Failure>
+        requires { RiseFrom 0 dates.now }
         ensures { is_open self.new ≡ is_open self.old }
     {
         match self {
             Database::Closed => Err(Failure::Fault),
-            Database::Memory(connection) => statements::remove(connection, dates),
+            Database::Memory(keeper) => Ok(keeper.remove(dates)?),
             Database::Disk(connection) => statements::remove(connection, dates),
         }
     }

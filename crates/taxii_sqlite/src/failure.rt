@@ -43,6 +43,15 @@ impl From<AllocError> for Failure {
     }
 }
 
+impl From<KeeperRefusal> for Failure {
+    fn from(refusal: KeeperRefusal) -> Failure {
+        match refusal {
+            KeeperRefusal::Fault => Failure::Fault,
+            KeeperRefusal::NoMemory => Failure::NoMemory,
+        }
+    }
+}
+
 /// Whether an error of the database is want of memory: of its store, of its compiler or of its parser.
 fn is_want_of_memory(error: Error) -> bool
     ensures { result ≡ is_want error }

@@ -1,5 +1,6 @@
 ghost use Rattle.std.specs.Prelude.{◌≡◌, None, true, false, OnOk, OnErr};
 ghost use Rattle.taxii_rows.specs.KeeperCauses.{KeeperCauses};
+ghost use Rattle.taxii_rows.specs.StoreState.{RiseFrom};
 
 use crate::connection::Database;
 use crate::failure::counted;
@@ -8,7 +9,7 @@ use std::marker::Model;
 use std::rt::HostRuntime;
 use taxii_rows::{Keeper, KeeperRefusal, StoredRow};
 
-/// Rows in a database of SQLite. It tells no rows; contracts see whether it is attached, and its count
+/// Rows in a database of SQLite, or in memory. It tells no rows; contracts see whether it is attached, and its count
 /// of faults.
 #[derive(Drop)]
 pub struct SqliteKeeper {
@@ -49,8 +50,9 @@ impl Keeper for SqliteKeeper {
 
     ghost faults = { λ keeper. keeper.faults };
 
-    /// Opens the file of this path, or a database in memory where the text is empty, and makes the tables
-    /// where they are absent. A file that is no database is a fault; the other tables of one stay.
+    /// Opens the file of this path and makes the tables where they are absent; or begins without rows, in
+    /// memory, where the text is empty. A file that is no database is a fault; the other tables of one
+    /// stay.
     fn attach(&mut self, text: &str) -> Result<(), KeeperRefusal>
         ensures ok { OnOk result (self.new.attached ≡ true) }
         ensures err { OnErr result (self.new.attached ≡ self.old.attached) }
@@ -86,6 +88,7 @@ impl Keeper for SqliteKeeper {
     }
 
     fn remove(&mut self, dates: &[u64]) -> Result<(), KeeperRefusal>
+        requires rise { RiseFrom 0 dates.now }
         ensures attached { self.new.attached ≡ self.old.attached }
         ensures causes { KeeperCauses self.old.faults self.new.faults result }
     {

@@ -1,4 +1,5 @@
-//! The rows of a TAXII 2.1 server's store in a database of SQLite: a file with its log, or memory.
+//! The rows of a TAXII 2.1 server's store in a database of SQLite, a file with its log; or in memory, for a
+//! store without a file.
 //!
 //! `SqliteKeeper` is a `taxii_rows::Keeper`. It doesn't tell its rows to contracts: they see when it is
 //! attached, and that it counts each fault and nothing else. Below that it is proved that the columns of a
@@ -10,6 +11,7 @@
 mod connection;
 mod failure;
 mod keeper;
+mod memory;
 mod row;
 mod schema;
 mod statements;

@@ -1,4 +1,4 @@
-//! What is asked of an open database, whether it is in memory or a file.
+//! What is asked of an open database.
 
 ghost use Rattle.std.specs.Prelude.{◌≡◌, OnOk, OnErr};
 ghost use Rattle.sqlite.specs.Held.{state};
