@@ -1,4 +1,5 @@
-//! The unit tests of the floors under the server: forms in memory, sockets, frames in pieces, rows, whole servers.
+//! The unit tests of the floors under the server: forms in memory, sockets, frames in pieces, whole servers of which a
+//! call fails.
 #![tactic(auto)]
 
 #[cfg(test)]
@@ -7,8 +8,6 @@ mod doors;
 mod frames;
 #[cfg(test)]
 mod lists;
-#[cfg(test)]
-mod rows;
 #[cfg(test)]
 mod serving;
 #[cfg(test)]

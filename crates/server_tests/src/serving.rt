@@ -4,12 +4,11 @@ use crate::lists::listed;
 use command_line::{CollectionRequest, ServeRequest};
 use flow_edges::MemorySink;
 use flow_links::{ListClock, MemoryDoor, MemoryLink};
-use flow_values::{Items, NoMemory, Text};
+use flow_values::{Items, NoMemory};
 use std::alloc::Global;
 use std::process::Abort;
 use std::test::Fail;
-use stix_ids::Id;
-use taxii_rows::{MemoryKeeper, StoredRow};
+use taxii_rows::MemoryKeeper;
 use taxii_service::{ServeEnding, serve};
 
 /// 2021-06-10T00:00:00Z.
@@ -20,14 +19,6 @@ const COLLECTION: u128 = 0x91a7_b528_80eb_42ed_a74d_c6fb_d5a2_6116;
 /// Adds an identity, asks for all objects, and deletes the identity.
 const CHANGES: &str =
     "POST /api/collections/91a7b528-80eb-42ed-a74d-c6fbd5a26116/objects/ HTTP/1.1\r\nHost: h\r\nContent-Type: application/taxii+json\r\nContent-Length: 194\r\n\r\n{\"objects\":[{\"created\":\"2021-06-10T00:00:00.000Z\",\"id\":\"identity--00000000-0000-4000-8000-000000000001\",\"modified\":\"2021-06-10T00:00:00.000Z\",\"name\":\"N\",\"spec_version\":\"2.1\",\"type\":\"identity\"}]}GET /api/collections/91a7b528-80eb-42ed-a74d-c6fbd5a26116/objects/ HTTP/1.1\r\nHost: h\r\n\r\nDELETE /api/collections/91a7b528-80eb-42ed-a74d-c6fbd5a26116/objects/identity--00000000-0000-4000-8000-000000000001/ HTTP/1.1\r\nHost: h\r\n\r\n";
-
-/// Asks for all objects behind the first two of `MOMENT`.
-const GOES_ON: &str =
-    "GET /api/collections/91a7b528-80eb-42ed-a74d-c6fbd5a26116/objects/?match[version]=all&next=0005c45e12818001 HTTP/1.1\r\nHost: h\r\n\r\n";
-
-/// Adds an artifact, of which an equal one may be there.
-const ARTIFACT: &str =
-    "POST /api/collections/91a7b528-80eb-42ed-a74d-c6fbd5a26116/objects/ HTTP/1.1\r\nHost: h\r\nContent-Type: application/taxii+json\r\nContent-Length: 146\r\n\r\n{\"objects\":[{\"id\":\"artifact--00000000-0000-4000-8000-000000000001\",\"modified\":\"2021-06-10T00:00:00.000Z\",\"payload_bin\":\"AA==\",\"type\":\"artifact\"}]}";
 
 const DISCOVERY: &str = "GET /taxii2/ HTTP/1.1\r\nHost: h\r\n\r\n";
 
@@ -66,7 +57,6 @@ fn served(
     alloc: Global,
     keeper: &mut MemoryKeeper,
     text: &str,
-    moment: u64,
     failing: Failing<'_>,
 ) -> Result<Left, NoMemory> {
     let mut collections = Items::new(alloc);
@@ -88,7 +78,7 @@ fn served(
     links.push(link(alloc, DISCOVERY, &[], &[])?)?;
     let mut door = MemoryDoor::new(alloc, links, listed(alloc, failing.door)?)?;
     let mut output = MemorySink::new(alloc, 100, listed(alloc, failing.output)?)?;
-    let mut clock = ListClock::new(Items::from_vec(vec![in alloc; moment]?));
+    let mut clock = ListClock::new(Items::from_vec(vec![in alloc; MOMENT]?));
     let ending = serve(alloc, &request, &mut output, &mut door, keeper, &mut clock);
     Ok(Left {
         ending,
@@ -103,9 +93,9 @@ fn link(alloc: Global, text: &str, reads: &[u64], writes: &[u64]) -> Result<Memo
     MemoryLink::new(alloc, bytes, 100, reads, 10_000, listed(alloc, writes)?)
 }
 
-fn no_rows(alloc: Global, mark: u64, failing: &[u64]) -> Result<MemoryKeeper, NoMemory> {
+fn no_rows(alloc: Global, failing: &[u64]) -> Result<MemoryKeeper, NoMemory> {
     let rows = Items::new(alloc);
-    Ok(MemoryKeeper::new(alloc, rows, mark, listed(alloc, failing)?))
+    Ok(MemoryKeeper::new(alloc, rows, 0, listed(alloc, failing)?))
 }
 
 /// What was written to the caller of that place.
@@ -116,16 +106,10 @@ fn heard(left: &Left, place: usize) -> &[u8] {
     }
 }
 
-/// Whether the bytes hold that part.
-fn holds(bytes: &[u8], part: &[u8]) -> bool {
-    let places = bytes.len().saturating_sub(part.len());
-    (0..=places).any(|at| bytes[at..].starts_with(part))
-}
-
 #[test]
 fn a_link_that_fails_ends_alone(rt: HostRuntime) -> Result<(), Fail> {
     let alloc = rt.alloc();
-    let whole = served(alloc, &mut no_rows(alloc, 0, &[])?, CHANGES, MOMENT, NONE)?;
+    let whole = served(alloc, &mut no_rows(alloc, &[])?, CHANGES, NONE)?;
     assert_eq!(rt;
         whole.output.bytes(),
         b"connections 2 requests 4\n".as_slice()
@@ -141,7 +125,7 @@ fn a_link_that_fails_ends_alone(rt: HostRuntime) -> Result<(), Fail> {
             ..NONE
         };
         for faults in [reads, writes] {
-            let left = served(alloc, &mut no_rows(alloc, 0, &[])?, CHANGES, MOMENT, faults)?;
+            let left = served(alloc, &mut no_rows(alloc, &[])?, CHANGES, faults)?;
             assert_eq!(rt; left.ending.status(), 0);
             assert!(rt; heard(&whole, 0).starts_with(heard(&left, 0)));
             assert_eq!(rt; heard(&left, 1), DISCOVERED.as_bytes());
@@ -162,8 +146,8 @@ fn a_keeper_that_fails_keeps_its_rows(rt: HostRuntime) -> Result<(), Fail> {
         (5, 0, 1),
         (6, 0, 0),
     ] {
-        let mut keeper = no_rows(alloc, 0, &[failing])?;
-        let left = served(alloc, &mut keeper, CHANGES, MOMENT, NONE)?;
+        let mut keeper = no_rows(alloc, &[failing])?;
+        let left = served(alloc, &mut keeper, CHANGES, NONE)?;
         assert_eq!(rt; (failing, left.ending.status()), (failing, status));
         assert_eq!(rt; (failing, keeper.rows().len()), (failing, rows));
         let begins = heard(&left, 0).starts_with(STORE_FAULT.as_bytes());
@@ -187,9 +171,8 @@ fn a_door_and_an_output_fail(rt: HostRuntime) -> Result<(), Fail> {
         };
         let left = served(
             alloc,
-            &mut no_rows(alloc, 0, &[])?,
+            &mut no_rows(alloc, &[])?,
             DISCOVERY,
-            MOMENT,
             faults,
         )?;
         assert_eq!(rt; left.ending.status(), 8);
@@ -202,72 +185,11 @@ fn a_door_and_an_output_fail(rt: HostRuntime) -> Result<(), Fail> {
     };
     let left = served(
         alloc,
-        &mut no_rows(alloc, 0, &[])?,
+        &mut no_rows(alloc, &[])?,
         DISCOVERY,
-        MOMENT,
         faults,
     )?;
     assert_eq!(rt; left.ending.status(), 6);
     assert_eq!(rt; heard(&left, 1), DISCOVERED.as_bytes());
-    Ok(())
-}
-
-#[test]
-fn dates_go_on_behind_the_mark(rt: HostRuntime) -> Result<(), Fail> {
-    let alloc = rt.alloc();
-    // Three rows were there, and went; the clock has gone back.
-    let mut keeper = no_rows(alloc, MOMENT + 2, &[])?;
-    let Some(deletes) = CHANGES.find("GET") else {
-        panic!(rt; "a GET is sent");
-    };
-    served(alloc, &mut keeper, &CHANGES[..deletes], 0, NONE)?;
-    let left = served(alloc, &mut keeper, GOES_ON, 0, NONE)?;
-    let date = b"X-TAXII-Date-Added-Last: 2021-06-10T00:00:00.000003Z\r\n";
-    assert!(rt; holds(heard(&left, 0), date));
-    // No date is left.
-    let mut keeper = no_rows(alloc, 253_402_300_799_999_999, &[])?;
-    let left = served(alloc, &mut keeper, CHANGES, MOMENT, NONE)?;
-    assert!(rt; heard(&left, 0).starts_with(b"HTTP/1.1 503 Service Unavailable\r\n"));
-    assert!(rt; keeper.rows().is_empty());
-    // A mark past the last date.
-    let left = served(
-        alloc,
-        &mut no_rows(alloc, u64::MAX, &[])?,
-        CHANGES,
-        MOMENT,
-        NONE,
-    )?;
-    assert_eq!(rt; left.ending, ServeEnding::BadRow { after: 0 });
-    Ok(())
-}
-
-#[test]
-fn a_row_of_a_type_that_was_unknown_is_served(rt: HostRuntime) -> Result<(), Fail> {
-    let alloc = rt.alloc();
-    let body =
-        r#"{"id":"artifact--00000000-0000-4000-8000-000000000001","modified":"2021-06-10T00:00:00.000Z","payload_bin":"AA==","type":"artifact"}"#;
-    for (mark, ending) in [(MOMENT, 0u8), (MOMENT - 1, 10)] {
-        let mut rows = Items::new(alloc);
-        rows.push(StoredRow {
-            date: MOMENT,
-            collection: COLLECTION,
-            id: Id {
-                kind: Text::from_text(alloc, "artifact")?,
-                number: 0x4000_8000_0000_0000_0001,
-            },
-            version: 1_623_283_200_000_000,
-            dated: true,
-            body: Text::from_text(alloc, body)?,
-        })?;
-        let none = Items::new(alloc);
-        let mut keeper = MemoryKeeper::new(alloc, rows, mark, none);
-        let left = served(alloc, &mut keeper, ARTIFACT, MOMENT, NONE)?;
-        assert_eq!(rt; left.ending.status(), ending);
-        assert_eq!(rt; keeper.rows().len(), 1);
-        assert_eq!(rt;
-            holds(heard(&left, 0), b"\"version\":\"2021-06-10T00:00:00.000Z\""),
-            ending == 0
-        );
-    }
     Ok(())
 }

@@ -1,7 +1,7 @@
-//! The system's door, links and clock, over a loopback socket.
+//! The system's door and its links, over a loopback socket.
 
 use flow_edges::{Source, write_whole};
-use flow_links::{Clock, Door, SystemClock, TcpDoor};
+use flow_links::{Door, TcpDoor};
 use std::io::{Read, Write};
 use std::net::{Ipv4Addr, OpenListener, SocketAddr, TcpListener, TcpStream};
 use std::test::Fail;
@@ -33,22 +33,4 @@ fn a_caller_over_a_socket_is_answered(rt: HostRuntime) -> Result<(), Fail> {
     assert!(rt; buffer.starts_with(b"answer"));
     assert_eq!(rt; caller.read(&mut buffer)?, 0);
     Ok(())
-}
-
-#[test]
-fn a_port_that_is_taken_is_a_fault(rt: HostRuntime) -> Result<(), Fail> {
-    let listener = TcpListener::bind(&rt, SocketAddr::from((Ipv4Addr::LOCALHOST, 0)))?;
-    let port = listener.local_addr()?.port();
-    let mut door = TcpDoor::new(&rt);
-    assert!(rt; door.listen(port).is_err());
-    Ok(())
-}
-
-#[test]
-fn the_systems_clock_goes_on(rt: HostRuntime) {
-    let mut clock = SystemClock::new(&rt);
-    let first = clock.now();
-    // The first second of 2026.
-    assert!(rt; first >= 1_767_225_600_000_000);
-    assert!(rt; clock.now() >= first);
 }

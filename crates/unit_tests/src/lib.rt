@@ -9,15 +9,9 @@ mod failing_streams;
 #[cfg(test)]
 mod generated_log;
 #[cfg(test)]
-mod identifiers;
-#[cfg(test)]
-mod json;
-#[cfg(test)]
 mod lines;
 #[cfg(test)]
 mod lists;
-#[cfg(test)]
-mod object_groups;
 #[cfg(test)]
 mod paths;
 #[cfg(test)]
