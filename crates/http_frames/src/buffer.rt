@@ -1,8 +1,9 @@
-ghost use Rattle.std.specs.Prelude.{◌≡◌, ◌≤◌, [], ◌++◌, length, drop, OnOk, OnErr};
+ghost use Rattle.std.specs.Prelude.{◌≡◌, ◌≤◌, [], ◌++◌, length, drop, slice_range, IfOk, OnOk, OnErr};
 
 use flow_values::NoMemory;
 use std::alloc::Global;
 use std::marker::Model;
+use std::mem;
 
 /// Bytes that are added at the end and taken from the front. Contracts see those that are there.
 #[derive(Drop)]
@@ -50,8 +51,54 @@ impl Buffer {
         Ok(())
     }
 
+    /// Takes the bytes before `end`, and gives those of them from `start` on: with their memory where no
+    /// byte follows them, else as a copy. Where none are to be given, the buffer keeps its room. Without
+    /// memory it stays as it was.
+    pub(crate) fn take(
+        &mut self,
+        alloc: Global,
+        start: usize,
+        end: usize,
+    ) -> Result<Buffer, NoMemory>
+        requires order { start ≤ end }
+        requires within { end ≤ length self.old }
+        ensures given { IfOk result (λ given. given ≡ slice_range self.old start end) }
+        ensures rest { OnOk result (self.new ≡ drop end self.old) }
+        ensures err { OnErr result (self.new ≡ self.old) }
+    {
+        if start == end {
+            self.advance(end);
+            return Ok(Buffer::new(alloc));
+        }
+        if end == self.as_slice().len() {
+            return Ok(self.take_all(alloc, start));
+        }
+        let copy = Buffer::copied(alloc, &self.as_slice()[start..end])?;
+        self.advance(end);
+        Ok(copy)
+    }
+
+    /// Takes all bytes, and gives those from a place on with their memory.
+    fn take_all(&mut self, alloc: Global, start: usize) -> Buffer
+        requires { start ≤ length self.old }
+        ensures given { result ≡ drop start self.old }
+        ensures rest { self.new ≡ [] }
+    {
+        let mut all = mem::replace(self, Buffer::new(alloc));
+        all.advance(start);
+        all
+    }
+
+    /// A copy of some bytes.
+    fn copied(alloc: Global, bytes: &[u8]) -> Result<Buffer, NoMemory>
+        ensures { IfOk result (λ copy. copy ≡ bytes.now) }
+    {
+        let bytes = Vec::from_slice(alloc, bytes)?;
+        Ok(Buffer { bytes, taken: 0 })
+    }
+
     /// Takes so many bytes from the front.
-    pub(crate) fn take(&mut self, count: usize)
+    fn advance(&mut self, count: usize)
         requires { count ≤ length self.old }
         ensures { self.new ≡ drop count self.old }
     {

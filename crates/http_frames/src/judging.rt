@@ -1,17 +1,18 @@
-ghost use Rattle.std.specs.Prelude.{◌≡◌, ◌≤◌, ◌<◌, ◌^◌, false, length, IfOk};
+ghost use Rattle.std.specs.Prelude.{◌≡◌, ◌≤◌, ◌<◌, ◌^◌, false, [], length, IfOk};
 ghost use Rattle.std.specs.Str.{IsUtf8};
 ghost use Rattle.http_frames.specs.Fields.{lacks_host, has_bad_text, has_bad_text_in, has_coding, has_bad_length, lacks_length, body_length, closes};
 ghost use Rattle.http_frames.specs.Frames.{HoldsHead, refusal_of, request_of};
 ghost use Rattle.http_frames.specs.declared.grammar.TheConstants.{MAX_FIELDS};
 ghost use Rattle.http_frames.specs.inner.Searching.{IsFound};
 
+use crate::buffer::Buffer;
 use crate::close::any_asks_to_close;
 use crate::grammar::parse;
 use crate::head::Head;
 use crate::length::{all_state, first_length};
 use crate::texts::{are_texts, first_text, joined, text_of};
-use crate::{Method, Refusal, Request};
-use flow_values::{Items, NoMemory, Text};
+use crate::{Body, Method, Refusal, Request};
+use flow_values::{NoMemory, Text};
 use httparse::spans::HeaderSpan;
 use std::alloc::Global;
 
@@ -20,12 +21,16 @@ use std::alloc::Global;
 pub(crate) enum Found {
     /// More is wanted, until so many bytes have come.
     More(usize),
-    /// A request of so many bytes.
-    Request(Request, usize),
+    /// A request that lacks its body yet, and where that stands. The request ends with it.
+    Request {
+        request: Request,
+        start: usize,
+        end: usize,
+    },
     Refused(Refusal),
 }
 
-/// Judges the head that stands there, and takes its body where that is whole.
+/// Judges the head that stands there, and finds its body where that is whole.
 pub(crate) fn judge(
     alloc: Global,
     greatest_body: u64,
@@ -50,8 +55,12 @@ pub(crate) fn judge(
     if bytes.len() < whole {
         return Ok(Found::More(whole));
     }
-    let request = head.request(alloc, &bytes[end..whole])?;
-    Ok(Found::Request(request, whole))
+    let request = head.request(alloc)?;
+    Ok(Found::Request {
+        request,
+        start: end,
+        end: whole,
+    })
 }
 
 impl<'a> Head<'a> {
@@ -80,23 +89,22 @@ impl<'a> Head<'a> {
         Ok(None)
     }
 
-    /// The request with this body.
-    fn request(&self, alloc: Global, body: &[u8]) -> Result<Request, NoMemory>
+    /// The request, without its body.
+    fn request(&self, alloc: Global) -> Result<Request, NoMemory>
         requires target { IsUtf8 self.now.target }
         requires texts { has_bad_text self.now ≡ false }
-        ensures { IfOk result (λ request. request ≡ request_of self.now body.now) }
+        ensures { IfOk result (λ request. request ≡ request_of self.now []) }
     {
         let target = Text::from_text(alloc, text_of(self.target()))?;
         let accept = joined(alloc, &self.values(alloc, b"accept")?)?;
         let content_type = first_text(alloc, &self.values(alloc, b"content-type")?)?;
         let close = self.closes(alloc)?;
-        let body = Items::from_vec(Vec::from_slice(alloc, body)?);
         Ok(Request {
             method: Method::of(self.method()),
             target,
             accept,
             content_type,
-            body,
+            body: Body::new(Buffer::new(alloc)),
             close,
         })
     }

@@ -8,6 +8,7 @@
 
 mod answer;
 mod ascii;
+mod body;
 mod buffer;
 mod close;
 mod finding;
@@ -28,6 +29,7 @@ mod texts;
 mod writing;
 
 pub use answer::{Allow, Answer, MAX_DATE, refusal_answer};
+pub use body::Body;
 pub use frame::{Frame, MAX_HEAD};
 pub use method::Method;
 pub use refusal::Refusal;

@@ -1,5 +1,5 @@
-use crate::Method;
-use flow_values::{Items, Text};
+use crate::{Body, Method};
+use flow_values::Text;
 
 /// A whole request.
 #[derive(Debug, Drop)]
@@ -12,7 +12,7 @@ pub struct Request {
     /// The value of the first Content-Type field.
     pub content_type: Option<Text>,
     /// As many bytes as Content-Length says, or none.
-    pub body: Items<u8>,
+    pub body: Body,
     /// Whether the connection ends after the answer.
     pub close: bool,
 }

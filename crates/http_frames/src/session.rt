@@ -1,12 +1,12 @@
 ghost use Rattle.std.specs.Prelude.{◌≡◌, ◌++◌, [], IfOk, OnOk, OnErr};
 ghost use Rattle.http_frames.specs.Frames.{SessionState, IsFirstFrame};
 
-use crate::Frame;
 use crate::buffer::Buffer;
 use crate::finding::find_frame;
 use crate::grammar::MAX_FIELDS;
 use crate::judging::Found;
 use crate::search::HeadSearch;
+use crate::{Body, Frame};
 use flow_values::NoMemory;
 use httparse::spans::{EMPTY_HEADER_SPAN, HeaderSpan};
 use std::alloc::Global;
@@ -83,8 +83,12 @@ impl Session {
                 self.wanted = wanted;
                 Ok(Frame::More)
             }
-            Found::Request(request, size) => {
-                self.buffer.take(size);
+            Found::Request {
+                mut request,
+                start,
+                end,
+            } => {
+                request.body = Body::new(self.buffer.take(self.alloc, start, end)?);
                 self.search = HeadSearch::new();
                 self.wanted = 0;
                 Ok(Frame::Request(request))

@@ -1,8 +1,9 @@
 -- What the search for the end of a head keeps, and what it finds. No public contract cites these.
-use Rattle.std.specs.Prelude.{◌≡◌, ℕ, ◌+◌, ◌<◌, ◌≤◌, ◌⊎◌, true, false, List, ◌++◌, length, drop, slice_index}
+use Rattle.std.specs.Prelude.{◌≡◌, ℕ, ◌+◌, ◌<◌, ◌≤◌, ◌⊎◌, true, false, List, ◌++◌, length, drop, slice_index, slice_range}
 use Rattle.http_frames.specs.declared.search.HeadSearch.{HeadSearch}
 use Rattle.http_frames.specs.declared.judging.Found.{Found}
-use Rattle.http_frames.specs.declared.judging.Found.TheVariants.{More, Request, Refused}
+use Rattle.http_frames.specs.declared.judging.Found.TheVariants.{More, Request as Given, Refused}
+use Rattle.http_frames.specs.declared.request.Request.{Request}
 use Rattle.http_frames.specs.Heads.{is_line_byte, is_last_line_end, IsHeadAt}
 use Rattle.http_frames.specs.Frames.{WantsHead, WantsBody, GivesRequest, IsRefused}
 
@@ -44,8 +45,13 @@ IsMore greatest bytes = WantsHead bytes ⊎ WantsBody greatest bytes
 abbrev pub Wants : ℕ → List ℕ → ℕ → Type 0
 Wants greatest bytes wanted = (more : List ℕ) → length (bytes ++ more) < wanted → IsMore greatest (bytes ++ more)
 
+-- the request with this body
+abbrev pub with_body : Request → List ℕ → Request
+with_body request body = record request { body = body }
+
 -- what the bytes begin with
 abbrev pub IsFound : ℕ → List ℕ → Found → Type 0
 IsFound greatest bytes (More wanted) = IsMore greatest bytes × Wants greatest bytes wanted
-IsFound greatest bytes (Request request size) = GivesRequest greatest bytes request (drop size bytes) × (size ≤ length bytes)
+IsFound greatest bytes (Given request start end) =
+    GivesRequest greatest bytes (with_body request (slice_range bytes start end)) (drop end bytes) × (start ≤ end) × (end ≤ length bytes)
 IsFound greatest bytes (Refused refusal) = IsRefused greatest bytes refusal
