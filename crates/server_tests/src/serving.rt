@@ -169,12 +169,7 @@ fn a_door_and_an_output_fail(rt: HostRuntime) -> Result<(), Fail> {
             door: &numbers,
             ..NONE
         };
-        let left = served(
-            alloc,
-            &mut no_rows(alloc, &[])?,
-            DISCOVERY,
-            faults,
-        )?;
+        let left = served(alloc, &mut no_rows(alloc, &[])?, DISCOVERY, faults)?;
         assert_eq!(rt; left.ending.status(), 8);
         assert_eq!(rt; left.door.finished().len(), callers);
         assert!(rt; left.output.bytes().is_empty());
@@ -183,12 +178,7 @@ fn a_door_and_an_output_fail(rt: HostRuntime) -> Result<(), Fail> {
         output: &[1],
         ..NONE
     };
-    let left = served(
-        alloc,
-        &mut no_rows(alloc, &[])?,
-        DISCOVERY,
-        faults,
-    )?;
+    let left = served(alloc, &mut no_rows(alloc, &[])?, DISCOVERY, faults)?;
     assert_eq!(rt; left.ending.status(), 6);
     assert_eq!(rt; heard(&left, 1), DISCOVERED.as_bytes());
     Ok(())
