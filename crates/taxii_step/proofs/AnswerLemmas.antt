@@ -1,5 +1,5 @@
 -- What every answer of a step is: a status with a body, a status alone, or a page of the store's rows; and never a fault of the keeper.
-use Rattle.std.proofs.Common.{◌≡◌, ◌≢◌, ◌⊎◌, inl, inr, ℕ, List, Option, Some, sym, subst}
+use Rattle.std.proofs.Common.{◌≡◌, ◌≢◌, inl, inr, ℕ, List, Option, sym, subst}
 use Rattle.std.specs.Prelude.{Bool}
 use Rattle.stix_ids.specs.declared.id.Id.{Id}
 use Rattle.http_frames.specs.declared.answer.Allow.{Allow}
@@ -10,7 +10,7 @@ use Rattle.http_frames.specs.declared.request.Request.{Request}
 use Rattle.http_frames.specs.declared.status.Status.{Status as Code}
 use Rattle.http_frames.specs.declared.status.Status.TheVariants.{InternalServerError}
 use Rattle.taxii_bodies.specs.declared.problem.Problem.{Problem as Trouble}
-use Rattle.taxii_bodies.specs.declared.problem.Problem.TheVariants.{BadValue, Repeated, Forbidden, NotFound, NotAcceptable, UnsupportedMediaType, NotJson, NotList, StoreFault, DatesUsedUp}
+use Rattle.taxii_bodies.specs.declared.problem.Problem.TheVariants.{StoreFault}
 use Rattle.taxii_routes.specs.declared.query.Query.{Query}
 use Rattle.taxii_routes.specs.declared.route.Route.{Route}
 use Rattle.taxii_routes.specs.declared.route.Route.TheVariants.{Discovery, Root, Status, Collections, Collection, Manifest, Objects, Object, Versions, None as NoRoute}
@@ -20,7 +20,7 @@ use Rattle.taxii_requests.specs.declared.config.Config.{Config}
 use Rattle.taxii_requests.specs.declared.refusal.Refusal.{Refusal}
 use Rattle.taxii_requests.specs.declared.refusal.Refusal.TheVariants.{NotAllowed, Problem, NoMemory}
 use Rattle.taxii_requests.specs.declared.rights.Rights.{Rights}
-use Rattle.taxii_requests.specs.Answers.{body_answer, bare_answer, page_answer, problem_answer, status_of}
+use Rattle.taxii_requests.specs.Answers.{body_answer, bare_answer, page_answer, status_of}
 use Rattle.taxii_requests.specs.Checking.{IsRefusedFor}
 use Rattle.taxii_resources.specs.Finding.{allowed_of}
 use Rattle.taxii_resources.specs.Reading.{IsPageOf, IsReading}

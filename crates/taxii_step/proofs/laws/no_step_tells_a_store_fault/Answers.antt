@@ -2,4 +2,4 @@ use Rattle.taxii_step.proofs.AnswerLemmas.{step_no_fault}
 use Rattle.taxii_step.proofs.laws.no_step_tells_a_store_fault.Goals as goal
 
 pub returns : goal.returns
-returns g c config before moment request answer after step = step_no_fault config before moment request answer after step
+returns c config before moment request answer after step = step_no_fault config before moment request answer after step
