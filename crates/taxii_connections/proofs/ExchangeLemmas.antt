@@ -16,7 +16,7 @@ use Rattle.taxii_changes.specs.ServerState.{ServerState, server_of}
 use Rattle.taxii_step.specs.Step.{Step, FailsToKeep}
 use Rattle.taxii_histories.specs.Exchanges.{Course, IsExchange}
 use Rattle.taxii_histories.specs.Exchanges.Course.{Stepped, KeeperFailed, OutOfMemory}
-use Rattle.taxii_connections.specs.Outside.{Outside, GivesMoments, RoseBy}
+use Rattle.taxii_connections.specs.Outside.{Outside, GivesMoments}
 use Rattle.taxii_connections.specs.Connections.{Pass, is_out_of_memory}
 use Rattle.taxii_connections.specs.inner.Answering.{Answers}
 
