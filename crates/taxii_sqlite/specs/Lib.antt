@@ -2,3 +2,4 @@ pub mod KeeperState
 pub mod Failing
 pub mod Columns
 pub mod Transactions
+pub mod Statements

@@ -1,8 +1,9 @@
 //! What is asked of an open database.
 
-ghost use Rattle.std.specs.Prelude.{◌≡◌, OnOk, OnErr};
+ghost use Rattle.std.specs.Prelude.{◌≡◌, IfOk, OnOk, OnErr};
 ghost use Rattle.sqlite.specs.Held.{state};
 ghost use Rattle.sqlite.specs.State.{HasCleanDisk};
+ghost use Rattle.taxii_sqlite.specs.Statements.{AnswersNext, AnswersMark};
 ghost use Rattle.taxii_sqlite.specs.Transactions.{IsUntouched, IsSettled, GoesOn, StaysUnended};
 
 use crate::failure::Failure;
@@ -45,7 +46,9 @@ fn make_tables<S: Alter>(connection: &mut Connection<S>) -> Result<(), Failure>
 pub(crate) fn next_after<S: Alter>(
     connection: &mut Connection<S>,
     date: u64,
-) -> Result<Option<StoredRow>, Failure> {
+) -> Result<Option<StoredRow>, Failure>
+    ensures asks { HasCleanDisk (state S.Store connection.new) → IfOk result (AnswersNext date (state S.Store connection.old) (state S.Store connection.new)) }
+{
     let date = integer_of(date)?;
     match connection.query_row(NEXT_ROW, params![date]) {
         Ok(columns) => Ok(Some(read_row(&columns)?)),
@@ -55,7 +58,9 @@ pub(crate) fn next_after<S: Alter>(
 }
 
 /// The last date ever given.
-pub(crate) fn read_mark<S: Alter>(connection: &mut Connection<S>) -> Result<u64, Failure> {
+pub(crate) fn read_mark<S: Alter>(connection: &mut Connection<S>) -> Result<u64, Failure>
+    ensures asks { HasCleanDisk (state S.Store connection.new) → IfOk result (AnswersMark (state S.Store connection.old) (state S.Store connection.new)) }
+{
     let columns = connection.query_row(READ_MARK, &[])?;
     date_at(&columns, 0)
 }
