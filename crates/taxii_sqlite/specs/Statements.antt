@@ -1,12 +1,13 @@
 -- Which statements are run, with which values, and what they answer.
-use Rattle.std.specs.Prelude.{◌≡◌, ℕ, List, [], ◌∷◌, Option, None, Some, Ok, Err}
+use Rattle.std.specs.Prelude.{◌≡◌, ℕ, true, List, [], ◌∷◌, Option, None, Some, Ok, Err}
 use Rattle.sqlite_value.specs.declared.value.Value.{Value}
 use Rattle.sqlite_value.specs.Order.{column}
-use Rattle.sqlite.specs.State.{State, QueriesRow}
+use Rattle.sqlite.specs.State.{State, Executes, Commits, QueriesRow}
+use Rattle.sqlite.specs.Held.{Held}
 use Rattle.sqlite.specs.declared.error.Error.TheVariants.{QueryReturnedNoRows}
 use Rattle.taxii_rows.specs.declared.stored_row.StoredRow.{StoredRow}
 use Rattle.taxii_sqlite.specs.Columns.{HoldsRow, date_value}
-use Rattle.taxii_sqlite.specs.declared.schema.TheConstants.{NEXT_ROW, READ_MARK}
+use Rattle.taxii_sqlite.specs.declared.schema.TheConstants.{NEXT_ROW, READ_MARK, INSERT_ROW, DELETE_ROW, WRITE_MARK}
 
 -- the first row that is later than the date: the columns that `NEXT_ROW` answers hold it, or it answers no row
 abbrev pub AnswersNext : ℕ → State → State → Option StoredRow → Type 0
@@ -18,3 +19,44 @@ AnswersNext date before after (Some row) =
 abbrev pub AnswersMark : State → State → ℕ → Type 0
 AnswersMark before after mark =
     (columns : List Value) × (column columns 0 ≡ date_value mark) × QueriesRow READ_MARK.now [] before after (Ok columns)
+
+-- a step was done for each of the list, in turn
+abbrev pub InTurn : {X H : Type 0} → (X → H → H → Type 0) → List X → H → H → Type 0
+InTurn step [] before after = after ≡ before
+InTurn {X} {H} step (x ∷ more) before after = (between : H) × step x before between × InTurn step more between after
+
+-- a transaction was begun
+abbrev pub begun : {S : Type 0} → Held S → Held S
+begun before = record before { in_transaction = true }
+
+-- `shown` is what a connection shows
+module _ {S : Type 0} (shown : Held S → State) where
+  -- a statement was run with these values
+  abbrev pub Runs : List ℕ → List Value → Held S → Held S → Type 0
+  Runs text values before after = (count : ℕ) × Executes text values (shown before) (shown after) (Ok count)
+
+  -- the row was added: the columns that `INSERT_ROW` was given hold it
+  abbrev pub Inserts : StoredRow → Held S → Held S → Type 0
+  Inserts row before after = (columns : List Value) × HoldsRow columns row × Runs INSERT_ROW.now columns before after
+
+  -- the row of the date was removed
+  abbrev pub Deletes : ℕ → Held S → Held S → Type 0
+  Deletes date = Runs DELETE_ROW.now (date_value date ∷ [])
+
+  -- the date was made the mark
+  abbrev pub WritesMark : ℕ → Held S → Held S → Type 0
+  WritesMark mark = Runs WRITE_MARK.now (date_value mark ∷ [])
+
+  -- a transaction added the rows, made the date the mark, and was committed
+  pub record Appends (rows : List StoredRow) (mark : ℕ) (before after : Held S) : Type 0 where
+    pub with_rows : Held S
+    pub with_mark : Held S
+    pub inserts : InTurn Inserts rows (begun before) with_rows
+    pub writes_mark : WritesMark mark with_rows with_mark
+    pub commits : Commits (shown with_mark) (shown after)
+
+  -- a transaction removed the rows of the dates, and was committed
+  pub record Removes (dates : List ℕ) (before after : Held S) : Type 0 where
+    pub without_rows : Held S
+    pub deletes : InTurn Deletes dates (begun before) without_rows
+    pub commits : Commits (shown without_rows) (shown after)

@@ -3,7 +3,8 @@
 ghost use Rattle.std.specs.Prelude.{◌≡◌, IfOk, OnOk, OnErr};
 ghost use Rattle.sqlite.specs.Held.{state};
 ghost use Rattle.sqlite.specs.State.{HasCleanDisk};
-ghost use Rattle.taxii_sqlite.specs.Statements.{AnswersNext, AnswersMark};
+ghost use Rattle.sqlite.specs.Values.{bound};
+ghost use Rattle.taxii_sqlite.specs.Statements.{AnswersNext, AnswersMark, Runs, Inserts, Deletes, WritesMark, InTurn, Appends, Removes};
 ghost use Rattle.taxii_sqlite.specs.Transactions.{IsUntouched, IsSettled, GoesOn, StaysUnended};
 
 use crate::failure::Failure;
@@ -73,6 +74,7 @@ pub(crate) fn append<S: Alter>(
 ) -> Result<(), Failure>
     ensures ok { HasCleanDisk (state S.Store connection.new) → OnOk result (IsSettled (state S.Store connection.new)) }
     ensures err { HasCleanDisk (state S.Store connection.new) → OnErr result (IsUntouched (state S.Store connection.old) (state S.Store connection.new)) }
+    ensures runs { HasCleanDisk (state S.Store connection.new) → OnOk result (Appends (state S.Store) rows.now mark connection.old connection.new) }
 {
     if !connection.is_autocommit() {
         return Err(Failure::Fault);
@@ -88,6 +90,7 @@ pub(crate) fn append<S: Alter>(
 pub(crate) fn remove<S: Alter>(connection: &mut Connection<S>, dates: &[u64]) -> Result<(), Failure>
     ensures ok { HasCleanDisk (state S.Store connection.new) → OnOk result (IsSettled (state S.Store connection.new)) }
     ensures err { HasCleanDisk (state S.Store connection.new) → OnErr result (IsUntouched (state S.Store connection.old) (state S.Store connection.new)) }
+    ensures runs { HasCleanDisk (state S.Store connection.new) → OnOk result (Removes (state S.Store) dates.now connection.old connection.new) }
 {
     if !connection.is_autocommit() {
         return Err(Failure::Fault);
@@ -105,6 +108,7 @@ fn insert_rows<S: Alter>(
     ensures same_reference { transaction.new.conn.ghost_name ≡ transaction.old.conn.ghost_name }
     ensures inside { GoesOn (state S.Store transaction.old.conn.now) (state S.Store transaction.new.conn.now) }
     ensures unended { OnOk result (StaysUnended (state S.Store transaction.old.conn.now) (state S.Store transaction.new.conn.now)) }
+    ensures runs { HasCleanDisk (state S.Store transaction.new.conn.now) → OnOk result (InTurn (Inserts (state S.Store)) rows.now transaction.old.conn.now transaction.new.conn.now) }
 {
     for row in rows {
         insert_row(transaction, row)?;
@@ -119,6 +123,7 @@ fn insert_row<S: Alter>(
     ensures same_reference { transaction.new.conn.ghost_name ≡ transaction.old.conn.ghost_name }
     ensures inside { GoesOn (state S.Store transaction.old.conn.now) (state S.Store transaction.new.conn.now) }
     ensures unended { OnOk result (StaysUnended (state S.Store transaction.old.conn.now) (state S.Store transaction.new.conn.now)) }
+    ensures runs { HasCleanDisk (state S.Store transaction.new.conn.now) → OnOk result (Inserts (state S.Store) row.now transaction.old.conn.now transaction.new.conn.now) }
 {
     let date = integer_of(row.date)?;
     let collection = bytes_of(row.collection);
@@ -131,18 +136,29 @@ fn delete_rows<S: Alter>(transaction: &mut Transaction<'_, S>, dates: &[u64]) ->
     ensures same_reference { transaction.new.conn.ghost_name ≡ transaction.old.conn.ghost_name }
     ensures inside { GoesOn (state S.Store transaction.old.conn.now) (state S.Store transaction.new.conn.now) }
     ensures unended { OnOk result (StaysUnended (state S.Store transaction.old.conn.now) (state S.Store transaction.new.conn.now)) }
+    ensures runs { HasCleanDisk (state S.Store transaction.new.conn.now) → OnOk result (InTurn (Deletes (state S.Store)) dates.now transaction.old.conn.now transaction.new.conn.now) }
 {
     for date in dates {
-        let date = integer_of(*date)?;
-        execute(transaction, DELETE_ROW, params![date])?;
+        delete_row(transaction, *date)?;
     }
     Ok(())
+}
+
+fn delete_row<S: Alter>(transaction: &mut Transaction<'_, S>, date: u64) -> Result<(), Failure>
+    ensures same_reference { transaction.new.conn.ghost_name ≡ transaction.old.conn.ghost_name }
+    ensures inside { GoesOn (state S.Store transaction.old.conn.now) (state S.Store transaction.new.conn.now) }
+    ensures unended { OnOk result (StaysUnended (state S.Store transaction.old.conn.now) (state S.Store transaction.new.conn.now)) }
+    ensures runs { HasCleanDisk (state S.Store transaction.new.conn.now) → OnOk result (Deletes (state S.Store) date transaction.old.conn.now transaction.new.conn.now) }
+{
+    let date = integer_of(date)?;
+    execute(transaction, DELETE_ROW, params![date])
 }
 
 fn write_mark<S: Alter>(transaction: &mut Transaction<'_, S>, mark: u64) -> Result<(), Failure>
     ensures same_reference { transaction.new.conn.ghost_name ≡ transaction.old.conn.ghost_name }
     ensures inside { GoesOn (state S.Store transaction.old.conn.now) (state S.Store transaction.new.conn.now) }
     ensures unended { OnOk result (StaysUnended (state S.Store transaction.old.conn.now) (state S.Store transaction.new.conn.now)) }
+    ensures runs { HasCleanDisk (state S.Store transaction.new.conn.now) → OnOk result (WritesMark (state S.Store) mark transaction.old.conn.now transaction.new.conn.now) }
 {
     let mark = integer_of(mark)?;
     execute(transaction, WRITE_MARK, params![mark])
@@ -157,6 +173,7 @@ fn execute<S: Alter>(
     ensures same_reference { transaction.new.conn.ghost_name ≡ transaction.old.conn.ghost_name }
     ensures inside { GoesOn (state S.Store transaction.old.conn.now) (state S.Store transaction.new.conn.now) }
     ensures unended { OnOk result (StaysUnended (state S.Store transaction.old.conn.now) (state S.Store transaction.new.conn.now)) }
+    ensures runs { HasCleanDisk (state S.Store transaction.new.conn.now) → OnOk result (Runs (state S.Store) statement.now (bound columns.now) transaction.old.conn.now transaction.new.conn.now) }
 {
     transaction.execute(statement, columns)?;
     Ok(())
