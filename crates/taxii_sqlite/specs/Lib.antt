@@ -3,3 +3,4 @@ pub mod Failing
 pub mod Columns
 pub mod Transactions
 pub mod Statements
+pub mod Databases
