@@ -1,10 +1,13 @@
 -- What a database answers and does: by statements over its file, or over rows in memory.
-use Rattle.std.specs.Prelude.{◌≡◌, ℕ, List, Option}
+use Rattle.std.specs.Prelude.{◌≡◌, ◌≢◌, ℕ, List, [], Option}
 use Rattle.sqlite.specs.State.{HasCleanDisk}
-use Rattle.sqlite.specs.Files.{file_state}
+use Rattle.sqlite.specs.Files.{over_files, file_state}
+use Rattle.sqlite.specs.Held.{IsNew}
+use Rattle.sqlite.specs.Batch.{ExecutesAllInside}
 use Rattle.taxii_rows.specs.declared.stored_row.StoredRow.{StoredRow}
 use Rattle.taxii_rows.specs.Keeper.{row_after, with_rows, without}
-use Rattle.taxii_sqlite.specs.Statements.{AnswersNext, AnswersMark, InTurn, Transacts, Adds, Deletes}
+use Rattle.taxii_sqlite.specs.Statements.{AnswersNext, AnswersMark, InTurn, Transacts, Adds, Deletes, Succeeds, IsReady}
+use Rattle.taxii_sqlite.specs.declared.schema.TheConstants.{MAKE_TABLES}
 use Rattle.taxii_sqlite.specs.declared.connection.Database.{Database}
 use Rattle.taxii_sqlite.specs.declared.connection.Database.TheVariants.{Closed, Memory, Disk}
 
@@ -31,3 +34,11 @@ abbrev pub Removes : List ℕ → Database → Database → Type 0
 Removes dates (Disk before) (Disk after) = HasCleanDisk (file_state after) → Transacts file_state (InTurn (Deletes file_state) dates) before after
 Removes dates (Memory before) (Memory after) = after.state ≡ without dates before.state
 Removes dates _ _ = ⊥
+
+-- what was opened under a path: with an empty one no rows, in memory; with another one a file that was made ready
+abbrev pub IsOpenAt : List ℕ → Database → Type 0
+IsOpenAt path (Memory keeper) = (path ≡ []) × (keeper.state ≡ record { rows = []; mark = 0 })
+IsOpenAt path (Disk after) =
+    (path ≢ [])
+    × (HasCleanDisk (file_state after) → (before : _) × IsNew before × IsReady file_state (Succeeds (ExecutesAllInside over_files 0 MAKE_TABLES.now)) before after)
+IsOpenAt path Closed = ⊥

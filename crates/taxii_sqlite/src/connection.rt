@@ -1,6 +1,6 @@
 ghost use Rattle.std.specs.Prelude.{◌≡◌, true, IfOk, OnOk};
 ghost use Rattle.taxii_rows.specs.StoreState.{RiseFrom};
-ghost use Rattle.taxii_sqlite.specs.Databases.{FindsNext, FindsMark, Appends, Removes};
+ghost use Rattle.taxii_sqlite.specs.Databases.{FindsNext, FindsMark, Appends, Removes, IsOpenAt};
 ghost use Rattle.taxii_sqlite.specs.KeeperState.{is_open};
 
 use crate::failure::Failure;
@@ -23,7 +23,8 @@ impl Database {
     /// Opens the database of this path and makes it ready; or begins without rows, in memory, where the
     /// path is empty.
     pub(crate) fn open(alloc: Global, rt: &HostRuntime, path: &str) -> Result<Database, Failure>
-        ensures { IfOk result (λ database. is_open database ≡ true) }
+        ensures open { IfOk result (λ database. is_open database ≡ true) }
+        ensures ready { IfOk result (IsOpenAt path.now) }
     {
         if path.is_empty() {
             let rows = MemoryKeeper::new(alloc, Items::new(alloc), 0, Items::new(alloc));
