@@ -11,8 +11,8 @@ use std::marker::Model;
 use std::rt::HostRuntime;
 use taxii_rows::{Keeper, KeeperRefusal, StoredRow};
 
-/// Rows in a database of SQLite, or in memory. It tells no rows; contracts see whether it is attached, and its count
-/// of faults.
+/// Rows in a database of SQLite, or in memory. It tells no rows; contracts see whether it is attached, its count of
+/// faults, and what its database was asked.
 #[derive(Drop)]
 pub struct SqliteKeeper {
     alloc: Global,
