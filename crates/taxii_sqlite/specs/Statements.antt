@@ -1,4 +1,5 @@
--- Which statements are run, with which values, and what they answer.
+-- Which statements are run, with which values, and what they answer. What a statement does and answers is said by `Executes` and
+-- `QueriesRow` of the crate `sqlite`.
 use Rattle.std.specs.Prelude.{◌≡◌, ℕ, ℤ, pos, true, List, [], ◌∷◌, Option, None, Some, Result, Ok, Err}
 use Rattle.sqlite_value.specs.declared.value.Value.{Value}
 use Rattle.sqlite_value.specs.declared.value.Value.TheVariants.{Int}
@@ -22,7 +23,7 @@ abbrev pub AnswersMark : State → State → ℕ → Type 0
 AnswersMark before after mark =
     (columns : List Value) × (column columns 0 ≡ date_value mark) × QueriesRow READ_MARK.now [] before after (Ok columns)
 
--- the database has rows that no `NEXT_ROW` gives, so many as `COUNT_EARLY_ROWS` answers
+-- how many rows are early: no `NEXT_ROW` gives them, since their dates aren't past 0, and `COUNT_EARLY_ROWS` answers their count
 abbrev pub AnswersCount : State → State → ℤ → Type 0
 AnswersCount before after count =
     (columns : List Value) × (column columns 0 ≡ Int count) × QueriesRow COUNT_EARLY_ROWS.now [] before after (Ok columns)
@@ -30,19 +31,19 @@ AnswersCount before after count =
 -- a step was done for each of the list, in turn
 abbrev pub InTurn : {X H : Type 0} → (X → H → H → Type 0) → List X → H → H → Type 0
 InTurn step [] before after = after ≡ before
-InTurn {X} {H} step (x ∷ more) before after = (between : H) × step x before between × InTurn step more between after
+InTurn step (x ∷ more) before after = (between : _) × step x before between × InTurn step more between after
 
 -- a batch of statements ended well
 abbrev pub Succeeds : {S : Type 0} → (Held S → Held S → Result (Unit {0}) Error → Type 0) → Held S → Held S → Type 0
 Succeeds batch before after = batch before after (Ok tt)
 
--- a transaction was begun
+-- the same connection, in a transaction that was begun
 abbrev pub begun : {S : Type 0} → Held S → Held S
 begun before = record before { in_transaction = true }
 
 -- `shown` is what a connection shows
 module _ {S : Type 0} (shown : Held S → State) where
-  -- a transaction was begun, ran this alone, and was committed
+  -- a transaction was begun, this was run in it and nothing else, and it was committed
   pub record Transacts (Run : Held S → Held S → Type 0) (before after : Held S) : Type 0 where
     pub last : Held S
     pub run : Run (begun before) last
