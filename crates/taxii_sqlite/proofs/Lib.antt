@@ -1,1 +1,3 @@
 mod BehindLemmas
+mod InTurnLemmas
+mod CommitLemmas

@@ -2,3 +2,5 @@ pub mod KeeperState
 pub mod Failing
 pub mod Columns
 pub mod Transactions
+pub mod Statements
+pub mod Databases

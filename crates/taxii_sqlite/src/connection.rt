@@ -1,5 +1,6 @@
-ghost use Rattle.std.specs.Prelude.{◌≡◌, true, IfOk};
+ghost use Rattle.std.specs.Prelude.{◌≡◌, true, IfOk, OnOk};
 ghost use Rattle.taxii_rows.specs.StoreState.{RiseFrom};
+ghost use Rattle.taxii_sqlite.specs.Databases.{FindsNext, FindsMark, Appends, Removes, IsOpenAt};
 ghost use Rattle.taxii_sqlite.specs.KeeperState.{is_open};
 
 use crate::failure::Failure;
@@ -22,7 +23,8 @@ impl Database {
     /// Opens the database of this path and makes it ready; or begins without rows, in memory, where the
     /// path is empty.
     pub(crate) fn open(alloc: Global, rt: &HostRuntime, path: &str) -> Result<Database, Failure>
-        ensures { IfOk result (λ database. is_open database ≡ true) }
+        ensures open { IfOk result (λ database. is_open database ≡ true) }
+        ensures ready { IfOk result (IsOpenAt path.now) }
     {
         if path.is_empty() {
             let rows = MemoryKeeper::new(alloc, Items::new(alloc), 0, Items::new(alloc));
@@ -35,7 +37,8 @@ impl Database {
 
     /// The first row that is later than the date, or none.
     pub(crate) fn next_after(&mut self, date: u64) -> Result<Option<StoredRow>, Failure>
-        ensures { is_open self.new ≡ is_open self.old }
+        ensures open { is_open self.new ≡ is_open self.old }
+        ensures finds { IfOk result (FindsNext date self.old self.new) }
     {
         match self {
             Database::Closed => Err(Failure::Fault),
@@ -46,7 +49,8 @@ impl Database {
 
     /// The last date ever given.
     pub(crate) fn read_mark(&mut self) -> Result<u64, Failure>
-        ensures { is_open self.new ≡ is_open self.old }
+        ensures open { is_open self.new ≡ is_open self.old }
+        ensures finds { IfOk result (FindsMark self.old self.new) }
     {
         match self {
             Database::Closed => Err(Failure::Fault),
@@ -57,7 +61,8 @@ impl Database {
 
     /// Adds the rows and sets the mark, or changes nothing.
     pub(crate) fn append(&mut self, rows: &[StoredRow], mark: u64) -> Result<(), Failure>
-        ensures { is_open self.new ≡ is_open self.old }
+        ensures open { is_open self.new ≡ is_open self.old }
+        ensures appends { OnOk result (Appends rows.now mark self.old self.new) }
     {
         match self {
             Database::Closed => Err(Failure::Fault),
@@ -69,7 +74,8 @@ impl Database {
     /// Removes the rows of these dates, which rise, or changes nothing.
     pub(crate) fn remove(&mut self, dates: &[u64]) -> Result<(), Failure>
         requires { RiseFrom 0 dates.now }
-        ensures { is_open self.new ≡ is_open self.old }
+        ensures open { is_open self.new ≡ is_open self.old }
+        ensures removes { OnOk result (Removes dates.now self.old self.new) }
     {
         match self {
             Database::Closed => Err(Failure::Fault),

@@ -1,6 +1,8 @@
-ghost use Rattle.std.specs.Prelude.{◌≡◌, None, true, false, OnOk, OnErr};
+ghost use Rattle.std.specs.Prelude.{◌≡◌, None, true, false, IfOk, OnOk, OnErr};
 ghost use Rattle.taxii_rows.specs.KeeperCauses.{KeeperCauses};
 ghost use Rattle.taxii_rows.specs.StoreState.{RiseFrom};
+ghost use Rattle.taxii_sqlite.specs.Databases.{FindsNext, FindsMark, Appends, Removes, IsOpenAt};
+ghost use Rattle.taxii_sqlite.specs.declared.connection.Database.TheVariants.{Closed};
 
 use crate::connection::Database;
 use crate::failure::counted;
@@ -9,8 +11,8 @@ use std::marker::Model;
 use std::rt::HostRuntime;
 use taxii_rows::{Keeper, KeeperRefusal, StoredRow};
 
-/// Rows in a database of SQLite, or in memory. It tells no rows; contracts see whether it is attached, and its count
-/// of faults.
+/// Rows in a database of SQLite, or in memory. It tells no rows; contracts see whether it is attached, its count of
+/// faults, and what its database was asked.
 #[derive(Drop)]
 pub struct SqliteKeeper {
     alloc: Global,
@@ -20,17 +22,21 @@ pub struct SqliteKeeper {
 }
 
 impl Model for SqliteKeeper {
+    ghost use Rattle.std.specs.Coded.{codes};
     ghost use Rattle.taxii_sqlite.specs.KeeperState.{KeeperState, is_open};
+    ghost use Rattle.taxii_sqlite.specs.contracts.connection.Database as held;
 
     ghost Value = { KeeperState };
 
-    ghost view = { λ keeper. record { attached = is_open keeper.database; faults = keeper.faults } };
+    ghost coded = { Prim.hlevel (codes, held.the_row.coded) };
+
+    ghost view = { λ keeper. record { attached = is_open keeper.database; faults = keeper.faults; database = keeper.database } };
 }
 
 impl SqliteKeeper {
     /// A keeper that isn't attached, and has failed in no call yet. Opens nothing and takes no memory.
     pub fn new(alloc: Global, rt: HostRuntime) -> SqliteKeeper
-        ensures { result ≡ record { attached = false; faults = 0 } }
+        ensures { result ≡ record { attached = false; faults = 0; database = Closed } }
     {
         SqliteKeeper {
             alloc,
@@ -56,6 +62,8 @@ impl Keeper for SqliteKeeper {
     fn attach(&mut self, text: &str) -> Result<(), KeeperRefusal>
         ensures ok { OnOk result (self.new.attached ≡ true) }
         ensures err { OnErr result (self.new.attached ≡ self.old.attached) }
+        ensures ready { OnOk result (IsOpenAt text.now self.new.database) }
+        ensures kept { OnErr result (self.new.database ≡ self.old.database) }
         ensures causes { KeeperCauses self.old.faults self.new.faults result }
     {
         let opened = Database::open(self.alloc, &self.rt, text);
@@ -64,6 +72,7 @@ impl Keeper for SqliteKeeper {
     }
 
     fn next_after(&mut self, date: u64) -> Result<Option<StoredRow>, KeeperRefusal>
+        ensures finds { IfOk result (FindsNext date self.old.database self.new.database) }
         ensures attached { self.new.attached ≡ self.old.attached }
         ensures causes { KeeperCauses self.old.faults self.new.faults result }
     {
@@ -72,6 +81,7 @@ impl Keeper for SqliteKeeper {
     }
 
     fn mark(&mut self) -> Result<u64, KeeperRefusal>
+        ensures finds { IfOk result (FindsMark self.old.database self.new.database) }
         ensures attached { self.new.attached ≡ self.old.attached }
         ensures causes { KeeperCauses self.old.faults self.new.faults result }
     {
@@ -80,6 +90,7 @@ impl Keeper for SqliteKeeper {
     }
 
     fn append(&mut self, rows: &[StoredRow], mark: u64) -> Result<(), KeeperRefusal>
+        ensures appends { OnOk result (Appends rows.now mark self.old.database self.new.database) }
         ensures attached { self.new.attached ≡ self.old.attached }
         ensures causes { KeeperCauses self.old.faults self.new.faults result }
     {
@@ -89,6 +100,7 @@ impl Keeper for SqliteKeeper {
 
     fn remove(&mut self, dates: &[u64]) -> Result<(), KeeperRefusal>
         requires rise { RiseFrom 0 dates.now }
+        ensures removes { OnOk result (Removes dates.now self.old.database self.new.database) }
         ensures attached { self.new.attached ≡ self.old.attached }
         ensures causes { KeeperCauses self.old.faults self.new.faults result }
     {

@@ -2,10 +2,12 @@
 //! store without a file.
 //!
 //! `SqliteKeeper` is a `taxii_rows::Keeper`. It doesn't tell its rows to contracts: they see when it is
-//! attached, and that it counts each fault and nothing else. Below that it is proved that the columns of a
-//! line hold the row that is read from them or written to them, and that a call which adds or removes
-//! rows commits all that it does or changes nothing (`statements.rt`). What the texts of `schema.rt` ask
-//! of the database is only tested.
+//! attached, that it counts each fault and nothing else, and what its database was asked. Over a file
+//! that is which statements of `schema.rt` were run, in which order and with the columns of which rows,
+//! alone in a transaction that was committed, or what they answered (`specs/Statements.antt`); in memory
+//! it is the rows themselves. A call that adds or removes rows commits all that it does or changes
+//! nothing. What a statement does is the crate `sqlite`'s to say: that those of `schema.rt` keep a
+//! store's rows is only tested.
 #![tactic(auto)]
 
 mod connection;

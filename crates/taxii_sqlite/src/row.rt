@@ -2,6 +2,7 @@ ghost use Rattle.std.specs.Prelude.{◌≡◌, ◌≢◌, ◌^◌, ◌≤◌, �
 ghost use Rattle.std.specs.Int.{w128, from_be_bytes};
 ghost use Rattle.sqlite_value.specs.Order.{column};
 ghost use Rattle.sqlite_value.specs.Value.{owned};
+ghost use Rattle.sqlite.specs.Values.{bound};
 ghost use Rattle.taxii_rows.specs.declared.stored_row.StoredRow.{StoredRow as WholeRow};
 ghost use Rattle.taxii_sqlite.specs.Columns.{HoldsRow, HoldsNumber, HoldsText, date_value, truth_value};
 ghost use Rattle.taxii_sqlite.specs.declared.failure.Failure.TheVariants.{Fault as IsFault};
@@ -39,7 +40,8 @@ pub(crate) fn columns_of<'a>(
     requires date { date ≡ pos row.now.date }
     requires collection { row.now.collection ≡ from_be_bytes w128 collection.now }
     requires number { row.now.id.number ≡ from_be_bytes w128 number.now }
-    ensures { HoldsRow (map owned result) row.now }
+    ensures holds { HoldsRow (map owned result) row.now }
+    ensures given { HoldsRow (bound result) row.now }
 {
     [
         ValueRef::Int(date),

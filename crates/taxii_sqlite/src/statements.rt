@@ -1,8 +1,11 @@
 //! What is asked of an open database.
 
-ghost use Rattle.std.specs.Prelude.{◌≡◌, OnOk, OnErr};
+ghost use Rattle.std.specs.Prelude.{◌≡◌, IfOk, OnOk, OnErr};
+ghost use Rattle.sqlite.specs.Batch.{ExecutesAllInside};
 ghost use Rattle.sqlite.specs.Held.{state};
 ghost use Rattle.sqlite.specs.State.{HasCleanDisk};
+ghost use Rattle.sqlite.specs.Values.{bound};
+ghost use Rattle.taxii_sqlite.specs.Statements.{AnswersNext, AnswersMark, AnswersCount, Runs, Inserts, Deletes, WritesMark, InTurn, Adds, Transacts, Succeeds, IsReady};
 ghost use Rattle.taxii_sqlite.specs.Transactions.{IsUntouched, IsSettled, GoesOn, StaysUnended};
 
 use crate::failure::Failure;
@@ -16,11 +19,12 @@ use taxii_rows::StoredRow;
 
 /// Makes the tables where they are absent, and sees that the database is a store: it has a mark, and no
 /// row that `next_after` would never give.
-pub(crate) fn make_ready<S: Alter>(connection: &mut Connection<S>) -> Result<(), Failure> {
+pub(crate) fn make_ready<S: Alter>(connection: &mut Connection<S>) -> Result<(), Failure>
+    ensures ready { HasCleanDisk (state S.Store connection.new) → OnOk result (IsReady (state S.Store) (Succeeds (ExecutesAllInside S.Store 0 MAKE_TABLES.now)) connection.old connection.new) }
+{
     make_tables(connection)?;
     let _mark = read_mark(connection)?;
-    let early: i64 = connection.query_row(COUNT_EARLY_ROWS, &[])?.get(0)?;
-    if early == 0 {
+    if count_early_rows(connection)? == 0 {
         Ok(())
     } else {
         Err(Failure::Fault)
@@ -31,6 +35,7 @@ pub(crate) fn make_ready<S: Alter>(connection: &mut Connection<S>) -> Result<(),
 fn make_tables<S: Alter>(connection: &mut Connection<S>) -> Result<(), Failure>
     ensures ok { HasCleanDisk (state S.Store connection.new) → OnOk result (IsSettled (state S.Store connection.new)) }
     ensures err { HasCleanDisk (state S.Store connection.new) → OnErr result (IsUntouched (state S.Store connection.old) (state S.Store connection.new)) }
+    ensures runs { HasCleanDisk (state S.Store connection.new) → OnOk result (Transacts (state S.Store) (Succeeds (ExecutesAllInside S.Store 0 MAKE_TABLES.now)) connection.old connection.new) }
 {
     if !connection.is_autocommit() {
         return Err(Failure::Fault);
@@ -45,7 +50,9 @@ fn make_tables<S: Alter>(connection: &mut Connection<S>) -> Result<(), Failure>
 pub(crate) fn next_after<S: Alter>(
     connection: &mut Connection<S>,
     date: u64,
-) -> Result<Option<StoredRow>, Failure> {
+) -> Result<Option<StoredRow>, Failure>
+    ensures asks { HasCleanDisk (state S.Store connection.new) → IfOk result (AnswersNext date (state S.Store connection.old) (state S.Store connection.new)) }
+{
     let date = integer_of(date)?;
     match connection.query_row(NEXT_ROW, params![date]) {
         Ok(columns) => Ok(Some(read_row(&columns)?)),
@@ -55,9 +62,21 @@ pub(crate) fn next_after<S: Alter>(
 }
 
 /// The last date ever given.
-pub(crate) fn read_mark<S: Alter>(connection: &mut Connection<S>) -> Result<u64, Failure> {
+pub(crate) fn read_mark<S: Alter>(connection: &mut Connection<S>) -> Result<u64, Failure>
+    ensures asks { HasCleanDisk (state S.Store connection.new) → IfOk result (AnswersMark (state S.Store connection.old) (state S.Store connection.new)) }
+    ensures clean { HasCleanDisk (state S.Store connection.new) → HasCleanDisk (state S.Store connection.old) }
+{
     let columns = connection.query_row(READ_MARK, &[])?;
     date_at(&columns, 0)
+}
+
+/// How many rows have dates that aren't past 0.
+fn count_early_rows<S: Alter>(connection: &mut Connection<S>) -> Result<i64, Failure>
+    ensures asks { HasCleanDisk (state S.Store connection.new) → IfOk result (AnswersCount (state S.Store connection.old) (state S.Store connection.new)) }
+    ensures clean { HasCleanDisk (state S.Store connection.new) → HasCleanDisk (state S.Store connection.old) }
+{
+    let columns = connection.query_row(COUNT_EARLY_ROWS, &[])?;
+    Ok(columns.get(0)?)
 }
 
 /// Adds the rows and sets the mark, and commits; or changes nothing.
@@ -68,6 +87,7 @@ pub(crate) fn append<S: Alter>(
 ) -> Result<(), Failure>
     ensures ok { HasCleanDisk (state S.Store connection.new) → OnOk result (IsSettled (state S.Store connection.new)) }
     ensures err { HasCleanDisk (state S.Store connection.new) → OnErr result (IsUntouched (state S.Store connection.old) (state S.Store connection.new)) }
+    ensures runs { HasCleanDisk (state S.Store connection.new) → OnOk result (Transacts (state S.Store) (Adds (state S.Store) rows.now mark) connection.old connection.new) }
 {
     if !connection.is_autocommit() {
         return Err(Failure::Fault);
@@ -83,6 +103,7 @@ pub(crate) fn append<S: Alter>(
 pub(crate) fn remove<S: Alter>(connection: &mut Connection<S>, dates: &[u64]) -> Result<(), Failure>
     ensures ok { HasCleanDisk (state S.Store connection.new) → OnOk result (IsSettled (state S.Store connection.new)) }
     ensures err { HasCleanDisk (state S.Store connection.new) → OnErr result (IsUntouched (state S.Store connection.old) (state S.Store connection.new)) }
+    ensures runs { HasCleanDisk (state S.Store connection.new) → OnOk result (Transacts (state S.Store) (InTurn (Deletes (state S.Store)) dates.now) connection.old connection.new) }
 {
     if !connection.is_autocommit() {
         return Err(Failure::Fault);
@@ -100,6 +121,7 @@ fn insert_rows<S: Alter>(
     ensures same_reference { transaction.new.conn.ghost_name ≡ transaction.old.conn.ghost_name }
     ensures inside { GoesOn (state S.Store transaction.old.conn.now) (state S.Store transaction.new.conn.now) }
     ensures unended { OnOk result (StaysUnended (state S.Store transaction.old.conn.now) (state S.Store transaction.new.conn.now)) }
+    ensures runs { HasCleanDisk (state S.Store transaction.new.conn.now) → OnOk result (InTurn (Inserts (state S.Store)) rows.now transaction.old.conn.now transaction.new.conn.now) }
 {
     for row in rows {
         insert_row(transaction, row)?;
@@ -114,6 +136,7 @@ fn insert_row<S: Alter>(
     ensures same_reference { transaction.new.conn.ghost_name ≡ transaction.old.conn.ghost_name }
     ensures inside { GoesOn (state S.Store transaction.old.conn.now) (state S.Store transaction.new.conn.now) }
     ensures unended { OnOk result (StaysUnended (state S.Store transaction.old.conn.now) (state S.Store transaction.new.conn.now)) }
+    ensures runs { HasCleanDisk (state S.Store transaction.new.conn.now) → OnOk result (Inserts (state S.Store) row.now transaction.old.conn.now transaction.new.conn.now) }
 {
     let date = integer_of(row.date)?;
     let collection = bytes_of(row.collection);
@@ -126,18 +149,29 @@ fn delete_rows<S: Alter>(transaction: &mut Transaction<'_, S>, dates: &[u64]) ->
     ensures same_reference { transaction.new.conn.ghost_name ≡ transaction.old.conn.ghost_name }
     ensures inside { GoesOn (state S.Store transaction.old.conn.now) (state S.Store transaction.new.conn.now) }
     ensures unended { OnOk result (StaysUnended (state S.Store transaction.old.conn.now) (state S.Store transaction.new.conn.now)) }
+    ensures runs { HasCleanDisk (state S.Store transaction.new.conn.now) → OnOk result (InTurn (Deletes (state S.Store)) dates.now transaction.old.conn.now transaction.new.conn.now) }
 {
     for date in dates {
-        let date = integer_of(*date)?;
-        execute(transaction, DELETE_ROW, params![date])?;
+        delete_row(transaction, *date)?;
     }
     Ok(())
+}
+
+fn delete_row<S: Alter>(transaction: &mut Transaction<'_, S>, date: u64) -> Result<(), Failure>
+    ensures same_reference { transaction.new.conn.ghost_name ≡ transaction.old.conn.ghost_name }
+    ensures inside { GoesOn (state S.Store transaction.old.conn.now) (state S.Store transaction.new.conn.now) }
+    ensures unended { OnOk result (StaysUnended (state S.Store transaction.old.conn.now) (state S.Store transaction.new.conn.now)) }
+    ensures runs { HasCleanDisk (state S.Store transaction.new.conn.now) → OnOk result (Deletes (state S.Store) date transaction.old.conn.now transaction.new.conn.now) }
+{
+    let date = integer_of(date)?;
+    execute(transaction, DELETE_ROW, params![date])
 }
 
 fn write_mark<S: Alter>(transaction: &mut Transaction<'_, S>, mark: u64) -> Result<(), Failure>
     ensures same_reference { transaction.new.conn.ghost_name ≡ transaction.old.conn.ghost_name }
     ensures inside { GoesOn (state S.Store transaction.old.conn.now) (state S.Store transaction.new.conn.now) }
     ensures unended { OnOk result (StaysUnended (state S.Store transaction.old.conn.now) (state S.Store transaction.new.conn.now)) }
+    ensures runs { HasCleanDisk (state S.Store transaction.new.conn.now) → OnOk result (WritesMark (state S.Store) mark transaction.old.conn.now transaction.new.conn.now) }
 {
     let mark = integer_of(mark)?;
     execute(transaction, WRITE_MARK, params![mark])
@@ -152,6 +186,7 @@ fn execute<S: Alter>(
     ensures same_reference { transaction.new.conn.ghost_name ≡ transaction.old.conn.ghost_name }
     ensures inside { GoesOn (state S.Store transaction.old.conn.now) (state S.Store transaction.new.conn.now) }
     ensures unended { OnOk result (StaysUnended (state S.Store transaction.old.conn.now) (state S.Store transaction.new.conn.now)) }
+    ensures runs { HasCleanDisk (state S.Store transaction.new.conn.now) → OnOk result (Runs (state S.Store) statement.now (bound columns.now) transaction.old.conn.now transaction.new.conn.now) }
 {
     transaction.execute(statement, columns)?;
     Ok(())

@@ -1,0 +1,21 @@
+-- Each step was asked of the disk as the one before left it, which was clean.
+use Rattle.std.proofs.Common.{◌≡◌, pos, rules, subst}
+use Rattle.std.proofs.lemmas.Int.{ints}
+use Rattle.sqlite.specs.Held.{state}
+use Rattle.taxii_sqlite.specs.Statements.{AnswersCount}
+use Rattle.taxii_sqlite.proofs.statements.make_ready.Goals as goal
+
+pub returns-then-branch-eq0 : goal.returns-then-branch-eq0
+returns-then-branch-eq0 g c = record {
+  ready = λ clean.
+      let read = c.count_early_rows.ensures.clean clean in
+      let made = c.read_mark.ensures.clean read in
+      record {
+        made = c.make_tables.new.connection;
+        marked = c.read_mark.new.connection;
+        mark = c.in_ok-_mark._mark;
+        makes = c.in_ok-make_tables.ensures.runs made;
+        has_mark = c.in_ok-_mark.ensures.asks read;
+        has_none_early = let none : c.in_ok-count_early_rows.field-0 ≡ pos 0 = search (rules, ints) in subst (λ count. AnswersCount (state g.S.Store c.read_mark.new.connection) (state g.S.Store c.count_early_rows.new.connection) count) none (c.in_ok-count_early_rows.ensures.asks clean);
+      };
+}

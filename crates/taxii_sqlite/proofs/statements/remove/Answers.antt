@@ -1,0 +1,17 @@
+-- The rows are removed, and that is committed.
+use Rattle.std.proofs.Common.{rules, arith}
+use Rattle.sqlite.specs.Held.{state}
+use Rattle.taxii_sqlite.specs.Statements.{InTurn, Deletes}
+use Rattle.taxii_sqlite.proofs.CommitLemmas.{transacts}
+use Rattle.taxii_sqlite.proofs.statements.remove.Goals as goal
+
+pub returns-clause-runs : goal.returns-clause-runs
+returns-clause-runs g c =
+    let last = c.delete_rows.new.transaction.conn.now in
+    transacts (state g.S.Store) (InTurn (Deletes (state g.S.Store)) c.args.dates.now) c.args.connection.now c.transaction-transaction.result.conn.now last c.commit.new.self.0 _ c.transaction-transaction.ensures.begun
+    c.in_ok-delete_rows.ensures.runs
+    (record {
+      clean = λ kept. omega (arith, c.commit.ensures.survives.clean);
+      commits = λ kept. let done = c.in_ok-commit.ensures.ok kept in (done.1, done.2, done.3);
+    })
+    (search rules)

@@ -1,0 +1,79 @@
+-- Which statements are run, with which values, and what they answer. What a statement does and answers is said by `Executes` and
+-- `QueriesRow` of the crate `sqlite`.
+use Rattle.std.specs.Prelude.{◌≡◌, ℕ, ℤ, pos, true, List, [], ◌∷◌, Option, None, Some, Result, Ok, Err}
+use Rattle.sqlite_value.specs.declared.value.Value.{Value}
+use Rattle.sqlite_value.specs.declared.value.Value.TheVariants.{Int}
+use Rattle.sqlite_value.specs.Order.{column}
+use Rattle.sqlite.specs.State.{State, Executes, Commits, QueriesRow}
+use Rattle.sqlite.specs.Held.{Held}
+use Rattle.sqlite.specs.declared.error.Error.{Error}
+use Rattle.sqlite.specs.declared.error.Error.TheVariants.{QueryReturnedNoRows}
+use Rattle.taxii_rows.specs.declared.stored_row.StoredRow.{StoredRow}
+use Rattle.taxii_sqlite.specs.Columns.{HoldsRow, date_value}
+use Rattle.taxii_sqlite.specs.declared.schema.TheConstants.{COUNT_EARLY_ROWS, NEXT_ROW, READ_MARK, INSERT_ROW, DELETE_ROW, WRITE_MARK}
+
+-- the first row that is later than the date: the columns that `NEXT_ROW` answers hold it, or it answers no row
+abbrev pub AnswersNext : ℕ → State → State → Option StoredRow → Type 0
+AnswersNext date before after None = QueriesRow NEXT_ROW.now (date_value date ∷ []) before after (Err QueryReturnedNoRows)
+AnswersNext date before after (Some row) =
+    (columns : List Value) × HoldsRow columns row × QueriesRow NEXT_ROW.now (date_value date ∷ []) before after (Ok columns)
+
+-- the mark: the column that `READ_MARK` answers holds it
+abbrev pub AnswersMark : State → State → ℕ → Type 0
+AnswersMark before after mark =
+    (columns : List Value) × (column columns 0 ≡ date_value mark) × QueriesRow READ_MARK.now [] before after (Ok columns)
+
+-- how many rows are early: no `NEXT_ROW` gives them, since their dates aren't past 0, and `COUNT_EARLY_ROWS` answers their count
+abbrev pub AnswersCount : State → State → ℤ → Type 0
+AnswersCount before after count =
+    (columns : List Value) × (column columns 0 ≡ Int count) × QueriesRow COUNT_EARLY_ROWS.now [] before after (Ok columns)
+
+-- a step was done for each of the list, in turn
+abbrev pub InTurn : {X H : Type 0} → (X → H → H → Type 0) → List X → H → H → Type 0
+InTurn step [] before after = after ≡ before
+InTurn step (x ∷ more) before after = (between : _) × step x before between × InTurn step more between after
+
+-- a batch of statements ended well
+abbrev pub Succeeds : {S : Type 0} → (Held S → Held S → Result (Unit {0}) Error → Type 0) → Held S → Held S → Type 0
+Succeeds batch before after = batch before after (Ok tt)
+
+-- the same connection, in a transaction that was begun
+abbrev pub begun : {S : Type 0} → Held S → Held S
+begun before = record before { in_transaction = true }
+
+-- `shown` is what a connection shows
+module _ {S : Type 0} (shown : Held S → State) where
+  -- a transaction was begun, this was run in it and nothing else, and it was committed
+  pub record Transacts (Run : Held S → Held S → Type 0) (before after : Held S) : Type 0 where
+    pub last : Held S
+    pub run : Run (begun before) last
+    pub commits : Commits (shown last) (shown after)
+
+  -- a statement was run with these values
+  abbrev pub Runs : List ℕ → List Value → Held S → Held S → Type 0
+  Runs text values before after = (count : ℕ) × Executes text values (shown before) (shown after) (Ok count)
+
+  -- the row was added: the columns that `INSERT_ROW` was given hold it
+  abbrev pub Inserts : StoredRow → Held S → Held S → Type 0
+  Inserts row before after = (columns : List Value) × HoldsRow columns row × Runs INSERT_ROW.now columns before after
+
+  -- the row of the date was removed
+  abbrev pub Deletes : ℕ → Held S → Held S → Type 0
+  Deletes date = Runs DELETE_ROW.now (date_value date ∷ [])
+
+  -- the date was made the mark
+  abbrev pub WritesMark : ℕ → Held S → Held S → Type 0
+  WritesMark mark = Runs WRITE_MARK.now (date_value mark ∷ [])
+
+  -- the rows were added in turn, and then the date was made the mark
+  abbrev pub Adds : List StoredRow → ℕ → Held S → Held S → Type 0
+  Adds rows mark before after = (with_rows : Held S) × InTurn Inserts rows before with_rows × WritesMark mark with_rows after
+
+  -- the tables were made where they were absent, then a mark was read, and then it was counted that no row is early
+  pub record IsReady (MakesTables : Held S → Held S → Type 0) (before after : Held S) : Type 0 where
+    pub made : Held S
+    pub marked : Held S
+    pub mark : ℕ
+    pub makes : Transacts MakesTables before made
+    pub has_mark : AnswersMark (shown made) (shown marked) mark
+    pub has_none_early : AnswersCount (shown marked) (shown after) (pos 0)
