@@ -1,6 +1,7 @@
 mod TimestampLemmas
 mod IdentifierLemmas
 mod ListLemmas
+mod NamesLemmas
 mod JudgingLemmas
 mod BreaksLemmas
 mod SomeBreaksLemmas

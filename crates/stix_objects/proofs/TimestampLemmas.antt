@@ -1,7 +1,8 @@
 -- A text that names an instant does so with three to six digits of a second, or is refused for these alone.
-use Rattle.std.proofs.Common.{◌↔◌, ◌<ℤ◌, ◌≤ℤ◌, Bool, not, IsTrue, subst, ◌≡◌, ℕ, ℤ, ◌⊎◌, inl, inr, List, length, Result, Ok, Err, Option, IfSome, unwrap_or, ap, sym, ◌∙◌, Some, None, true, false, refl, arith}
+use Rattle.std.proofs.Common.{◌↔◌, ◌<ℤ◌, ◌≤ℤ◌, Bool, not, IsTrue, subst, ◌≡◌, ℕ, ℤ, ◌⊎◌, inl, inr, List, length, Result, Ok, Err, Option, IfSome, unwrap_or, ap, sym, ◌∙◌, Some, None, true, false, refl, arith, bytes_eq}
 use Rattle.std.proofs.lemmas.Bool.Decides.{leb_tells}
 use Rattle.std.proofs.lemmas.Int.{ints, by_lt_z}
+use Rattle.std.proofs.lemmas.Slice.Eq.{bytes_eq-Decides}
 use Rattle.flow_values.specs.Answers.{FindsExactly}
 use Rattle.stix_times.specs.declared.refusal.TimeRefusal.{TimeRefusal}
 use Rattle.stix_times.specs.declared.refusal.TimeRefusal.TheVariants.{NotMillis}
@@ -10,6 +11,8 @@ use Rattle.serde_json.specs.Data.{Data}
 use Rattle.stix_objects.specs.declared.form.Precision.{Precision}
 use Rattle.stix_objects.specs.declared.form.Precision.TheVariants.{Any, Millis}
 use Rattle.stix_objects.specs.Singles.{IsTimestampOf}
+use Rattle.stix_json.specs.Properties.{text_at}
+use Rattle.stix_objects.specs.Conditions.{SecondIsEarlier}
 use Rattle.stix_objects.specs.Properties.{IsTimestampAt}
 use Rattle.stix_times.specs.Reading.{HasMillis, IsTextOf, IsMillisTextOf, Reads, ReadsMillis, IsRefusedMillis}
 
@@ -90,3 +93,22 @@ pub timestamp_once : OneInstant → (precision : Precision) (name : List ℕ) (d
 timestamp_once one precision name d first second is also =
     let text : also.text ≡ is.text = ap (λ (o : Option (List ℕ)). unwrap_or o also.text) (sym also.there ∙ is.there) in
     instant_once one precision is.text first second is.names (subst (λ (t : List ℕ). IsTimestampOf precision t second) text also.names)
+
+is_equal : (first second : List ℕ) → not (bytes_eq first second) ≡ false → first ≡ second
+is_equal first second is = (bytes_eq-Decides first second).0 (told (bytes_eq first second) is)
+  where
+    told : (b : Bool) → not b ≡ false → b ≡ true
+    told true is = refl
+    told false is = absurd (cc)
+
+-- of two properties with one text the second isn't earlier than the first
+pub never_earlier : OneInstant → (precision : Precision) (first second : List ℕ) (d : Data) (from to : List ℕ) → Some from ≡ text_at first d → Some to ≡ text_at second d
+    → not (bytes_eq from to) ≡ false → SecondIsEarlier precision first second d → ⊥
+never_earlier one precision first second d from to begins ends is earlier =
+    let of_first : earlier.begins.text ≡ from = ap (λ (o : Option (List ℕ)). unwrap_or o from) (sym earlier.begins.there ∙ sym begins) in
+    let of_second : earlier.ends.text ≡ from = ap (λ (o : Option (List ℕ)). unwrap_or o from) (sym earlier.ends.there ∙ sym ends) ∙ sym (is_equal from to is) in
+    let same : earlier.from ≡ earlier.to = instant_once one precision from earlier.from earlier.to
+        (subst (λ (t : List ℕ). IsTimestampOf precision t earlier.from) of_first earlier.begins.names)
+        (subst (λ (t : List ℕ). IsTimestampOf precision t earlier.to) of_second earlier.ends.names) in
+    let less : earlier.to <ℤ earlier.from = earlier.earlier in
+    absurd (omega (arith, ints))

@@ -32,8 +32,8 @@ is_row_of name _ = false
 -- the common row as it stands for a group and beside a type's own rows
 abbrev pub standing : Group → List Row → CommonRow → Option Row
 standing group own (for groups row) = if list_any (same_group group) groups then Some row else None
-standing group own (unless_own groups name form) =
-    if list_any (same_group group) groups && not (list_any (is_row_of name) own) then Some (optional name form) else None
+standing group own (unless_own groups name row) =
+    if list_any (same_group group) groups && not (list_any (is_row_of name) own) then Some row else None
 
 -- the rows of a type: the common rows that stand for it, then its own
 abbrev pub rows_for : Option ObjectType → List Row

@@ -41,6 +41,6 @@ common_rows =
     ∷ for all_groups (optional (codes "granular_markings") listed)
     ∷ for all_groups (optional (codes "extensions") fields)
     ∷ for (Observable ∷ []) (optional (codes "defanged") boolean)
-    ∷ unless_own (Domain ∷ []) (codes "name") text
+    ∷ unless_own (Domain ∷ []) (codes "name") (optional (codes "name") text)
     ∷ for (Domain ∷ []) (optional (codes "description") text)
     ∷ []

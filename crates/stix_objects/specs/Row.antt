@@ -28,11 +28,11 @@ pub data Row : Type 0 where
   colour : Row
   colour_id : Row
 
--- a row that stands for the objects of some groups, and one that does so where the type's own rows don't name its
+-- a row that stands for the objects of some groups, and one that does so where the type's own rows don't name a
 -- property
 pub data CommonRow : Type 0 where
   for : List Group → Row → CommonRow
-  unless_own : List Group → List ℕ → Form → CommonRow
+  unless_own : List Group → List ℕ → Row → CommonRow
 
 -- an object type: its name, its group and its own rows
 pub record ObjectType : Type 0 where

@@ -1,2 +1,4 @@
 pub mod Adding
+pub mod InTurn
+pub mod Names
 pub mod Views

@@ -7,11 +7,12 @@ ghost use Rattle.stix_objects.specs.inner.Views.{form_view, condition_view};
 
 use crate::form::Form;
 use crate::list::judge_form;
+use crate::object::Object;
 use crate::row::Condition;
-use stix_json::{Json, get};
+use stix_json::Json;
 
 /// Whether an object meets all the conditions.
-pub(crate) fn hold_all(conditions: &[Condition], object: &Json) -> bool
+pub(crate) fn hold_all(conditions: &[Condition], object: &Object<'_>) -> bool
     ensures { IsTrue result ↔ HoldAll (map condition_view conditions.now) (data_of object.now) }
 {
     for condition in conditions {
@@ -23,32 +24,32 @@ pub(crate) fn hold_all(conditions: &[Condition], object: &Json) -> bool
 }
 
 /// Whether an object meets the condition.
-pub(crate) fn holds(condition: &Condition, object: &Json) -> bool
+pub(crate) fn holds(condition: &Condition, object: &Object<'_>) -> bool
     ensures { IsTrue result ↔ Holds (condition_view condition.now) (data_of object.now) }
 {
     match condition {
         Condition::IsTrue(name) => is_boolean(object, name, true),
         Condition::IsFalse(name) => is_boolean(object, name, false),
         Condition::Meets(name, form) => meets(object, name, form),
-        Condition::Absent(name) => get(object, name).is_none(),
+        Condition::Absent(name) => object.get(name).is_none(),
     }
 }
 
 /// Whether the property is there and is that truth value.
-fn is_boolean(object: &Json, name: &str, wanted: bool) -> bool
+fn is_boolean(object: &Object<'_>, name: &str, wanted: bool) -> bool
     ensures { IsTrue result ↔ (member_of name.now (data_of object.now) ≡ Some (boolean wanted)) }
 {
-    match get(object, name) {
+    match object.get(name) {
         Some(Json::Bool(truth)) => *truth == wanted,
         Some(Json::Integer(_) | Json::String(_) | Json::Array(_) | Json::Object(_)) | None => false,
     }
 }
 
 /// Whether the property is there and meets the form.
-fn meets(object: &Json, name: &str, form: &Form) -> bool
+fn meets(object: &Object<'_>, name: &str, form: &Form) -> bool
     ensures { IsTrue result ↔ Meets name.now (form_view form.now) (data_of object.now) }
 {
-    match get(object, name) {
+    match object.get(name) {
         Some(value) => judge_form(form, value).is_none(),
         None => false,
     }

@@ -10,6 +10,7 @@ ghost use Rattle.stix_objects.specs.Properties.{HasId};
 ghost use Rattle.stix_objects.specs.Conditions.{HasNumber};
 
 use crate::Rule;
+use crate::object::Object;
 use stix_ids::Parts;
 use stix_ids::laws::one_identifier;
 use stix_json::{Json, text_at, text_of};
@@ -86,11 +87,11 @@ pub fn object_id(object: &Json) -> Option<Parts<'_>>
 }
 
 /// Whether the object has an identifier with that number.
-pub(crate) fn has_number(object: &Json, number: u128) -> bool
+pub(crate) fn has_number(object: &Object<'_>, number: u128) -> bool
     ensures { IsTrue result ↔ HasNumber (data_of object.now) number }
 {
     one_identifier();
-    match object_id(object) {
+    match object_id(object.json()) {
         Some(parts) => parts.number == number,
         None => false,
     }

@@ -13,14 +13,14 @@ use crate::form::Form;
 use crate::identifier::judge_own_id;
 use crate::list::judge_form;
 use crate::marking::{has_other_colour, lacks_colour, lacks_statement};
+use crate::object::Object;
 use crate::records::lacks_all;
 use crate::row::Row;
 use crate::row_break::{RowBreak, Site, ValueBreak};
 use crate::timestamp::{second_is_earlier, second_is_not_later};
-use stix_json::{Json, get, text_at};
 
 /// What an object breaks of a row.
-pub(crate) fn judge(row: &Row, object: &Json) -> Option<RowBreak>
+pub(crate) fn judge(row: &Row, object: &Object<'_>) -> Option<RowBreak>
     ensures { Judges (row_view row.now) (data_of object.now) (option_map row_break_view result) }
 {
     match row {
@@ -66,12 +66,12 @@ fn judge_property(
     required: bool,
     name: &'static str,
     form: &Form,
-    object: &Json,
+    object: &Object<'_>,
 ) -> Option<RowBreak>
     ensures { JudgesValue (IsTrue required) name.now (JudgesForm (form_view form.now))
         (member_of name.now (data_of object.now)) (option_map row_break_view result) }
 {
-    match get(object, name) {
+    match object.get(name) {
         Some(value) => match judge_form(form, value) {
             Some(value_break) => Some(value_break.in_property(name)),
             None => None,
@@ -81,13 +81,13 @@ fn judge_property(
 }
 
 /// What an object breaks of its identifier, which is of its type.
-fn judge_id(object: &Json) -> Option<RowBreak>
+fn judge_id(object: &Object<'_>) -> Option<RowBreak>
     ensures { Judges own_id (data_of object.now) (option_map row_break_view result) }
 {
-    let Some(id) = get(object, "id") else {
+    let Some(id) = object.get("id") else {
         return Some(RowBreak::at("id", Rule::Missing));
     };
-    match judge_own_id(text_at(object, "type"), id) {
+    match judge_own_id(object.text_at("type"), id) {
         Some(rule) => Some(RowBreak::at("id", rule)),
         None => None,
     }

@@ -14,6 +14,7 @@ mod kinds;
 pub mod laws;
 mod list;
 mod marking;
+mod object;
 mod object_type;
 mod records;
 mod report;

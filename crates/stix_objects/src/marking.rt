@@ -4,24 +4,25 @@ ghost use Rattle.stix_objects.specs.Conditions.{defined_text as text_defined, de
 ghost use Rattle.stix_objects.specs.Rows.{LacksStatement, LacksColour};
 
 use crate::identifier::{has_number, judge_own_id};
-use stix_json::{Json, get, text_at};
+use crate::object::Object;
+use stix_json::{Json, text_at};
 
 /// Whether the object is a marking by a statement and lacks its text.
-pub(crate) fn lacks_statement(object: &Json) -> bool
+pub(crate) fn lacks_statement(object: &Object<'_>) -> bool
     ensures { IsTrue result ↔ LacksStatement (data_of object.now) }
 {
     is_marking(object, "statement") && defined_text(object, "statement").is_none()
 }
 
 /// Whether the object is a marking by a colour and lacks one of the four.
-pub(crate) fn lacks_colour(object: &Json) -> bool
+pub(crate) fn lacks_colour(object: &Object<'_>) -> bool
     ensures { IsTrue result ↔ LacksColour (data_of object.now) }
 {
     is_marking(object, "tlp") && defined_colour(object).is_none()
 }
 
 /// Whether the object is a marking by a colour and hasn't that colour's identifier.
-pub(crate) fn has_other_colour(object: &Json) -> bool
+pub(crate) fn has_other_colour(object: &Object<'_>) -> bool
     ensures { IsTrue result ↔ HasOtherColour (data_of object.now) }
 {
     match defined_colour(object) {
@@ -33,41 +34,41 @@ pub(crate) fn has_other_colour(object: &Json) -> bool
 }
 
 /// Whether the object is a marking of the type, and its definition, if there is one, an object.
-fn is_marking(object: &Json, definition_type: &str) -> bool
+fn is_marking(object: &Object<'_>, definition_type: &str) -> bool
     ensures { IsTrue result ↔ IsMarking definition_type.now (data_of object.now) }
 {
-    text_at(object, "definition_type") == Some(definition_type) && defines_object_or_none(object)
+    object.text_at("definition_type") == Some(definition_type) && defines_object_or_none(object)
 }
 
 /// Whether the object's definition, if there is one, is an object.
-fn defines_object_or_none(object: &Json) -> bool
+fn defines_object_or_none(object: &Object<'_>) -> bool
     ensures { IsTrue result ↔ DefinesObjectOrNone (data_of object.now) }
 {
-    match get(object, "definition") {
+    match object.get("definition") {
         Some(Json::Object(_)) | None => true,
         Some(Json::Bool(_) | Json::Integer(_) | Json::String(_) | Json::Array(_)) => false,
     }
 }
 
 /// Whether the object's identifier, if there is one, is of its type.
-fn has_own_id_or_none(object: &Json) -> bool
+fn has_own_id_or_none(object: &Object<'_>) -> bool
     ensures { IsTrue result ↔ HasOwnIdOrNone (data_of object.now) }
 {
-    match get(object, "id") {
-        Some(id) => judge_own_id(text_at(object, "type"), id).is_none(),
+    match object.get("id") {
+        Some(id) => judge_own_id(object.text_at("type"), id).is_none(),
         None => true,
     }
 }
 
 /// A text of the definition.
-fn defined_text<'a>(object: &'a Json, name: &str) -> Option<&'a str>
+fn defined_text<'a>(object: &Object<'a>, name: &str) -> Option<&'a str>
     ensures { option_map (λ text. text.now) result ≡ text_defined name.now (data_of object.now) }
 {
-    text_at(get(object, "definition")?, name)
+    text_at(object.get("definition")?, name)
 }
 
 /// The number of the identifier of the colour that the marking defines.
-fn defined_colour(object: &Json) -> Option<u128>
+fn defined_colour(object: &Object<'_>) -> Option<u128>
     ensures { result ≡ colour_defined (data_of object.now) }
 {
     number_of(defined_text(object, "tlp")?)

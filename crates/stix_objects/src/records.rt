@@ -8,9 +8,10 @@ ghost use Rattle.stix_objects.specs.inner.Views.{single_view, part_view, item_br
 use crate::Rule;
 use crate::form::{Part, Single};
 use crate::list::judge_filled;
+use crate::object::Object;
 use crate::row_break::{ItemBreak, ValueBreak};
 use crate::single::judge_single;
-use stix_json::{Json, get};
+use stix_json::Json;
 
 /// What a value breaks of a list of objects with these parts.
 pub(crate) fn judge_records(parts: &[Part], value: &Json) -> Option<ValueBreak>
@@ -31,7 +32,7 @@ fn first_broken_record(parts: &[Part], items: &[Json]) -> Option<ValueBreak>
         (option_map value_break_view result) }
 {
     for (at, item) in items.iter().enumerate() {
-        if let Some(item_break) = judge_parts(parts, item) {
+        if let Some(item_break) = judge_parts(parts, &Object::new(item)) {
             return Some(item_break.in_item(at));
         }
     }
@@ -39,7 +40,7 @@ fn first_broken_record(parts: &[Part], items: &[Json]) -> Option<ValueBreak>
 }
 
 /// What an object breaks of the first part that it breaks.
-fn judge_parts(parts: &[Part], object: &Json) -> Option<ItemBreak>
+fn judge_parts(parts: &[Part], object: &Object<'_>) -> Option<ItemBreak>
     ensures { JudgesParts (map part_view parts.now) (data_of object.now) (option_map item_break_view result) }
 {
     for part in parts {
@@ -50,18 +51,18 @@ fn judge_parts(parts: &[Part], object: &Json) -> Option<ItemBreak>
     None
 }
 
-fn judge_part(part: &Part, object: &Json) -> Option<ItemBreak>
+fn judge_part(part: &Part, object: &Object<'_>) -> Option<ItemBreak>
     ensures { JudgesPart (part_view part.now) (data_of object.now) (option_map item_break_view result) }
 {
     match part {
-        Part::Must(name, single) => match get(object, name) {
+        Part::Must(name, single) => match object.get(name) {
             Some(value) => judge_in(name, single, value),
             None => Some(ItemBreak {
                 rule: Rule::Missing,
                 part: Some(name),
             }),
         },
-        Part::May(name, single) => match get(object, name) {
+        Part::May(name, single) => match object.get(name) {
             Some(value) => judge_in(name, single, value),
             None => None,
         },
@@ -93,11 +94,11 @@ fn judge_in(name: &'static str, single: &Single, value: &Json) -> Option<ItemBre
 }
 
 /// Whether none of the properties is there.
-pub(crate) fn lacks_all(object: &Json, names: &[&str]) -> bool
+pub(crate) fn lacks_all(object: &Object<'_>, names: &[&str]) -> bool
     ensures { IsTrue result ↔ LacksAll (map (λ name. name.now) names.now) (data_of object.now) }
 {
     for name in names {
-        if get(object, name).is_some() {
+        if object.get(name).is_some() {
             return false;
         }
     }

@@ -9,6 +9,7 @@ ghost use Rattle.stix_objects.specs.inner.Adding.{Adds, AddsOne, standing_rows};
 ghost use Rattle.stix_objects.specs.inner.Views.{row_view, common_view, type_view, row_break_view};
 
 use crate::judge::judge;
+use crate::object::Object;
 use crate::object_type::{ObjectType, group_in, rows_in, type_named};
 use crate::row::{CommonRow, Row};
 use crate::tables::common::common_rows;
@@ -48,16 +49,17 @@ fn object_breaks(alloc: Global, object: &Json) -> Result<Items<Break>, NoMemory>
 {
     let object_type = object_type(object);
     let own = rows_in(object_type);
+    let object = Object::new(object);
     let mut found = Items::new(alloc);
     add_common(
         alloc,
         common_rows(),
         group_in(object_type),
         own,
-        object,
+        &object,
         &mut found,
     )?;
-    add_own(alloc, own, object, &mut found)?;
+    add_own(alloc, own, &object, &mut found)?;
     Ok(found)
 }
 
@@ -74,7 +76,7 @@ fn add_common(
     commons: &[CommonRow],
     group: Group,
     own: &[Row],
-    object: &Json,
+    object: &Object<'_>,
     found: &mut Items<Break>,
 ) -> Result<(), NoMemory>
     ensures { OnOk result (Adds
@@ -93,7 +95,7 @@ fn add_standing(
     common: &CommonRow,
     group: Group,
     own: &[Row],
-    object: &Json,
+    object: &Object<'_>,
     found: &mut Items<Break>,
 ) -> Result<(), NoMemory>
     ensures { OnOk result (Adds
@@ -101,7 +103,7 @@ fn add_standing(
         (data_of object.now) found.old found.new) }
 {
     if let Some(row) = common.standing(group, own) {
-        add_break(alloc, &row, object, found)?;
+        add_break(alloc, row, object, found)?;
     }
     Ok(())
 }
@@ -110,7 +112,7 @@ fn add_standing(
 fn add_own(
     alloc: Global,
     rows: &[Row],
-    object: &Json,
+    object: &Object<'_>,
     found: &mut Items<Break>,
 ) -> Result<(), NoMemory>
     ensures { OnOk result (Adds (map row_view rows.now) (data_of object.now) found.old found.new) }
@@ -125,7 +127,7 @@ fn add_own(
 fn add_break(
     alloc: Global,
     row: &Row,
-    object: &Json,
+    object: &Object<'_>,
     found: &mut Items<Break>,
 ) -> Result<(), NoMemory>
     ensures { OnOk result (AddsOne (row_view row.now) (data_of object.now) found.old found.new) }

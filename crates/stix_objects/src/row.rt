@@ -45,8 +45,8 @@ pub(crate) enum Row {
 pub(crate) enum CommonRow {
     /// It stands for these groups.
     For(&'static [Group], Row),
-    /// The property may be there in these groups, unless the type's own rows name it.
-    UnlessOwn(&'static [Group], &'static str, Form),
+    /// It stands for these groups, unless the type's own rows name the property.
+    UnlessOwn(&'static [Group], &'static str, Row),
 }
 
 impl Row {
@@ -72,25 +72,25 @@ impl Row {
 
 impl CommonRow {
     /// The row as it stands for a group and beside a type's own rows.
-    pub(crate) fn standing(&self, group: Group, own: &[Row]) -> Option<Row>
-        ensures { option_map row_view result ≡ standing_row group (map row_view own.now) (common_view self.now) }
+    pub(crate) fn standing(&self, group: Group, own: &[Row]) -> Option<&Row>
+        ensures { option_map (λ row. row_view row.now) result ≡ standing_row group (map row_view own.now) (common_view self.now) }
     {
         match self {
             CommonRow::For(groups, row) => {
                 if group.is_among(groups) {
-                    Some(*row)
+                    Some(row)
                 } else {
                     None
                 }
             }
-            CommonRow::UnlessOwn(groups, name, form) => {
+            CommonRow::UnlessOwn(groups, name, row) => {
                 if !group.is_among(groups) {
                     return None;
                 }
                 if name_property(own, name) {
                     None
                 } else {
-                    Some(Row::Optional(name, *form))
+                    Some(row)
                 }
             }
         }

@@ -6,11 +6,13 @@ ghost use Rattle.stix_objects.specs.Form.{timestamp};
 ghost use Rattle.stix_objects.specs.Singles.{IsTimestampOf, JudgesTimestamp, JudgesSingle};
 ghost use Rattle.stix_objects.specs.Conditions.{SecondIsEarlier, SecondIsNotLater};
 ghost use Rattle.stix_objects.specs.Properties.{IsTimestampAt};
+ghost use Rattle.stix_objects.specs.inner.InTurn.{AreInTurn};
 
 use crate::Rule;
 use crate::form::Precision;
+use crate::object::Object;
 use stix_json::{Json, text_at, text_of};
-use stix_times::laws::is_before;
+use stix_times::laws::{is_before, one_instant};
 use stix_times::{Instant, TimeRefusal, read, read_millis};
 
 /// What a value breaks of a timestamp.
@@ -100,33 +102,49 @@ fn instant_at(object: &Json, precision: Precision, name: &str) -> Option<Instant
     instant_of(precision, text_at(object, name)?)
 }
 
-/// Whether both properties are timestamps, and the second is earlier than the first.
+/// Whether both properties are timestamps, and the second is earlier than the first. Mostly both are
+/// the same text, which isn't read then.
 pub(crate) fn second_is_earlier(
-    object: &Json,
+    object: &Object<'_>,
     precision: Precision,
     first: &str,
     second: &str,
 ) -> bool
     ensures { IsTrue result ↔ SecondIsEarlier precision first.now second.now (data_of object.now) }
 {
-    let Some(from) = instant_at(object, precision, first) else {
+    one_instant();
+    let Some(from) = object.text_at(first) else {
         return false;
     };
-    match instant_at(object, precision, second) {
-        Some(to) => is_before(to, from),
+    match object.text_at(second) {
+        Some(to) => from != to && is_text_earlier(precision, to, from),
+        None => false,
+    }
+}
+
+/// Whether both texts are timestamps, and the first is earlier than the second.
+fn is_text_earlier(precision: Precision, first: &str, second: &str) -> bool
+    ensures { IsTrue result ↔ AreInTurn precision first.now second.now }
+{
+    let Some(from) = instant_of(precision, first) else {
+        return false;
+    };
+    match instant_of(precision, second) {
+        Some(to) => is_before(from, to),
         None => false,
     }
 }
 
 /// Whether both properties are timestamps, and the second isn't later than the first.
 pub(crate) fn second_is_not_later(
-    object: &Json,
+    object: &Object<'_>,
     precision: Precision,
     first: &str,
     second: &str,
 ) -> bool
     ensures { IsTrue result ↔ SecondIsNotLater precision first.now second.now (data_of object.now) }
 {
+    let object = object.json();
     let Some(from) = instant_at(object, precision, first) else {
         return false;
     };

@@ -69,7 +69,7 @@ row_view RowIn.ColourId = colour_id
 -- a row of several types
 abbrev pub common_view : CommonRowIn → CommonRow
 common_view (CommonRowIn.For groups row) = for groups.now (row_view row)
-common_view (CommonRowIn.UnlessOwn groups name form) = unless_own groups.now name.now (form_view form)
+common_view (CommonRowIn.UnlessOwn groups name row) = unless_own groups.now name.now (row_view row)
 
 -- an object type
 abbrev pub type_view : ObjectTypeIn → ObjectType

@@ -68,7 +68,7 @@ const COMMON_ROWS: &[CommonRow] = &[
     CommonRow::For(ALL, Row::Optional("granular_markings", LISTED)),
     CommonRow::For(ALL, Row::Optional("extensions", FIELDS)),
     CommonRow::For(&[Group::Observable], Row::Optional("defanged", BOOLEAN)),
-    CommonRow::UnlessOwn(&[Group::Domain], "name", TEXT),
+    CommonRow::UnlessOwn(&[Group::Domain], "name", Row::Optional("name", TEXT)),
     CommonRow::For(&[Group::Domain], Row::Optional("description", TEXT)),
 ];
 

@@ -9,4 +9,4 @@ returns-in-Some c =
     let told = value_break_view c.in_item.result in
     c.loop-at.invariant (Some told)
     (first_at (JudgesParts (map part_view c.args.parts.now)) c.args.items.now c.loop-at.at c.index-items-at.result (item_break_view c.in-Some.item_break) told
-    c.loop-at-test.true c.index-items-at.is c.in-Some.ensures c.in_item.ensures)
+    c.loop-at-test.true c.index-items-at.is (rw (← c.new.ensures) c.in-Some.ensures) c.in_item.ensures)

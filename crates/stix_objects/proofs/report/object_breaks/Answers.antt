@@ -14,5 +14,5 @@ returns c =
     breaks_by c.group_in.result (map row_view c.rows_in-own.result.now) (map common_view c.common_rows.result.now) (type_of d) d c.add_common.new.found c.add_own.new.found
     (c.group_in.ensures ∙ ap group_in c.object_type-object_type.ensures) (c.rows_in-own.ensures ∙ ap rows_in c.object_type-object_type.ensures) c.common_rows.ensures
     (subst (λ (none : List Break). Adds (standing_rows c.group_in.result (map row_view c.rows_in-own.result.now) (map common_view c.common_rows.result.now)) d none c.add_common.new.found)
-    c.new-found.ensures c.in_ok-add_common.ensures)
-    c.in_ok-add_own.ensures
+    c.new-found.ensures (rw (← c.new-object.ensures) c.in_ok-add_common.ensures))
+    (rw (← c.new-object.ensures) c.in_ok-add_own.ensures)

@@ -3,14 +3,15 @@ use Rattle.stix_objects.proofs.timestamp.second_is_not_later.Goals as goal
 
 pub returns-in_default : goal.returns-in_default
 returns-in_default c =
-    (λ f. absurd (cc), λ found. absurd (never_there found.from (c.in_default.ensures.only found.from found.begins)))
+    rw (← c.json-object.ensures) (λ f. absurd (cc), λ found. absurd (never_there found.from (c.in_default.ensures.only found.from found.begins)))
 
 pub returns-in-None : goal.returns-in-None
 returns-in-None c =
-    (λ f. absurd (cc), λ found. absurd (never_there found.to (c.in-None.ensures.only found.to found.ends)))
+    rw (← c.json-object.ensures) (λ f. absurd (cc), λ found. absurd (never_there found.to (c.in-None.ensures.only found.to found.ends)))
 
 pub returns-in-Some-instant_at : goal.returns-in-Some-instant_at
-returns-in-Some-instant_at c = (
+returns-in-Some-instant_at c =
+    rw (← c.json-object.ensures) (
   λ before. record {
     from = c.in-Some.from;
     to = c.in-Some-instant_at.to;

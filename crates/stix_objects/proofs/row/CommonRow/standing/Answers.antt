@@ -1,7 +1,7 @@
 use Rattle.std.proofs.Common.{◌≡◌, Bool, true, false, not, ◌&&◌, cond, Some, None, refl, sym, ◌∙◌}
-use Rattle.stix_objects.specs.Row.{Row, optional}
+use Rattle.stix_objects.specs.Row.{Row}
 use Rattle.stix_objects.specs.Breaks.{is_row_of}
-use Rattle.stix_objects.specs.inner.Views.{row_view, form_view}
+use Rattle.stix_objects.specs.inner.Views.{row_view}
 use Rattle.stix_objects.proofs.ListLemmas.{any_of_map}
 use Rattle.stix_objects.proofs.row.CommonRow.standing.Goals as goal
 
@@ -21,16 +21,16 @@ stands false b row is other = absurd (cc)
 
 pub returns-then-not-is_among : goal.returns-then-not-is_among
 returns-then-not-is_among c =
-    rw c.in-UnlessOwn.is (outside _ _ (optional c.in-UnlessOwn.name.now (form_view c.in-UnlessOwn.form)) (sym c.is_among-in-UnlessOwn.ensures ∙ c.if-not-is_among.true))
+    rw c.in-UnlessOwn.is (outside _ _ (row_view c.in-UnlessOwn.row) (sym c.is_among-in-UnlessOwn.ensures ∙ c.if-not-is_among.true))
 
 pub returns-then-name_property : goal.returns-then-name_property
 returns-then-name_property c =
     let names = c.in-UnlessOwn.name.now in
-    rw c.in-UnlessOwn.is (named _ _ (optional names (form_view c.in-UnlessOwn.form))
+    rw c.in-UnlessOwn.is (named _ _ (row_view c.in-UnlessOwn.row)
     (sym (any_of_map (is_row_of names) row_view c.args.own.now) ∙ sym c.name_property.ensures ∙ c.if-name_property.true))
 
 pub returns-else-name_property : goal.returns-else-name_property
 returns-else-name_property c =
     let names = c.in-UnlessOwn.name.now in
-    rw c.in-UnlessOwn.is (stands _ _ (optional names (form_view c.in-UnlessOwn.form)) (sym c.is_among-in-UnlessOwn.ensures ∙ c.if-not-is_among.false)
+    rw c.in-UnlessOwn.is (stands _ _ (row_view c.in-UnlessOwn.row) (sym c.is_among-in-UnlessOwn.ensures ∙ c.if-not-is_among.false)
     (sym (any_of_map (is_row_of names) row_view c.args.own.now) ∙ sym c.name_property.ensures ∙ c.if-name_property.false))

@@ -1,0 +1,105 @@
+ghost use Rattle.std.specs.Prelude.{◌≡◌, ◌<◌, map, option_map};
+ghost use Rattle.serde_json.specs.Find.{get as member_of};
+ghost use Rattle.stix_json.specs.DataOf.{data_of, field_data, members_of};
+ghost use Rattle.stix_json.specs.Properties.{text_at as text_under};
+ghost use Rattle.stix_objects.specs.inner.Names.{place, Covers, AreCovered};
+
+use std::marker::Model;
+use stix_json::{Field, Json, get, text_of};
+
+/// How many places there are for names.
+const PLACES: usize = 64;
+
+/// An object that is judged. Most rows ask for a property that isn't there, and are told so by the
+/// place of its name, without a walk over the fields.
+#[derive(Drop)]
+pub(crate) struct Object<'a> {
+    json: &'a Json,
+    /// The places of the names that the object has.
+    taken: [bool; PLACES],
+}
+
+impl<'a> Model for Object<'a> {
+    ghost use Rattle.stix_json.specs.DataOf.{data_of};
+    ghost use Rattle.std.specs.Coded.{codes};
+    ghost use Rattle.stix_json.specs.declared.value.Json.{Json};
+    ghost use Rattle.stix_json.specs.contracts.value.Json as value;
+    ghost use Rattle.stix_objects.specs.inner.Names.{Covers};
+
+    ghost Value = { Json };
+
+    ghost coded = { Prim.hlevel (codes, value.the_row.coded) };
+
+    ghost view = { λ object. object.json.now };
+
+    ghost invariant = { λ object. Covers object.taken (data_of object.json.now) };
+}
+
+impl<'a> Object<'a> {
+    /// The value as an object; one without names where it is none.
+    pub(crate) fn new(json: &'a Json) -> Object<'a>
+        ensures { result ≡ json.now }
+    {
+        Object {
+            json,
+            taken: places_in(json),
+        }
+    }
+
+    /// The value that it is.
+    pub(crate) fn json(&self) -> &'a Json
+        ensures { result.now ≡ self.now }
+    {
+        self.json
+    }
+
+    /// The value of the property of that name.
+    pub(crate) fn get(&self, name: &str) -> Option<&'a Json>
+        ensures { option_map (λ value. data_of value.now) result ≡ member_of name.now (data_of self.now) }
+    {
+        if self.taken[place_of(name)] {
+            get(self.json, name)
+        } else {
+            None
+        }
+    }
+
+    /// The text of the property of that name, where it is one.
+    pub(crate) fn text_at(&self, name: &str) -> Option<&'a str>
+        ensures { option_map (λ text. text.now) result ≡ text_under name.now (data_of self.now) }
+    {
+        text_of(self.get(name)?)
+    }
+}
+
+/// The places of the names that a value has.
+fn places_in(json: &Json) -> [bool; PLACES]
+    ensures { Covers result (data_of json.now) }
+{
+    match json {
+        Json::Object(fields) => places_of(fields.as_slice()),
+        Json::Bool(_) | Json::Integer(_) | Json::String(_) | Json::Array(_) => [false; PLACES],
+    }
+}
+
+/// The places of the names of the fields.
+fn places_of(fields: &[Field]) -> [bool; PLACES]
+    ensures { AreCovered result (members_of (map field_data fields.now)) }
+{
+    let mut taken = [false; PLACES];
+    for field in fields {
+        taken[place_of(field.name.as_str())] = true;
+    }
+    taken
+}
+
+/// The place of a name, by its first byte and its length, in which few properties agree.
+fn place_of(name: &str) -> usize
+    ensures place { result ≡ place name.now }
+    ensures within { result < 64 }
+{
+    match name.as_bytes() {
+        [first, ..] => (3 * usize::from(*first) + 7 * (name.len() % PLACES)) % PLACES,
+        [] => 0,
+    }
+}
