@@ -15,7 +15,10 @@ pub(crate) enum Place {
 }
 
 impl Place {
+    // The two that make a path run where a value is refused. Out of line, they cost the others no stack.
+
     /// The place in a value that has this one's value under a part.
+    #[inline(never)]
     pub fn below(self, alloc: Global, part: &str) -> Result<Place, NoMemory>
         ensures { IfOk result (λ place. place ≡ under part.now self) }
     {
@@ -28,6 +31,7 @@ impl Place {
     }
 
     /// The place in a list that has this one's value as its item.
+    #[inline(never)]
     pub fn below_item(self, alloc: Global, at: usize) -> Result<Place, NoMemory>
         ensures { IfOk result (λ place. place ≡ under (place_part at) self) }
     {

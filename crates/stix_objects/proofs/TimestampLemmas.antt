@@ -108,7 +108,7 @@ never_earlier one precision first second d from to begins ends is earlier =
     let of_first : earlier.begins.text ≡ from = ap (λ (o : Option (List ℕ)). unwrap_or o from) (sym earlier.begins.there ∙ sym begins) in
     let of_second : earlier.ends.text ≡ from = ap (λ (o : Option (List ℕ)). unwrap_or o from) (sym earlier.ends.there ∙ sym ends) ∙ sym (is_equal from to is) in
     let same : earlier.from ≡ earlier.to = instant_once one precision from earlier.from earlier.to
-        (subst (λ (t : List ℕ). IsTimestampOf precision t earlier.from) of_first earlier.begins.names)
-        (subst (λ (t : List ℕ). IsTimestampOf precision t earlier.to) of_second earlier.ends.names) in
+    (subst (λ (t : List ℕ). IsTimestampOf precision t earlier.from) of_first earlier.begins.names)
+    (subst (λ (t : List ℕ). IsTimestampOf precision t earlier.to) of_second earlier.ends.names) in
     let less : earlier.to <ℤ earlier.from = earlier.earlier in
     absurd (omega (arith, ints))

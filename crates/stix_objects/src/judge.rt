@@ -19,7 +19,28 @@ use crate::row::Row;
 use crate::row_break::{RowBreak, Site, ValueBreak};
 use crate::timestamp::{second_is_earlier, second_is_not_later};
 
-/// What an object breaks of a row.
+/// Whether it is plain that an object breaks nothing of a row, which asks for a property that it needn't
+/// have. Most rows of most objects end here.
+pub(crate) fn is_idle(row: &Row, object: &Object<'_>) -> bool
+    ensures { IsTrue result → Judges (row_view row.now) (data_of object.now) None }
+{
+    match row {
+        Row::Optional(name, _) => object.plainly_lacks(name),
+        Row::Required(_, _)
+        | Row::RequiredWhere(_, _, _)
+        | Row::OwnId
+        | Row::Order(_, _, _)
+        | Row::StrictOrder(_, _, _)
+        | Row::NeedsOneOf(_, _)
+        | Row::Excludes(_, _)
+        | Row::Statement
+        | Row::Colour
+        | Row::ColourId => false,
+    }
+}
+
+/// What an object breaks of a row. It stays out of the walk over the rows, where few come to it.
+#[inline(never)]
 pub(crate) fn judge(row: &Row, object: &Object<'_>) -> Option<RowBreak>
     ensures { Judges (row_view row.now) (data_of object.now) (option_map row_break_view result) }
 {

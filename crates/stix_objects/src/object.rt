@@ -1,4 +1,4 @@
-ghost use Rattle.std.specs.Prelude.{◌≡◌, ◌<◌, map, option_map};
+ghost use Rattle.std.specs.Prelude.{◌≡◌, ◌<◌, IsTrue, None, map, option_map};
 ghost use Rattle.serde_json.specs.Find.{get as member_of};
 ghost use Rattle.stix_json.specs.DataOf.{data_of, field_data, members_of};
 ghost use Rattle.stix_json.specs.Properties.{text_at as text_under};
@@ -57,11 +57,18 @@ impl<'a> Object<'a> {
     pub(crate) fn get(&self, name: &str) -> Option<&'a Json>
         ensures { option_map (λ value. data_of value.now) result ≡ member_of name.now (data_of self.now) }
     {
-        if self.taken[place_of(name)] {
-            get(self.json, name)
-        } else {
+        if self.plainly_lacks(name) {
             None
+        } else {
+            get(self.json, name)
         }
+    }
+
+    /// Whether the place of the name tells that it has no such property.
+    pub(crate) fn plainly_lacks(&self, name: &str) -> bool
+        ensures { IsTrue result → member_of name.now (data_of self.now) ≡ None }
+    {
+        !self.taken[place_of(name)]
     }
 
     /// The text of the property of that name, where it is one.

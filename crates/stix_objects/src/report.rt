@@ -8,7 +8,7 @@ ghost use Rattle.stix_objects.specs.CommonRows.{common_rows as shared_rows};
 ghost use Rattle.stix_objects.specs.inner.Adding.{Adds, AddsOne, standing_rows};
 ghost use Rattle.stix_objects.specs.inner.Views.{row_view, common_view, type_view, row_break_view};
 
-use crate::judge::judge;
+use crate::judge::{is_idle, judge};
 use crate::object::Object;
 use crate::object_type::{ObjectType, group_in, rows_in, type_named};
 use crate::row::{CommonRow, Row};
@@ -132,6 +132,9 @@ fn add_break(
 ) -> Result<(), NoMemory>
     ensures { OnOk result (AddsOne (row_view row.now) (data_of object.now) found.old found.new) }
 {
+    if is_idle(row, object) {
+        return Ok(());
+    }
     if let Some(row_break) = judge(row, object) {
         found.push(row_break.into_break(alloc)?)?;
     }

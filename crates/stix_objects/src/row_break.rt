@@ -115,6 +115,7 @@ impl RowBreak {
     }
 
     /// The break, with its path.
+    #[cold]
     pub(crate) fn into_break(self, alloc: Global) -> Result<Break, NoMemory>
         ensures { IfOk result (λ found. found ≡ break_of (row_break_view self)) }
     {
