@@ -1,7 +1,7 @@
 -- The bytes that fit their places, over lists: how far they reach, and what is in front or behind.
 use Rattle.std.proofs.Common.{◌≡◌, ℕ, zero, suc, ◌+◌, ◌≤◌, true, false, cond, List, [], ◌∷◌, ◌++◌, length, take, refl, subst, arith, add-zero}
 use Rattle.std.proofs.lemmas.Bool.{false≢true}
-use Rattle.stix_times.specs.Places.{fits, fitting_end}
+use Rattle.stix_times.specs.Places.{fits, bounds_at, fitting_end, end_from}
 
 -- each byte fits its place
 abbrev pub AllFit : ℕ → ℕ → List ℕ → Type 0
@@ -47,3 +47,9 @@ AllFit-append at before [] q f g = let P : ℕ → Type 0 = λ n. AllFit n befor
 AllFit-append at before (b ∷ bs) q f g =
     let P : ℕ → Type 0 = λ n. AllFit n (last_or b bs) q in
     (f.0, AllFit-append (at + 1) b bs q f.1 (subst P (let e : at + suc (length bs) ≡ (at + 1) + length bs = omega arith in e) g))
+
+-- no byte stands before the first
+pub end_from_start : (s : List ℕ) → end_from s 0 ≡ fitting_end 0 0 s
+unfolding fits bounds_at
+end_from_start [] = refl
+end_from_start (b ∷ bs) = refl

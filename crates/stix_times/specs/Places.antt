@@ -40,6 +40,10 @@ fitting_end at before [] = at
 fitting_end at before (byte ∷ bytes) =
     if fits at before byte then fitting_end (at + 1) byte bytes else at
 
+-- how far the bytes of a text fit, if those before this place do
+abbrev pub end_from : List ℕ → ℕ → ℕ
+end_from text at = fitting_end at (slice_index text (at - 1)) (drop at text)
+
 -- the bytes of the numbers are digits
 pub record AreDigits (text : List ℕ) : Type 0 where
   pub digit_0 : IsAsciiDigit (slice_index text 0)

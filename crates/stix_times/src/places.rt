@@ -1,8 +1,83 @@
-ghost use Rattle.std.specs.Prelude.{◌≡◌, ◌+◌, ◌<◌, ◌≤◌, length};
-ghost use Rattle.stix_times.specs.Places.{bounds_at, fits_fraction, fits, fitting_end};
+ghost use Rattle.std.specs.Prelude.{◌≡◌, ◌+◌, ◌<◌, ◌≤◌, IsTrue, length};
+ghost use Rattle.stix_times.specs.Places.{bounds_at, fits_fraction, fits, fitting_end, end_from};
 
 /// How many bytes from the start fit their places.
+///
+/// Nearly every text that is read is a timestamp. So the places up to the fraction are tested with no
+/// loop first: where the place is a constant, a test is a compare or two. Only where that fails does
+/// the loop tell which byte it is.
+#[tactic(auto, using(crate::proofs::PlaceLemmas::end_from_start))]
 pub(crate) fn fitting_length(bytes: &[u8]) -> usize
+    ensures { result ≡ fitting_end 0 0 bytes.now }
+{
+    if bytes.len() >= 20 && date_fits(bytes) && time_fits(bytes) {
+        fraction_end(bytes)
+    } else {
+        first_misfit(bytes)
+    }
+}
+
+/// Whether `YYYY-MM-DD` fits its places.
+fn date_fits(bytes: &[u8]) -> bool
+    requires { 20 ≤ length bytes.now }
+    ensures { IsTrue result → end_from bytes.now 0 ≡ end_from bytes.now 10 }
+{
+    pair_fits(bytes, 0)
+        && pair_fits(bytes, 2)
+        && byte_fits(bytes, 4)
+        && pair_fits(bytes, 5)
+        && byte_fits(bytes, 7)
+        && pair_fits(bytes, 8)
+}
+
+/// Whether `THH:mm:ss` and the byte behind it fit their places.
+fn time_fits(bytes: &[u8]) -> bool
+    requires { 20 ≤ length bytes.now }
+    ensures { IsTrue result → end_from bytes.now 10 ≡ end_from bytes.now 20 }
+{
+    byte_fits(bytes, 10)
+        && pair_fits(bytes, 11)
+        && byte_fits(bytes, 13)
+        && pair_fits(bytes, 14)
+        && byte_fits(bytes, 16)
+        && pair_fits(bytes, 17)
+        && byte_fits(bytes, 19)
+}
+
+/// Whether the two bytes from this place on fit.
+fn pair_fits(bytes: &[u8], at: usize) -> bool
+    requires { at + 1 < length bytes.now }
+    ensures { IsTrue result → end_from bytes.now at ≡ end_from bytes.now (at + 2) }
+{
+    byte_fits(bytes, at) && byte_fits(bytes, at + 1)
+}
+
+/// Whether the byte at this place fits.
+fn byte_fits(bytes: &[u8], at: usize) -> bool
+    requires { at < length bytes.now }
+    ensures { IsTrue result → end_from bytes.now at ≡ end_from bytes.now (at + 1) }
+{
+    fits(at, bytes[at.saturating_sub(1)], bytes[at])
+}
+
+/// How far the bytes of the fraction fit.
+#[tactic(auto, unfolding(crate::specs::Places::fits))]
+fn fraction_end(bytes: &[u8]) -> usize
+    requires { 20 ≤ length bytes.now }
+    ensures { result ≡ end_from bytes.now 20 }
+{
+    let mut before = bytes[19];
+    for at in 20..bytes.len() {
+        if !fits_fraction(before, bytes[at]) {
+            return at;
+        }
+        before = bytes[at];
+    }
+    bytes.len()
+}
+
+/// The first byte that doesn't fit its place, or the end.
+fn first_misfit(bytes: &[u8]) -> usize
     ensures { result ≡ fitting_end 0 0 bytes.now }
 {
     let mut before = 0;
