@@ -1,4 +1,4 @@
-ghost use Rattle.std.specs.Prelude.{◌≡◌, None, IfSome, IfNone, map, option_map};
+ghost use Rattle.std.specs.Prelude.{◌≡◌, bytes_eq, None, IfSome, IfNone, map, option_map};
 ghost use Rattle.serde_json.specs.Find.{get_member, get as member_of};
 ghost use Rattle.stix_json.specs.DataOf.{data_of, field_data, members_of};
 ghost use Rattle.stix_json.specs.Ordered.{IsOrdered, MembersAreOrdered};
@@ -44,11 +44,19 @@ fn first_named<'a>(fields: &'a [Field], name: &str) -> Option<&'a Json>
     ensures { option_map (λ value. data_of value.now) result ≡ get_member name.now (members_of (map field_data fields.now)) }
 {
     for field in fields {
-        if field.name.as_str() == name {
+        if is_named(field, name) {
             return Some(&field.value);
         }
     }
     None
+}
+
+/// Whether the field has that name. Most names differ in length, which tells them apart with no call.
+fn is_named(field: &Field, name: &str) -> bool
+    ensures { result ≡ bytes_eq field.now.name name.now }
+{
+    let own = field.name.as_str();
+    own.len() == name.len() && own == name
 }
 
 fn named_in_order<'a>(fields: &'a [Field], name: &str) -> Option<&'a Json>
@@ -87,7 +95,7 @@ fn place_of(fields: &[Field], name: &str) -> Option<usize>
     ensures none { IfNone result (get_member name.now (members_of (map field_data fields.now)) ≡ None) }
 {
     for at in 0..fields.len() {
-        if fields[at].name.as_str() == name {
+        if is_named(&fields[at], name) {
             return Some(at);
         }
     }

@@ -30,7 +30,8 @@ fn first_named(types: &'static [ObjectType], name: &str) -> Option<&'static Obje
         ≡ first_type name.now (map type_view types.now) }
 {
     for object_type in types {
-        if object_type.name == name {
+        // Most names differ in length, which tells them apart with no call.
+        if object_type.name.len() == name.len() && object_type.name == name {
             return Some(object_type);
         }
     }
