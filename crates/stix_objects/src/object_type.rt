@@ -1,4 +1,4 @@
-ghost use Rattle.std.specs.Prelude.{◌≡◌, map, option_map};
+ghost use Rattle.std.specs.Prelude.{◌≡◌, bytes_eq, map, option_map};
 ghost use Rattle.stix_objects.specs.Types.{type_named as named_type, first_named as first_type, group_in as group_of_type, rows_in as rows_of_type};
 ghost use Rattle.stix_objects.specs.inner.Views.{row_view, type_view};
 
@@ -12,6 +12,15 @@ pub(crate) struct ObjectType {
     pub(crate) name: &'static str,
     pub(crate) group: Group,
     pub(crate) rows: &'static [Row],
+}
+
+impl ObjectType {
+    /// Whether it has that name. Most names differ in length, which tells them apart with no call.
+    fn is_named(&self, name: &str) -> bool
+        ensures { result ≡ bytes_eq self.now.name.now name.now }
+    {
+        self.name.len() == name.len() && self.name == name
+    }
 }
 
 /// The type of this name, where it has rows of its own.
@@ -30,8 +39,7 @@ fn first_named(types: &'static [ObjectType], name: &str) -> Option<&'static Obje
         ≡ first_type name.now (map type_view types.now) }
 {
     for object_type in types {
-        // Most names differ in length, which tells them apart with no call.
-        if object_type.name.len() == name.len() && object_type.name == name {
+        if object_type.is_named(name) {
             return Some(object_type);
         }
     }

@@ -12,10 +12,10 @@ first_at name types i d b within is =
     ap (λ ts. first_named name (map type_view ts)) (drop_more types i d within)
     ∙ ap (λ test. cond test (Some (type_view (get_or types i d))) (first_named name (map type_view (drop (i + 1) types)))) is
 
-pub returns-then-eq : goal.returns-then-eq
-returns-then-eq c =
-    sym (c.loop-object_type.invariant ∙ first_at c.args.name.now c.args.types.now c.loop-object_type.object_type-index _ true c.loop-object_type-test.true (sym c.eq.ensures ∙ c.if-eq.true))
+pub returns-then-is_named : goal.returns-then-is_named
+returns-then-is_named c =
+    sym (c.loop-object_type.invariant ∙ first_at c.args.name.now c.args.types.now c.loop-object_type.object_type-index _ true c.loop-object_type-test.true (sym c.is_named.ensures ∙ c.if-is_named.true))
 
 pub loop-object_type-preserved : goal.loop-object_type-preserved
 loop-object_type-preserved c =
-    c.loop-object_type.invariant ∙ first_at c.args.name.now c.args.types.now c.loop-object_type.object_type-index _ false c.loop-object_type-test.true (sym c.eq.ensures ∙ c.if-eq.false)
+    c.loop-object_type.invariant ∙ first_at c.args.name.now c.args.types.now c.loop-object_type.object_type-index _ false c.loop-object_type-test.true (sym c.is_named.ensures ∙ c.if-is_named.false)
