@@ -1,4 +1,4 @@
--- An index of the objects before a place, and the object at the place.
+-- The places of the latest versions of the objects before a place, and the object at the place.
 use Rattle.std.proofs.Common.{arith, eq-eqb, ◌≡◌, ◌≢◌, ◌⊎◌, inl, inr, ◌+◌, ◌<◌, ◌≤◌, ◌&&◌, ◌==◌, ℕ, ℤ, List, Option, Some, None, Bool, true, false, cond, bytes_eq, take, slice_get, sym, ap, refl, subst, ◌∙◌}
 use Rattle.std.proofs.lemmas.Int.{ints, by_lt_z}
 use Rattle.std.proofs.lemmas.Bool.{cases_lt, cases_eq, cases_Bool, false≢true}
@@ -6,10 +6,10 @@ use Rattle.std.proofs.lemmas.Bool.Decides.{nat_tests}
 use Rattle.std.proofs.lemmas.Slice.Eq.{bytes_eq-Decides}
 use Rattle.serde_json.specs.Data.{Data}
 use Rattle.stix_ids.specs.declared.id.Id.{Id}
-use Rattle.stix_bundles.specs.declared.index.Index.{Index}
+use Rattle.stix_bundles.specs.declared.places.Places.{Places}
 use Rattle.stix_objects.specs.Properties.{HasId}
 use Rattle.stix_bundles.specs.Lookup.{IsModified, IsEarlier, IsOf, IsVersionAt, IsLatest}
-use Rattle.stix_bundles.specs.inner.Index.{position_of, same_id, Puts, Overtakes, IsPositionOf, IsIndexOf}
+use Rattle.stix_bundles.specs.inner.Index.{position_of, same_id, Puts, Overtakes, IsPositionOf, ArePlacesOf}
 use Rattle.stix_bundles.proofs.ObjectsLemmas.{same_some}
 use Rattle.stix_bundles.proofs.TakeLemmas.{taken, taken_before, in_taken}
 use Rattle.stix_bundles.proofs.LookupLemmas.{of_version}
@@ -141,7 +141,7 @@ held_newly one ds at d there id has time modified place not is = record {
   ];
 }
 
-same_parts : (id other : Id) → id.kind ≡ other.kind → id.number ≡ other.number → id ≡ other
+pub same_parts : (id other : Id) → id.kind ≡ other.kind → id.number ≡ other.number → id ≡ other
 same_parts id other kinds numbers =
     let kind_first : id ≡ record { kind = other.kind; number = id.number } = ap (λ (k : List ℕ). let i : Id = record { kind = k; number = id.number } in i) kinds in
     kind_first ∙ ap (λ (n : ℕ). let i : Id = record { kind = other.kind; number = n } in i) numbers
@@ -149,7 +149,7 @@ same_parts id other kinds numbers =
 not_eqb : (a b : ℕ) → (a ≡ b → ⊥) → (a == b) ≡ false
 not_eqb a b different = grind (arith, nat_tests)
 
-pub same_cases : (id other : Id) → ((same_id id other ≡ true) × (id ≡ other)) ⊎ ((same_id id other ≡ false) × (id ≢ other))
+same_cases : (id other : Id) → ((same_id id other ≡ true) × (id ≡ other)) ⊎ ((same_id id other ≡ false) × (id ≢ other))
 same_cases id other =
     elim (cases_Bool (bytes_eq id.kind other.kind)) [
       | inl kinds ↦ elim (cases_eq id.number other.number) [
@@ -168,17 +168,16 @@ same_cases id other =
       )
     ]
 
--- the index after the object of an identifier was put
-pub index_put : OneModified → OneId → (ds : List Data) (at : ℕ) (d : Data) → slice_get ds at ≡ Some d → (id : Id) → HasId d id → (time : Option ℤ) → IsModified d time
-    → (before after : Index) → IsIndexOf (take at ds) before → ¬ Overtakes ds (position_of before id) time → Puts before after id at → IsIndexOf (take (at + 1) ds) after
-index_put one_modified one_id ds at d there id has time modified before after is not puts = λ other.
+-- the places after that of an identifier's latest version was put
+pub places_put : OneId → (ds : List Data) (at : ℕ) (d : Data) → slice_get ds at ≡ Some d → (id : Id) → HasId d id → (latest : ℕ) → IsLatest (take (at + 1) ds) id latest
+    → (before after : Places) → ArePlacesOf (take at ds) before → Puts before after id latest → ArePlacesOf (take (at + 1) ds) after
+places_put one_id ds at d there id has latest is_latest before after is puts = λ other.
     subst (IsPositionOf (take (at + 1) ds) other) (sym (puts other))
     (elim (same_cases id other) [
       | inl same ↦
-          subst (λ (b : Bool). IsPositionOf (take (at + 1) ds) other (cond b (Some at) (position_of before other))) (sym same.0)
-          (subst (λ (i : Id). IsLatest (take (at + 1) ds) i at) same.1
-          (held_newly one_modified ds at d there id has time modified (position_of before id) not (is id)))
+          subst (λ (b : Bool). IsPositionOf (take (at + 1) ds) other (cond b (Some latest) (position_of before other))) (sym same.0)
+          (subst (λ (i : Id). IsLatest (take (at + 1) ds) i latest) same.1 is_latest)
       | inr different ↦
-          subst (λ (b : Bool). IsPositionOf (take (at + 1) ds) other (cond b (Some at) (position_of before other))) (sym different.0)
+          subst (λ (b : Bool). IsPositionOf (take (at + 1) ds) other (cond b (Some latest) (position_of before other))) (sym different.0)
           (held_beside ds at d there other (λ has_other. different.1 (one_id d id other has has_other)) (position_of before other) (is other))
     ])

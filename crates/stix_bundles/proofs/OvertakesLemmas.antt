@@ -20,26 +20,21 @@ less : (a b : ℕ) → true ≡ nat_lt a b → a < b
 less a b is = grind (arith, nat_tests)
 
 -- nothing stands past the end
-pub not_past : (values : List Json) (at : ℕ) (place : Option ℕ) (time : Option ℤ) → place ≡ Some at → false ≡ nat_lt at (length values)
-    → ¬ Overtakes (data_in values) place time
-not_past values at place time is past over =
-    let there = subst (λ (p : Option ℕ). Overtakes (data_in values) p time) is over in
-    let inside = slice_get_within (data_in values) at there.0 there.2 in
+pub not_past : (values : List Json) (at : ℕ) (time : Option ℤ) → false ≡ nat_lt at (length values) → ¬ Overtakes (data_in values) (Some at) time
+not_past values at time past over =
+    let inside = slice_get_within (data_in values) at over.0 over.2 in
     let count = length-map values data_of in
     let outside = not_less at (length values) past in
     absurd (omega arith)
 
-pub overtakes_at : (values : List Json) (at : ℕ) (place : Option ℕ) (time modified : Option ℤ) (value : Json) → place ≡ Some at → true ≡ nat_lt at (length values)
-    → value ≡ slice_index_or values at value → IsModified (data_of value) modified → IsEarlier time modified → Overtakes (data_in values) place time
-overtakes_at values at place time modified value is inside read when earlier =
-    subst (λ (p : Option ℕ). Overtakes (data_in values) p time) (sym is)
+pub overtakes_at : (values : List Json) (at : ℕ) (time modified : Option ℤ) (value : Json) → true ≡ nat_lt at (length values) → value ≡ slice_index_or values at value
+    → IsModified (data_of value) modified → IsEarlier time modified → Overtakes (data_in values) (Some at) time
+overtakes_at values at time modified value inside read when earlier =
     (data_of value, modified, data_read values at value (less at (length values) inside) read, when, earlier)
 
-pub earlier_at : OneModified → (values : List Json) (at : ℕ) (place : Option ℕ) (time modified : Option ℤ) (value : Json) → place ≡ Some at
-    → true ≡ nat_lt at (length values) → value ≡ slice_index_or values at value → IsModified (data_of value) modified → Overtakes (data_in values) place time
-    → IsEarlier time modified
-earlier_at one values at place time modified value is inside read when over =
-    let there = subst (λ (p : Option ℕ). Overtakes (data_in values) p time) is over in
-    let same : there.0 ≡ data_of value = same_some there.0 (data_of value) (sym there.2 ∙ data_read values at value (less at (length values) inside) read) in
-    let its : IsModified (data_of value) there.1 = subst (λ (d : Data). IsModified d there.1) same there.3 in
-    subst (IsEarlier time) (one (data_of value) there.1 modified its when) there.4
+pub earlier_at : OneModified → (values : List Json) (at : ℕ) (time modified : Option ℤ) (value : Json) → true ≡ nat_lt at (length values)
+    → value ≡ slice_index_or values at value → IsModified (data_of value) modified → Overtakes (data_in values) (Some at) time → IsEarlier time modified
+earlier_at one values at time modified value inside read when over =
+    let same : over.0 ≡ data_of value = same_some over.0 (data_of value) (sym over.2 ∙ data_read values at value (less at (length values) inside) read) in
+    let its : IsModified (data_of value) over.1 = subst (λ (d : Data). IsModified d over.1) same over.3 in
+    subst (IsEarlier time) (one (data_of value) over.1 modified its when) over.4

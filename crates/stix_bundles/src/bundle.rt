@@ -7,6 +7,7 @@ ghost use Rattle.stix_bundles.specs.declared.outline.TheConstants.{MAX_OBJECTS};
 ghost use Rattle.stix_bundles.specs.inner.Index.{IsPositionOf, IsIndexed};
 
 use crate::index::Index;
+use crate::latest::latest_of;
 use flow_values::Items;
 use std::marker::Model;
 use stix_ids::Parts;
@@ -74,7 +75,10 @@ impl Bundle {
     pub(crate) fn latest(&self, id: Parts<'_>) -> Option<u32>
         ensures { IsPositionOf (data_in self.now) (id_of id.entry) result }
     {
-        self.index.get(id)
+        match &self.index {
+            Index::Few => latest_of(self.objects.as_slice(), id),
+            Index::Many(places) => places.get(id),
+        }
     }
 }
 

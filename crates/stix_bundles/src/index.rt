@@ -1,49 +1,12 @@
-ghost use Rattle.std.specs.Prelude.{◌≡◌, ◌≢◌, Some, None, OnOk};
-ghost use Rattle.stix_ids.specs.declared.id.Id.{Id};
-ghost use Rattle.stix_ids.specs.PartsOf.{id_of};
-ghost use Rattle.stix_bundles.specs.inner.Index.{position_of, Puts};
+use crate::places::Places;
 
-use flow_values::NoMemory;
-use std::alloc::Global;
-use std::collections::BTreeMap;
-use stix_ids::Parts;
+/// How many objects are few: up to so many no positions are kept.
+pub(crate) const FEW_OBJECTS: usize = 8;
 
-/// A position for each of some identifiers, by the identifier's kind and number.
+/// Where the latest versions of a bundle's objects stand.
 #[derive(Drop)]
-pub(crate) struct Index {
-    kinds: BTreeMap<String, BTreeMap<u128, u32>>,
-}
-
-impl Index {
-    /// No positions. Takes no memory.
-    pub(crate) fn new(alloc: Global) -> Index
-        ensures { (id : Id) → position_of result id ≡ None }
-    {
-        Index {
-            kinds: BTreeMap::new(alloc),
-        }
-    }
-
-    /// The position of an identifier. Takes no memory.
-    pub(crate) fn get(&self, id: Parts<'_>) -> Option<u32>
-        ensures { result ≡ position_of self.now (id_of id.entry) }
-    {
-        let places = self.kinds.get(id.kind)?;
-        places.get(&id.number).copied()
-    }
-
-    /// Keeps a position as that of an identifier, in place of another.
-    pub(crate) fn put(&mut self, alloc: Global, id: Parts<'_>, at: u32) -> Result<(), NoMemory>
-        ensures { OnOk result (Puts self.old self.new (id_of id.entry) at) }
-    {
-        if let Some(places) = self.kinds.get_mut(id.kind) {
-            places.insert(id.number, at)?;
-            return Ok(());
-        }
-        let kind = String::from_str(alloc, id.kind)?;
-        let mut places = BTreeMap::new(alloc);
-        places.insert(id.number, at)?;
-        self.kinds.insert(kind, places)?;
-        Ok(())
-    }
+pub(crate) enum Index {
+    /// The objects are few: to go over them costs less than to keep positions, and takes no memory.
+    Few,
+    Many(Places),
 }

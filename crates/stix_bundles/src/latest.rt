@@ -1,59 +1,103 @@
-ghost use Rattle.std.specs.Prelude.{◌≡◌, ◌↔◌, ◌+◌, ◌≤◌, ◌<◌, length, take as first, IsTrue, IfOk, OnOk};
+ghost use Rattle.std.specs.Prelude.{◌≡◌, ◌↔◌, ◌+◌, ◌≤◌, ◌<◌, length, take as first, Some, IsTrue, IfOk, OnOk};
+ghost use Rattle.stix_ids.specs.declared.id.Id.{Id};
+ghost use Rattle.stix_ids.specs.PartsOf.{id_of};
 ghost use Rattle.stix_bundles.specs.Objects.{data_in};
+ghost use Rattle.stix_bundles.specs.Lookup.{IsEarlier, IsOf, IsLatest};
 ghost use Rattle.stix_bundles.specs.declared.outline.TheConstants.{MAX_OBJECTS};
-ghost use Rattle.stix_bundles.specs.Lookup.{IsEarlier};
-ghost use Rattle.stix_bundles.specs.inner.Index.{IsIndexOf, Overtakes};
+ghost use Rattle.stix_bundles.specs.inner.Index.{IsPositionOf, ArePlacesOf, IsIndexOf, Overtakes};
 
-use crate::index::Index;
+use crate::index::{FEW_OBJECTS, Index};
 use crate::laws::one_modified;
-use crate::property::modified;
+use crate::places::Places;
+use crate::property::{has_id, modified};
 use flow_values::NoMemory;
 use std::alloc::Global;
+use stix_ids::Parts;
 use stix_json::Json;
 use stix_objects::laws::one_id;
 use stix_objects::object_id;
 use stix_times::Instant;
 use stix_times::laws::is_before;
 
-/// The latest versions of the objects.
+/// The index of these objects.
 pub(crate) fn index_of(alloc: Global, objects: &[Json]) -> Result<Index, NoMemory>
     requires { length objects.now ≤ MAX_OBJECTS }
     ensures { IfOk result (IsIndexOf (data_in objects.now)) }
 {
-    let mut index = Index::new(alloc);
-    for at in 0..objects.len() {
-        add(alloc, objects, at, &mut index)?;
+    if objects.len() <= FEW_OBJECTS {
+        return Ok(Index::Few);
     }
-    Ok(index)
+    let places = places_of(alloc, objects)?;
+    Ok(Index::Many(places))
 }
 
-/// Adds the object at a position to an index of those before it.
-fn add(alloc: Global, objects: &[Json], at: usize, index: &mut Index) -> Result<(), NoMemory>
+/// The positions of the latest versions of the objects.
+fn places_of(alloc: Global, objects: &[Json]) -> Result<Places, NoMemory>
+    requires { length objects.now ≤ MAX_OBJECTS }
+    ensures { IfOk result (ArePlacesOf (data_in objects.now)) }
+{
+    let mut places = Places::new(alloc);
+    for at in 0..objects.len() {
+        add(alloc, objects, at, &mut places)?;
+    }
+    Ok(places)
+}
+
+/// Adds the object at a position to the places of those before it.
+fn add(alloc: Global, objects: &[Json], at: usize, places: &mut Places) -> Result<(), NoMemory>
     requires within { length objects.now ≤ MAX_OBJECTS }
     requires there { at < length objects.now }
-    requires before { IsIndexOf (first at (data_in objects.now)) index.old }
-    ensures { OnOk result (IsIndexOf (first (at + 1) (data_in objects.now)) index.new) }
+    requires before { ArePlacesOf (first at (data_in objects.now)) places.old }
+    ensures { OnOk result (ArePlacesOf (first (at + 1) (data_in objects.now)) places.new) }
 {
-    let object = &objects[at];
-    let Some(id) = object_id(object) else {
+    let Some(id) = object_id(&objects[at]) else {
         return Ok(());
     };
     one_id();
-    one_modified();
-    if is_overtaken(objects, index.get(id), modified(object)) {
-        return Ok(());
+    let latest = later(objects, places.get(id), at);
+    places.put(alloc, id, latest)
+}
+
+/// The position of the latest version of an identifier, found by going over the objects. Takes no
+/// memory.
+pub(crate) fn latest_of(objects: &[Json], id: Parts<'_>) -> Option<u32>
+    requires { length objects.now ≤ MAX_OBJECTS }
+    ensures { IsPositionOf (data_in objects.now) (id_of id.entry) result }
+{
+    let mut latest = None;
+    for at in 0..objects.len() {
+        if has_id(&objects[at], id) {
+            latest = Some(later(objects, latest, at));
+        }
     }
-    index.put(alloc, id, at as u32)
+    latest
+}
+
+/// The position of the later of two versions of an identifier: the one at a position, unless the one
+/// held from before it was modified later.
+fn later(objects: &[Json], held: Option<u32>, at: usize) -> u32
+    requires within { length objects.now ≤ MAX_OBJECTS }
+    requires there { at < length objects.now }
+    ensures { (id : Id) → IsOf (data_in objects.now) id at → IsPositionOf (first at (data_in objects.now)) id held
+        → IsLatest (first (at + 1) (data_in objects.now)) id result }
+{
+    one_modified();
+    let time = modified(&objects[at]);
+    let Some(held) = held else {
+        return at as u32;
+    };
+    if is_overtaken(objects, held, time) {
+        held
+    } else {
+        at as u32
+    }
 }
 
 /// Whether an object stands at the position that was modified later than that time.
-fn is_overtaken(objects: &[Json], at: Option<u32>, time: Option<Instant>) -> bool
-    ensures { IsTrue result ↔ Overtakes (data_in objects.now) at time }
+fn is_overtaken(objects: &[Json], at: u32, time: Option<Instant>) -> bool
+    ensures { IsTrue result ↔ Overtakes (data_in objects.now) (Some at) time }
 {
     one_modified();
-    let Some(at) = at else {
-        return false;
-    };
     match objects.get(at as usize) {
         Some(object) => is_earlier(time, modified(object)),
         None => false,

@@ -15,6 +15,7 @@ mod object_break;
 mod observation;
 mod observe;
 mod outline;
+mod places;
 mod property;
 mod read;
 mod refusal;

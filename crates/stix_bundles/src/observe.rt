@@ -72,7 +72,7 @@ fn first_embedding(objects: &[Json]) -> Option<u32>
 fn embeds(object: &Json) -> bool
     ensures { IsTrue result ↔ Embeds (data_of object.now) }
 {
-    is_observed_data(object) && get(object, "objects").is_some()
+    get(object, "objects").is_some() && is_observed_data(object)
 }
 
 /// The observations at these last times, numbered from `first` on.

@@ -1,10 +1,14 @@
 ghost use Rattle.std.specs.Prelude.{◌↔◌, IsTrue};
+ghost use Rattle.stix_ids.specs.PartsOf.{id_of};
 ghost use Rattle.stix_json.specs.DataOf.{data_of};
+ghost use Rattle.stix_objects.specs.Properties.{HasId};
 ghost use Rattle.stix_bundles.specs.Lookup.{IsModified};
 ghost use Rattle.stix_bundles.specs.Observations.{IsObservedData};
 
+use stix_ids::Parts;
 use stix_json::{Json, text_at};
-use stix_objects::{Precision, timestamp_at};
+use stix_objects::laws::one_id;
+use stix_objects::{Precision, object_id, timestamp_at};
 use stix_times::Instant;
 
 /// When an object was modified, where it tells so.
@@ -12,6 +16,17 @@ pub(crate) fn modified(object: &Json) -> Option<Instant>
     ensures { IsModified (data_of object.now) result }
 {
     timestamp_at(object, Precision::Millis, "modified")
+}
+
+/// Whether an object has the identifier. Takes no memory.
+pub(crate) fn has_id(object: &Json, id: Parts<'_>) -> bool
+    ensures { IsTrue result ↔ HasId (data_of object.now) (id_of id.entry) }
+{
+    one_id();
+    match object_id(object) {
+        Some(own) => own.number == id.number && own.kind == id.kind,
+        None => false,
+    }
 }
 
 /// Whether an object is an observed-data.

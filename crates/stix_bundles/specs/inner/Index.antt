@@ -1,25 +1,27 @@
 -- For private clauses and the invariant of a bundle: what its index holds.
-use Rattle.std.specs.Prelude.{◌≡◌, ◌≤◌, ◌&&◌, ◌==◌, ℕ, ℤ, List, [], length, All, Bool, bytes_eq, if◌then◌else◌, Option, Some, None, option_and_then, slice_get}
+use Rattle.std.specs.Prelude.{◌≡◌, ⊤, ◌≤◌, ◌&&◌, ◌==◌, ℕ, ℤ, List, [], length, All, Bool, bytes_eq, if◌then◌else◌, Option, Some, None, option_and_then, slice_get}
 use Rattle.std.specs.Ordering.{nat_cmp}
 use Rattle.std.specs.BTreeMap.{get, get_by_text}
 use Rattle.serde_json.specs.Data.{Data}
 use Rattle.stix_ids.specs.declared.id.Id.{Id}
 use Rattle.stix_json.specs.Ordered.{IsOrdered}
 use Rattle.stix_bundles.specs.declared.index.Index.{Index}
+use Rattle.stix_bundles.specs.declared.index.Index.TheVariants.{Few, Many}
+use Rattle.stix_bundles.specs.declared.places.Places.{Places}
 use Rattle.stix_bundles.specs.declared.outline.TheConstants.{MAX_OBJECTS}
 use Rattle.stix_bundles.specs.Bundle.{AreAllBreaks}
 use Rattle.stix_bundles.specs.Lookup.{IsModified, IsEarlier, IsOf, IsLatest}
 
--- what the index holds for an identifier
-abbrev pub position_of : Index → Id → Option ℕ
-position_of index id = option_and_then (λ places. get nat_cmp places id.number) (get_by_text index.kinds id.kind)
+-- what the places hold for an identifier
+abbrev pub position_of : Places → Id → Option ℕ
+position_of places id = option_and_then (λ numbers. get nat_cmp numbers id.number) (get_by_text places.kinds id.kind)
 
 -- whether two identifiers are one
 abbrev pub same_id : Id → Id → Bool
 same_id id other = bytes_eq id.kind other.kind && (id.number == other.number)
 
--- the index holds the place for the identifier, and what it held for the others
-abbrev pub Puts : Index → Index → Id → ℕ → Type 0
+-- the places hold this one for the identifier, and what they held for the others
+abbrev pub Puts : Places → Places → Id → ℕ → Type 0
 Puts before after id at = (other : Id) → position_of after other ≡ (if same_id id other then Some at else position_of before other)
 
 -- an object stands at the place that was modified later than that time
@@ -28,14 +30,19 @@ Overtakes objects None time = ⊥
 Overtakes objects (Some at) time = (d : Data) × (modified : Option ℤ) × (slice_get objects at ≡ Some d)
     × IsModified d modified × IsEarlier time modified
 
--- what an index has to hold for an identifier: the place of the latest version, and none where there is none
+-- what a look-up has to give for an identifier: the place of the latest version, and none where there is none
 abbrev pub IsPositionOf : List Data → Id → Option ℕ → Type 0
 IsPositionOf objects id None = (at : ℕ) → ¬ IsOf objects id at
 IsPositionOf objects id (Some at) = IsLatest objects id at
 
--- the index holds the places of the latest versions of the objects
+-- the places of the latest versions of the objects
+abbrev pub ArePlacesOf : List Data → Places → Type 0
+ArePlacesOf objects places = (id : Id) → IsPositionOf objects id (position_of places id)
+
+-- what an index has to hold: nothing where the objects are few, else the places of their latest versions
 abbrev pub IsIndexOf : List Data → Index → Type 0
-IsIndexOf objects index = (id : Id) → IsPositionOf objects id (position_of index id)
+IsIndexOf objects Few = ⊤
+IsIndexOf objects (Many places) = ArePlacesOf objects places
 
 -- what is true of the objects of each bundle and its index
 pub record IsIndexed (objects : List Data) (index : Index) : Type 0 where

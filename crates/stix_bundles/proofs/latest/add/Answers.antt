@@ -1,26 +1,27 @@
-use Rattle.std.proofs.Common.{refl}
-use Rattle.std.proofs.lemmas.Bool.{false≢true}
-use Rattle.stix_bundles.proofs.ObjectsLemmas.{data_read}
-use Rattle.stix_bundles.proofs.IndexOfLemmas.{put_well, add_beside, add_overtaken}
+use Rattle.std.proofs.Common.{take, sym, subst}
 use Rattle.stix_ids.specs.PartsOf.{id_of}
 use Rattle.stix_json.specs.DataOf.{data_of}
 use Rattle.stix_bundles.specs.Objects.{data_in}
+use Rattle.stix_bundles.specs.Lookup.{IsOf}
+use Rattle.stix_bundles.specs.inner.Index.{IsPositionOf}
+use Rattle.stix_bundles.proofs.ObjectsLemmas.{data_read}
+use Rattle.stix_bundles.proofs.IndexOfLemmas.{put_well, add_beside}
 use Rattle.stix_bundles.proofs.latest.add.Goals as goal
 
 pub returns-in_default : goal.returns-in_default
 returns-in_default c =
-    let there = data_read c.args.objects.now c.args.at c.index-objects-at.result c.requires.there c.index-objects-at.is in
-    add_beside (data_in c.args.objects.now) c.args.at (data_of c.index-objects-at.result) there c.args.index.now c.in_default.ensures c.requires.before
-
-pub returns-then-is_overtaken : goal.returns-then-is_overtaken
-returns-then-is_overtaken c =
-    let there = data_read c.args.objects.now c.args.at c.index-objects-at.result c.requires.there c.index-objects-at.is in
-    add_overtaken c.one_modified.ensures c.one_id.ensures (data_in c.args.objects.now) c.args.at (data_of c.index-objects-at.result) there (id_of c.in-Some.id)
-    c.in-Some.ensures c.modified.result c.modified.ensures c.args.index.now c.get.result c.get.ensures (c.if-is_overtaken.ensures.0 refl) c.requires.before
+    let object = c.index-objects-at.result in
+    let there = data_read c.args.objects.now c.args.at object c.requires.there c.index-objects-at.is in
+    add_beside (data_in c.args.objects.now) c.args.at (data_of object) there c.args.places.now c.in_default.ensures c.requires.before
 
 pub returns : goal.returns
 returns c =
-    let there = data_read c.args.objects.now c.args.at c.index-objects-at.result c.requires.there c.index-objects-at.is in
-    put_well c.one_modified.ensures c.one_id.ensures (data_in c.args.objects.now) c.args.at (data_of c.index-objects-at.result) there (id_of c.in-Some.id)
-    c.in-Some.ensures c.modified.result c.modified.ensures c.args.index.now c.put.new.self c.get.result c.get.ensures
-    (λ over. false≢true (c.if-is_overtaken.ensures.1 over)) c.requires.before c.put.result c.put.ensures
+    let ds = data_in c.args.objects.now in
+    let object = c.index-objects-at.result in
+    let there = data_read c.args.objects.now c.args.at object c.requires.there c.index-objects-at.is in
+    let id = id_of c.in-Some.id in
+    let has = c.in-Some.ensures in
+    let of : IsOf ds id c.args.at = record { object = data_of object; there = there; has = has } in
+    let held = subst (IsPositionOf (take c.args.at ds) id) (sym c.get.ensures) (c.requires.before id) in
+    put_well c.one_id.ensures ds c.args.at (data_of object) there id has c.later-latest.result (c.later-latest.ensures id of held) c.args.places.now c.put.new.self
+    c.requires.before c.put.result c.put.ensures

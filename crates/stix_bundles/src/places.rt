@@ -1,0 +1,49 @@
+ghost use Rattle.std.specs.Prelude.{◌≡◌, ◌≢◌, Some, None, OnOk};
+ghost use Rattle.stix_ids.specs.declared.id.Id.{Id};
+ghost use Rattle.stix_ids.specs.PartsOf.{id_of};
+ghost use Rattle.stix_bundles.specs.inner.Index.{position_of, Puts};
+
+use flow_values::NoMemory;
+use std::alloc::Global;
+use std::collections::BTreeMap;
+use stix_ids::Parts;
+
+/// A position for each of some identifiers, by the identifier's kind and number.
+#[derive(Drop)]
+pub(crate) struct Places {
+    kinds: BTreeMap<String, BTreeMap<u128, u32>>,
+}
+
+impl Places {
+    /// No positions. Takes no memory.
+    pub(crate) fn new(alloc: Global) -> Places
+        ensures { (id : Id) → position_of result id ≡ None }
+    {
+        Places {
+            kinds: BTreeMap::new(alloc),
+        }
+    }
+
+    /// The position of an identifier. Takes no memory.
+    pub(crate) fn get(&self, id: Parts<'_>) -> Option<u32>
+        ensures { result ≡ position_of self.now (id_of id.entry) }
+    {
+        let numbers = self.kinds.get(id.kind)?;
+        numbers.get(&id.number).copied()
+    }
+
+    /// Keeps a position as that of an identifier, in place of another.
+    pub(crate) fn put(&mut self, alloc: Global, id: Parts<'_>, at: u32) -> Result<(), NoMemory>
+        ensures { OnOk result (Puts self.old self.new (id_of id.entry) at) }
+    {
+        if let Some(numbers) = self.kinds.get_mut(id.kind) {
+            numbers.insert(id.number, at)?;
+            return Ok(());
+        }
+        let kind = String::from_str(alloc, id.kind)?;
+        let mut numbers = BTreeMap::new(alloc);
+        numbers.insert(id.number, at)?;
+        self.kinds.insert(kind, numbers)?;
+        Ok(())
+    }
+}
