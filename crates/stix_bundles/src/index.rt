@@ -1,7 +1,7 @@
 use crate::places::Places;
 
 /// How many objects are few: up to so many no positions are kept.
-pub(crate) const FEW_OBJECTS: usize = 8;
+pub(crate) const FEW_OBJECTS: usize = 4;
 
 /// Where the latest versions of a bundle's objects stand.
 #[derive(Drop)]
