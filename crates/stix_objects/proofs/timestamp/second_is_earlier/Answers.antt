@@ -1,4 +1,4 @@
-use Rattle.std.proofs.Common.{false, not, sym, ◌∙◌}
+use Rattle.std.proofs.Common.{sym, ◌∙◌}
 use Rattle.stix_json.specs.DataOf.{data_of}
 use Rattle.stix_objects.proofs.TimestampLemmas.{never_earlier}
 use Rattle.stix_objects.proofs.timestamp.second_is_earlier.Goals as goal
