@@ -1,6 +1,7 @@
 ghost use Rattle.std.specs.Prelude.{◌≡◌};
 ghost use Rattle.std.specs.List.{list_any};
 ghost use Rattle.stix_objects.specs.Breaks.{same_group};
+ghost use Rattle.stix_objects.specs.inner.Views.{groups_view};
 
 /// Which common rows stand for a type.
 #[derive(Clone, Copy, Debug, PartialEq, Eq)]
@@ -15,23 +16,25 @@ pub enum Group {
     Other,
 }
 
-impl Group {
-    /// Whether it is one of these.
-    pub(crate) fn is_among(self, groups: &[Group]) -> bool
-        ensures { result ≡ list_any (same_group self) groups.now }
-    {
-        groups.iter().any(|other| self.is(*other))
-    }
+/// Some of the groups: those for which a common row stands.
+#[derive(Clone, Copy)]
+pub(crate) struct Groups {
+    pub(crate) domain: bool,
+    pub(crate) marking: bool,
+    pub(crate) observable: bool,
+    pub(crate) other: bool,
+}
 
-    fn is(self, other: Group) -> bool
-        ensures { result ≡ same_group self other }
+impl Groups {
+    /// Whether the group is one of these.
+    pub(crate) fn contains(self, group: Group) -> bool
+        ensures { result ≡ list_any (same_group group) (groups_view self) }
     {
-        match (self, other) {
-            (Group::Domain, Group::Domain)
-            | (Group::Marking, Group::Marking)
-            | (Group::Observable, Group::Observable)
-            | (Group::Other, Group::Other) => true,
-            (Group::Domain | Group::Marking | Group::Observable | Group::Other, _) => false,
+        match group {
+            Group::Domain => self.domain,
+            Group::Marking => self.marking,
+            Group::Observable => self.observable,
+            Group::Other => self.other,
         }
     }
 }

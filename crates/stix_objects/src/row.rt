@@ -5,6 +5,7 @@ ghost use Rattle.stix_objects.specs.inner.Views.{form_view, row_view, common_vie
 
 use crate::Group;
 use crate::form::{Form, Precision};
+use crate::groups::Groups;
 
 /// What may hold of an object.
 #[derive(Clone, Copy)]
@@ -44,9 +45,9 @@ pub(crate) enum Row {
 #[derive(Drop)]
 pub(crate) enum CommonRow {
     /// It stands for these groups.
-    For(&'static [Group], Row),
+    For(Groups, Row),
     /// It stands for these groups, unless the type's own rows name the property.
-    UnlessOwn(&'static [Group], &'static str, Row),
+    UnlessOwn(Groups, &'static str, Row),
 }
 
 impl Row {
@@ -77,14 +78,14 @@ impl CommonRow {
     {
         match self {
             CommonRow::For(groups, row) => {
-                if group.is_among(groups) {
+                if groups.contains(group) {
                     Some(row)
                 } else {
                     None
                 }
             }
             CommonRow::UnlessOwn(groups, name, row) => {
-                if !group.is_among(groups) {
+                if !groups.contains(group) {
                     return None;
                 }
                 if name_property(own, name) {

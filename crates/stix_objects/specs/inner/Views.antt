@@ -1,9 +1,12 @@
 -- For private clauses: the code's tables as the definitions' tables, and what the code finds as what is found.
-use Rattle.std.specs.Prelude.{ℕ, List, [], ◌∷◌, map, option_map, option_to_list}
+use Rattle.std.specs.Prelude.{ℕ, List, [], ◌∷◌, ◌++◌, Bool, true, false, map, option_map, option_to_list}
 use Rattle.stix_json.specs.Walk.{place_part}
 use Rattle.stix_objects.specs.declared.form.Single.{Single as SingleIn}
 use Rattle.stix_objects.specs.declared.form.Part.{Part as PartIn}
 use Rattle.stix_objects.specs.declared.form.Form.{Form as FormIn}
+use Rattle.stix_objects.specs.declared.groups.Group.{Group}
+use Rattle.stix_objects.specs.declared.groups.Group.TheVariants.{Domain, Marking, Observable, Other}
+use Rattle.stix_objects.specs.declared.groups.Groups.{Groups as GroupsIn}
 use Rattle.stix_objects.specs.declared.row.Condition.{Condition as ConditionIn}
 use Rattle.stix_objects.specs.declared.row.Row.{Row as RowIn}
 use Rattle.stix_objects.specs.declared.row.CommonRow.{CommonRow as CommonRowIn}
@@ -66,10 +69,20 @@ row_view RowIn.Statement = statement
 row_view RowIn.Colour = colour
 row_view RowIn.ColourId = colour_id
 
+-- the group, where it is one of them
+abbrev pub where_so : Bool → Group → List Group
+where_so true group = group ∷ []
+where_so false group = []
+
+-- some of the groups
+abbrev pub groups_view : GroupsIn → List Group
+groups_view groups =
+    where_so groups.domain Domain ++ (where_so groups.marking Marking ++ (where_so groups.observable Observable ++ where_so groups.other Other))
+
 -- a row of several types
 abbrev pub common_view : CommonRowIn → CommonRow
-common_view (CommonRowIn.For groups row) = for groups.now (row_view row)
-common_view (CommonRowIn.UnlessOwn groups name row) = unless_own groups.now name.now (row_view row)
+common_view (CommonRowIn.For groups row) = for (groups_view groups) (row_view row)
+common_view (CommonRowIn.UnlessOwn groups name row) = unless_own (groups_view groups) name.now (row_view row)
 
 -- an object type
 abbrev pub type_view : ObjectTypeIn → ObjectType

@@ -4,45 +4,81 @@ ghost use Rattle.std.specs.Prelude.{◌≡◌, map};
 ghost use Rattle.stix_objects.specs.CommonRows.{common_rows as shared_rows};
 ghost use Rattle.stix_objects.specs.inner.Views.{common_view};
 
-use crate::Group;
 use crate::form::{
     BOOLEAN, EXTERNAL, FIELDS, Form, KIND, LISTED, MILLIS, Precision, Single, TEXT, TEXTS, VERSION,
 };
+use crate::groups::Groups;
 use crate::row::{CommonRow, Row};
 
-const ALL: &[Group] = &[
-    Group::Domain,
-    Group::Marking,
-    Group::Observable,
-    Group::Other,
-];
+const ALL: Groups = Groups {
+    domain: true,
+    marking: true,
+    observable: true,
+    other: true,
+};
 
-const DOMAIN_AND_OTHER: &[Group] = &[Group::Domain, Group::Other];
+const DOMAIN: Groups = Groups {
+    domain: true,
+    marking: false,
+    observable: false,
+    other: false,
+};
 
-const ALL_BUT_OBSERVABLE: &[Group] = &[Group::Domain, Group::Marking, Group::Other];
+const DOMAIN_AND_MARKING: Groups = Groups {
+    domain: true,
+    marking: true,
+    observable: false,
+    other: false,
+};
+
+const DOMAIN_AND_OTHER: Groups = Groups {
+    domain: true,
+    marking: false,
+    observable: false,
+    other: true,
+};
+
+const ALL_BUT_OBSERVABLE: Groups = Groups {
+    domain: true,
+    marking: true,
+    observable: false,
+    other: true,
+};
+
+const OBSERVABLE: Groups = Groups {
+    domain: false,
+    marking: false,
+    observable: true,
+    other: false,
+};
+
+const OBSERVABLE_AND_OTHER: Groups = Groups {
+    domain: false,
+    marking: false,
+    observable: true,
+    other: true,
+};
+
+const OTHER: Groups = Groups {
+    domain: false,
+    marking: false,
+    observable: false,
+    other: true,
+};
 
 const COMMON_ROWS: &[CommonRow] = &[
     CommonRow::For(ALL, Row::Required("type", KIND)),
-    CommonRow::For(
-        &[Group::Domain, Group::Marking],
-        Row::Required("spec_version", VERSION),
-    ),
-    CommonRow::For(
-        &[Group::Observable, Group::Other],
-        Row::Optional("spec_version", VERSION),
-    ),
+    CommonRow::For(DOMAIN_AND_MARKING, Row::Required("spec_version", VERSION)),
+    CommonRow::For(OBSERVABLE_AND_OTHER, Row::Optional("spec_version", VERSION)),
     CommonRow::For(ALL, Row::OwnId),
     CommonRow::For(
         ALL_BUT_OBSERVABLE,
         Row::Optional("created_by_ref", Form::One(Single::Ref(&["identity"]))),
     ),
-    CommonRow::For(
-        &[Group::Domain, Group::Marking],
-        Row::Required("created", MILLIS),
-    ),
-    CommonRow::For(&[Group::Other], Row::Optional("created", MILLIS)),
-    CommonRow::For(&[Group::Domain], Row::Required("modified", MILLIS)),
-    CommonRow::For(&[Group::Other], Row::Optional("modified", MILLIS)),
+    CommonRow::For(DOMAIN_AND_MARKING, Row::Required("created", MILLIS)),
+    CommonRow::For(OTHER, Row::Optional("created", MILLIS)),
+    CommonRow::For(DOMAIN, Row::Required("modified", MILLIS)),
+    CommonRow::For(OTHER, Row::Optional("modified", MILLIS)),
     CommonRow::For(
         DOMAIN_AND_OTHER,
         Row::Order(Precision::Millis, "created", "modified"),
@@ -67,9 +103,9 @@ const COMMON_ROWS: &[CommonRow] = &[
     ),
     CommonRow::For(ALL, Row::Optional("granular_markings", LISTED)),
     CommonRow::For(ALL, Row::Optional("extensions", FIELDS)),
-    CommonRow::For(&[Group::Observable], Row::Optional("defanged", BOOLEAN)),
-    CommonRow::UnlessOwn(&[Group::Domain], "name", Row::Optional("name", TEXT)),
-    CommonRow::For(&[Group::Domain], Row::Optional("description", TEXT)),
+    CommonRow::For(OBSERVABLE, Row::Optional("defanged", BOOLEAN)),
+    CommonRow::UnlessOwn(DOMAIN, "name", Row::Optional("name", TEXT)),
+    CommonRow::For(DOMAIN, Row::Optional("description", TEXT)),
 ];
 
 /// The common rows, each with the groups for which it stands.

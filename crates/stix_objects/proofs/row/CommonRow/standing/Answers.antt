@@ -19,9 +19,9 @@ stands true false row is other = refl
 stands true true row is other = absurd (cc)
 stands false b row is other = absurd (cc)
 
-pub returns-then-not-is_among : goal.returns-then-not-is_among
-returns-then-not-is_among c =
-    rw c.in-UnlessOwn.is (outside _ _ (row_view c.in-UnlessOwn.row) (sym c.is_among-in-UnlessOwn.ensures ∙ c.if-not-is_among.true))
+pub returns-then-not-contains : goal.returns-then-not-contains
+returns-then-not-contains c =
+    rw c.in-UnlessOwn.is (outside _ _ (row_view c.in-UnlessOwn.row) (sym c.contains-in-UnlessOwn.ensures ∙ c.if-not-contains.true))
 
 pub returns-then-name_property : goal.returns-then-name_property
 returns-then-name_property c =
@@ -32,5 +32,5 @@ returns-then-name_property c =
 pub returns-else-name_property : goal.returns-else-name_property
 returns-else-name_property c =
     let names = c.in-UnlessOwn.name.now in
-    rw c.in-UnlessOwn.is (stands _ _ (row_view c.in-UnlessOwn.row) (sym c.is_among-in-UnlessOwn.ensures ∙ c.if-not-is_among.false)
+    rw c.in-UnlessOwn.is (stands _ _ (row_view c.in-UnlessOwn.row) (sym c.contains-in-UnlessOwn.ensures ∙ c.if-not-contains.false)
     (sym (any_of_map (is_row_of names) row_view c.args.own.now) ∙ sym c.name_property.ensures ∙ c.if-name_property.false))
