@@ -1,6 +1,6 @@
 -- The prefixes that begin a kind are those whose bytes all fit their places: any such prefix goes on to
 -- a kind. So where the bytes stop to fit is where a refusal points.
-use Rattle.std.proofs.Common.{◌≡◌, ℕ, ◌+◌, ◌-◌, ◌<◌, ◌≤◌, ⊎_elim, inl, List, [], ◌∷◌, ◌++◌, length, take, get_or, All, refl, sym, ap, ◌∙◌, subst, arith, length-append}
+use Rattle.std.proofs.Common.{◌≡◌, ◌≢◌, ℕ, zero, suc, ◌+◌, ◌-◌, ◌<◌, ◌≤◌, ⊎_elim, inl, List, [], ◌∷◌, ◌++◌, length, take, get_or, slice_index, All, refl, sym, ap, ◌∙◌, subst, arith, length-append}
 use Rattle.std.proofs.lemmas.Bool.{cases_lt}
 use Rattle.std.proofs.lemmas.List.{append-nil, take_all, get_or_append_left, get_or-append_right, get_or-take, get_or_default, length-take-le}
 use Rattle.std.proofs.lemmas.List.Elements.{All-append}
@@ -105,6 +105,24 @@ longest_prefix s n l fits stops = record {
       (λ less. less)
       (cases_lt n m);
 }
+
+-- a byte fits its place where it is short of the bound and may follow the byte before it
+pub fits_from_follows : (s : List ℕ) (at before : ℕ) → at < 250 → before ≡ slice_index (0 ∷ s) at → IsKindByte (slice_index s at) × (before ≡ 45 → slice_index s at ≢ 45) → FitsAt s at
+fits_from_follows s zero before place is follows = record { place = place; byte = follows.0; hyphen = λ late. absurd (omega arith) }
+fits_from_follows s (suc at) before place is follows =
+    let back : suc at - 1 ≡ at = omega arith in
+    record { place = place; byte = follows.0; hyphen = λ late e. follows.1 (is ∙ ap (slice_index s) (sym back) ∙ e) }
+
+-- and only there
+pub follows_from_fits : (s : List ℕ) (at before : ℕ) → before ≡ slice_index (0 ∷ s) at → FitsAt s at → IsKindByte (slice_index s at) × (before ≡ 45 → slice_index s at ≢ 45)
+follows_from_fits s zero before is fits = (fits.byte, λ e. absurd (omega (arith, is, e)))
+follows_from_fits s (suc at) before is fits =
+    let back : suc at - 1 ≡ at = omega arith in
+    (fits.byte, λ e. fits.hyphen (omega arith) (ap (slice_index s) back ∙ sym is ∙ e))
+
+-- the byte before the next place
+pub next_last : (s : List ℕ) (at : ℕ) → slice_index s at ≡ slice_index (0 ∷ s) (at + 1)
+next_last s at = let e : at + 1 ≡ suc at = omega arith in rw e refl
 
 -- a text that begins a kind as a whole is a kind where it is long enough
 pub kind_from_longest : (s : List ℕ) (n : ℕ) → IsLongestKindPrefix s n → length s ≤ n → 3 ≤ n → IsKind s

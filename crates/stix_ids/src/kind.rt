@@ -1,5 +1,5 @@
-ghost use Rattle.std.specs.Prelude.{◌≡◌, ◌↔◌, ◌<◌, length, IsTrue, IsOk, IfErr};
-ghost use Rattle.stix_ids.specs.Kind.{IsKind, IsLongestKindPrefix};
+ghost use Rattle.std.specs.Prelude.{◌≡◌, ◌≢◌, ◌↔◌, ℕ, ◌<◌, ◌≤◌, length, IsTrue, IsOk, IfErr};
+ghost use Rattle.stix_ids.specs.Kind.{IsKind, IsKindByte, IsLongestKindPrefix};
 ghost use Rattle.stix_ids.specs.KindBytes.{FitsAt};
 
 const LEAST_LENGTH: usize = 3;
@@ -31,25 +31,36 @@ fn check_kind(bytes: &[u8]) -> Result<(), usize>
 fn fitting_length(bytes: &[u8]) -> usize
     ensures { IsLongestKindPrefix bytes.now result }
 {
-    for at in 0..bytes.len() {
-        if !fits_at(bytes, at) {
+    first_misfit(bytes).min(GREATEST_LENGTH)
+}
+
+/// The first byte that may not stand in a kind after those before it, or the end. How long a kind may
+/// be is left to the caller, so that the loop tests no place.
+fn first_misfit(bytes: &[u8]) -> usize
+    ensures within { result ≤ length bytes.now }
+    ensures fits { (at : ℕ) → at < result → at < 250 → FitsAt bytes.now at }
+    ensures stops { result < length bytes.now → ¬ FitsAt bytes.now result }
+{
+    let mut before = 0;
+    for (at, byte) in bytes.iter().enumerate() {
+        if !may_follow(before, *byte) {
             return at;
         }
+        before = *byte;
     }
     bytes.len()
 }
 
-/// Whether a kind that begins with the bytes before `at` may go on with the byte at it.
-fn fits_at(bytes: &[u8], at: usize) -> bool
-    requires { at < length bytes.now }
-    ensures { IsTrue result ↔ FitsAt bytes.now at }
+/// Whether the byte may stand in a kind, after the byte `before`. Letters are told first, since most
+/// bytes are letters.
+fn may_follow(before: u8, byte: u8) -> bool
+    ensures { IsTrue result ↔ (IsKindByte byte × (before ≡ 45 → byte ≢ 45)) }
 {
-    if at >= GREATEST_LENGTH {
-        return false;
-    }
-    match bytes[at] {
-        b'a'..=b'z' | b'0'..=b'9' => true,
-        b'-' => at == 0 || bytes[at - 1] != b'-',
-        _ => false,
+    if byte.is_ascii_lowercase() {
+        true
+    } else if byte == b'-' {
+        before != b'-'
+    } else {
+        byte.is_ascii_digit()
     }
 }
