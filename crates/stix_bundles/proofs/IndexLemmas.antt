@@ -1,4 +1,4 @@
--- The places of the latest versions of the objects before a place, and the object at the place.
+-- The positions of the latest versions of the objects before a place, and the object at the place.
 use Rattle.std.proofs.Common.{arith, eq-eqb, ◌≡◌, ◌≢◌, ◌⊎◌, inl, inr, ◌+◌, ◌<◌, ◌≤◌, ◌&&◌, ◌==◌, ℕ, ℤ, List, Option, Some, None, Bool, true, false, cond, bytes_eq, take, slice_get, sym, ap, refl, subst, ◌∙◌}
 use Rattle.std.proofs.lemmas.Int.{ints, by_lt_z}
 use Rattle.std.proofs.lemmas.Bool.{cases_lt, cases_eq, cases_Bool, false≢true}
@@ -6,10 +6,10 @@ use Rattle.std.proofs.lemmas.Bool.Decides.{nat_tests}
 use Rattle.std.proofs.lemmas.Slice.Eq.{bytes_eq-Decides}
 use Rattle.serde_json.specs.Data.{Data}
 use Rattle.stix_ids.specs.declared.id.Id.{Id}
-use Rattle.stix_bundles.specs.declared.places.Places.{Places}
+use Rattle.stix_bundles.specs.declared.positions.Positions.{Positions}
 use Rattle.stix_objects.specs.Properties.{HasId}
 use Rattle.stix_bundles.specs.Lookup.{IsModified, IsEarlier, IsOf, IsVersionAt, IsLatest}
-use Rattle.stix_bundles.specs.inner.Index.{position_of, same_id, Puts, Overtakes, IsPositionOf, ArePlacesOf}
+use Rattle.stix_bundles.specs.inner.Index.{position_of, same_id, Puts, Overtakes, IsPositionOf, ArePositionsOf}
 use Rattle.stix_bundles.proofs.ObjectsLemmas.{same_some}
 use Rattle.stix_bundles.proofs.TakeLemmas.{taken, taken_before, in_taken}
 use Rattle.stix_bundles.proofs.LookupLemmas.{of_version}
@@ -168,10 +168,10 @@ same_cases id other =
       )
     ]
 
--- the places after that of an identifier's latest version was put
-pub places_put : OneId → (ds : List Data) (at : ℕ) (d : Data) → slice_get ds at ≡ Some d → (id : Id) → HasId d id → (latest : ℕ) → IsLatest (take (at + 1) ds) id latest
-    → (before after : Places) → ArePlacesOf (take at ds) before → Puts before after id latest → ArePlacesOf (take (at + 1) ds) after
-places_put one_id ds at d there id has latest is_latest before after is puts = λ other.
+-- the positions after that of an identifier's latest version was put
+pub positions_put : OneId → (ds : List Data) (at : ℕ) (d : Data) → slice_get ds at ≡ Some d → (id : Id) → HasId d id → (latest : ℕ) → IsLatest (take (at + 1) ds) id latest
+    → (before after : Positions) → ArePositionsOf (take at ds) before → Puts before after id latest → ArePositionsOf (take (at + 1) ds) after
+positions_put one_id ds at d there id has latest is_latest before after is puts = λ other.
     subst (IsPositionOf (take (at + 1) ds) other) (sym (puts other))
     (elim (same_cases id other) [
       | inl same ↦

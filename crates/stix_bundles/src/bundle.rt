@@ -77,7 +77,7 @@ impl Bundle {
     {
         match &self.index {
             Index::Few => latest_of(self.objects.as_slice(), id),
-            Index::Many(places) => places.get(id),
+            Index::Many(positions) => positions.get(id),
         }
     }
 }

@@ -1,4 +1,4 @@
-use crate::places::Places;
+use crate::positions::Positions;
 
 /// How many objects are few: up to so many no positions are kept.
 pub(crate) const FEW_OBJECTS: usize = 4;
@@ -8,5 +8,5 @@ pub(crate) const FEW_OBJECTS: usize = 4;
 pub(crate) enum Index {
     /// The objects are few: to go over them costs less than to keep positions, and takes no memory.
     Few,
-    Many(Places),
+    Many(Positions),
 }

@@ -4,11 +4,11 @@ ghost use Rattle.stix_ids.specs.PartsOf.{id_of};
 ghost use Rattle.stix_bundles.specs.Objects.{data_in};
 ghost use Rattle.stix_bundles.specs.Lookup.{IsEarlier, IsOf, IsLatest};
 ghost use Rattle.stix_bundles.specs.declared.outline.TheConstants.{MAX_OBJECTS};
-ghost use Rattle.stix_bundles.specs.inner.Index.{IsPositionOf, ArePlacesOf, IsIndexOf, Overtakes};
+ghost use Rattle.stix_bundles.specs.inner.Index.{IsPositionOf, ArePositionsOf, IsIndexOf, Overtakes};
 
 use crate::index::{FEW_OBJECTS, Index};
 use crate::laws::one_modified;
-use crate::places::Places;
+use crate::positions::Positions;
 use crate::property::{has_id, modified};
 use flow_values::NoMemory;
 use std::alloc::Global;
@@ -27,35 +27,40 @@ pub(crate) fn index_of(alloc: Global, objects: &[Json]) -> Result<Index, NoMemor
     if objects.len() <= FEW_OBJECTS {
         return Ok(Index::Few);
     }
-    let places = places_of(alloc, objects)?;
-    Ok(Index::Many(places))
+    let positions = positions_of(alloc, objects)?;
+    Ok(Index::Many(positions))
 }
 
 /// The positions of the latest versions of the objects.
-fn places_of(alloc: Global, objects: &[Json]) -> Result<Places, NoMemory>
+fn positions_of(alloc: Global, objects: &[Json]) -> Result<Positions, NoMemory>
     requires { length objects.now ≤ MAX_OBJECTS }
-    ensures { IfOk result (ArePlacesOf (data_in objects.now)) }
+    ensures { IfOk result (ArePositionsOf (data_in objects.now)) }
 {
-    let mut places = Places::new(alloc);
+    let mut positions = Positions::new(alloc);
     for at in 0..objects.len() {
-        add(alloc, objects, at, &mut places)?;
+        add(alloc, objects, at, &mut positions)?;
     }
-    Ok(places)
+    Ok(positions)
 }
 
-/// Adds the object at a position to the places of those before it.
-fn add(alloc: Global, objects: &[Json], at: usize, places: &mut Places) -> Result<(), NoMemory>
+/// Adds the object at a position to the positions of those before it.
+fn add(
+    alloc: Global,
+    objects: &[Json],
+    at: usize,
+    positions: &mut Positions,
+) -> Result<(), NoMemory>
     requires within { length objects.now ≤ MAX_OBJECTS }
     requires there { at < length objects.now }
-    requires before { ArePlacesOf (first at (data_in objects.now)) places.old }
-    ensures { OnOk result (ArePlacesOf (first (at + 1) (data_in objects.now)) places.new) }
+    requires before { ArePositionsOf (first at (data_in objects.now)) positions.old }
+    ensures { OnOk result (ArePositionsOf (first (at + 1) (data_in objects.now)) positions.new) }
 {
     let Some(id) = object_id(&objects[at]) else {
         return Ok(());
     };
     one_id();
-    let latest = later(objects, places.get(id), at);
-    places.put(alloc, id, latest)
+    let latest = later(objects, positions.get(id), at);
+    positions.put(alloc, id, latest)
 }
 
 /// The position of the latest version of an identifier, found by going over the objects. Takes no

@@ -15,7 +15,7 @@ mod object_break;
 mod observation;
 mod observe;
 mod outline;
-mod places;
+mod positions;
 mod property;
 mod read;
 mod refusal;

@@ -1,4 +1,4 @@
--- Where the names of all fields have their places taken, a name whose place isn't taken isn't there.
+-- Where the names of all fields have their slots taken, a name whose slot isn't taken isn't there.
 use Rattle.std.proofs.Common.{◌≡◌, ℕ, List, [], ◌∷◌, All, map, Ordering, Less, Equal, Greater, Bool, true, false, Some, None, nat_cmp, refl, sym, ap, ◌∙◌}
 use Rattle.std.specs.Ordering.{match_ordering}
 use Rattle.std.specs.Cmp.Lexicographic.{slice_cmp}
@@ -16,7 +16,7 @@ passed Less value other = refl
 passed Equal value other = absurd (other refl)
 passed Greater value other = refl
 
--- names whose places differ differ
+-- names whose slots differ differ
 apart : (taken : List Bool) (own name : List ℕ) → is_taken taken own ≡ true → is_taken taken name ≡ false → ¬ (slice_cmp nat_cmp name own ≡ Equal)
 apart taken own name there free same =
     let is : name ≡ own = exact_bytes name own same in

@@ -2,21 +2,21 @@ ghost use Rattle.std.specs.Prelude.{◌≡◌, ◌<◌, IsTrue, None, map, optio
 ghost use Rattle.serde_json.specs.Find.{get as member_of};
 ghost use Rattle.stix_json.specs.DataOf.{data_of, field_data, members_of};
 ghost use Rattle.stix_json.specs.Properties.{text_at as text_under};
-ghost use Rattle.stix_objects.specs.inner.Names.{place, Covers, AreCovered};
+ghost use Rattle.stix_objects.specs.inner.Names.{slot, Covers, AreCovered};
 
 use std::marker::Model;
 use stix_json::{Field, Json, get, text_of};
 
-/// How many places there are for names.
-const PLACES: usize = 64;
+/// How many slots there are for names.
+const SLOTS: usize = 64;
 
 /// An object that is judged. Most rows ask for a property that isn't there, and are told so by the
-/// place of its name, without a walk over the fields.
+/// slot of its name, without a walk over the fields.
 #[derive(Drop)]
 pub(crate) struct Object<'a> {
     json: &'a Json,
-    /// The places of the names that the object has.
-    taken: [bool; PLACES],
+    /// The slots of the names that the object has.
+    taken: [bool; SLOTS],
 }
 
 impl<'a> Model for Object<'a> {
@@ -42,7 +42,7 @@ impl<'a> Object<'a> {
     {
         Object {
             json,
-            taken: places_in(json),
+            taken: slots_in(json),
         }
     }
 
@@ -64,11 +64,11 @@ impl<'a> Object<'a> {
         }
     }
 
-    /// Whether the place of the name tells that it has no such property.
+    /// Whether the slot of the name tells that it has no such property.
     pub(crate) fn plainly_lacks(&self, name: &str) -> bool
         ensures { IsTrue result → member_of name.now (data_of self.now) ≡ None }
     {
-        !self.taken[place_of(name)]
+        !self.taken[slot_of(name)]
     }
 
     /// The text of the property of that name, where it is one.
@@ -79,34 +79,34 @@ impl<'a> Object<'a> {
     }
 }
 
-/// The places of the names that a value has.
-fn places_in(json: &Json) -> [bool; PLACES]
+/// The slots of the names that a value has.
+fn slots_in(json: &Json) -> [bool; SLOTS]
     ensures { Covers result (data_of json.now) }
 {
     match json {
-        Json::Object(fields) => places_of(fields.as_slice()),
-        Json::Bool(_) | Json::Integer(_) | Json::String(_) | Json::Array(_) => [false; PLACES],
+        Json::Object(fields) => slots_of(fields.as_slice()),
+        Json::Bool(_) | Json::Integer(_) | Json::String(_) | Json::Array(_) => [false; SLOTS],
     }
 }
 
-/// The places of the names of the fields.
-fn places_of(fields: &[Field]) -> [bool; PLACES]
+/// The slots of the names of the fields.
+fn slots_of(fields: &[Field]) -> [bool; SLOTS]
     ensures { AreCovered result (members_of (map field_data fields.now)) }
 {
-    let mut taken = [false; PLACES];
+    let mut taken = [false; SLOTS];
     for field in fields {
-        taken[place_of(field.name.as_str())] = true;
+        taken[slot_of(field.name.as_str())] = true;
     }
     taken
 }
 
-/// The place of a name, by its first byte and its length, in which few properties agree.
-fn place_of(name: &str) -> usize
-    ensures place { result ≡ place name.now }
+/// The slot of a name, by its first byte and its length, in which few properties agree.
+fn slot_of(name: &str) -> usize
+    ensures slot { result ≡ slot name.now }
     ensures within { result < 64 }
 {
     match name.as_bytes() {
-        [first, ..] => (3 * usize::from(*first) + 7 * (name.len() % PLACES)) % PLACES,
+        [first, ..] => (3 * usize::from(*first) + 7 * (name.len() % SLOTS)) % SLOTS,
         [] => 0,
     }
 }

@@ -7,21 +7,21 @@ use Rattle.stix_ids.specs.declared.id.Id.{Id}
 use Rattle.stix_json.specs.Ordered.{IsOrdered}
 use Rattle.stix_bundles.specs.declared.index.Index.{Index}
 use Rattle.stix_bundles.specs.declared.index.Index.TheVariants.{Few, Many}
-use Rattle.stix_bundles.specs.declared.places.Places.{Places}
+use Rattle.stix_bundles.specs.declared.positions.Positions.{Positions}
 use Rattle.stix_bundles.specs.declared.outline.TheConstants.{MAX_OBJECTS}
 use Rattle.stix_bundles.specs.Bundle.{AreAllBreaks}
 use Rattle.stix_bundles.specs.Lookup.{IsModified, IsEarlier, IsOf, IsLatest}
 
--- what the places hold for an identifier
-abbrev pub position_of : Places → Id → Option ℕ
-position_of places id = option_and_then (λ numbers. get nat_cmp numbers id.number) (get_by_text places.kinds id.kind)
+-- what the positions hold for an identifier
+abbrev pub position_of : Positions → Id → Option ℕ
+position_of positions id = option_and_then (λ numbers. get nat_cmp numbers id.number) (get_by_text positions.kinds id.kind)
 
 -- whether two identifiers are one
 abbrev pub same_id : Id → Id → Bool
 same_id id other = bytes_eq id.kind other.kind && (id.number == other.number)
 
--- the places hold this one for the identifier, and what they held for the others
-abbrev pub Puts : Places → Places → Id → ℕ → Type 0
+-- the positions hold this one for the identifier, and what they held for the others
+abbrev pub Puts : Positions → Positions → Id → ℕ → Type 0
 Puts before after id at = (other : Id) → position_of after other ≡ (if same_id id other then Some at else position_of before other)
 
 -- an object stands at the place that was modified later than that time
@@ -35,14 +35,14 @@ abbrev pub IsPositionOf : List Data → Id → Option ℕ → Type 0
 IsPositionOf objects id None = (at : ℕ) → ¬ IsOf objects id at
 IsPositionOf objects id (Some at) = IsLatest objects id at
 
--- the places of the latest versions of the objects
-abbrev pub ArePlacesOf : List Data → Places → Type 0
-ArePlacesOf objects places = (id : Id) → IsPositionOf objects id (position_of places id)
+-- the positions of the latest versions of the objects
+abbrev pub ArePositionsOf : List Data → Positions → Type 0
+ArePositionsOf objects positions = (id : Id) → IsPositionOf objects id (position_of positions id)
 
--- what an index has to hold: nothing where the objects are few, else the places of their latest versions
+-- what an index has to hold: nothing where the objects are few, else the positions of their latest versions
 abbrev pub IsIndexOf : List Data → Index → Type 0
 IsIndexOf objects Few = ⊤
-IsIndexOf objects (Many places) = ArePlacesOf objects places
+IsIndexOf objects (Many positions) = ArePositionsOf objects positions
 
 -- what is true of the objects of each bundle and its index
 pub record IsIndexed (objects : List Data) (index : Index) : Type 0 where

@@ -12,7 +12,7 @@ pub returns-in_default : goal.returns-in_default
 returns-in_default c =
     let object = c.index-objects-at.result in
     let there = data_read c.args.objects.now c.args.at object c.requires.there c.index-objects-at.is in
-    add_beside (data_in c.args.objects.now) c.args.at (data_of object) there c.args.places.now c.in_default.ensures c.requires.before
+    add_beside (data_in c.args.objects.now) c.args.at (data_of object) there c.args.positions.now c.in_default.ensures c.requires.before
 
 pub returns : goal.returns
 returns c =
@@ -23,5 +23,5 @@ returns c =
     let has = c.in-Some.ensures in
     let of : IsOf ds id c.args.at = record { object = data_of object; there = there; has = has } in
     let held = subst (IsPositionOf (take c.args.at ds) id) (sym c.get.ensures) (c.requires.before id) in
-    put_well c.one_id.ensures ds c.args.at (data_of object) there id has c.later-latest.result (c.later-latest.ensures id of held) c.args.places.now c.put.new.self
+    put_well c.one_id.ensures ds c.args.at (data_of object) there id has c.later-latest.result (c.later-latest.ensures id of held) c.args.positions.now c.put.new.self
     c.requires.before c.put.result c.put.ensures

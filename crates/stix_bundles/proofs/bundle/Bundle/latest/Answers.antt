@@ -11,4 +11,4 @@ returns-in-Many c =
     let id = id_of c.args.id in
     let held = subst (λ (index : Index). IsIndexOf (data_in c.self.inside.objects) index) c.in-Many.is c.self.invariant.indexed id in
     subst (λ (o : Option ℕ). IsPositionOf (data_in c.args.self.now) id o) (sym c.get.ensures)
-    (subst (λ (values : List Json). IsPositionOf (data_in values) id (position_of c.in-Many.places id)) c.self.view_is held)
+    (subst (λ (values : List Json). IsPositionOf (data_in values) id (position_of c.in-Many.positions id)) c.self.view_is held)

@@ -1,6 +1,6 @@
 use Rattle.std.proofs.Common.{arith}
 use Rattle.stix_objects.proofs.NamesLemmas.{lacks_untaken}
-use Rattle.stix_objects.proofs.object.places_of.Goals as goal
+use Rattle.stix_objects.proofs.object.slots_of.Goals as goal
 
 pub returns : goal.returns
 returns c =

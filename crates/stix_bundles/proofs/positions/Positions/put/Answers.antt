@@ -2,7 +2,7 @@ use Rattle.std.proofs.Common.{rules, string_bytes}
 use Rattle.std.proofs.lemmas.Map.Text.{btree_map_updates_text}
 use Rattle.stix_ids.specs.PartsOf.{id_of}
 use Rattle.stix_bundles.proofs.PutsLemmas.{put_known, put_unknown}
-use Rattle.stix_bundles.proofs.places.Places.put.Goals as goal
+use Rattle.stix_bundles.proofs.positions.Positions.put.Goals as goal
 
 pub returns-in-Some : goal.returns-in-Some
 returns-in-Some c =

@@ -10,16 +10,16 @@ use stix_ids::Parts;
 
 /// A position for each of some identifiers, by the identifier's kind and number.
 #[derive(Drop)]
-pub(crate) struct Places {
+pub(crate) struct Positions {
     kinds: BTreeMap<String, BTreeMap<u128, u32>>,
 }
 
-impl Places {
+impl Positions {
     /// No positions. Takes no memory.
-    pub(crate) fn new(alloc: Global) -> Places
+    pub(crate) fn new(alloc: Global) -> Positions
         ensures { (id : Id) → position_of result id ≡ None }
     {
-        Places {
+        Positions {
             kinds: BTreeMap::new(alloc),
         }
     }
