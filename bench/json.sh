@@ -1,6 +1,7 @@
 #!/usr/bin/env bash
 # Times the cutting of lines alone, the parsing of their JSON alone, and `read_json`, beside `jq`, on a generated log of
-# 100,000 lines. The program is built over copies of the crates, since a repository's gate takes no crate but its own.
+# 100,000 lines; then a bundle of 100,000 objects as one value. The program is built over copies of the crates, since a
+# repository's gate takes no crate but its own.
 set -eu
 top=$(cd "$(dirname "$0")/.." && pwd)
 . "$top/bench/timing.sh"
@@ -24,4 +25,10 @@ for _ in 1 2 3; do
   if command -v jq >/dev/null; then
     timed "jq" jq -c .type
   fi
+done
+awk -f "$top/bench/bundle.awk" > "$folder/log.jsonl"
+size=$(stat -c %s "$folder/log.jsonl")
+for _ in 1 2 3; do
+  timed "one value" "$program" whole-value
+  timed "one json" "$program" whole-json
 done
