@@ -1,9 +1,9 @@
 -- What is kept of the versions that are revoked, one version more.
-use Rattle.std.proofs.Common.{arith, ◌≡◌, ◌↔◌, inl, inr, ◌+◌, ◌<◌, ℕ, ℤ, ◌<ℤ◌, List, length, Option, Some, None, Bool, true, false, not, cond, IsTrue, sym, ap, refl, subst, ◌∙◌}
+use Rattle.std.proofs.Common.{arith, ◌≡◌, ◌↔◌, inl, inr, ◌+◌, ◌<◌, ℕ, ℤ, ◌<ℤ◌, List, length, Option, Some, None, Bool, cond, IsTrue, IfSome, IfNone, slice_get, sym, ap, subst, ◌∙◌}
 use Rattle.std.specs.Ordering.{nat_cmp, is_eq}
 use Rattle.std.specs.BTreeMap.{get}
 use Rattle.std.proofs.lemmas.Int.{ints, by_lt_z}
-use Rattle.std.proofs.lemmas.Bool.{cases_eq, cases_lt, false≢true}
+use Rattle.std.proofs.lemmas.Bool.{cases_eq, cases_lt}
 use Rattle.std.proofs.lemmas.Option.{slice_get_within}
 use Rattle.serde_json.specs.Data.{Data}
 use Rattle.stix_ids.specs.declared.id.Id.{Id}
@@ -12,10 +12,11 @@ use Rattle.stix_versions.specs.declared.version_break.VersionRule.TheVariants as
 use Rattle.stix_versions.specs.declared.revoked.Revoked.{Revoked}
 use Rattle.stix_versions.specs.Versions.{IsVersion, IsRevoked, BreaksVersionRule}
 use Rattle.stix_versions.specs.inner.Version.{IsVersionAs, IsNoVersion}
-use Rattle.stix_versions.specs.inner.FirstVersions.{WasRevoked, IsFirstRevoked, IsRevokedBefore, AreRevokedBefore, IsNextRevoked}
+use Rattle.stix_versions.specs.inner.FirstVersions.{WasRevoked, IsRevokedAs, IsNotRevoked, IsFirstRevoked, IsRevokedBefore, AreRevokedBefore, IsNextRevoked}
+use Rattle.stix_versions.proofs.VersionLemmas.{one_some}
 use Rattle.stix_versions.proofs.FirstValueLemmas.{none_more}
 use Rattle.stix_versions.proofs.CreatedLemmas.{same_key, other_key}
-use Rattle.stix_versions.proofs.IsVersionLemmas.{Laws, one_object, one_version_id, one_modified, one_group, one_grouped}
+use Rattle.stix_versions.proofs.IsVersionLemmas.{Laws, one_version_id, one_modified, one_group, one_grouped}
 
 -- no version of the identifier that is revoked stands at the place
 revoked_beside : (objects : List Data) (at : ℕ) (id : Id) (kept : Option ℤ) → ((m : ℤ) → ¬ WasRevoked objects id at m)
@@ -32,31 +33,29 @@ revoked_beside objects at id (Some first) not_here is =
       ];
     }
 
-pub revoked_past : (objects : List Data) (at : ℕ) (kept : Revoked) → IsNoVersion objects at → AreRevokedBefore objects at kept → AreRevokedBefore objects (at + 1) kept
+pub revoked_past : (objects : List Data) (at : ℕ) (kept : Revoked) → IsNotRevoked objects at → AreRevokedBefore objects at kept → AreRevokedBefore objects (at + 1) kept
 revoked_past objects at kept none is = λ id group latest.
-    revoked_beside objects at id (get nat_cmp kept.groups group) (λ m was. none id was.created m was.object was.version) (is id group latest)
+    revoked_beside objects at id (get nat_cmp kept.groups group) (none id) (is id group latest)
+
+-- an object that is not revoked
+pub unrevoked_here : (objects : List Data) (at : ℕ) (d : Data) → slice_get objects at ≡ Some d → ¬ IsRevoked d → IsNotRevoked objects at
+unrevoked_here objects at d there not_so = λ id m was.
+    not_so (subst IsRevoked (one_some was.object d (sym was.version.there ∙ there)) was.revoked)
+
+-- an object that is revoked, and the version that was read there, if it is one
+pub revoked_some : (objects : List Data) (at : ℕ) (d : Data) → slice_get objects at ≡ Some d → IsRevoked d → (found : Option Version)
+    → IfSome found (IsVersionAs objects at) → IfSome found (IsRevokedAs objects at)
+revoked_some objects at d there revoked None is = is
+revoked_some objects at d there revoked (Some seen) is =
+    record { is = is; revoked = subst IsRevoked (one_some d is.object (sym there ∙ is.version.there)) revoked }
+
+pub revoked_unversioned : (objects : List Data) (at : ℕ) (found : Option Version) → IfNone found (IsNoVersion objects at) → IfNone found (IsNotRevoked objects at)
+revoked_unversioned objects at None none = λ id m was. none id was.created m was.object was.version
+revoked_unversioned objects at (Some seen) none = none
 
 pub revoked_none : (objects : List Data) (kept : Revoked) → ((q : ℕ) → get nat_cmp kept.groups q ≡ None) → AreRevokedBefore objects 0 kept
 revoked_none objects kept none = λ id group latest.
     subst (λ (o : Option ℤ). IsRevokedBefore objects 0 id o) (sym (none group)) (λ place m less was. absurd (omega arith))
-
--- a version that isn't revoked
-pub unrevoked_more : Laws → (kept : Revoked) (seen : Version) → false ≡ seen.revoked → (objects : List Data) (at : ℕ) → IsVersionAs objects at seen
-    → AreRevokedBefore objects at kept → AreRevokedBefore objects (at + 1) kept
-unrevoked_more laws kept seen not_revoked objects at is before = λ id group latest.
-    revoked_beside objects at id (get nat_cmp kept.groups group)
-    (λ m was.
-    let same = one_object objects at id is.id was.created m seen.created seen.modified was.object is.object was.version is.version in
-    false≢true (not_revoked ∙ is.revoked.1 (subst IsRevoked same was.revoked)))
-    (before id group latest)
-
-pub is_false : (b : Bool) → not b ≡ true → false ≡ b
-is_false true is = absurd (false≢true is)
-is_false false is = refl
-
-pub is_true : (b : Bool) → not b ≡ false → true ≡ b
-is_true true is = refl
-is_true false is = absurd (false≢true (sym is))
 
 not_before_itself : (a b : ℤ) → a ≡ b → ¬ (a <ℤ b)
 not_before_itself a b same less = omega (arith, ints, same, less)
@@ -72,12 +71,12 @@ less_than_least m modified first not_first not_less less =
 here_same : Laws → (objects : List Data) (at : ℕ) (seen : Version) (is : IsVersionAs objects at seen) (m : ℤ) → WasRevoked objects is.id at m → m ≡ seen.modified
 here_same laws objects at seen is m was = one_modified laws objects at is.id is.id was.created m seen.created seen.modified was.object is.object was.version is.version
 
-first_here : Laws → (objects : List Data) (at : ℕ) (seen : Version) (is : IsVersionAs objects at seen) → true ≡ seen.revoked
+first_here : Laws → (objects : List Data) (at : ℕ) (seen : Version) (is : IsVersionAs objects at seen) → IsRevoked is.object
     → ((other : ℕ) (m : ℤ) → other < at → WasRevoked objects is.id other m → ¬ (m <ℤ seen.modified)) → IsFirstRevoked objects (at + 1) is.id seen.modified
 first_here laws objects at seen is revoked least = record {
   place = at;
   before = omega arith;
-  was = record { created = seen.created; object = is.object; version = is.version; revoked = is.revoked.0 (sym revoked) };
+  was = record { created = seen.created; object = is.object; version = is.version; revoked = revoked };
   least = λ other m less was. elim (cases_lt other at) [
     | inl earlier ↦ least other m earlier was
     | inr not_earlier ↦
@@ -86,7 +85,7 @@ first_here laws objects at seen is revoked least = record {
   ];
 }
 
-revoked_here : Laws → (objects : List Data) (at : ℕ) (seen : Version) (is : IsVersionAs objects at seen) → true ≡ seen.revoked → (kept : Option ℤ) (next : ℤ)
+revoked_here : Laws → (objects : List Data) (at : ℕ) (seen : Version) (is : IsVersionAs objects at seen) → IsRevoked is.object → (kept : Option ℤ) (next : ℤ)
     → IsNextRevoked kept seen.modified next → IsRevokedBefore objects at is.id kept → IsFirstRevoked objects (at + 1) is.id next
 revoked_here laws objects at seen is revoked None next is_next before =
     subst (IsFirstRevoked objects (at + 1) is.id) (sym is_next)
@@ -110,16 +109,17 @@ revoked_here laws objects at seen is revoked (Some first) next (inr sooner) befo
     subst (IsFirstRevoked objects (at + 1) is.id) (sym sooner.1)
     (first_here laws objects at seen is revoked (λ other m less was. less_than_least m seen.modified first sooner.0 (before.least other m less was)))
 
-pub revoked_more : Laws → (before after : Revoked) (seen : Version) (next : ℤ) → true ≡ seen.revoked → IsNextRevoked (get nat_cmp before.groups seen.group) seen.modified next
+pub revoked_more : Laws → (before after : Revoked) (seen : Version) (next : ℤ) → IsNextRevoked (get nat_cmp before.groups seen.group) seen.modified next
     → ((q : ℕ) → get nat_cmp after.groups q ≡ cond (is_eq (nat_cmp seen.group q)) (Some next) (get nat_cmp before.groups q))
-    → (objects : List Data) (at : ℕ) → IsVersionAs objects at seen → AreRevokedBefore objects at before → AreRevokedBefore objects (at + 1) after
-revoked_more laws before after seen next revoked is_next put objects at is kept = λ id group latest.
+    → (objects : List Data) (at : ℕ) → IsRevokedAs objects at seen → AreRevokedBefore objects at before → AreRevokedBefore objects (at + 1) after
+revoked_more laws before after seen next is_next put objects at seen_as kept = λ id group latest.
+    let is = seen_as.is in
     elim (cases_eq seen.group group) [
       | inl same ↦
           let its : is.id ≡ id = one_grouped laws objects is.id id seen.group group is.grouped latest same in
           let found : get nat_cmp after.groups group ≡ Some next =
           put group ∙ ap (λ (b : Bool). cond b (Some next) (get nat_cmp before.groups group)) (same_key seen.group group same) in
-          let here = revoked_here laws objects at seen is revoked (get nat_cmp before.groups seen.group) next is_next (kept is.id seen.group is.grouped) in
+          let here = revoked_here laws objects at seen is seen_as.revoked (get nat_cmp before.groups seen.group) next is_next (kept is.id seen.group is.grouped) in
           subst (λ (o : Option ℤ). IsRevokedBefore objects (at + 1) id o) (sym found)
           (subst (λ (i : Id). IsRevokedBefore objects (at + 1) i (Some next)) its here)
       | inr different ↦

@@ -1,5 +1,5 @@
 -- What reading an object tells of the version that it is.
-use Rattle.std.proofs.Common.{◌≡◌, ◌↔◌, ◌<◌, ℕ, ℤ, List, length, Option, Some, None, IsTrue, IfNone, unwrap_or, slice_get, slice_index_or, codes, sym, ap, subst, ◌∙◌}
+use Rattle.std.proofs.Common.{◌≡◌, ◌<◌, ℕ, ℤ, List, length, Option, Some, None, IfNone, unwrap_or, slice_get, slice_index_or, codes, sym, ap, subst, ◌∙◌}
 use Rattle.serde_json.specs.Data.{Data}
 use Rattle.stix_ids.specs.declared.id.Id.{Id}
 use Rattle.stix_ids.specs.Identifier.{IsTextOf}
@@ -11,7 +11,7 @@ use Rattle.stix_objects.specs.Properties.{IsTimestampAt}
 use Rattle.stix_bundles.specs.Objects.{data_in}
 use Rattle.stix_bundles.specs.Lookup.{IsOf, Means}
 use Rattle.stix_versions.specs.declared.version.Version.{Version}
-use Rattle.stix_versions.specs.Versions.{IsObservable, IsVersion, IsRevoked}
+use Rattle.stix_versions.specs.Versions.{IsObservable, IsVersion}
 use Rattle.stix_versions.specs.inner.Version.{IsVersionAs, IsNoVersion}
 use Rattle.stix_versions.proofs.FirstObjectsLemmas.{data_read}
 
@@ -62,8 +62,8 @@ unmeant_is_none own objects at d there text named none = λ id created modified 
 
 pub seen_as : (objects : List Data) (at : ℕ) (d : Data) → slice_get objects at ≡ Some d → (seen : Version) → ¬ IsObservable d → (text : List ℕ)
     → Some text ≡ text_at (codes "id") d → Means objects text (Some seen.group) → IsTimestampAt Millis (codes "created") d seen.created
-    → IsTimestampAt Millis (codes "modified") d seen.modified → (IsTrue seen.revoked ↔ IsRevoked d) → IsVersionAs objects at seen
-seen_as objects at d there seen versioned text named means created modified revoked = record {
+    → IsTimestampAt Millis (codes "modified") d seen.modified → IsVersionAs objects at seen
+seen_as objects at d there seen versioned text named means created modified = record {
   id = means.0;
   object = d;
   version = record {
@@ -74,7 +74,6 @@ seen_as objects at d there seen versioned text named means created modified revo
     was_modified = modified;
   };
   grouped = means.2;
-  revoked = revoked;
 }
 
 -- the object that the code reads

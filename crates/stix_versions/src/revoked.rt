@@ -1,12 +1,12 @@
-ghost use Rattle.std.specs.Prelude.{◌↔◌, ◌+◌, ℕ, List, length, IsTrue, IfOk, OnOk};
+ghost use Rattle.std.specs.Prelude.{◌↔◌, ◌+◌, ◌<◌, ℕ, List, length, IsTrue, IfOk, IfSome, IfNone, OnOk};
 ghost use Rattle.serde_json.specs.Data.{Data};
 ghost use Rattle.stix_bundles.specs.Objects.{data_in};
 ghost use Rattle.stix_versions.specs.declared.version_break.VersionRule.TheVariants as rule;
 ghost use Rattle.stix_versions.specs.Versions.{BreaksVersionRule};
 ghost use Rattle.stix_versions.specs.inner.Version.{IsVersionAs};
-ghost use Rattle.stix_versions.specs.inner.FirstVersions.{IsNextRevoked, AreRevokedBefore};
+ghost use Rattle.stix_versions.specs.inner.FirstVersions.{IsRevokedAs, IsNotRevoked, IsNextRevoked, AreRevokedBefore};
 
-use crate::version::{Version, version_at};
+use crate::version::{Version, is_revoked, version_at};
 use flow_values::NoMemory;
 use std::alloc::Global;
 use std::collections::BTreeMap;
@@ -32,24 +32,21 @@ impl Revoked {
             groups: BTreeMap::new(alloc),
         };
         for at in 0..bundle.len() {
-            if let Some(version) = version_at(bundle, at) {
+            if let Some(version) = revoked_at(bundle, at) {
                 revoked.add(&version)?;
             }
         }
         Ok(revoked)
     }
 
-    /// Adds the version at the next position.
+    /// Adds the version at the next position, which is revoked.
     fn add(&mut self, version: &Version) -> Result<(), NoMemory>
-        ensures { OnOk result ((objects : List Data) (at : ℕ) → IsVersionAs objects at version.now
+        ensures { OnOk result ((objects : List Data) (at : ℕ) → IsRevokedAs objects at version.now
             → AreRevokedBefore objects at self.old → AreRevokedBefore objects (at + 1) self.new) }
     {
         one_id();
         one_meaning();
         one_timestamp();
-        if !version.revoked {
-            return Ok(());
-        }
         let group = version.group;
         let modified = version.modified;
         let first = self.groups.get(&group).copied();
@@ -72,6 +69,20 @@ impl Revoked {
             Some(first) => is_before(*first, modified),
             None => false,
         }
+    }
+}
+
+/// The version that the object at a position is, where it is revoked. Few are, so that is asked before
+/// the version is read.
+fn revoked_at(bundle: &Bundle, at: usize) -> Option<Version>
+    requires { at < length bundle.now }
+    ensures some { IfSome result (IsRevokedAs (data_in bundle.now) at) }
+    ensures none { IfNone result (IsNotRevoked (data_in bundle.now) at) }
+{
+    if is_revoked(&bundle.objects()[at]) {
+        version_at(bundle, at)
+    } else {
+        None
     }
 }
 

@@ -19,10 +19,10 @@ pub(crate) struct Version {
     pub(crate) group: u32,
     pub(crate) created: Instant,
     pub(crate) modified: Instant,
-    pub(crate) revoked: bool,
 }
 
-/// The version that the object at a position is. None where it has no versions.
+/// The version that the object at a position is. None where it has no versions. Most objects that have
+/// none lack `created`, so that is asked first.
 pub(crate) fn version_at(bundle: &Bundle, at: usize) -> Option<Version>
     requires { at < length bundle.now }
     ensures some { IfSome result (IsVersionAs (data_in bundle.now) at) }
@@ -30,18 +30,17 @@ pub(crate) fn version_at(bundle: &Bundle, at: usize) -> Option<Version>
 {
     one_meaning();
     let object = &bundle.objects()[at];
+    let created = timestamp_at(object, Precision::Millis, "created")?;
+    let modified = timestamp_at(object, Precision::Millis, "modified")?;
     if is_observable(object) {
         return None;
     }
     let id = text_at(object, "id")?;
-    let created = timestamp_at(object, Precision::Millis, "created")?;
-    let modified = timestamp_at(object, Precision::Millis, "modified")?;
     let group = find(bundle, id)?;
     Some(Version {
         group,
         created,
         modified,
-        revoked: is_revoked(object),
     })
 }
 
@@ -56,7 +55,7 @@ fn is_observable(object: &Json) -> bool
 }
 
 /// Whether a version revokes its object.
-fn is_revoked(object: &Json) -> bool
+pub(crate) fn is_revoked(object: &Json) -> bool
     ensures { IsTrue result ↔ IsRevoked (data_of object.now) }
 {
     match get(object, "revoked") {

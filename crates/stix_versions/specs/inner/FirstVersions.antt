@@ -5,11 +5,12 @@ use Rattle.std.specs.BTreeMap.{get}
 use Rattle.serde_json.specs.Data.{Data}
 use Rattle.stix_ids.specs.declared.id.Id.{Id}
 use Rattle.stix_bundles.specs.Lookup.{IsLatest}
+use Rattle.stix_versions.specs.declared.version.Version.{Version}
 use Rattle.stix_versions.specs.declared.created.FirstCreated.{FirstCreated}
 use Rattle.stix_versions.specs.declared.created.Created.{Created}
 use Rattle.stix_versions.specs.declared.revoked.Revoked.{Revoked}
 use Rattle.stix_versions.specs.Versions.{IsVersion, IsRevoked}
-use Rattle.stix_versions.specs.inner.Version.{NoneBefore, IsFirstValue}
+use Rattle.stix_versions.specs.inner.Version.{IsVersionAs, NoneBefore, IsFirstValue}
 
 -- the object at the place is a version of the identifier, created then
 pub record WasCreated (objects : List Data) (id : Id) (at : ℕ) (created : ℤ) : Type 0 where
@@ -38,6 +39,15 @@ pub record WasRevoked (objects : List Data) (id : Id) (at : ℕ) (modified : ℤ
   pub object : Data
   pub version : IsVersion objects at id created modified object
   pub revoked : IsRevoked object
+
+-- the object at the place is this version, and revoked
+pub record IsRevokedAs (objects : List Data) (at : ℕ) (seen : Version) : Type 0 where
+  pub is : IsVersionAs objects at seen
+  pub revoked : IsRevoked is.object
+
+-- the object at the place is no version that is revoked
+abbrev pub IsNotRevoked : List Data → ℕ → Type 0
+IsNotRevoked objects at = (id : Id) (modified : ℤ) → ¬ WasRevoked objects id at modified
 
 -- the earliest time at which a version before the place was modified that is revoked
 pub record IsFirstRevoked (objects : List Data) (end : ℕ) (id : Id) (first : ℤ) : Type 0 where

@@ -1,10 +1,10 @@
 -- For private clauses: versions as the code keeps them, and what is kept of those before a place.
-use Rattle.std.specs.Prelude.{◌≡◌, ◌≢◌, ◌↔◌, ℕ, ◌<◌, ℤ, List, Bool, true, false, IsTrue}
+use Rattle.std.specs.Prelude.{◌≡◌, ◌≢◌, ℕ, ◌<◌, ℤ, List, Bool, true, false}
 use Rattle.serde_json.specs.Data.{Data}
 use Rattle.stix_ids.specs.declared.id.Id.{Id}
 use Rattle.stix_bundles.specs.Lookup.{IsLatest}
 use Rattle.stix_versions.specs.declared.version.Version.{Version}
-use Rattle.stix_versions.specs.Versions.{IsVersion, IsRevoked}
+use Rattle.stix_versions.specs.Versions.{IsVersion}
 
 -- the object at the place is this version; its group is the place of the latest version of its identifier
 pub record IsVersionAs (objects : List Data) (at : ℕ) (seen : Version) : Type 0 where
@@ -12,7 +12,6 @@ pub record IsVersionAs (objects : List Data) (at : ℕ) (seen : Version) : Type 
   pub object : Data
   pub version : IsVersion objects at id seen.created seen.modified object
   pub grouped : IsLatest objects id seen.group
-  pub revoked : IsTrue seen.revoked ↔ IsRevoked object
 
 -- the object at the place is no version
 abbrev pub IsNoVersion : List Data → ℕ → Type 0

@@ -9,7 +9,7 @@ pub returns-in_err-created-clause-none : goal.returns-in_err-created-clause-none
 returns-in_err-created-clause-none c =
     let objects = data_in c.args.bundle.now in
     let there = object_there c.args.bundle.now c.objects.result.now c.objects.ensures.value c.args.at c.index-objects-at.result c.requires c.index-objects-at.is in
-    if_none (IsNoVersion objects c.args.at) c.from_residual-in_err-created.result
+    if_none (IsNoVersion objects c.args.at) c.from_residual.result
     (uncreated_is_none objects c.args.at (data_of c.index-objects-at.result) there c.in_err-created.ensures)
 
 pub returns-in_err-modified-clause-none : goal.returns-in_err-modified-clause-none
@@ -31,6 +31,6 @@ returns-clause-some c =
     let objects = data_in c.args.bundle.now in
     let there = object_there c.args.bundle.now c.objects.result.now c.objects.ensures.value c.args.at c.index-objects-at.result c.requires c.index-objects-at.is in
     seen_as objects c.args.at (data_of c.index-objects-at.result) there
-    (record { group = c.in_ok-group.group; created = c.in_ok-created.created; modified = c.in_ok-modified.modified; revoked = c.is_revoked.result })
+    (record { group = c.in_ok-group.group; created = c.in_ok-created.created; modified = c.in_ok-modified.modified })
     (λ is. false≢true (c.if-is_observable.ensures.1 is)) c.in_ok-id.id.now c.in_ok-id.ensures c.in_ok-group.ensures c.in_ok-created.ensures
-    c.in_ok-modified.ensures c.is_revoked.ensures
+    c.in_ok-modified.ensures

@@ -10,7 +10,7 @@ pub loop-at-preserved : goal.loop-at-preserved
 loop-at-preserved c =
     let objects = data_in c.args.bundle.now in
     let at = c.loop-at.at in
-    elim c.match-version_at.branch [
+    elim c.match-revoked_at.branch [
       | in-Some+in_ok-add w ↦
           let more = w.in_ok-add.ensures objects at w.in-Some.ensures.some c.loop-at.invariant in
           subst (λ (kept : Revoked). AreRevokedBefore objects (at + 1) kept) (sym w.revoked-is) more
