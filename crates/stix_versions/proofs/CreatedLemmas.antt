@@ -1,5 +1,5 @@
 -- What is kept of the times at which versions were created, one version more.
-use Rattle.std.proofs.Common.{arith, ◌≡◌, ◌≢◌, ◌↔◌, inl, inr, ◌+◌, ℕ, ℤ, List, Option, Some, None, Bool, true, false, cond, IsTrue, sym, ap, subst, ◌∙◌}
+use Rattle.std.proofs.Common.{arith, ◌≡◌, ◌≢◌, ◌↔◌, inl, inr, ◌+◌, ℕ, ℤ, List, Option, Some, None, Bool, true, false, not, cond, unwrap_or, IsTrue, sym, ap, refl, subst, ◌∙◌}
 use Rattle.std.specs.Ordering.{nat_cmp, is_eq}
 use Rattle.std.specs.BTreeMap.{get}
 use Rattle.std.proofs.lemmas.Bool.{cases_eq, false≢true}
@@ -21,6 +21,15 @@ same_key a b is = grind (arith, nat_tests)
 
 pub other_key : (a b : ℕ) → a ≢ b → is_eq (nat_cmp a b) ≡ false
 other_key a b is = grind (arith, nat_tests)
+
+-- what is kept already, or else this time, unchanged, and the same time once more
+pub next_of_kept : (kept : Option FirstCreated) (created : ℤ) (first next : FirstCreated) → first ≡ unwrap_or kept (record { created = created; changed = false })
+    → IsNextCreated (Some first) created next → IsNextCreated kept created next
+next_of_kept (Some known) created first next is is_next = subst (λ (f : FirstCreated). IsNextCreated (Some f) created next) is is_next
+next_of_kept None created first next is is_next =
+    let its = subst (λ (f : FirstCreated). IsNextCreated (Some f) created next) is is_next in
+    let with_same : Bool → FirstCreated = λ same. record { created = created; changed = not same } in
+    its.2 ∙ ap with_same (its.1.1 refl)
 
 -- no version of the identifier stands at the place
 created_beside : (objects : List Data) (at : ℕ) (id : Id) (kept : Option FirstCreated) → ((c : ℤ) → ¬ WasCreated objects id at c)

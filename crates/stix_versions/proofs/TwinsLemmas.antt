@@ -1,5 +1,5 @@
 -- What is kept of versions of one `modified`, one version more.
-use Rattle.std.proofs.Common.{arith, ◌≡◌, ◌↔◌, inl, inr, ◌+◌, ◌<◌, ◌≤◌, ℕ, ℤ, List, length, Option, Some, None, Bool, true, false, nat_lt, cond, IsTrue, slice_get, slice_index_or, sym, ap, refl, subst, ◌∙◌}
+use Rattle.std.proofs.Common.{arith, ◌≡◌, ◌↔◌, inl, inr, ◌+◌, ◌<◌, ◌≤◌, ℕ, ℤ, List, length, Option, Some, None, Bool, true, false, nat_lt, cond, unwrap_or, not, IsTrue, slice_get, slice_index_or, sym, ap, refl, subst, ◌∙◌}
 use Rattle.std.specs.Ordering.{nat_cmp, int_cmp, ordering_then, ordering_reverse, is_eq}
 use Rattle.std.specs.declared.cmp.Ordering.{Ordering}
 use Rattle.std.specs.declared.cmp.Ordering.TheVariants.{Less, Equal, Greater}
@@ -124,6 +124,15 @@ twin_here objects at seen is (Some first) next is_next before =
       kept = kept_next Data (IsTwin objects is.id seen.modified) at is.object before.object first.differs is_next.0 (one_twin objects at is.id seen.modified)
           (same_kept objects first.at before.object is.object before.there is_next.0 is_next.1) (twin objects at seen is) before.kept;
     })
+
+-- what is kept already, or else this object, and the same object once more
+pub next_of_kept : (objects : List Data) (kept : Option FirstTwin) (d : Data) (at : ℕ) (first next : FirstTwin) → slice_get objects at ≡ Some d
+    → first ≡ unwrap_or kept (record { at = at; differs = false }) → IsNextTwin objects (Some first) d at next → IsNextTwin objects kept d at next
+next_of_kept objects (Some known) d at first next there is is_next = subst (λ (f : FirstTwin). IsNextTwin objects (Some f) d at next) is is_next
+next_of_kept objects None d at first next there is is_next =
+    let its = subst (λ (f : FirstTwin). IsNextTwin objects (Some f) d at next) is is_next in
+    let with_same : Bool → FirstTwin = λ same. record { at = at; differs = not same } in
+    its.2 ∙ ap with_same (its.1.1 there)
 
 pub twins_more : Laws → (before after : Twins) (seen : Version) (next : FirstTwin) (objects : List Data) (at : ℕ) (is : IsVersionAs objects at seen)
     → IsNextTwin objects (twin_at before seen.group seen.modified) is.object at next

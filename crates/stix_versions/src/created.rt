@@ -1,4 +1,4 @@
-ghost use Rattle.std.specs.Prelude.{◌↔◌, ◌+◌, ℕ, List, IsTrue, IfOk, OnOk};
+ghost use Rattle.std.specs.Prelude.{◌↔◌, ◌+◌, ℕ, List, IsTrue, IfOk, OnOk, Some};
 ghost use Rattle.serde_json.specs.Data.{Data};
 ghost use Rattle.stix_versions.specs.declared.version_break.VersionRule.TheVariants as rule;
 ghost use Rattle.stix_versions.specs.Versions.{BreaksVersionRule};
@@ -46,28 +46,25 @@ impl Created {
         one_id();
         one_meaning();
         one_timestamp();
-        let group = version.group;
         let created = version.created;
-        let first = self.groups.get(&group).copied();
-        let next = next_created(first, created);
+        let none_changed = FirstCreated {
+            created,
+            changed: false,
+        };
+        let first = self.groups.entry(version.group)?.or_insert(none_changed);
+        let next = next_created(*first, created);
         let changed = next.changed;
-        self.groups.insert(group, next)?;
+        *first = next;
         Ok(changed)
     }
 }
 
 /// What is kept of versions, with one more that was created then.
-fn next_created(first: Option<FirstCreated>, created: Instant) -> FirstCreated
-    ensures { IsNextCreated first created result }
+fn next_created(first: FirstCreated, created: Instant) -> FirstCreated
+    ensures { IsNextCreated (Some first) created result }
 {
-    match first {
-        Some(first) => FirstCreated {
-            created: first.created,
-            changed: first.changed || nanos(first.created) != nanos(created),
-        },
-        None => FirstCreated {
-            created,
-            changed: false,
-        },
+    FirstCreated {
+        created: first.created,
+        changed: first.changed || nanos(first.created) != nanos(created),
     }
 }

@@ -61,27 +61,28 @@ impl Twins {
         one_meaning();
         one_timestamp();
         let instant = (version.group, nanos(version.modified));
-        let first = self.instants.get(&instant).copied();
-        let next = next_twin(objects, first, &objects[at], at as u32);
+        let place = at as u32;
+        let none_differs = FirstTwin {
+            at: place,
+            differs: false,
+        };
+        let first = self.instants.entry(instant)?.or_insert(none_differs);
+        let next = next_twin(objects, *first, &objects[at], place);
         let differs = next.differs;
-        self.instants.insert(instant, next)?;
+        *first = next;
         Ok(differs)
     }
 }
 
 /// What is kept of versions of one `modified`, with this object at that position.
-fn next_twin(objects: &[Json], first: Option<FirstTwin>, object: &Json, at: u32) -> FirstTwin
-    ensures { IsNextTwin (data_in objects.now) first (data_of object.now) at result }
+fn next_twin(objects: &[Json], first: FirstTwin, object: &Json, at: u32) -> FirstTwin
+    requires { slice_get (data_in objects.now) at ≡ Some (data_of object.now) }
+    ensures { IsNextTwin (data_in objects.now) (Some first) (data_of object.now) at result }
 {
-    match first {
-        Some(first) => {
-            let same = stands_at(objects, first.at, object);
-            FirstTwin {
-                at: first.at,
-                differs: first.differs || !same,
-            }
-        }
-        None => FirstTwin { at, differs: false },
+    let same = first.at == at || stands_at(objects, first.at, object);
+    FirstTwin {
+        at: first.at,
+        differs: first.differs || !same,
     }
 }
 
