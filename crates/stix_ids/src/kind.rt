@@ -1,6 +1,5 @@
-ghost use Rattle.std.specs.Prelude.{◌≡◌, ◌≢◌, ◌↔◌, ℕ, ◌<◌, ◌≤◌, length, IsTrue, IsOk, IfErr};
+ghost use Rattle.std.specs.Prelude.{◌≡◌, ◌≢◌, ◌↔◌, IsTrue, IsOk, IfErr};
 ghost use Rattle.stix_ids.specs.Kind.{IsKind, IsKindByte, IsLongestKindPrefix};
-ghost use Rattle.stix_ids.specs.KindBytes.{FitsAt};
 
 const LEAST_LENGTH: usize = 3;
 
@@ -31,24 +30,16 @@ fn check_kind(bytes: &[u8]) -> Result<(), usize>
 fn fitting_length(bytes: &[u8]) -> usize
     ensures { IsLongestKindPrefix bytes.now result }
 {
-    first_misfit(bytes).min(GREATEST_LENGTH)
-}
-
-/// The first byte that may not stand in a kind after those before it, or the end. How long a kind may
-/// be is left to the caller, so that the loop tests no place.
-fn first_misfit(bytes: &[u8]) -> usize
-    ensures within { result ≤ length bytes.now }
-    ensures fits { (at : ℕ) → at < result → at < 250 → FitsAt bytes.now at }
-    ensures stops { result < length bytes.now → ¬ FitsAt bytes.now result }
-{
+    let end = bytes.len().min(GREATEST_LENGTH);
     let mut before = 0;
-    for (at, byte) in bytes.iter().enumerate() {
-        if !may_follow(before, *byte) {
+    for at in 0..end {
+        let byte = bytes[at];
+        if !may_follow(before, byte) {
             return at;
         }
-        before = *byte;
+        before = byte;
     }
-    bytes.len()
+    end
 }
 
 /// Whether the byte may stand in a kind, after the byte `before`. Letters are told first, since most
