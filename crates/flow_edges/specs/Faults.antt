@@ -1,5 +1,5 @@
 -- Counts of faults: an object of the outside counts the calls that failed. A count never falls, and it ends at 2^64 - 1.
-use Rattle.std.specs.Prelude.{◌≡◌, ℕ, ◌+◌, ◌-◌, ◌^◌, ◌≤◌, Result, min, OnOk, OnErr}
+use Rattle.std.specs.Prelude.{◌≡◌, ℕ, ◌+◌, ◌-◌, ◌^◌, ◌≤◌, min}
 
 -- a count after one more
 abbrev pub counted : ℕ → ℕ
@@ -9,8 +9,8 @@ counted count = min (count + 1) (2 ^ 64 - 1)
 abbrev pub Rose : ℕ → ℕ → Type 0
 Rose before now = counted before ≤ now
 
--- what a call's answer says of the object's count: it never falls, it has risen after an `Err`, and it stays at an `Ok`
-pub record Causes {T E : Type 0} (before now : ℕ) (answer : Result T E) : Type 0 where
+-- what a call says of the object's count: it never falls, it has risen where the call failed so, and it stays where it didn't
+pub record Counted (Failed : Type 0) (before now : ℕ) : Type 0 where
   pub later : before ≤ now
-  pub failed : OnErr answer (Rose before now)
-  pub quiet : OnOk answer (now ≡ before)
+  pub failed : Failed → Rose before now
+  pub quiet : ¬ Failed → now ≡ before

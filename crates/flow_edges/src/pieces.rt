@@ -1,5 +1,5 @@
-ghost use Rattle.std.specs.Prelude.{◌≡◌, OnErr};
-ghost use Rattle.flow_edges.specs.Faults.{Causes};
+ghost use Rattle.std.specs.Prelude.{◌≡◌, OnErr, IsErr};
+ghost use Rattle.flow_edges.specs.Faults.{Counted};
 ghost use Rattle.flow_edges.specs.Flow.{WritesWhole, WritesPart, joined};
 
 use crate::{Sink, write_whole};
@@ -10,7 +10,7 @@ use flow_values::Fault;
 pub fn write_pieces<S: Sink>(sink: &mut S, pieces: &[&[u8]]) -> Result<(), Fault>
     ensures text { WritesWhole (joined pieces.now) (S.written sink.old) (S.written sink.new) result }
     ensures part { OnErr result (WritesPart (joined pieces.now) (S.written sink.old) (S.written sink.new)) }
-    ensures causes { Causes (S.faults sink.old) (S.faults sink.new) result }
+    ensures causes { Counted (IsErr result) (S.faults sink.old) (S.faults sink.new) }
     ensures unread { S.other sink.new ≡ S.other sink.old }
 {
     for piece in pieces {

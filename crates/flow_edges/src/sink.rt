@@ -1,5 +1,5 @@
-ghost use Rattle.std.specs.Prelude.{◌≡◌, ℕ, ◌≤◌, ◌<◌, List, Option, length, take, IfOk, OnErr};
-ghost use Rattle.flow_edges.specs.Faults.{Causes};
+ghost use Rattle.std.specs.Prelude.{◌≡◌, ℕ, ◌≤◌, ◌<◌, List, Option, length, take, IfOk, OnErr, IsErr};
+ghost use Rattle.flow_edges.specs.Faults.{Counted};
 ghost use Rattle.flow_edges.specs.Flow.{written_with, WritesWhole, WritesPart, OtherSide, no_other_side};
 
 use flow_values::Fault;
@@ -22,7 +22,7 @@ pub trait Sink {
         ensures written { IfOk result (λ n. written self.new ≡ written_with (take n piece.now) (written self.old)) }
         ensures some { IfOk result (λ n. 0 < length piece.now → 0 < n) }
         ensures err { OnErr result (written self.new ≡ written self.old) }
-        ensures causes { Causes (faults self.old) (faults self.new) result }
+        ensures causes { Counted (IsErr result) (faults self.old) (faults self.new) }
         ensures unread { other self.new ≡ other self.old };
 }
 
@@ -31,7 +31,7 @@ pub trait Sink {
 pub fn write_whole<S: Sink>(sink: &mut S, bytes: &[u8]) -> Result<(), Fault>
     ensures text { WritesWhole bytes.now (S.written sink.old) (S.written sink.new) result }
     ensures part { OnErr result (WritesPart bytes.now (S.written sink.old) (S.written sink.new)) }
-    ensures causes { Causes (S.faults sink.old) (S.faults sink.new) result }
+    ensures causes { Counted (IsErr result) (S.faults sink.old) (S.faults sink.new) }
     ensures unread { S.other sink.new ≡ S.other sink.old }
 {
     let mut rest = bytes;

@@ -1,6 +1,6 @@
-ghost use Rattle.std.specs.Prelude.{◌≡◌, ℕ, ◌≤◌, ◌<◌, List, Option, Ok, length, take, IfOk, OnErr};
+ghost use Rattle.std.specs.Prelude.{◌≡◌, ℕ, ◌≤◌, ◌<◌, List, Option, Ok, length, take, IfOk, OnErr, IsErr};
 ghost use Rattle.flow_edges.specs.declared.source.TheConstants.{MAX_READ};
-ghost use Rattle.flow_edges.specs.Faults.{Causes};
+ghost use Rattle.flow_edges.specs.Faults.{Counted};
 ghost use Rattle.flow_edges.specs.Flow.{left_after, IsNextOf, IsAtEnd, OtherSide, no_other_side};
 
 use flow_values::Fault;
@@ -31,6 +31,6 @@ pub trait Source {
         ensures rest { IfOk result (λ n. left self.new ≡ left_after n (left self.old)) }
         ensures end { result ≡ Ok 0 → IsAtEnd (left self.old) }
         ensures err { OnErr result (left self.new ≡ left self.old) }
-        ensures causes { Causes (faults self.old) (faults self.new) result }
+        ensures causes { Counted (IsErr result) (faults self.old) (faults self.new) }
         ensures unwritten { other self.new ≡ other self.old };
 }

@@ -1,6 +1,6 @@
-ghost use Rattle.std.specs.Prelude.{◌≡◌, ℕ, ◌≤◌, ◌++◌, [], Ok, length, IfOk, OnOk, OnErr, MatchOption};
+ghost use Rattle.std.specs.Prelude.{◌≡◌, ℕ, ◌≤◌, ◌++◌, [], Ok, length, IfOk, OnOk, OnErr, MatchOption, IsErr};
 ghost use Rattle.flow_edges.specs.declared.source.TheConstants.{MAX_READ};
-ghost use Rattle.flow_edges.specs.Faults.{Causes};
+ghost use Rattle.flow_edges.specs.Faults.{Counted};
 ghost use Rattle.flow_edges.specs.Flow.{left_after, IsNextOf, IsAtEnd};
 ghost use Rattle.flow_lines.specs.inner.Reading.{TakesToLineFeed, TakesAll};
 
@@ -58,7 +58,7 @@ impl Chunk {
         ensures empty { OnErr result (self.new ≡ []) }
         ensures err { OnErr result (S.left source.new ≡ S.left source.old) }
         ensures room { length self.new ≤ MAX_READ }
-        ensures causes { Causes (S.faults source.old) (S.faults source.new) result }
+        ensures causes { Counted (IsErr result) (S.faults source.old) (S.faults source.new) }
     {
         self.from = 0;
         self.to = 0;

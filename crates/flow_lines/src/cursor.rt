@@ -1,5 +1,5 @@
 ghost use Rattle.std.specs.Prelude.{◌≡◌, ◌≢◌, ℕ, ◌≤◌, ◌++◌, [], true, false, Ok, Err, IfOk, IfErr, OnOk, MatchBool};
-ghost use Rattle.flow_edges.specs.Faults.{Rose};
+ghost use Rattle.flow_edges.specs.Faults.{Counted};
 ghost use Rattle.flow_lines.specs.Lines.{AnswersLine, GivesEnd, RefusesLine, HoldsLine, AccountsFor, LosesNone, StopsInLine, is_blank};
 ghost use Rattle.flow_lines.specs.inner.Reading.{IsBetweenLines, ReadsNext, lines_state};
 
@@ -58,9 +58,7 @@ impl Cursor {
         ensures unread { HoldsLine self.old.chunk → source.new ≡ source.old }
         ensures held { IfOk result (λ found. found ≡ true
             → HoldsLine self.old.chunk → is_blank self.new.line.items ≡ true → HoldsLine self.new.chunk) }
-        ensures failed { result ≡ Err LineRefusal.Fault → Rose (S.faults source.old) (S.faults source.new) }
-        ensures quiet { result ≢ Err LineRefusal.Fault → S.faults source.new ≡ S.faults source.old }
-        ensures later { S.faults source.old ≤ S.faults source.new }
+        ensures causes { Counted (result ≡ Err LineRefusal.Fault) (S.faults source.old) (S.faults source.new) }
     {
         let start = LineStart {
             number: self.count + 1,
@@ -94,9 +92,7 @@ impl Cursor {
             (lines_state self.old.line.items self.old.chunk self.old.count self.old.given)
             (S.left source.old) (S.left source.new)) }
         ensures unread { HoldsLine (self.old.line.items ++ self.old.chunk) → source.new ≡ source.old }
-        ensures failed { result ≡ Err LineRefusal.Fault → Rose (S.faults source.old) (S.faults source.new) }
-        ensures quiet { result ≢ Err LineRefusal.Fault → S.faults source.new ≡ S.faults source.old }
-        ensures later { S.faults source.old ≤ S.faults source.new }
+        ensures causes { Counted (result ≡ Err LineRefusal.Fault) (S.faults source.old) (S.faults source.new) }
     {
         'lines: loop {
             if !self.read_next(source)? {

@@ -1,6 +1,6 @@
 ghost use Rattle.std.specs.Prelude.{◌≡◌, ◌≢◌, ℕ, ◌≤◌, [], None, Some, Err, IfOk, IfErr, IfSome};
 ghost use Rattle.std.specs.Result.{result_err};
-ghost use Rattle.flow_edges.specs.Faults.{Rose};
+ghost use Rattle.flow_edges.specs.Faults.{Counted};
 
 use crate::chunk::Chunk;
 use crate::cursor::Cursor;
@@ -71,10 +71,7 @@ impl Lines {
         ensures refusal { self.new.refusal ≡ result_err result }
         ensures repeated { IfSome self.old.refusal (λ refusal.
             (result ≡ Err refusal) × (self.new ≡ self.old) × (source.new ≡ source.old)) }
-        ensures failed { result ≡ Err LineRefusal.Fault → self.old.refusal ≡ None
-            → Rose (S.faults source.old) (S.faults source.new) }
-        ensures quiet { result ≢ Err LineRefusal.Fault → S.faults source.new ≡ S.faults source.old }
-        ensures later { S.faults source.old ≤ S.faults source.new }
+        ensures causes { Counted ((self.old.refusal ≡ None) × (result ≡ Err LineRefusal.Fault)) (S.faults source.old) (S.faults source.new) }
     {
         if let Some(refusal) = self.refusal {
             return Err(refusal);

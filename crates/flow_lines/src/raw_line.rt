@@ -1,6 +1,6 @@
 ghost use Rattle.std.specs.Prelude.{◌≡◌, ◌≢◌, ℕ, ◌≤◌, [], ◌⊎◌, Some, None, Ok, Err, length, IfOk, IfErr, IfSome, OnErr, MatchBool};
 ghost use Rattle.flow_edges.specs.declared.source.TheConstants.{MAX_READ};
-ghost use Rattle.flow_edges.specs.Faults.{Rose, Causes};
+ghost use Rattle.flow_edges.specs.Faults.{Counted};
 ghost use Rattle.flow_lines.specs.Lines.{NoLineFeed, length_refusal, IsOfLine};
 ghost use Rattle.flow_lines.specs.inner.Reading.{bytes_ahead, ReadsToLineFeed, ReadsLast, ReadsPart, TakesPart, IsHeld, IsFirstRefused, IsForLength};
 
@@ -51,9 +51,7 @@ pub fn read_line<S: Source>(
         → ReadsPart (bytes_ahead [] chunk.old (S.left source.old)) (S.left source.new) line.new.items chunk.new }
     ensures number { IfErr result (IsOfLine start.number) }
     ensures stops { OnErr result (TakesPart (bytes_ahead [] chunk.old (S.left source.old)) (S.left source.new)) }
-    ensures failed { result ≡ Err LineRefusal.Fault → Rose (S.faults source.old) (S.faults source.new) }
-    ensures quiet { result ≢ Err LineRefusal.Fault → S.faults source.new ≡ S.faults source.old }
-    ensures later { S.faults source.old ≤ S.faults source.new }
+    ensures causes { Counted (result ≡ Err LineRefusal.Fault) (S.faults source.old) (S.faults source.new) }
     ensures small { length chunk.new ≤ MAX_READ }
     ensures unread { ¬ (NoLineFeed chunk.old) → source.new ≡ source.old }
     ensures held { IfOk result (λ closed. ¬ (NoLineFeed chunk.old) → IsHeld chunk.old chunk.new line.new.items closed) }

@@ -1,6 +1,6 @@
 ghost use Rattle.std.specs.Prelude.{◌≡◌, ◌≢◌, ◌≤◌, ◌+◌, Err, IfOk};
 ghost use Rattle.flow_edges.specs.declared.source.TheConstants.{MAX_READ};
-ghost use Rattle.flow_edges.specs.Faults.{Rose};
+ghost use Rattle.flow_edges.specs.Faults.{Counted};
 ghost use Rattle.flow_edges.specs.Flow.{TakesAtMost};
 ghost use Rattle.flow_lines.specs.WholeInput.{IsWhole, IsTooLong};
 
@@ -53,9 +53,7 @@ pub fn read_whole<S: Source>(alloc: Global, source: &mut S) -> Result<Items<u8>,
     ensures whole { IfOk result (λ bytes. IsWhole bytes (S.left source.old) (S.left source.new)) }
     ensures too_long { result ≡ Err InputRefusal.TooLong → IsTooLong (S.left source.old) }
     ensures taken { TakesAtMost (MAX_WHOLE_INPUT + MAX_READ) (S.left source.old) (S.left source.new) }
-    ensures failed { result ≡ Err InputRefusal.Fault → Rose (S.faults source.old) (S.faults source.new) }
-    ensures quiet { result ≢ Err InputRefusal.Fault → S.faults source.new ≡ S.faults source.old }
-    ensures later { S.faults source.old ≤ S.faults source.new }
+    ensures causes { Counted (result ≡ Err InputRefusal.Fault) (S.faults source.old) (S.faults source.new) }
 {
     let mut chunk = Chunk::new(alloc)?;
     let mut bytes = Vec::new(alloc);

@@ -1,5 +1,5 @@
-ghost use Rattle.std.specs.Prelude.{ℕ, Option, OnErr, IfOk, IfSome, ◌≡◌, ◌≤◌};
-ghost use Rattle.flow_edges.specs.Faults.{Causes};
+ghost use Rattle.std.specs.Prelude.{ℕ, Option, OnErr, IfOk, IfSome, ◌≡◌, ◌≤◌, IsErr};
+ghost use Rattle.flow_edges.specs.Faults.{Counted};
 ghost use Rattle.flow_links.specs.Doors.{DoorState, Stays, Listens, GivesNext, Finishes};
 
 use crate::Link;
@@ -20,14 +20,14 @@ pub trait Door {
     fn listen(&mut self, port: u16) -> Result<(), Fault>
         ensures ok { IfOk result (λ _. Listens port (told self.old) (told self.new)) }
         ensures err { OnErr result (Stays (told self.old) (told self.new)) }
-        ensures causes { Causes (faults self.old) (faults self.new) result };
+        ensures causes { Counted (IsErr result) (faults self.old) (faults self.new) };
 
     /// The next caller's link, as it stands; `None` where no caller is left. It may wait for one. A
     /// `Fault` has taken no link, and is counted.
     fn next(&mut self) -> Result<Option<Self::Link>, Fault>
         ensures ok { IfOk result (λ link. GivesNext link (told self.old) (told self.new)) }
         ensures err { OnErr result (Stays (told self.old) (told self.new)) }
-        ensures causes { Causes (faults self.old) (faults self.new) result };
+        ensures causes { Counted (IsErr result) (faults self.old) (faults self.new) };
 
     /// Takes a link back that `next` gave, as it stands.
     fn finish(&mut self, link: Self::Link)

@@ -1,5 +1,5 @@
-ghost use Rattle.std.specs.Prelude.{◌≡◌, ◌++◌, true, OnErr};
-ghost use Rattle.flow_edges.specs.Faults.{Causes};
+ghost use Rattle.std.specs.Prelude.{◌≡◌, ◌++◌, true, OnErr, IsErr};
+ghost use Rattle.flow_edges.specs.Faults.{Counted};
 ghost use Rattle.flow_edges.specs.Flow.{WritesWhole, WritesPart};
 ghost use Rattle.http_frames.specs.Answers.{HasDates, WritesAnswer, no_memory_answer};
 
@@ -19,7 +19,7 @@ const NO_MEMORY: &[u8] =
 pub fn write_answer<S: Sink>(answer: &Answer, close: bool, sink: &mut S) -> Result<(), Fault>
     requires dates { HasDates answer.now }
     ensures text { WritesAnswer answer.now close (S.written sink.old) (S.written sink.new) result }
-    ensures causes { Causes (S.faults sink.old) (S.faults sink.new) result }
+    ensures causes { Counted (IsErr result) (S.faults sink.old) (S.faults sink.new) }
     ensures unread { S.other sink.new ≡ S.other sink.old }
 {
     let head = HeadText::of(answer, close);
@@ -33,7 +33,7 @@ pub fn write_answer<S: Sink>(answer: &Answer, close: bool, sink: &mut S) -> Resu
 fn write_with_body<S: Sink>(head: HeadText, body: &[u8], sink: &mut S) -> Result<(), Fault>
     ensures text { WritesWhole (head ++ body.now) (S.written sink.old) (S.written sink.new) result }
     ensures part { OnErr result (WritesPart (head ++ body.now) (S.written sink.old) (S.written sink.new)) }
-    ensures causes { Causes (S.faults sink.old) (S.faults sink.new) result }
+    ensures causes { Counted (IsErr result) (S.faults sink.old) (S.faults sink.new) }
     ensures unread { S.other sink.new ≡ S.other sink.old }
 {
     let mut text = head;
@@ -48,7 +48,7 @@ fn write_with_body<S: Sink>(head: HeadText, body: &[u8], sink: &mut S) -> Result
 /// `Fault` a prefix of it was written. Takes no memory.
 pub fn write_no_memory<S: Sink>(sink: &mut S) -> Result<(), Fault>
     ensures text { WritesAnswer no_memory_answer true (S.written sink.old) (S.written sink.new) result }
-    ensures causes { Causes (S.faults sink.old) (S.faults sink.new) result }
+    ensures causes { Counted (IsErr result) (S.faults sink.old) (S.faults sink.new) }
     ensures unread { S.other sink.new ≡ S.other sink.old }
 {
     write_whole(sink, NO_MEMORY)

@@ -1,5 +1,5 @@
 ghost use Rattle.std.specs.Prelude.{◌≡◌, ◌≢◌, ◌+◌, ◌≤◌, ◌<◌, ◌^◌, None, Ok, Err, OnOk, length};
-ghost use Rattle.flow_edges.specs.Faults.{Rose};
+ghost use Rattle.flow_edges.specs.Faults.{Counted};
 ghost use Rattle.match_input.specs.Line.{last_after};
 ghost use Rattle.match_input.specs.Ahead.{IsOpen, HoldsLines, AnswersNext};
 ghost use Rattle.match_input.specs.inner.Turn.{state_of, AreFew};
@@ -32,9 +32,7 @@ impl Progress {
         ensures at_end { self.old.stage ≡ Stage.AtEnd → (result ≡ Ok None) × (state_of self.new ≡ state_of self.old) × (source.new ≡ source.old) }
         ensures ended { self.old.stage ≡ Stage.Ended
             → (result ≡ Err ReadEnd.Ended) × (state_of self.new ≡ state_of self.old) × (source.new ≡ source.old) }
-        ensures failed { IsOpen self.old.stage → result ≡ Err ReadEnd.ReadFault → Rose (S.faults source.old) (S.faults source.new) }
-        ensures quiet { result ≢ Err ReadEnd.ReadFault → S.faults source.new ≡ S.faults source.old }
-        ensures later { S.faults source.old ≤ S.faults source.new }
+        ensures causes { Counted (IsOpen self.old.stage × (result ≡ Err ReadEnd.ReadFault)) (S.faults source.old) (S.faults source.new) }
     {
         let Some(line) = self.stage.next_line(self.alloc, source)? else {
             return Ok(None);

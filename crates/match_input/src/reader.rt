@@ -1,5 +1,5 @@
 ghost use Rattle.std.specs.Prelude.{◌≡◌, ◌≢◌, ◌≤◌, Err, Ok, None, IfOk, IfErr};
-ghost use Rattle.flow_edges.specs.Faults.{Rose};
+ghost use Rattle.flow_edges.specs.Faults.{Counted};
 ghost use Rattle.match_input.specs.Ahead.{reader_start, IsOpen, HoldsLines, AnswersNext};
 
 use crate::progress::Progress;
@@ -58,9 +58,7 @@ impl Reader {
         ensures ended { self.old.stage ≡ Stage.Ended
             → (result ≡ Err ReadEnd.Ended) × (self.new ≡ self.old) × (source.new ≡ source.old) }
         ensures ends { IfErr result (λ _. self.new.stage ≡ Stage.Ended) }
-        ensures failed { IsOpen self.old.stage → result ≡ Err ReadEnd.ReadFault → Rose (S.faults source.old) (S.faults source.new) }
-        ensures quiet { result ≢ Err ReadEnd.ReadFault → S.faults source.new ≡ S.faults source.old }
-        ensures later { S.faults source.old ≤ S.faults source.new }
+        ensures causes { Counted (IsOpen self.old.stage × (result ≡ Err ReadEnd.ReadFault)) (S.faults source.old) (S.faults source.new) }
     {
         match self.progress.next_batch(source) {
             Ok(batch) => Ok(batch),

@@ -1,5 +1,5 @@
-ghost use Rattle.std.specs.Prelude.{◌≡◌, ◌++◌, List, ℕ, codes, decimal};
-ghost use Rattle.flow_edges.specs.Faults.{Causes};
+ghost use Rattle.std.specs.Prelude.{◌≡◌, ◌++◌, List, ℕ, codes, decimal, IsErr};
+ghost use Rattle.flow_edges.specs.Faults.{Counted};
 ghost use Rattle.flow_edges.specs.Flow.{WritesWhole};
 ghost use Rattle.stix_times.specs.Writing.{IsCanonicalTextOf};
 ghost use Rattle.match_input.specs.inner.Reason.{broken_words, reason_text, path_lead};
@@ -17,7 +17,7 @@ use stix_times::Instant;
 pub fn write_input_refusal<S: Sink>(line: u64, rule: &InputRule, sink: &mut S) -> Result<(), Fault>
     ensures text { (text : List ℕ) × IsInputRefusalText line rule.now text
         × WritesWhole text (S.written sink.old) (S.written sink.new) result }
-    ensures causes { Causes (S.faults sink.old) (S.faults sink.new) result }
+    ensures causes { Counted (IsErr result) (S.faults sink.old) (S.faults sink.new) }
 {
     match rule {
         InputRule::LineTooLong => write_reason(line, Reason::at("LineTooLong", ""), sink),
@@ -33,7 +33,7 @@ pub fn write_input_refusal<S: Sink>(line: u64, rule: &InputRule, sink: &mut S) -
 fn write_embedded<S: Sink>(line: u64, object: u32, sink: &mut S) -> Result<(), Fault>
     ensures text { WritesWhole (refused_line_text line (codes "EmbeddedObjects object " ++ decimal object))
         (S.written sink.old) (S.written sink.new) result }
-    ensures causes { Causes (S.faults sink.old) (S.faults sink.new) result }
+    ensures causes { Counted (IsErr result) (S.faults sink.old) (S.faults sink.new) }
 {
     let mut buffer = Buffer::new();
     let line = buffer.format(line);
@@ -45,7 +45,7 @@ fn write_embedded<S: Sink>(line: u64, object: u32, sink: &mut S) -> Result<(), F
 /// Writes the same line, of the texts of both numbers.
 fn write_object<'a, S: Sink>(line: &'a str, object: &'a str, sink: &mut S) -> Result<(), Fault>
     ensures text { WritesWhole (line_of_text line.now (codes "EmbeddedObjects object " ++ object.now)) (S.written sink.old) (S.written sink.new) result }
-    ensures causes { Causes (S.faults sink.old) (S.faults sink.new) result }
+    ensures causes { Counted (IsErr result) (S.faults sink.old) (S.faults sink.new) }
 {
     write_pieces(
         sink,
@@ -68,7 +68,7 @@ fn write_out_of_order<S: Sink>(
 ) -> Result<(), Fault>
     ensures text { (text : List ℕ) × IsInputRefusalText line (InputRule.OutOfOrder last now) text
         × WritesWhole text (S.written sink.old) (S.written sink.new) result }
-    ensures causes { Causes (S.faults sink.old) (S.faults sink.new) result }
+    ensures causes { Counted (IsErr result) (S.faults sink.old) (S.faults sink.new) }
 {
     let mut buffer = Buffer::new();
     let line = buffer.format(line);
@@ -93,7 +93,7 @@ fn write_times<'a, S: Sink>(
 ) -> Result<(), Fault>
     ensures text { WritesWhole (line_of_text line.now (codes "OutOfOrder last " ++ (last.now ++ (codes " now " ++ now.now))))
         (S.written sink.old) (S.written sink.new) result }
-    ensures causes { Causes (S.faults sink.old) (S.faults sink.new) result }
+    ensures causes { Counted (IsErr result) (S.faults sink.old) (S.faults sink.new) }
 {
     write_pieces(
         sink,
@@ -112,7 +112,7 @@ fn write_times<'a, S: Sink>(
 /// Writes the line of a reason.
 fn write_reason<S: Sink>(line: u64, said: Reason<'_>, sink: &mut S) -> Result<(), Fault>
     ensures text { WritesWhole (refused_line_text line (reason_text said.entry)) (S.written sink.old) (S.written sink.new) result }
-    ensures causes { Causes (S.faults sink.old) (S.faults sink.new) result }
+    ensures causes { Counted (IsErr result) (S.faults sink.old) (S.faults sink.new) }
 {
     let mut buffer = Buffer::new();
     let line = buffer.format(line);
@@ -134,7 +134,7 @@ fn write_at<'a, S: Sink>(
     sink: &mut S,
 ) -> Result<(), Fault>
     ensures text { WritesWhole (line_of_text line.now (at_path name.now path.now)) (S.written sink.old) (S.written sink.new) result }
-    ensures causes { Causes (S.faults sink.old) (S.faults sink.new) result }
+    ensures causes { Counted (IsErr result) (S.faults sink.old) (S.faults sink.new) }
 {
     let at = lead_of(path);
     write_pieces(
@@ -161,7 +161,7 @@ fn write_broken<'a, S: Sink>(
     sink: &mut S,
 ) -> Result<(), Fault>
     ensures text { WritesWhole (line_of_text line.now (at_path (name.now ++ broken_words object.now rule.now) path.now)) (S.written sink.old) (S.written sink.new) result }
-    ensures causes { Causes (S.faults sink.old) (S.faults sink.new) result }
+    ensures causes { Counted (IsErr result) (S.faults sink.old) (S.faults sink.new) }
 {
     let at = lead_of(path);
     write_pieces(

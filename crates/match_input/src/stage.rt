@@ -1,5 +1,5 @@
 ghost use Rattle.std.specs.Prelude.{◌≡◌, ◌≢◌, ◌≤◌, Err, Ok, None};
-ghost use Rattle.flow_edges.specs.Faults.{Rose};
+ghost use Rattle.flow_edges.specs.Faults.{Counted};
 ghost use Rattle.match_input.specs.Ahead.{IsOpen, HoldsLines};
 ghost use Rattle.match_input.specs.inner.Turn.{AnswersTurn};
 
@@ -33,9 +33,7 @@ impl Stage {
         ensures unread { HoldsLines self.old → source.new ≡ source.old }
         ensures at_end { self.old ≡ Stage.AtEnd → (result ≡ Ok None) × (self.new ≡ self.old) × (source.new ≡ source.old) }
         ensures ended { self.old ≡ Stage.Ended → (result ≡ Err ReadEnd.Ended) × (self.new ≡ self.old) × (source.new ≡ source.old) }
-        ensures failed { IsOpen self.old → result ≡ Err ReadEnd.ReadFault → Rose (S.faults source.old) (S.faults source.new) }
-        ensures quiet { result ≢ Err ReadEnd.ReadFault → S.faults source.new ≡ S.faults source.old }
-        ensures later { S.faults source.old ≤ S.faults source.new }
+        ensures causes { Counted (IsOpen self.old × (result ≡ Err ReadEnd.ReadFault)) (S.faults source.old) (S.faults source.new) }
     {
         let line = match self {
             Stage::Lines(lines) => match lines.next_line(source) {
@@ -56,9 +54,7 @@ impl Stage {
 /// The whole input as line 1.
 fn whole_line<S: Source>(alloc: Global, source: &mut S) -> Result<Option<Line>, ReadEnd>
     ensures lines { AnswersTurn Stage.Whole Stage.AtEnd (S.left source.old) (S.left source.new) result }
-    ensures failed { result ≡ Err ReadEnd.ReadFault → Rose (S.faults source.old) (S.faults source.new) }
-    ensures quiet { result ≢ Err ReadEnd.ReadFault → S.faults source.new ≡ S.faults source.old }
-    ensures later { S.faults source.old ≤ S.faults source.new }
+    ensures causes { Counted (result ≡ Err ReadEnd.ReadFault) (S.faults source.old) (S.faults source.new) }
 {
     let bytes = read_whole(alloc, source)?;
     Ok(Some(Line { number: 1, bytes }))

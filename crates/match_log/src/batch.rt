@@ -1,5 +1,5 @@
 ghost use Rattle.std.specs.Prelude.{◌≡◌, ◌≢◌, ◌↔◌, ◌+◌, ◌≤◌, [], Err, IsTrue, List, OnOk, IfErr};
-ghost use Rattle.flow_edges.specs.Faults.{Rose};
+ghost use Rattle.flow_edges.specs.Faults.{Counted};
 ghost use Rattle.stix_bundles.specs.Objects.{data_in};
 ghost use Rattle.pattern_types.specs.PlainPattern.{plain_pattern};
 ghost use Rattle.pattern_types.specs.Soundness.{IsSoundPattern};
@@ -40,9 +40,7 @@ pub(crate) fn match_batch<O: Sink>(
         (matcher_state matcher.new) (O.written output.old) (O.written output.new)) }
     ensures pattern { pattern_of matcher.new ≡ pattern_of matcher.old }
     ensures cap { (matcher_state matcher.new).cap ≡ (matcher_state matcher.old).cap }
-    ensures failed { result ≡ Err MatchEnd.WriteFault → Rose (O.faults output.old) (O.faults output.new) }
-    ensures quiet { result ≢ Err MatchEnd.WriteFault → O.faults output.new ≡ O.faults output.old }
-    ensures later { O.faults output.old ≤ O.faults output.new }
+    ensures causes { Counted (result ≡ Err MatchEnd.WriteFault) (O.faults output.old) (O.faults output.new) }
 {
     let mut text = Text::new(alloc);
     let ended = answer_all(alloc, matcher, batch, tally, &mut text);

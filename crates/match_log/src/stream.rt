@@ -1,5 +1,5 @@
 ghost use Rattle.std.specs.Prelude.{◌≡◌, ◌≢◌, ◌≤◌, []};
-ghost use Rattle.flow_edges.specs.Faults.{Rose};
+ghost use Rattle.flow_edges.specs.Faults.{Counted};
 ghost use Rattle.pattern_types.specs.PlainPattern.{plain_pattern};
 ghost use Rattle.pattern_types.specs.Soundness.{IsSoundPattern};
 ghost use Rattle.match_live.specs.View.{matcher_state, pattern_of};
@@ -33,10 +33,8 @@ pub fn match_stream<I: Source, O: Sink>(
     requires sound { IsSoundPattern (plain_pattern (pattern_of matcher.old)) }
     ensures end { AnswersMatch mode (pattern_of matcher.old) (matcher_state matcher.old).cap (streams (I.left input.old) (O.written output.old))
         (streams (I.left input.new) (O.written output.new)) (matcher_state matcher.new) result }
-    ensures read_failed { result ≡ MatchEnd.ReadFault → Rose (I.faults input.old) (I.faults input.new) }
-    ensures read_quiet { result ≢ MatchEnd.ReadFault → I.faults input.new ≡ I.faults input.old }
-    ensures write_failed { result ≡ MatchEnd.WriteFault → Rose (O.faults output.old) (O.faults output.new) }
-    ensures write_quiet { result ≢ MatchEnd.WriteFault → O.faults output.new ≡ O.faults output.old }
+    ensures input { Counted (result ≡ MatchEnd.ReadFault) (I.faults input.old) (I.faults input.new) }
+    ensures output { Counted (result ≡ MatchEnd.WriteFault) (O.faults output.old) (O.faults output.new) }
     ensures later { (I.faults input.old ≤ I.faults input.new) × (O.faults output.old ≤ O.faults output.new) }
 {
     goes_on();

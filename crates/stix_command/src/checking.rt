@@ -1,5 +1,5 @@
-ghost use Rattle.std.specs.Prelude.{◌≡◌, ◌≢◌, List, ℕ};
-ghost use Rattle.flow_edges.specs.Faults.{Rose, Causes};
+ghost use Rattle.std.specs.Prelude.{◌≡◌, ◌≢◌, List, ℕ, IsErr};
+ghost use Rattle.flow_edges.specs.Faults.{Counted};
 ghost use Rattle.flow_edges.specs.Flow.{WritesWhole};
 ghost use Rattle.stix_command.specs.Streams.{streams};
 ghost use Rattle.stix_command.specs.CheckEndings.{EndsCheck, EndsJudging};
@@ -49,7 +49,7 @@ impl CheckEnding {
     /// Writes why it ends so; an input that is refused is line 1. Takes no memory.
     pub fn write_reason<S: Sink>(&self, reasons: &mut S) -> Result<(), Fault>
         ensures text { (text : List ℕ) × IsCheckReason self.now text × WritesWhole text (S.written reasons.old) (S.written reasons.new) result }
-        ensures causes { Causes (S.faults reasons.old) (S.faults reasons.new) result }
+        ensures causes { Counted (IsErr result) (S.faults reasons.old) (S.faults reasons.new) }
     {
         match self {
             CheckEnding::Judged(Verdict::Refused(rule)) => write_input_refusal(1, rule, reasons),
@@ -68,10 +68,8 @@ impl CheckEnding {
 /// granular markings, else how many objects are sound.
 pub fn check<I: Source, O: Sink>(alloc: Global, input: &mut I, output: &mut O) -> CheckEnding
     ensures end { EndsCheck (streams (I.left input.old) (O.written output.old)) (streams (I.left input.new) (O.written output.new)) result }
-    ensures read_failed { result ≡ CheckEnding.ReadFault → Rose (I.faults input.old) (I.faults input.new) }
-    ensures read_quiet { result ≢ CheckEnding.ReadFault → I.faults input.new ≡ I.faults input.old }
-    ensures write_failed { result ≡ CheckEnding.WriteFault → Rose (O.faults output.old) (O.faults output.new) }
-    ensures write_quiet { result ≢ CheckEnding.WriteFault → O.faults output.new ≡ O.faults output.old }
+    ensures input { Counted (result ≡ CheckEnding.ReadFault) (I.faults input.old) (I.faults input.new) }
+    ensures output { Counted (result ≡ CheckEnding.WriteFault) (O.faults output.old) (O.faults output.new) }
 {
     match read_whole(alloc, input) {
         Ok(bytes) => check_bytes(alloc, bytes, output),
@@ -84,8 +82,7 @@ pub fn check<I: Source, O: Sink>(alloc: Global, input: &mut I, output: &mut O) -
 /// Judges bytes, and writes the verdict.
 fn check_bytes<O: Sink>(alloc: Global, bytes: Items<u8>, output: &mut O) -> CheckEnding
     ensures end { EndsJudging bytes (O.written output.old) (O.written output.new) result }
-    ensures write_failed { result ≡ CheckEnding.WriteFault → Rose (O.faults output.old) (O.faults output.new) }
-    ensures write_quiet { result ≢ CheckEnding.WriteFault → O.faults output.new ≡ O.faults output.old }
+    ensures output { Counted (result ≡ CheckEnding.WriteFault) (O.faults output.old) (O.faults output.new) }
 {
     let Ok(verdict) = judge(alloc, bytes) else {
         return CheckEnding::NoMemory;

@@ -1,4 +1,4 @@
-ghost use Rattle.flow_edges.specs.Faults.{Causes};
+ghost use Rattle.flow_edges.specs.Faults.{Counted};
 ghost use Rattle.flow_edges.specs.Flow.{WritesWhole};
 
 use crate::checking::CheckEnding;
@@ -25,7 +25,7 @@ pub enum Ending {
 }
 
 impl Ending {
-    ghost use Rattle.std.specs.Prelude.{◌≡◌, List, ℕ};
+    ghost use Rattle.std.specs.Prelude.{◌≡◌, List, ℕ, IsErr};
     ghost use Rattle.stix_command.specs.RunEndings.{status_of, IsReasonOf};
 
     /// The status that the program ends with.
@@ -46,7 +46,7 @@ impl Ending {
     /// Writes why the program ends so, in one line, or nothing where all was done. Takes no memory.
     pub fn write_reason<S: Sink>(&self, reasons: &mut S) -> Result<(), Fault>
         ensures text { (text : List ℕ) × IsReasonOf self.now text × WritesWhole text (S.written reasons.old) (S.written reasons.new) result }
-        ensures causes { Causes (S.faults reasons.old) (S.faults reasons.new) result }
+        ensures causes { Counted (IsErr result) (S.faults reasons.old) (S.faults reasons.new) }
     {
         match self {
             Ending::Match(ending) => ending.write_reason(reasons),

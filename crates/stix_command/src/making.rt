@@ -1,5 +1,5 @@
-ghost use Rattle.std.specs.Prelude.{◌≡◌, ◌≢◌, ◌≤◌, ◌++◌, List, ℕ, codes, IfOk, IfErr};
-ghost use Rattle.flow_edges.specs.Faults.{Rose, Causes};
+ghost use Rattle.std.specs.Prelude.{◌≡◌, ◌≢◌, ◌≤◌, ◌++◌, List, ℕ, codes, IfOk, IfErr, IsErr};
+ghost use Rattle.flow_edges.specs.Faults.{Counted};
 ghost use Rattle.flow_edges.specs.Flow.{WritesWhole};
 ghost use Rattle.match_generator.specs.declared.log.TheConstants.{MAX_SEED, MAX_COUNT};
 ghost use Rattle.pattern_reader.specs.Read.{IsReadAs};
@@ -51,7 +51,7 @@ impl MakeEnding {
     /// Writes why it ends so. Takes no memory.
     pub fn write_reason<S: Sink>(&self, reasons: &mut S) -> Result<(), Fault>
         ensures text { (text : List ℕ) × IsMakeReason self.now text × WritesWhole text (S.written reasons.old) (S.written reasons.new) result }
-        ensures causes { Causes (S.faults reasons.old) (S.faults reasons.new) result }
+        ensures causes { Counted (IsErr result) (S.faults reasons.old) (S.faults reasons.new) }
     {
         match self {
             MakeEnding::Made => write_whole(reasons, b""),
@@ -76,8 +76,7 @@ pub fn make<O: Sink>(alloc: Global, seed: u32, count: u32, output: &mut O) -> Ma
     requires seed { seed ≤ MAX_SEED }
     requires count { count ≤ MAX_COUNT }
     ensures end { EndsMake seed count (O.written output.old) (O.written output.new) result }
-    ensures write_failed { result ≡ MakeEnding.WriteFault → Rose (O.faults output.old) (O.faults output.new) }
-    ensures write_quiet { result ≢ MakeEnding.WriteFault → O.faults output.new ≡ O.faults output.old }
+    ensures output { Counted (result ≡ MakeEnding.WriteFault) (O.faults output.old) (O.faults output.new) }
 {
     let numbers = match numbers_of(alloc, seed, count) {
         Ok(numbers) => numbers,
@@ -139,7 +138,7 @@ fn matched(alloc: Global, pattern: &Pattern, seed: u32, count: u32) -> Result<Nu
 /// Writes numbers, as `observations 5 bindings 1 last 4` and a line feed.
 fn write_numbers<O: Sink>(numbers: Numbers, output: &mut O) -> Result<(), Fault>
     ensures text { WritesWhole (numbers_text numbers.observations numbers.bindings numbers.last) (O.written output.old) (O.written output.new) result }
-    ensures causes { Causes (O.faults output.old) (O.faults output.new) result }
+    ensures causes { Counted (IsErr result) (O.faults output.old) (O.faults output.new) }
 {
     let mut buffer = Buffer::new();
     let observations = buffer.format(numbers.observations);
@@ -159,7 +158,7 @@ fn write_texts<O: Sink>(
 ) -> Result<(), Fault>
     ensures text { WritesWhole (codes "observations " ++ (observations.now ++ (codes " bindings " ++ (bindings.now
         ++ (codes " last " ++ (last.now ++ codes "\n")))))) (O.written output.old) (O.written output.new) result }
-    ensures causes { Causes (O.faults output.old) (O.faults output.new) result }
+    ensures causes { Counted (IsErr result) (O.faults output.old) (O.faults output.new) }
 {
     write_pieces(
         output,

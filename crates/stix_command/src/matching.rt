@@ -1,5 +1,5 @@
-ghost use Rattle.std.specs.Prelude.{◌≡◌, ◌≢◌, List, ℕ};
-ghost use Rattle.flow_edges.specs.Faults.{Rose, Causes};
+ghost use Rattle.std.specs.Prelude.{◌≡◌, ◌≢◌, List, ℕ, IsErr};
+ghost use Rattle.flow_edges.specs.Faults.{Counted};
 ghost use Rattle.flow_edges.specs.Flow.{WritesWhole};
 ghost use Rattle.pattern_reader.specs.Read.{IsReadAs};
 ghost use Rattle.stix_command.specs.Streams.{streams};
@@ -53,7 +53,7 @@ impl MatchEnding {
     /// Writes why it ends so. Takes no memory.
     pub fn write_reason<S: Sink>(&self, reasons: &mut S) -> Result<(), Fault>
         ensures text { (text : List ℕ) × IsMatchReason self.now text × WritesWhole text (S.written reasons.old) (S.written reasons.new) result }
-        ensures causes { Causes (S.faults reasons.old) (S.faults reasons.new) result }
+        ensures causes { Counted (IsErr result) (S.faults reasons.old) (S.faults reasons.new) }
     {
         match self {
             MatchEnding::PatternRefused(refusal) => write_pattern_reason(refusal, reasons),
@@ -85,10 +85,8 @@ fn match_pattern<I: Source, O: Sink>(
     ensures end { EndsMatch (request_of request.entry) (streams (I.left input.old) (O.written output.old))
         (streams (I.left input.new) (O.written output.new)) result }
     ensures read { ¬ IsPatternRefusal result }
-    ensures read_failed { result ≡ MatchEnding.Ended MatchEnd.ReadFault → Rose (I.faults input.old) (I.faults input.new) }
-    ensures read_quiet { result ≢ MatchEnding.Ended MatchEnd.ReadFault → I.faults input.new ≡ I.faults input.old }
-    ensures write_failed { result ≡ MatchEnding.Ended MatchEnd.WriteFault → Rose (O.faults output.old) (O.faults output.new) }
-    ensures write_quiet { result ≢ MatchEnding.Ended MatchEnd.WriteFault → O.faults output.new ≡ O.faults output.old }
+    ensures input { Counted (result ≡ MatchEnding.Ended MatchEnd.ReadFault) (I.faults input.old) (I.faults input.new) }
+    ensures output { Counted (result ≡ MatchEnding.Ended MatchEnd.WriteFault) (O.faults output.old) (O.faults output.new) }
 {
     leaves_are_brackets();
     let mut matcher = match Matcher::new(alloc, pattern, request.cap) {
@@ -118,10 +116,8 @@ pub fn match_bindings<I: Source, O: Sink>(
     ensures end { EndsMatch (request_of request.entry) (streams (I.left input.old) (O.written output.old))
         (streams (I.left input.new) (O.written output.new)) result }
     ensures untouched { IsPatternRefusal result → (input.new ≡ input.old) × (output.new ≡ output.old) }
-    ensures read_failed { result ≡ MatchEnding.Ended MatchEnd.ReadFault → Rose (I.faults input.old) (I.faults input.new) }
-    ensures read_quiet { result ≢ MatchEnding.Ended MatchEnd.ReadFault → I.faults input.new ≡ I.faults input.old }
-    ensures write_failed { result ≡ MatchEnding.Ended MatchEnd.WriteFault → Rose (O.faults output.old) (O.faults output.new) }
-    ensures write_quiet { result ≢ MatchEnding.Ended MatchEnd.WriteFault → O.faults output.new ≡ O.faults output.old }
+    ensures input { Counted (result ≡ MatchEnding.Ended MatchEnd.ReadFault) (I.faults input.old) (I.faults input.new) }
+    ensures output { Counted (result ≡ MatchEnding.Ended MatchEnd.WriteFault) (O.faults output.old) (O.faults output.new) }
 {
     none_refused();
     match read_pattern(alloc, request.pattern) {

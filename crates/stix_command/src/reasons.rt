@@ -1,5 +1,5 @@
-ghost use Rattle.std.specs.Prelude.{◌++◌, codes};
-ghost use Rattle.flow_edges.specs.Faults.{Causes};
+ghost use Rattle.std.specs.Prelude.{◌++◌, codes, IsErr};
+ghost use Rattle.flow_edges.specs.Faults.{Counted};
 ghost use Rattle.flow_edges.specs.Flow.{WritesWhole};
 ghost use Rattle.stix_command.specs.MatchEndings.{crowded_reason, pattern_reason};
 
@@ -12,7 +12,7 @@ use pattern_reader::PatternRefusal;
 /// Writes that memory ran out.
 pub fn write_no_memory<S: Sink>(reasons: &mut S) -> Result<(), Fault>
     ensures text { WritesWhole (codes "out of memory\n") (S.written reasons.old) (S.written reasons.new) result }
-    ensures causes { Causes (S.faults reasons.old) (S.faults reasons.new) result }
+    ensures causes { Counted (IsErr result) (S.faults reasons.old) (S.faults reasons.new) }
 {
     write_whole(reasons, b"out of memory\n")
 }
@@ -20,7 +20,7 @@ pub fn write_no_memory<S: Sink>(reasons: &mut S) -> Result<(), Fault>
 /// Writes that the input failed.
 pub fn write_read_fault<S: Sink>(reasons: &mut S) -> Result<(), Fault>
     ensures text { WritesWhole (codes "read fault\n") (S.written reasons.old) (S.written reasons.new) result }
-    ensures causes { Causes (S.faults reasons.old) (S.faults reasons.new) result }
+    ensures causes { Counted (IsErr result) (S.faults reasons.old) (S.faults reasons.new) }
 {
     write_whole(reasons, b"read fault\n")
 }
@@ -28,7 +28,7 @@ pub fn write_read_fault<S: Sink>(reasons: &mut S) -> Result<(), Fault>
 /// Writes that the output failed.
 pub fn write_write_fault<S: Sink>(reasons: &mut S) -> Result<(), Fault>
     ensures text { WritesWhole (codes "write fault\n") (S.written reasons.old) (S.written reasons.new) result }
-    ensures causes { Causes (S.faults reasons.old) (S.faults reasons.new) result }
+    ensures causes { Counted (IsErr result) (S.faults reasons.old) (S.faults reasons.new) }
 {
     write_whole(reasons, b"write fault\n")
 }
@@ -36,7 +36,7 @@ pub fn write_write_fault<S: Sink>(reasons: &mut S) -> Result<(), Fault>
 /// Writes at which observation more was live than the cap allows.
 pub fn write_crowded<S: Sink>(number: u64, cap: u64, reasons: &mut S) -> Result<(), Fault>
     ensures text { WritesWhole (crowded_reason number cap) (S.written reasons.old) (S.written reasons.new) result }
-    ensures causes { Causes (S.faults reasons.old) (S.faults reasons.new) result }
+    ensures causes { Counted (IsErr result) (S.faults reasons.old) (S.faults reasons.new) }
 {
     let mut buffer = Buffer::new();
     let number = buffer.format(number);
@@ -49,7 +49,7 @@ pub fn write_crowded<S: Sink>(number: u64, cap: u64, reasons: &mut S) -> Result<
 fn write_numbers<'a, S: Sink>(number: &'a str, cap: &'a str, reasons: &mut S) -> Result<(), Fault>
     ensures text { WritesWhole (codes "crowded at observation " ++ (number.now ++ (codes ": cap " ++ (cap.now ++ codes "\n"))))
         (S.written reasons.old) (S.written reasons.new) result }
-    ensures causes { Causes (S.faults reasons.old) (S.faults reasons.new) result }
+    ensures causes { Counted (IsErr result) (S.faults reasons.old) (S.faults reasons.new) }
 {
     write_pieces(
         reasons,
@@ -66,7 +66,7 @@ fn write_numbers<'a, S: Sink>(number: &'a str, cap: &'a str, reasons: &mut S) ->
 /// Writes why a pattern is refused, as `pattern refused: Syntax at 5` and a line feed.
 pub fn write_pattern_reason<S: Sink>(refusal: &PatternRefusal, reasons: &mut S) -> Result<(), Fault>
     ensures text { WritesWhole (pattern_reason refusal.now) (S.written reasons.old) (S.written reasons.new) result }
-    ensures causes { Causes (S.faults reasons.old) (S.faults reasons.new) result }
+    ensures causes { Counted (IsErr result) (S.faults reasons.old) (S.faults reasons.new) }
 {
     write_whole(reasons, b"pattern refused: ")?;
     write_refusal(refusal, reasons)?;

@@ -1,5 +1,5 @@
-ghost use Rattle.std.specs.Prelude.{◌++◌, codes};
-ghost use Rattle.flow_edges.specs.Faults.{Causes};
+ghost use Rattle.std.specs.Prelude.{◌++◌, codes, IsErr};
+ghost use Rattle.flow_edges.specs.Faults.{Counted};
 ghost use Rattle.flow_edges.specs.Flow.{WritesWhole};
 ghost use Rattle.pattern_reader.specs.PatternRefusal.{refusal_text};
 
@@ -11,7 +11,7 @@ use pattern_reader::PatternRefusal;
 /// Writes why a pattern is refused, as `BadToken at 5`. Takes no memory.
 pub fn write_refusal<S: Sink>(refusal: &PatternRefusal, sink: &mut S) -> Result<(), Fault>
     ensures text { WritesWhole (refusal_text refusal.now) (S.written sink.old) (S.written sink.new) result }
-    ensures causes { Causes (S.faults sink.old) (S.faults sink.new) result }
+    ensures causes { Counted (IsErr result) (S.faults sink.old) (S.faults sink.new) }
 {
     let name = refusal.name();
     match refusal.at() {
@@ -27,7 +27,7 @@ pub fn write_refusal<S: Sink>(refusal: &PatternRefusal, sink: &mut S) -> Result<
 /// Writes a name and a place.
 fn write_placed<'a, S: Sink>(name: &'a str, place: &'a str, sink: &mut S) -> Result<(), Fault>
     ensures text { WritesWhole (name.now ++ (codes " at " ++ place.now)) (S.written sink.old) (S.written sink.new) result }
-    ensures causes { Causes (S.faults sink.old) (S.faults sink.new) result }
+    ensures causes { Counted (IsErr result) (S.faults sink.old) (S.faults sink.new) }
 {
     write_pieces(sink, &[name.as_bytes(), b" at ", place.as_bytes()])
 }

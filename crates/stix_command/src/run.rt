@@ -1,5 +1,5 @@
 ghost use Rattle.std.specs.Prelude.{◌≡◌, ◌≢◌, ◌⊎◌, ℕ, List};
-ghost use Rattle.flow_edges.specs.Faults.{Rose};
+ghost use Rattle.flow_edges.specs.Faults.{Counted};
 ghost use Rattle.command_line.specs.CommandLines.{texts, PlainService};
 ghost use Rattle.taxii_service.specs.declared.ending.ServeEnding.{ServeEnding};
 ghost use Rattle.taxii_service.specs.ServeEndings.{EndsServe, serve_status, serve_reason};
@@ -35,10 +35,8 @@ fn obey<I: Source, O: Sink, D: Door, K: Keeper, C: Clock>(
     ensures untouched { (status_of result ≡ 2) ⊎ (status_of result ≡ 3) → (input.new ≡ input.old) × (output.new ≡ output.old) }
     ensures unread { (pattern : List ℕ) → IsShowLine (texts words.now) pattern → input.new ≡ input.old }
     ensures made_unread { (seed count : ℕ) → IsMakeLine (texts words.now) seed count → input.new ≡ input.old }
-    ensures read_failed { IsReadFault result → Rose (I.faults input.old) (I.faults input.new) }
-    ensures read_quiet { ¬ IsReadFault result → I.faults input.new ≡ I.faults input.old }
-    ensures write_failed { IsWriteFault result → Rose (O.faults output.old) (O.faults output.new) }
-    ensures write_quiet { ¬ IsWriteFault result → O.faults output.new ≡ O.faults output.old }
+    ensures input { Counted (IsReadFault result) (I.faults input.old) (I.faults input.new) }
+    ensures output { Counted (IsWriteFault result) (O.faults output.old) (O.faults output.new) }
     ensures serving { (service : PlainService) → IsServeLine (texts words.now) service → (ending : ServeEnding) × EndsServing result ending
         × EndsServe (λ link. record { left = D.Link.left link; written = D.Link.written link; read_faults = D.Link.Source.faults link; write_faults = D.Link.Sink.faults link }) service
         (record { door = D.told door.old; rows = K.told keeper.old; name = K.name keeper.old; written = O.written output.old; around = record { moments = C.moments clock.old; faults = K.faults keeper.old } })
@@ -46,10 +44,8 @@ fn obey<I: Source, O: Sink, D: Door, K: Keeper, C: Clock>(
     ensures served_unread { (service : PlainService) → IsServeLine (texts words.now) service → input.new ≡ input.old }
     ensures unserved { IsWithoutCallers result → (door.new ≡ door.old) × (clock.new ≡ clock.old) × (K.told keeper.new ≡ K.told keeper.old) }
     ensures others { ((service : PlainService) → ¬ IsServeLine (texts words.now) service) → (door.new ≡ door.old) × (clock.new ≡ clock.old) × (keeper.new ≡ keeper.old) }
-    ensures door_failed { IsDoorFault result → Rose (D.faults door.old) (D.faults door.new) }
-    ensures door_quiet { ¬ IsDoorFault result → D.faults door.new ≡ D.faults door.old }
-    ensures store_failed { IsStoreFault result → Rose (K.faults keeper.old) (K.faults keeper.new) }
-    ensures store_quiet { IsWithoutCallers result → ¬ IsStoreFault result → K.faults keeper.new ≡ K.faults keeper.old }
+    ensures door { Counted (IsDoorFault result) (D.faults door.old) (D.faults door.new) }
+    ensures keeper { IsWithoutCallers result → Counted (IsStoreFault result) (K.faults keeper.old) (K.faults keeper.new) }
 {
     one_request();
     match read_words(alloc, words) {
@@ -115,14 +111,10 @@ pub fn run<I: Source, O: Sink, E: Sink, D: Door, K: Keeper, C: Clock>(
     ensures served_unread { (service : PlainService) → IsServeLine (texts words.now) service → input.new ≡ input.old }
     ensures unserved { result ≢ 0 → result ≢ 6 → result ≢ 8 → (door.new ≡ door.old) × (clock.new ≡ clock.old) × (K.told keeper.new ≡ K.told keeper.old) }
     ensures others { ((service : PlainService) → ¬ IsServeLine (texts words.now) service) → (door.new ≡ door.old) × (clock.new ≡ clock.old) × (keeper.new ≡ keeper.old) }
-    ensures read_fault { result ≡ 5 → Rose (I.faults input.old) (I.faults input.new) }
-    ensures read_quiet { result ≢ 5 → I.faults input.new ≡ I.faults input.old }
-    ensures write_fault { result ≡ 6 → Rose (O.faults output.old) (O.faults output.new) }
-    ensures write_quiet { result ≢ 6 → O.faults output.new ≡ O.faults output.old }
-    ensures door_fault { result ≡ 8 → Rose (D.faults door.old) (D.faults door.new) }
-    ensures door_quiet { result ≢ 8 → D.faults door.new ≡ D.faults door.old }
-    ensures store_fault { result ≡ 9 → Rose (K.faults keeper.old) (K.faults keeper.new) }
-    ensures store_quiet { result ≢ 0 → result ≢ 6 → result ≢ 8 → result ≢ 9 → K.faults keeper.new ≡ K.faults keeper.old }
+    ensures input { Counted (result ≡ 5) (I.faults input.old) (I.faults input.new) }
+    ensures output { Counted (result ≡ 6) (O.faults output.old) (O.faults output.new) }
+    ensures door { Counted (result ≡ 8) (D.faults door.old) (D.faults door.new) }
+    ensures keeper { result ≢ 0 → result ≢ 6 → result ≢ 8 → Counted (result ≡ 9) (K.faults keeper.old) (K.faults keeper.new) }
 {
     one_request();
     let ending = obey(alloc, words, input, output, door, keeper, clock);

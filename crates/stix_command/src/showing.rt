@@ -1,5 +1,5 @@
-ghost use Rattle.std.specs.Prelude.{◌≡◌, ◌≢◌, ℕ, List, Option, IfOk, IfErr};
-ghost use Rattle.flow_edges.specs.Faults.{Rose, Causes};
+ghost use Rattle.std.specs.Prelude.{◌≡◌, ◌≢◌, ℕ, List, Option, IfOk, IfErr, IsErr};
+ghost use Rattle.flow_edges.specs.Faults.{Counted};
 ghost use Rattle.flow_edges.specs.Flow.{WritesWhole};
 ghost use Rattle.pattern_reader.specs.declared.refusal.PatternRefusal.TheVariants as PatternRefusal;
 ghost use Rattle.stix_command.specs.Streams.{streams};
@@ -45,7 +45,7 @@ impl ShowEnding {
     /// Writes why it ends so. Takes no memory.
     pub fn write_reason<S: Sink>(&self, reasons: &mut S) -> Result<(), Fault>
         ensures text { (text : List ℕ) × IsShowReason self.now text × WritesWhole text (S.written reasons.old) (S.written reasons.new) result }
-        ensures causes { Causes (S.faults reasons.old) (S.faults reasons.new) result }
+        ensures causes { Counted (IsErr result) (S.faults reasons.old) (S.faults reasons.new) }
     {
         match self {
             ShowEnding::Shown => write_whole(reasons, b""),
@@ -60,8 +60,7 @@ impl ShowEnding {
 pub fn show<O: Sink>(alloc: Global, pattern: &str, output: &mut O) -> ShowEnding
     ensures end { (left : Option (List ℕ)) → EndsShow pattern.now (streams left (O.written output.old)) (streams left (O.written output.new)) result }
     ensures untouched { (refusal : PatternRefusal) → result ≡ ShowEnding.PatternRefused refusal → output.new ≡ output.old }
-    ensures write_failed { result ≡ ShowEnding.WriteFault → Rose (O.faults output.old) (O.faults output.new) }
-    ensures write_quiet { result ≢ ShowEnding.WriteFault → O.faults output.new ≡ O.faults output.old }
+    ensures output { Counted (result ≡ ShowEnding.WriteFault) (O.faults output.old) (O.faults output.new) }
 {
     let line = match canonical_line(alloc, pattern) {
         Ok(line) => line,

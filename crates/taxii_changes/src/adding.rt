@@ -1,5 +1,5 @@
-ghost use Rattle.std.specs.Prelude.{◌≡◌, ◌≢◌, ◌⊎◌, ℕ, List, [], IfOk, IfErr, OnErr};
-ghost use Rattle.flow_edges.specs.Faults.{Rose};
+ghost use Rattle.std.specs.Prelude.{◌≡◌, ◌≢◌, ◌⊎◌, ℕ, List, [], IfOk, IfErr, OnErr, Err};
+ghost use Rattle.flow_edges.specs.Faults.{Counted};
 ghost use Rattle.http_frames.specs.declared.status.Status.TheVariants.{Accepted};
 ghost use Rattle.taxii_rows.specs.declared.stored_row.StoredRow.{StoredRow as Row};
 ghost use Rattle.taxii_store.specs.Agreement.{Agrees};
@@ -43,9 +43,7 @@ pub fn add_objects<K: Keeper>(
         ⊎ ((refusal ≡ Refused.Problem Trouble.StoreFault) × ((new : List Row) × (text : List ℕ) × (new ≢ [])
         × IsAdding (server_of library.old statuses.old) collection moment body.now new text)))) }
     ensures unchanged { OnErr result ((library.new ≡ library.old) × (statuses.new ≡ statuses.old)) }
-    ensures fault { IfErr result (λ refusal. refusal ≡ Refused.Problem Trouble.StoreFault → Rose (K.faults keeper.old) (K.faults keeper.new)) }
-    ensures quiet { IfOk result (λ _. K.faults keeper.new ≡ K.faults keeper.old) }
-    ensures none { IfErr result (λ refusal. refusal ≢ Refused.Problem Trouble.StoreFault → K.faults keeper.new ≡ K.faults keeper.old) }
+    ensures causes { Counted (result ≡ Err (Refused.Problem Trouble.StoreFault)) (K.faults keeper.old) (K.faults keeper.new) }
 {
     let prepared = Prepared::of(alloc, collection, library, statuses, moment, body)?;
     let Prepared {

@@ -1,5 +1,5 @@
-ghost use Rattle.std.specs.Prelude.{◌≡◌, ◌≢◌, ◌⊎◌, ◌↔◌, ℕ, List, [], ◌∷◌, None, Some, true, IsTrue, IfOk, IfErr, OnErr};
-ghost use Rattle.flow_edges.specs.Faults.{Rose};
+ghost use Rattle.std.specs.Prelude.{◌≡◌, ◌≢◌, ◌⊎◌, ◌↔◌, ℕ, List, [], ◌∷◌, None, Some, true, IsTrue, IfOk, IfErr, OnErr, Err};
+ghost use Rattle.flow_edges.specs.Faults.{Counted};
 ghost use Rattle.http_frames.specs.declared.status.Status.TheVariants.{Okay};
 ghost use Rattle.stix_ids.specs.declared.pick.Pick.TheVariants.{All as PickAll};
 ghost use Rattle.taxii_rows.specs.Keeper.{without};
@@ -40,9 +40,7 @@ pub fn delete_object<K: Keeper>(
     ensures err { IfErr result (λ refusal. (refusal ≡ Refused.NoMemory) ⊎ ((refusal ≡ Refused.Problem Trouble.StoreFault)
         × ((dates : List ℕ) × (dates ≢ []) × AreDeleted library.old collection id.now query dates))) }
     ensures unchanged { OnErr result (library.new ≡ library.old) }
-    ensures fault { IfErr result (λ refusal. refusal ≡ Refused.Problem Trouble.StoreFault → Rose (K.faults keeper.old) (K.faults keeper.new)) }
-    ensures quiet { IfOk result (λ _. K.faults keeper.new ≡ K.faults keeper.old) }
-    ensures none { IfErr result (λ refusal. refusal ≢ Refused.Problem Trouble.StoreFault → K.faults keeper.new ≡ K.faults keeper.old) }
+    ensures causes { Counted (result ≡ Err (Refused.Problem Trouble.StoreFault)) (K.faults keeper.old) (K.faults keeper.new) }
 {
     let dates = dates_of(alloc, collection, id, query, library)?;
     match library.commit_delete(keeper, dates.as_slice()) {

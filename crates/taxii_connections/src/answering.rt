@@ -1,5 +1,5 @@
-ghost use Rattle.std.specs.Prelude.{◌≡◌};
-ghost use Rattle.flow_edges.specs.Faults.{Causes};
+ghost use Rattle.std.specs.Prelude.{◌≡◌, IsErr};
+ghost use Rattle.flow_edges.specs.Faults.{Counted};
 ghost use Rattle.taxii_store.specs.Agreement.{Agrees};
 ghost use Rattle.taxii_connections.specs.Server.{state_of};
 ghost use Rattle.taxii_connections.specs.inner.Answering.{Answers};
@@ -29,7 +29,7 @@ pub(crate) fn answer<K: Keeper, L: Link, C: Clock>(
     ensures answers { Answers server.old.config (state_of server.old) request.now is_last
         (record { moments = C.moments clock.old; faults = K.faults keeper.old }) (record { moments = C.moments clock.new; faults = K.faults keeper.new })
         (L.written link.old) (L.written link.new) result (state_of server.new) }
-    ensures causes { Causes (L.Sink.faults link.old) (L.Sink.faults link.new) result }
+    ensures causes { Counted (IsErr result) (L.Sink.faults link.old) (L.Sink.faults link.new) }
     ensures unread { L.Sink.other link.new ≡ L.Sink.other link.old }
 {
     no_step_tells_a_store_fault();

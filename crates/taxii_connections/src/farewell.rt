@@ -1,5 +1,5 @@
 ghost use Rattle.std.specs.Prelude.{◌≡◌, ◌≢◌, IsErr};
-ghost use Rattle.flow_edges.specs.Faults.{Causes};
+ghost use Rattle.flow_edges.specs.Faults.{Counted};
 ghost use Rattle.taxii_connections.specs.inner.Answering.{TakesLeave};
 
 use crate::pause::Pause;
@@ -11,7 +11,7 @@ use std::alloc::Global;
 /// Says why the connection ends, where that is to be said. A read that failed is handed on.
 pub(crate) fn take_leave<L: Link>(alloc: Global, pause: Pause, link: &mut L) -> Result<(), Fault>
     ensures leave { TakesLeave pause (L.written link.old) (L.written link.new) result }
-    ensures causes { pause ≢ Pause.Failed → Causes (L.Sink.faults link.old) (L.Sink.faults link.new) result }
+    ensures causes { pause ≢ Pause.Failed → Counted (IsErr result) (L.Sink.faults link.old) (L.Sink.faults link.new) }
     ensures failed { pause ≡ Pause.Failed → IsErr result × (L.Sink.faults link.new ≡ L.Sink.faults link.old) }
     ensures unread { L.Sink.other link.new ≡ L.Sink.other link.old }
 {
@@ -26,7 +26,7 @@ pub(crate) fn take_leave<L: Link>(alloc: Global, pause: Pause, link: &mut L) -> 
 /// Writes the answer to a refusal, or that memory ran out for it.
 fn refuse<L: Link>(alloc: Global, refusal: Refusal, link: &mut L) -> Result<(), Fault>
     ensures leave { TakesLeave (Pause.Refused refusal) (L.written link.old) (L.written link.new) result }
-    ensures causes { Causes (L.Sink.faults link.old) (L.Sink.faults link.new) result }
+    ensures causes { Counted (IsErr result) (L.Sink.faults link.old) (L.Sink.faults link.new) }
     ensures unread { L.Sink.other link.new ≡ L.Sink.other link.old }
 {
     match refusal_answer(alloc, refusal) {

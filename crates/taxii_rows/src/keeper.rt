@@ -1,7 +1,7 @@
-ghost use Rattle.std.specs.Prelude.{◌≡◌, ℕ, List, Option, Bool, true, option_map, IfOk, IfSome, OnOk, OnErr};
+ghost use Rattle.std.specs.Prelude.{◌≡◌, ℕ, List, Option, Bool, true, option_map, IfOk, IfSome, OnOk, OnErr, Err};
 ghost use Rattle.taxii_rows.specs.StoreState.{StoreState, RiseFrom};
 ghost use Rattle.taxii_rows.specs.Keeper.{row_after, with_rows, without, CanAppend, IsAttached};
-ghost use Rattle.taxii_rows.specs.KeeperCauses.{KeeperCauses};
+ghost use Rattle.flow_edges.specs.Faults.{Counted};
 
 use crate::{KeeperRefusal, StoredRow};
 
@@ -28,7 +28,7 @@ pub trait Keeper {
         ensures ok { OnOk result (IsAttached text.now (told self.new) (name self.new) (attached self.new)) }
         ensures err { OnErr result ((name self.new ≡ name self.old) × (attached self.new ≡ attached self.old)) }
         ensures told { told self.new ≡ told self.old }
-        ensures causes { KeeperCauses (faults self.old) (faults self.new) result };
+        ensures causes { Counted (result ≡ Err KeeperRefusal.Fault) (faults self.old) (faults self.new) };
 
     /// The first row that was added later than this date, or none where there is none.
     fn next_after(&mut self, date: u64) -> Result<Option<StoredRow>, KeeperRefusal>
@@ -37,7 +37,7 @@ pub trait Keeper {
         ensures told { told self.new ≡ told self.old }
         ensures name { name self.new ≡ name self.old }
         ensures attached { attached self.new ≡ attached self.old }
-        ensures causes { KeeperCauses (faults self.old) (faults self.new) result };
+        ensures causes { Counted (result ≡ Err KeeperRefusal.Fault) (faults self.old) (faults self.new) };
 
     /// The last date ever given.
     fn mark(&mut self) -> Result<u64, KeeperRefusal>
@@ -46,7 +46,7 @@ pub trait Keeper {
         ensures told { told self.new ≡ told self.old }
         ensures name { name self.new ≡ name self.old }
         ensures attached { attached self.new ≡ attached self.old }
-        ensures causes { KeeperCauses (faults self.old) (faults self.new) result };
+        ensures causes { Counted (result ≡ Err KeeperRefusal.Fault) (faults self.old) (faults self.new) };
 
     /// Adds rows at the end, and makes `mark` the last date ever given.
     fn append(&mut self, rows: &[StoredRow], mark: u64) -> Result<(), KeeperRefusal>
@@ -56,7 +56,7 @@ pub trait Keeper {
         ensures err { OnErr result (told self.new ≡ told self.old) }
         ensures name { name self.new ≡ name self.old }
         ensures attached { attached self.new ≡ attached self.old }
-        ensures causes { KeeperCauses (faults self.old) (faults self.new) result };
+        ensures causes { Counted (result ≡ Err KeeperRefusal.Fault) (faults self.old) (faults self.new) };
 
     /// Removes the rows of these dates, which rise. The last date ever given stays.
     fn remove(&mut self, dates: &[u64]) -> Result<(), KeeperRefusal>
@@ -66,5 +66,5 @@ pub trait Keeper {
         ensures err { OnErr result (told self.new ≡ told self.old) }
         ensures name { name self.new ≡ name self.old }
         ensures attached { attached self.new ≡ attached self.old }
-        ensures causes { KeeperCauses (faults self.old) (faults self.new) result };
+        ensures causes { Counted (result ≡ Err KeeperRefusal.Fault) (faults self.old) (faults self.new) };
 }

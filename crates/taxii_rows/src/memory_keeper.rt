@@ -2,7 +2,7 @@ ghost use Rattle.std.specs.Prelude.{◌≡◌, ◌≢◌, None, Some, Err, IfOk,
 ghost use Rattle.taxii_rows.specs.declared.keeper_refusal.KeeperRefusal.TheVariants.{NoMemory as OutOfMemory};
 ghost use Rattle.taxii_rows.specs.StoreState.{dates_of, RiseFrom};
 ghost use Rattle.taxii_rows.specs.Keeper.{row_after as first_later, with_rows, without, CanAppend};
-ghost use Rattle.taxii_rows.specs.KeeperCauses.{KeeperCauses};
+ghost use Rattle.flow_edges.specs.Faults.{Counted};
 ghost use Rattle.taxii_rows.specs.MemoryKeeper.{IsMemoryCall};
 
 use crate::calls::Calls;
@@ -100,7 +100,7 @@ impl Keeper for MemoryKeeper {
         ensures err { OnErr result (self.new.name ≡ self.old.name) }
         ensures state { self.new.state ≡ self.old.state }
         ensures rise { RiseFrom 1 (dates_of self.new.state.rows) }
-        ensures causes { KeeperCauses self.old.faults self.new.faults result }
+        ensures causes { Counted (result ≡ Err KeeperRefusal.Fault) self.old.faults self.new.faults }
 
         ensures call { IsMemoryCall self.old self.new result }
     {
@@ -114,7 +114,7 @@ impl Keeper for MemoryKeeper {
         ensures row { IfOk result (λ found. found ≡ first_later date self.old.state.rows) }
         ensures state { self.new.state ≡ self.old.state }
         ensures name { self.new.name ≡ self.old.name }
-        ensures causes { KeeperCauses self.old.faults self.new.faults result }
+        ensures causes { Counted (result ≡ Err KeeperRefusal.Fault) self.old.faults self.new.faults }
 
         ensures call { IsMemoryCall self.old self.new result }
     {
@@ -130,7 +130,7 @@ impl Keeper for MemoryKeeper {
         ensures memory { result ≢ Err OutOfMemory }
         ensures state { self.new.state ≡ self.old.state }
         ensures name { self.new.name ≡ self.old.name }
-        ensures causes { KeeperCauses self.old.faults self.new.faults result }
+        ensures causes { Counted (result ≡ Err KeeperRefusal.Fault) self.old.faults self.new.faults }
 
         ensures call { IsMemoryCall self.old self.new result }
     {
@@ -143,7 +143,7 @@ impl Keeper for MemoryKeeper {
         ensures ok { OnOk result (self.new.state ≡ with_rows rows.now mark self.old.state) }
         ensures err { OnErr result (self.new.state ≡ self.old.state) }
         ensures name { self.new.name ≡ self.old.name }
-        ensures causes { KeeperCauses self.old.faults self.new.faults result }
+        ensures causes { Counted (result ≡ Err KeeperRefusal.Fault) self.old.faults self.new.faults }
 
         ensures call { IsMemoryCall self.old self.new result }
     {
@@ -159,7 +159,7 @@ impl Keeper for MemoryKeeper {
         ensures memory { result ≢ Err OutOfMemory }
         ensures err { OnErr result (self.new.state ≡ self.old.state) }
         ensures name { self.new.name ≡ self.old.name }
-        ensures causes { KeeperCauses self.old.faults self.new.faults result }
+        ensures causes { Counted (result ≡ Err KeeperRefusal.Fault) self.old.faults self.new.faults }
 
         ensures call { IsMemoryCall self.old self.new result }
     {

@@ -1,5 +1,5 @@
 ghost use Rattle.std.specs.Prelude.{◌≡◌, ◌≤◌, ◌<◌, ◌⊎◌, ◌^◌, [], List, IfOk, IfSome, IsErr};
-ghost use Rattle.flow_edges.specs.Faults.{Causes};
+ghost use Rattle.flow_edges.specs.Faults.{Counted};
 ghost use Rattle.flow_links.specs.Doors.{Stays};
 ghost use Rattle.taxii_store.specs.Agreement.{Agrees};
 ghost use Rattle.taxii_connections.specs.Server.{state_of};
@@ -36,7 +36,7 @@ pub fn serve_door<K: Keeper, D: Door, C: Clock>(
         × Pass (exchanges_of callers) (record { moments = C.moments clock.old; faults = K.faults keeper.old }) (record { moments = C.moments clock.new; faults = K.faults keeper.new })
         × (PassThrough port callers (D.told door.old) (D.told door.new) ⊎ (IsErr result × (callers ≡ []) × Stays (D.told door.old) (D.told door.new)))
         × IfOk result (IsWholeOf connections callers (D.told door.new)) }
-    ensures causes { Causes (D.faults door.old) (D.faults door.new) result }
+    ensures causes { Counted (IsErr result) (D.faults door.old) (D.faults door.new) }
 {
     door.listen(port)?;
     let mut served = Served {

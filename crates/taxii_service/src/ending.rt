@@ -1,4 +1,4 @@
-ghost use Rattle.std.specs.Prelude.{◌≡◌};
+ghost use Rattle.std.specs.Prelude.{◌≡◌, IsErr};
 
 use crate::reasons::write_bad_row;
 use flow_edges::{Sink, write_whole};
@@ -27,7 +27,7 @@ pub enum ServeEnding {
 }
 
 impl ServeEnding {
-    ghost use Rattle.flow_edges.specs.Faults.{Causes};
+    ghost use Rattle.flow_edges.specs.Faults.{Counted};
     ghost use Rattle.flow_edges.specs.Flow.{WritesWhole};
     ghost use Rattle.taxii_service.specs.ServeEndings.{serve_status, serve_reason};
 
@@ -48,7 +48,7 @@ impl ServeEnding {
     /// Writes why it ends so. Takes no memory.
     pub fn write_reason<S: Sink>(self, reasons: &mut S) -> Result<(), Fault>
         ensures text { WritesWhole (serve_reason self) (S.written reasons.old) (S.written reasons.new) result }
-        ensures causes { Causes (S.faults reasons.old) (S.faults reasons.new) result }
+        ensures causes { Counted (IsErr result) (S.faults reasons.old) (S.faults reasons.new) }
     {
         match self {
             ServeEnding::Done(_) => write_whole(reasons, b""),

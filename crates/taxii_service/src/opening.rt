@@ -1,5 +1,5 @@
 ghost use Rattle.std.specs.Prelude.{◌≡◌, ◌≢◌, ℕ, Err, map, option_map, IfOk, IfErr, IfSome, OnOk};
-ghost use Rattle.flow_edges.specs.Faults.{Rose};
+ghost use Rattle.flow_edges.specs.Faults.{Counted};
 ghost use Rattle.taxii_rows.specs.SoundRow.{IsSoundState};
 ghost use Rattle.taxii_statuses.specs.Statuses.{no_statuses};
 ghost use Rattle.taxii_store.specs.Agreement.{Agrees};
@@ -32,8 +32,7 @@ pub(crate) fn open<K: Keeper>(
     ensures name { OnOk result (K.name keeper.new ≡ option_map (λ _. store_name (plain_service request.now).store) (K.told keeper.old)) }
     ensures bad { IfErr result (λ refusal. (after : ℕ) → refusal ≡ Refused.BadRow after → IfSome (K.told keeper.old) (λ state. IsBadAfter state after)) }
     ensures told { K.told keeper.new ≡ K.told keeper.old }
-    ensures failed { result ≡ Err Refused.KeeperFault → Rose (K.faults keeper.old) (K.faults keeper.new) }
-    ensures quiet { result ≢ Err Refused.KeeperFault → K.faults keeper.new ≡ K.faults keeper.old }
+    ensures causes { Counted (result ≡ Err Refused.KeeperFault) (K.faults keeper.old) (K.faults keeper.new) }
 {
     let config = config_of(alloc, request)?;
     let statuses = Statuses::new(alloc)?;

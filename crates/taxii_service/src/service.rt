@@ -1,5 +1,5 @@
 ghost use Rattle.std.specs.Prelude.{◌≡◌, ◌≢◌, ℕ};
-ghost use Rattle.flow_edges.specs.Faults.{Rose};
+ghost use Rattle.flow_edges.specs.Faults.{Counted};
 ghost use Rattle.command_line.specs.Request.{plain_service};
 ghost use Rattle.taxii_service.specs.ServeEndings.{EndsServe, IsEarly, Concludes};
 
@@ -31,12 +31,9 @@ pub fn serve<O: Sink, D: Door, K: Keeper, C: Clock>(
         (record { door = D.told door.new; rows = K.told keeper.new; name = K.name keeper.new; written = O.written output.new; around = record { moments = C.moments clock.new; faults = K.faults keeper.new } })
         result }
     ensures early { IsEarly result → (door.new ≡ door.old) × (clock.new ≡ clock.old) × (output.new ≡ output.old) }
-    ensures door_fault { result ≡ ServeEnding.DoorFault → Rose (D.faults door.old) (D.faults door.new) }
-    ensures door_quiet { result ≢ ServeEnding.DoorFault → D.faults door.new ≡ D.faults door.old }
-    ensures store_fault { result ≡ ServeEnding.StoreFault → Rose (K.faults keeper.old) (K.faults keeper.new) }
-    ensures store_quiet { IsEarly result → result ≢ ServeEnding.StoreFault → K.faults keeper.new ≡ K.faults keeper.old }
-    ensures write_fault { result ≡ ServeEnding.WriteFault → Rose (O.faults output.old) (O.faults output.new) }
-    ensures write_quiet { result ≢ ServeEnding.WriteFault → O.faults output.new ≡ O.faults output.old }
+    ensures door { Counted (result ≡ ServeEnding.DoorFault) (D.faults door.old) (D.faults door.new) }
+    ensures keeper { IsEarly result → Counted (result ≡ ServeEnding.StoreFault) (K.faults keeper.old) (K.faults keeper.new) }
+    ensures output { Counted (result ≡ ServeEnding.WriteFault) (O.faults output.old) (O.faults output.new) }
 {
     walks_among_requests_skip_no_row();
     callers_make_history::<D>();
@@ -54,8 +51,7 @@ pub fn serve<O: Sink, D: Door, K: Keeper, C: Clock>(
 /// Writes what was done.
 fn conclude<O: Sink>(served: Served, output: &mut O) -> ServeEnding
     ensures concludes { Concludes served (O.written output.old) (O.written output.new) result }
-    ensures write_fault { result ≡ ServeEnding.WriteFault → Rose (O.faults output.old) (O.faults output.new) }
-    ensures write_quiet { result ≢ ServeEnding.WriteFault → O.faults output.new ≡ O.faults output.old }
+    ensures output { Counted (result ≡ ServeEnding.WriteFault) (O.faults output.old) (O.faults output.new) }
 {
     match write_summary(served, output) {
         Ok(()) => ServeEnding::Done(served),

@@ -1,5 +1,5 @@
-ghost use Rattle.std.specs.Prelude.{◌++◌, codes, OnErr};
-ghost use Rattle.flow_edges.specs.Faults.{Causes};
+ghost use Rattle.std.specs.Prelude.{◌++◌, codes, OnErr, IsErr};
+ghost use Rattle.flow_edges.specs.Faults.{Counted};
 ghost use Rattle.flow_edges.specs.Flow.{WritesWhole, WritesPart};
 ghost use Rattle.taxii_service.specs.ServeEndings.{summary_text};
 
@@ -12,7 +12,7 @@ use taxii_server::Served;
 pub(crate) fn write_summary<O: Sink>(served: Served, output: &mut O) -> Result<(), Fault>
     ensures text { WritesWhole (summary_text served) (O.written output.old) (O.written output.new) result }
     ensures part { OnErr result (WritesPart (summary_text served) (O.written output.old) (O.written output.new)) }
-    ensures causes { Causes (O.faults output.old) (O.faults output.new) result }
+    ensures causes { Counted (IsErr result) (O.faults output.old) (O.faults output.new) }
 {
     let mut buffer = Buffer::new();
     let connections = buffer.format(served.connections);
@@ -25,7 +25,7 @@ pub(crate) fn write_summary<O: Sink>(served: Served, output: &mut O) -> Result<(
 fn write_counts<O: Sink>(connections: &str, requests: &str, output: &mut O) -> Result<(), Fault>
     ensures text { WritesWhole (codes "connections " ++ (connections.now ++ (codes " requests " ++ (requests.now ++ codes "\n")))) (O.written output.old) (O.written output.new) result }
     ensures part { OnErr result (WritesPart (codes "connections " ++ (connections.now ++ (codes " requests " ++ (requests.now ++ codes "\n")))) (O.written output.old) (O.written output.new)) }
-    ensures causes { Causes (O.faults output.old) (O.faults output.new) result }
+    ensures causes { Counted (IsErr result) (O.faults output.old) (O.faults output.new) }
 {
     write_pieces(
         output,

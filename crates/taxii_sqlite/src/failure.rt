@@ -1,5 +1,5 @@
 ghost use Rattle.std.specs.Prelude.{◌≡◌, IfOk, IfErr, Ok, Err};
-ghost use Rattle.taxii_rows.specs.KeeperCauses.{KeeperCauses};
+ghost use Rattle.flow_edges.specs.Faults.{Counted};
 ghost use Rattle.taxii_sqlite.specs.Failing.{is_want_of_memory as is_want, refused};
 
 use sqlite::{Error, ErrorCode};
@@ -71,7 +71,7 @@ pub(crate) fn counted<T: Drop>(
 ) -> Result<T, KeeperRefusal>
     ensures ok { IfOk answer (λ value. result ≡ Ok value) }
     ensures err { IfErr answer (λ failure. result ≡ Err (refused failure)) }
-    ensures causes { KeeperCauses faults.old faults.new result }
+    ensures causes { Counted (result ≡ Err KeeperRefusal.Fault) faults.old faults.new }
 {
     match answer {
         Ok(value) => Ok(value),

@@ -1,5 +1,5 @@
-ghost use Rattle.std.specs.Prelude.{◌≡◌, None, true, false, IfOk, OnOk, OnErr};
-ghost use Rattle.taxii_rows.specs.KeeperCauses.{KeeperCauses};
+ghost use Rattle.std.specs.Prelude.{◌≡◌, None, true, false, IfOk, OnOk, OnErr, Err};
+ghost use Rattle.flow_edges.specs.Faults.{Counted};
 ghost use Rattle.taxii_rows.specs.StoreState.{RiseFrom};
 ghost use Rattle.taxii_sqlite.specs.Databases.{FindsNext, FindsMark, Appends, Removes, IsOpenAt};
 ghost use Rattle.taxii_sqlite.specs.declared.connection.Database.TheVariants.{Closed};
@@ -64,7 +64,7 @@ impl Keeper for SqliteKeeper {
         ensures err { OnErr result (self.new.attached ≡ self.old.attached) }
         ensures ready { OnOk result (IsOpenAt text.now self.new.database) }
         ensures kept { OnErr result (self.new.database ≡ self.old.database) }
-        ensures causes { KeeperCauses self.old.faults self.new.faults result }
+        ensures causes { Counted (result ≡ Err KeeperRefusal.Fault) self.old.faults self.new.faults }
     {
         let opened = Database::open(self.alloc, &self.rt, text);
         self.database = counted(&mut self.faults, opened)?;
@@ -74,7 +74,7 @@ impl Keeper for SqliteKeeper {
     fn next_after(&mut self, date: u64) -> Result<Option<StoredRow>, KeeperRefusal>
         ensures finds { IfOk result (FindsNext date self.old.database self.new.database) }
         ensures attached { self.new.attached ≡ self.old.attached }
-        ensures causes { KeeperCauses self.old.faults self.new.faults result }
+        ensures causes { Counted (result ≡ Err KeeperRefusal.Fault) self.old.faults self.new.faults }
     {
         let found = self.database.next_after(date);
         counted(&mut self.faults, found)
@@ -83,7 +83,7 @@ impl Keeper for SqliteKeeper {
     fn mark(&mut self) -> Result<u64, KeeperRefusal>
         ensures finds { IfOk result (FindsMark self.old.database self.new.database) }
         ensures attached { self.new.attached ≡ self.old.attached }
-        ensures causes { KeeperCauses self.old.faults self.new.faults result }
+        ensures causes { Counted (result ≡ Err KeeperRefusal.Fault) self.old.faults self.new.faults }
     {
         let mark = self.database.read_mark();
         counted(&mut self.faults, mark)
@@ -92,7 +92,7 @@ impl Keeper for SqliteKeeper {
     fn append(&mut self, rows: &[StoredRow], mark: u64) -> Result<(), KeeperRefusal>
         ensures appends { OnOk result (Appends rows.now mark self.old.database self.new.database) }
         ensures attached { self.new.attached ≡ self.old.attached }
-        ensures causes { KeeperCauses self.old.faults self.new.faults result }
+        ensures causes { Counted (result ≡ Err KeeperRefusal.Fault) self.old.faults self.new.faults }
     {
         let done = self.database.append(rows, mark);
         counted(&mut self.faults, done)
@@ -102,7 +102,7 @@ impl Keeper for SqliteKeeper {
         requires rise { RiseFrom 0 dates.now }
         ensures removes { OnOk result (Removes dates.now self.old.database self.new.database) }
         ensures attached { self.new.attached ≡ self.old.attached }
-        ensures causes { KeeperCauses self.old.faults self.new.faults result }
+        ensures causes { Counted (result ≡ Err KeeperRefusal.Fault) self.old.faults self.new.faults }
     {
         let done = self.database.remove(dates);
         counted(&mut self.faults, done)

@@ -1,5 +1,5 @@
-ghost use Rattle.std.specs.Prelude.{◌≡◌, ◌≢◌, ◌⊎◌, IfOk, IfErr, OnErr};
-ghost use Rattle.flow_edges.specs.Faults.{Rose};
+ghost use Rattle.std.specs.Prelude.{◌≡◌, ◌≢◌, ◌⊎◌, IfOk, IfErr, OnErr, Err};
+ghost use Rattle.flow_edges.specs.Faults.{Counted};
 ghost use Rattle.taxii_bodies.specs.declared.problem.Problem.TheVariants as Trouble;
 ghost use Rattle.taxii_requests.specs.declared.refusal.Refusal.TheVariants as Refused;
 ghost use Rattle.taxii_store.specs.Agreement.{Agrees};
@@ -38,9 +38,7 @@ pub(crate) fn outcome<K: Keeper>(
         ⊎ ((refusal ≡ Refused.Problem Trouble.StoreFault)
         × RouteChanges config.now (server_of library.old statuses.old) moment request.now route.now query.now))) }
     ensures unchanged { OnErr result ((library.new ≡ library.old) × (statuses.new ≡ statuses.old)) }
-    ensures fault { IfErr result (λ refusal. refusal ≡ Refused.Problem Trouble.StoreFault → Rose (K.faults keeper.old) (K.faults keeper.new)) }
-    ensures quiet { IfOk result (λ _. K.faults keeper.new ≡ K.faults keeper.old) }
-    ensures none { IfErr result (λ refusal. refusal ≢ Refused.Problem Trouble.StoreFault → K.faults keeper.new ≡ K.faults keeper.old) }
+    ensures causes { Counted (result ≡ Err (Refused.Problem Trouble.StoreFault)) (K.faults keeper.old) (K.faults keeper.new) }
 {
     let Some(rights) = rights_for(config, library, statuses, route) else {
         return Err(Refusal::Problem(Problem::NotFound));

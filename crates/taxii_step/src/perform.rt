@@ -1,5 +1,5 @@
-ghost use Rattle.std.specs.Prelude.{◌≡◌, ◌≢◌, ◌⊎◌, IfOk, IfErr, OnErr, true};
-ghost use Rattle.flow_edges.specs.Faults.{Rose};
+ghost use Rattle.std.specs.Prelude.{◌≡◌, ◌≢◌, ◌⊎◌, IfOk, IfErr, OnErr, true, Err};
+ghost use Rattle.flow_edges.specs.Faults.{Counted};
 ghost use Rattle.http_frames.specs.declared.method.Method.TheVariants as Verb;
 ghost use Rattle.taxii_bodies.specs.declared.problem.Problem.TheVariants as Trouble;
 ghost use Rattle.taxii_requests.specs.declared.refusal.Refusal.TheVariants as Refused;
@@ -46,9 +46,7 @@ pub(crate) fn post<K: Keeper>(
         ⊎ (CannotPost config.now (server_of library.old statuses.old) moment request.now route.now refusal
         ⊎ ((refusal ≡ Refused.Problem Trouble.StoreFault) × PostChanges config.now (server_of library.old statuses.old) moment request.now route.now))) }
     ensures unchanged { OnErr result ((library.new ≡ library.old) × (statuses.new ≡ statuses.old)) }
-    ensures fault { IfErr result (λ refusal. refusal ≡ Refused.Problem Trouble.StoreFault → Rose (K.faults keeper.old) (K.faults keeper.new)) }
-    ensures quiet { IfOk result (λ _. K.faults keeper.new ≡ K.faults keeper.old) }
-    ensures none { IfErr result (λ refusal. refusal ≢ Refused.Problem Trouble.StoreFault → K.faults keeper.new ≡ K.faults keeper.old) }
+    ensures causes { Counted (result ≡ Err (Refused.Problem Trouble.StoreFault)) (K.faults keeper.old) (K.faults keeper.new) }
 {
     let Route::Objects(id) = route else {
         unreachable!();
@@ -85,9 +83,7 @@ pub(crate) fn delete<K: Keeper>(
     ensures err { IfErr result (λ refusal. (refusal ≡ Refused.NoMemory) ⊎ ((refusal ≡ Refused.Problem Trouble.StoreFault)
         × ((statuses : StatusesState) → DeleteChanges config.now (server_of library.old statuses) route.now query))) }
     ensures unchanged { OnErr result (library.new ≡ library.old) }
-    ensures fault { IfErr result (λ refusal. refusal ≡ Refused.Problem Trouble.StoreFault → Rose (K.faults keeper.old) (K.faults keeper.new)) }
-    ensures quiet { IfOk result (λ _. K.faults keeper.new ≡ K.faults keeper.old) }
-    ensures none { IfErr result (λ refusal. refusal ≢ Refused.Problem Trouble.StoreFault → K.faults keeper.new ≡ K.faults keeper.old) }
+    ensures causes { Counted (result ≡ Err (Refused.Problem Trouble.StoreFault)) (K.faults keeper.old) (K.faults keeper.new) }
 {
     let Route::Object { collection, object } = route else {
         unreachable!();
@@ -136,9 +132,7 @@ pub(crate) fn perform<K: Keeper>(
         ⊎ ((refusal ≡ Refused.Problem Trouble.StoreFault)
         × Changes config.now (server_of library.old statuses.old) moment request.now route.now query))) }
     ensures unchanged { OnErr result ((library.new ≡ library.old) × (statuses.new ≡ statuses.old)) }
-    ensures fault { IfErr result (λ refusal. refusal ≡ Refused.Problem Trouble.StoreFault → Rose (K.faults keeper.old) (K.faults keeper.new)) }
-    ensures quiet { IfOk result (λ _. K.faults keeper.new ≡ K.faults keeper.old) }
-    ensures none { IfErr result (λ refusal. refusal ≢ Refused.Problem Trouble.StoreFault → K.faults keeper.new ≡ K.faults keeper.old) }
+    ensures causes { Counted (result ≡ Err (Refused.Problem Trouble.StoreFault)) (K.faults keeper.old) (K.faults keeper.new) }
 {
     match request.method {
         Method::Get => read(config, library, statuses, route, query),

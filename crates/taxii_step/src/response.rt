@@ -1,5 +1,5 @@
-ghost use Rattle.std.specs.Prelude.{◌≡◌, ◌≢◌, ◌⊎◌, ◌≤◌, [], IfOk, IsOk, OnErr, option_map, unwrap_or};
-ghost use Rattle.flow_edges.specs.Faults.{Rose};
+ghost use Rattle.std.specs.Prelude.{◌≡◌, ◌≢◌, ◌⊎◌, ◌≤◌, [], IfOk, IsOk, OnErr, option_map, unwrap_or, IsOkAnd};
+ghost use Rattle.flow_edges.specs.Faults.{Counted};
 ghost use Rattle.http_frames.specs.declared.status.Status.TheVariants as Code;
 ghost use Rattle.http_frames.specs.Answers.{HasDates};
 ghost use Rattle.taxii_bodies.specs.declared.problem.Problem.TheVariants as Trouble;
@@ -40,9 +40,7 @@ pub fn respond<K: Keeper>(
     ensures ok { IfOk result (λ answer. Step config.now (server_of library.old statuses.old) moment request.now answer (server_of library.new statuses.new)
         ⊎ FailsToKeep config.now (server_of library.old statuses.old) moment request.now answer (server_of library.new statuses.new)) }
     ensures err { OnErr result ((library.new ≡ library.old) × (statuses.new ≡ statuses.old)) }
-    ensures fault { IfOk result (λ answer. answer.status ≡ Code.InternalServerError → Rose (K.faults keeper.old) (K.faults keeper.new)) }
-    ensures quiet { IfOk result (λ answer. answer.status ≢ Code.InternalServerError → K.faults keeper.new ≡ K.faults keeper.old) }
-    ensures none { OnErr result (K.faults keeper.new ≡ K.faults keeper.old) }
+    ensures causes { Counted (IsOkAnd result (λ answer. answer.status ≡ Code.InternalServerError)) (K.faults keeper.old) (K.faults keeper.new) }
     ensures dates { IfOk result HasDates }
 {
     let (path, query) = split_target(request.target.as_str());
@@ -86,9 +84,7 @@ fn respond_at<K: Keeper>(
         ⊎ ((answer ≡ spec.problem_answer Trouble.StoreFault) × (server_of library.new statuses.new ≡ server_of library.old statuses.old)
         × RouteChanges config.now (server_of library.old statuses.old) moment request.now route.now query.now)) }
     ensures err { OnErr result ((library.new ≡ library.old) × (statuses.new ≡ statuses.old)) }
-    ensures fault { IfOk result (λ answer. answer.status ≡ Code.InternalServerError → Rose (K.faults keeper.old) (K.faults keeper.new)) }
-    ensures quiet { IfOk result (λ answer. answer.status ≢ Code.InternalServerError → K.faults keeper.new ≡ K.faults keeper.old) }
-    ensures none { OnErr result (K.faults keeper.new ≡ K.faults keeper.old) }
+    ensures causes { Counted (IsOkAnd result (λ answer. answer.status ≡ Code.InternalServerError)) (K.faults keeper.old) (K.faults keeper.new) }
     ensures dates { IfOk result HasDates }
 {
     rows_of_pages();

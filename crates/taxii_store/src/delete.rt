@@ -1,7 +1,7 @@
-ghost use Rattle.std.specs.Prelude.{◌≡◌, ◌↔◌, [], IsTrue, IsOk, IfOk, OnOk, OnErr};
+ghost use Rattle.std.specs.Prelude.{◌≡◌, ◌↔◌, [], IsTrue, IsOk, IfOk, OnOk, OnErr, Err};
 ghost use Rattle.std.specs.List.{Contains};
 ghost use Rattle.taxii_rows.specs.Keeper.{without};
-ghost use Rattle.taxii_rows.specs.KeeperCauses.{KeeperCauses};
+ghost use Rattle.flow_edges.specs.Faults.{Counted};
 ghost use Rattle.taxii_rows.specs.StoreState.{RiseFrom};
 ghost use Rattle.taxii_store.specs.Agreement.{Agrees};
 ghost use Rattle.taxii_store.specs.Deleting.{IsTaken, AreDatesTaken};
@@ -53,7 +53,7 @@ impl Library {
         ensures ok { OnOk result (self.new ≡ without dates.now self.old) }
         ensures err { OnErr result (self.new ≡ self.old) }
         ensures nothing { dates.now ≡ [] → IsOk result × (keeper.new ≡ keeper.old) }
-        ensures causes { KeeperCauses (K.faults keeper.old) (K.faults keeper.new) result }
+        ensures causes { Counted (result ≡ Err KeeperRefusal.Fault) (K.faults keeper.old) (K.faults keeper.new) }
     {
         if dates.is_empty() {
             return Ok(());

@@ -1,7 +1,7 @@
-ghost use Rattle.std.specs.Prelude.{◌≡◌, ◌↔◌, IsTrue, option_map, IsOk, OnOk, OnErr, []};
+ghost use Rattle.std.specs.Prelude.{◌≡◌, ◌↔◌, IsTrue, option_map, IsOk, OnOk, OnErr, [], Err};
 ghost use Rattle.std.specs.List.{Contains};
 ghost use Rattle.taxii_rows.specs.Keeper.{row_after as first_later, row_at as first_then, with_rows};
-ghost use Rattle.taxii_rows.specs.KeeperCauses.{KeeperCauses};
+ghost use Rattle.flow_edges.specs.Faults.{Counted};
 ghost use Rattle.taxii_rows.specs.Picking.{IsPicked};
 ghost use Rattle.taxii_rows.specs.SoundRow.{IsSoundState};
 ghost use Rattle.taxii_store.specs.Addition.{mark_after};
@@ -79,7 +79,7 @@ impl Library {
         ensures ok { OnOk result (self.new ≡ with_rows planned.rows (mark_after planned.mark planned.rows) self.old) }
         ensures err { OnErr result (self.new ≡ self.old) }
         ensures nothing { planned.rows ≡ [] → IsOk result × (keeper.new ≡ keeper.old) }
-        ensures causes { KeeperCauses (K.faults keeper.old) (K.faults keeper.new) result }
+        ensures causes { Counted (result ≡ Err KeeperRefusal.Fault) (K.faults keeper.old) (K.faults keeper.new) }
     {
         if planned.rows.is_empty() {
             return Ok(());

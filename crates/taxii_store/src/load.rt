@@ -1,12 +1,12 @@
 ghost use Rattle.std.specs.Prelude.{◌≡◌, ◌≢◌, ◌≤◌, ◌<◌, ◌↔◌, ℕ, true, IsTrue, Ok, Err, None, All, MatchOption, IfOk, IfErr, IfSome, OnOk, option_map};
-ghost use Rattle.flow_edges.specs.Faults.{Rose};
+ghost use Rattle.flow_edges.specs.Faults.{Counted};
 ghost use Rattle.taxii_rows.specs.declared.stored_row.TheConstants.{LAST_DATE as last_date};
 ghost use Rattle.taxii_rows.specs.Keeper.{row_after};
 ghost use Rattle.taxii_rows.specs.StoreState.{dates_of, RiseFrom};
 ghost use Rattle.taxii_rows.specs.SoundRow.{IsSoundState};
 ghost use Rattle.taxii_store.specs.Agreement.{Agrees};
 ghost use Rattle.taxii_store.specs.Loading.{IsFit, IsBadAfter};
-ghost use Rattle.taxii_store.specs.inner.Reading.{AreFit, IsBadNext, LoadCauses};
+ghost use Rattle.taxii_store.specs.inner.Reading.{AreFit, IsBadNext};
 ghost use Rattle.taxii_store.specs.declared.load_refusal.LoadRefusal.TheVariants as Refused;
 
 use crate::{Library, LoadRefusal};
@@ -27,9 +27,7 @@ impl Library {
         ensures name { OnOk result (K.name keeper.new ≡ option_map (λ _. name.now) (K.told keeper.old)) }
         ensures bad { IfErr result (λ refusal. (after : ℕ) → refusal ≡ Refused.BadRow after → IfSome (K.told keeper.old) (λ state. IsBadAfter state after)) }
         ensures told { K.told keeper.new ≡ K.told keeper.old }
-        ensures failed { result ≡ Err Refused.KeeperFault → Rose (K.faults keeper.old) (K.faults keeper.new) }
-        ensures quiet { result ≢ Err Refused.KeeperFault → K.faults keeper.new ≡ K.faults keeper.old }
-        ensures later { K.faults keeper.old ≤ K.faults keeper.new }
+        ensures causes { Counted (result ≡ Err Refused.KeeperFault) (K.faults keeper.old) (K.faults keeper.new) }
     {
         keeper.attach(name)?;
         let mark = keeper.mark()?;
@@ -54,7 +52,7 @@ fn read_rows<K: Keeper>(
     ensures told { K.told keeper.new ≡ K.told keeper.old }
     ensures name { K.name keeper.new ≡ K.name keeper.old }
     ensures attached { K.attached keeper.new ≡ K.attached keeper.old }
-    ensures causes { LoadCauses (K.faults keeper.old) (K.faults keeper.new) result }
+    ensures causes { Counted (result ≡ Err Refused.KeeperFault) (K.faults keeper.old) (K.faults keeper.new) }
 {
     let mut rows = Items::new(alloc);
     let mut after = 0;
@@ -83,7 +81,7 @@ fn next_fit<K: Keeper>(
     ensures told { K.told keeper.new ≡ K.told keeper.old }
     ensures name { K.name keeper.new ≡ K.name keeper.old }
     ensures attached { K.attached keeper.new ≡ K.attached keeper.old }
-    ensures causes { LoadCauses (K.faults keeper.old) (K.faults keeper.new) result }
+    ensures causes { Counted (result ≡ Err Refused.KeeperFault) (K.faults keeper.old) (K.faults keeper.new) }
 {
     let found = keeper.next_after(after)?;
     if may_follow(alloc, &found, after, mark)? {

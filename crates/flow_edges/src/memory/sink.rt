@@ -1,5 +1,5 @@
 ghost use Rattle.std.specs.Prelude.{◌≡◌, ◌≤◌, ◌<◌, ◌-◌, ◌↔◌, [], Some, true, length, take, min, IsErr, IfOk, OnErr, ◌||◌, nat_le};
-ghost use Rattle.flow_edges.specs.Faults.{counted, Causes};
+ghost use Rattle.flow_edges.specs.Faults.{counted, Counted};
 ghost use Rattle.flow_edges.specs.Flow.{written_with};
 ghost use Rattle.flow_edges.specs.Memory.{is_failing};
 
@@ -70,7 +70,7 @@ impl Sink for MemorySink {
         ensures written { IfOk result (λ n. Some self.new.written ≡ written_with (take n piece.now) (Some self.old.written)) }
         ensures some { IfOk result (λ n. 0 < length piece.now → 0 < n) }
         ensures err { OnErr result (Some self.new.written ≡ Some self.old.written) }
-        ensures causes { Causes self.old.faults self.new.faults result }
+        ensures causes { Counted (IsErr result) self.old.faults self.new.faults }
 
         ensures fails { IsErr result ↔ (is_failing self.old.failing self.old.calls || nat_le self.old.room (length self.old.written) ≡ true) }
         ensures count { IfOk result (λ n. n ≡ min (length piece.now) (self.old.room - length self.old.written)) }

@@ -1,5 +1,5 @@
 ghost use Rattle.std.specs.Prelude.{◌≡◌, ◌≤◌, ◌<◌, ◌↔◌, Ok, Some, true, length, take, drop, min, IsErr, IfOk, OnErr};
-ghost use Rattle.flow_edges.specs.Faults.{counted, Causes};
+ghost use Rattle.flow_edges.specs.Faults.{counted, Counted};
 ghost use Rattle.flow_edges.specs.Flow.{left_after, IsNextOf, IsAtEnd};
 ghost use Rattle.flow_edges.specs.Memory.{is_failing};
 
@@ -74,7 +74,7 @@ impl Source for MemorySource {
         ensures rest { IfOk result (λ n. Some self.new.left ≡ left_after n (Some self.old.left)) }
         ensures end { result ≡ Ok 0 → IsAtEnd (Some self.old.left) }
         ensures err { OnErr result (Some self.new.left ≡ Some self.old.left) }
-        ensures causes { Causes self.old.faults self.new.faults result }
+        ensures causes { Counted (IsErr result) self.old.faults self.new.faults }
 
         ensures fails { IsErr result ↔ (is_failing self.old.failing self.old.calls ≡ true) }
         ensures count { IfOk result (λ n. n ≡ min self.old.piece (min (length buffer.old) (length self.old.left))) }

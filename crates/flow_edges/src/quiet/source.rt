@@ -1,5 +1,5 @@
-ghost use Rattle.std.specs.Prelude.{◌≡◌, ◌≤◌, ◌<◌, Some, Ok, length, take, drop, IsOk, IfOk, OnErr};
-ghost use Rattle.flow_edges.specs.Faults.{Causes};
+ghost use Rattle.std.specs.Prelude.{◌≡◌, ◌≤◌, ◌<◌, Some, Ok, length, take, drop, IsOk, IfOk, OnErr, IsErr};
+ghost use Rattle.flow_edges.specs.Faults.{Counted};
 ghost use Rattle.flow_edges.specs.Flow.{left_after, IsNextOf, IsAtEnd};
 
 use crate::Source;
@@ -51,7 +51,7 @@ impl Source for QuietSource {
         ensures rest { IfOk result (λ n. Some self.new ≡ left_after n (Some self.old)) }
         ensures end { result ≡ Ok 0 → IsAtEnd (Some self.old) }
         ensures err { OnErr result (Some self.new ≡ Some self.old) }
-        ensures causes { Causes 0 0 result }
+        ensures causes { Counted (IsErr result) 0 0 }
 
         ensures fails { IsOk result }
         ensures behind { IfOk result (λ n. drop n buffer.new ≡ drop n buffer.old) }

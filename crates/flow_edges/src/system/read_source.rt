@@ -1,6 +1,6 @@
-ghost use Rattle.std.specs.Prelude.{◌≡◌, ◌≤◌, ◌<◌, None, Ok, length, take, IfOk, OnErr};
+ghost use Rattle.std.specs.Prelude.{◌≡◌, ◌≤◌, ◌<◌, None, Ok, length, take, IfOk, OnErr, IsErr};
 ghost use Rattle.std.specs.Io.KnownBytes.{ReadConsumes};
-ghost use Rattle.flow_edges.specs.Faults.{Causes};
+ghost use Rattle.flow_edges.specs.Faults.{Counted};
 
 use crate::Source;
 use crate::fault::counted_fault;
@@ -41,7 +41,7 @@ impl<R: Read> Source for ReadSource<R> {
     /// One read of the reader, whose answer is handed on; an error is a `Fault`.
     fn read(&mut self, buffer: &mut [u8]) -> Result<usize, Fault>
         ensures within { IfOk result (λ n. n ≤ length buffer.old) }
-        ensures causes { Causes self.old.faults self.new.faults result }
+        ensures causes { Counted (IsErr result) self.old.faults self.new.faults }
         ensures handed { ReadConsumes self.old.remaining self.new.remaining result buffer.new }
     {
         match self.reader.read(buffer) {

@@ -1,6 +1,6 @@
-ghost use Rattle.std.specs.Prelude.{◌≡◌, ◌≤◌, ◌<◌, None, length, take, IfOk, OnErr};
+ghost use Rattle.std.specs.Prelude.{◌≡◌, ◌≤◌, ◌<◌, None, length, take, IfOk, OnErr, IsErr};
 ghost use Rattle.std.specs.Io.KnownBytes.{WriteAppends};
-ghost use Rattle.flow_edges.specs.Faults.{Causes};
+ghost use Rattle.flow_edges.specs.Faults.{Counted};
 
 use crate::Sink;
 use crate::fault::counted_fault;
@@ -42,7 +42,7 @@ impl<W: Write> Sink for WriteSink<W> {
     fn write(&mut self, piece: &[u8]) -> Result<usize, Fault>
         ensures within { IfOk result (λ n. n ≤ length piece.now) }
         ensures some { IfOk result (λ n. 0 < length piece.now → 0 < n) }
-        ensures causes { Causes self.old.faults self.new.faults result }
+        ensures causes { Counted (IsErr result) self.old.faults self.new.faults }
         ensures handed { WriteAppends self.old.contents self.new.contents result piece.now }
     {
         match self.writer.write(piece) {

@@ -1,5 +1,5 @@
 ghost use Rattle.std.specs.Prelude.{◌≡◌, ◌≤◌, ◌+◌, ◌<◌, ◌↔◌, [], None, Some, true, length, IsErr, IfOk, OnErr, IfSome};
-ghost use Rattle.flow_edges.specs.Faults.{counted, Causes};
+ghost use Rattle.flow_edges.specs.Faults.{counted, Counted};
 ghost use Rattle.flow_edges.specs.Memory.{is_failing};
 ghost use Rattle.flow_links.specs.Doors.{Stays, Listens, GivesNext, Finishes};
 
@@ -77,7 +77,7 @@ impl MemoryDoor {
     fn begin(&mut self) -> Result<(), Fault>
         ensures fails { IsErr result ↔ (is_failing self.old.failing self.old.calls ≡ true) }
         ensures counted { OnErr result (self.new.faults ≡ counted self.old.faults) }
-        ensures causes { Causes self.old.faults self.new.faults result }
+        ensures causes { Counted (IsErr result) self.old.faults self.new.faults }
         ensures calls { self.new.calls ≡ counted self.old.calls }
         ensures links { self.new.links ≡ self.old.links }
         ensures stays { self.new.failing ≡ self.old.failing }
@@ -101,7 +101,7 @@ impl Door for MemoryDoor {
     fn listen(&mut self, port: u16) -> Result<(), Fault>
         ensures ok { IfOk result (λ _. Listens port (Some self.old.links) (Some self.new.links)) }
         ensures err { OnErr result (Stays (Some self.old.links) (Some self.new.links)) }
-        ensures causes { Causes self.old.faults self.new.faults result }
+        ensures causes { Counted (IsErr result) self.old.faults self.new.faults }
 
         ensures fails { IsErr result ↔ (is_failing self.old.failing self.old.calls ≡ true) }
         ensures calls { self.new.calls ≡ counted self.old.calls }
@@ -115,7 +115,7 @@ impl Door for MemoryDoor {
     fn next(&mut self) -> Result<Option<MemoryLink>, Fault>
         ensures ok { IfOk result (λ link. GivesNext link (Some self.old.links) (Some self.new.links)) }
         ensures err { OnErr result (Stays (Some self.old.links) (Some self.new.links)) }
-        ensures causes { Causes self.old.faults self.new.faults result }
+        ensures causes { Counted (IsErr result) self.old.faults self.new.faults }
 
         ensures fails { IsErr result ↔ (is_failing self.old.failing self.old.calls ≡ true) }
         ensures calls { self.new.calls ≡ counted self.old.calls }

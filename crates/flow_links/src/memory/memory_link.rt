@@ -1,5 +1,5 @@
 ghost use Rattle.std.specs.Prelude.{◌≡◌, ◌≤◌, ◌<◌, ◌-◌, ◌↔◌, [], Ok, Some, refl, true, length, take, drop, min, IsErr, IfOk, OnErr, ◌||◌, nat_le};
-ghost use Rattle.flow_edges.specs.Faults.{counted, Causes};
+ghost use Rattle.flow_edges.specs.Faults.{counted, Counted};
 ghost use Rattle.flow_edges.specs.Flow.{left_after, IsNextOf, IsAtEnd, written_with};
 ghost use Rattle.flow_edges.specs.Memory.{is_failing};
 
@@ -70,7 +70,7 @@ impl Source for MemoryLink {
         ensures rest { IfOk result (λ n. Some self.new.source.left ≡ left_after n (Some self.old.source.left)) }
         ensures end { result ≡ Ok 0 → IsAtEnd (Some self.old.source.left) }
         ensures err { OnErr result (Some self.new.source.left ≡ Some self.old.source.left) }
-        ensures causes { Causes self.old.source.faults self.new.source.faults result }
+        ensures causes { Counted (IsErr result) self.old.source.faults self.new.source.faults }
 
         ensures fails { IsErr result ↔ (is_failing self.old.source.failing self.old.source.calls ≡ true) }
         ensures count { IfOk result (λ n. n ≡ min self.old.source.piece (min (length buffer.old) (length self.old.source.left))) }
@@ -97,7 +97,7 @@ impl Sink for MemoryLink {
         ensures written { IfOk result (λ n. Some self.new.sink.written ≡ written_with (take n piece.now) (Some self.old.sink.written)) }
         ensures some { IfOk result (λ n. 0 < length piece.now → 0 < n) }
         ensures err { OnErr result (Some self.new.sink.written ≡ Some self.old.sink.written) }
-        ensures causes { Causes self.old.sink.faults self.new.sink.faults result }
+        ensures causes { Counted (IsErr result) self.old.sink.faults self.new.sink.faults }
 
         ensures fails { IsErr result ↔ (is_failing self.old.sink.failing self.old.sink.calls || nat_le self.old.sink.room (length self.old.sink.written) ≡ true) }
         ensures count { IfOk result (λ n. n ≡ min (length piece.now) (self.old.sink.room - length self.old.sink.written)) }

@@ -1,5 +1,5 @@
-ghost use Rattle.std.specs.Prelude.{◌≡◌, ◌≤◌, None, true, false, IfOk, OnErr, IsSome};
-ghost use Rattle.flow_edges.specs.Faults.{Causes};
+ghost use Rattle.std.specs.Prelude.{◌≡◌, ◌≤◌, None, true, false, IfOk, OnErr, IsSome, IsErr};
+ghost use Rattle.flow_edges.specs.Faults.{Counted};
 ghost use Rattle.flow_links.specs.Doors.{Stays, Listens, GivesNext, Finishes};
 ghost use Rattle.flow_links.specs.System.{StreamState};
 
@@ -66,7 +66,7 @@ impl<'r, R: Net> Door for TcpDoor<'r, R> {
     fn listen(&mut self, port: u16) -> Result<(), Fault>
         ensures ok { IfOk result (λ _. Listens {L = StreamState} port None None) }
         ensures err { OnErr result (Stays {L = StreamState} None None) }
-        ensures causes { Causes self.old.faults self.new.faults result }
+        ensures causes { Counted (IsErr result) self.old.faults self.new.faults }
 
         ensures listening { IfOk result (λ _. self.new.listening ≡ true) }
         ensures stays { OnErr result (self.new.listening ≡ self.old.listening) }
@@ -85,7 +85,7 @@ impl<'r, R: Net> Door for TcpDoor<'r, R> {
     fn next(&mut self) -> Result<Option<TcpLink<R::Stream>>, Fault>
         ensures ok { IfOk result (λ link. GivesNext {L = StreamState} link None None) }
         ensures err { OnErr result (Stays {L = StreamState} None None) }
-        ensures causes { Causes self.old.faults self.new.faults result }
+        ensures causes { Counted (IsErr result) self.old.faults self.new.faults }
 
         ensures some { IfOk result (λ link. self.old.listening ≡ true → IsSome link) }
         ensures stays { self.new.listening ≡ self.old.listening }

@@ -1,6 +1,6 @@
-ghost use Rattle.std.specs.Prelude.{◌≡◌, ◌≤◌, ◌<◌, None, refl, length, IfOk};
+ghost use Rattle.std.specs.Prelude.{◌≡◌, ◌≤◌, ◌<◌, None, refl, length, IfOk, IsErr};
 ghost use Rattle.std.specs.Io.KnownBytes.{ReadConsumes, WriteAppends};
-ghost use Rattle.flow_edges.specs.Faults.{Causes};
+ghost use Rattle.flow_edges.specs.Faults.{Counted};
 
 use crate::Link;
 use crate::fault::counted_fault;
@@ -55,7 +55,7 @@ impl<S: Read + Write> Source for TcpLink<S> {
     /// One read of the stream, whose answer is handed on; an error is a `Fault`.
     fn read(&mut self, buffer: &mut [u8]) -> Result<usize, Fault>
         ensures within { IfOk result (λ n. n ≤ length buffer.old) }
-        ensures causes { Causes self.old.read_faults self.new.read_faults result }
+        ensures causes { Counted (IsErr result) self.old.read_faults self.new.read_faults }
         ensures handed { ReadConsumes self.old.remaining self.new.remaining result buffer.new }
         ensures unwritten { self.new.write_faults ≡ self.old.write_faults }
     {
@@ -77,7 +77,7 @@ impl<S: Read + Write> Sink for TcpLink<S> {
     fn write(&mut self, piece: &[u8]) -> Result<usize, Fault>
         ensures within { IfOk result (λ n. n ≤ length piece.now) }
         ensures some { IfOk result (λ n. 0 < length piece.now → 0 < n) }
-        ensures causes { Causes self.old.write_faults self.new.write_faults result }
+        ensures causes { Counted (IsErr result) self.old.write_faults self.new.write_faults }
         ensures handed { WriteAppends self.old.contents self.new.contents result piece.now }
         ensures unread { self.new.read_faults ≡ self.old.read_faults }
     {

@@ -18,9 +18,3 @@ pub record AreFit (mark : ℕ) (rows : List StoredRow) : Type 0 where
 -- the row behind the date isn't fit, or there is none and the mark is no date
 abbrev pub IsBadNext : StoreState → ℕ → Type 0
 IsBadNext state after = MatchOption (row_after after state.rows) (LAST_DATE < state.mark) (λ row. ¬ IsFit state.mark row)
-
--- a fault comes where the count rose, and at no other answer does it rise
-pub record LoadCauses {T : Type 0} (before now : ℕ) (answer : Result T LoadRefusal) : Type 0 where
-  pub later : before ≤ now
-  pub failed : answer ≡ Err KeeperFault → Rose before now
-  pub quiet : answer ≢ Err KeeperFault → now ≡ before

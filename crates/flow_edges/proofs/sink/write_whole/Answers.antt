@@ -13,6 +13,6 @@ returns-in_err-count-clause-part g c = when_err _ _
 pub loop-rest-preserved : goal.loop-rest-preserved
 loop-rest-preserved g c = record {
   way = part_way-slice _ _ _ _ _ _ c.loop-rest.invariant.way c.in_ok-count.ensures.written;
-  quiet = c.in_ok-count.ensures.causes.quiet ∙ c.loop-rest.invariant.quiet;
+  quiet = c.in_ok-count.ensures.causes.quiet (λ failed. cc failed) ∙ c.loop-rest.invariant.quiet;
   unread = c.in_ok-count.ensures.unread ∙ c.loop-rest.invariant.unread;
 }
