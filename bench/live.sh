@@ -8,7 +8,7 @@ set -eu
 top=$(cd "$(dirname "$0")/.." && pwd)
 folder=$(mktemp -d)
 trap 'rm -rf "$folder"' EXIT
-crates="flow_values stix_times match_cidr pattern_types pattern_tokens pattern_lexer pattern_grammar pattern_meaning
+crates="flow_values stix_times pattern_cidr pattern_types pattern_tokens pattern_lexer pattern_grammar pattern_meaning
   pattern_reader match_bindings match_windows match_live"
 
 # build: the program, in $program.

@@ -4,8 +4,8 @@ use Rattle.std.proofs.lemmas.Bool.{false≢true}
 use Rattle.std.proofs.lemmas.Option.{none-some, same_Some}
 use Rattle.serde_json.specs.Data.{Data}
 use Rattle.serde_json.specs.Find.{as_str}
-use Rattle.match_cidr.specs.declared.block.Block.{Block}
-use Rattle.match_cidr.specs.BlockText.{IsBlockText}
+use Rattle.pattern_cidr.specs.declared.block.Block.{Block}
+use Rattle.pattern_cidr.specs.BlockText.{IsBlockText}
 use Rattle.match_tests.specs.Tests.{IsBlockOf}
 
 -- the value is the text of a block that stands so

@@ -20,9 +20,9 @@ use Rattle.pattern_types.specs.declared.leaf.Test.{Test}
 use Rattle.pattern_types.specs.declared.path.Path.{Path}
 use Rattle.pattern_types.specs.PlainLeaf.{PlainLeaf, PlainLeaves, one, every, some, none, more}
 use Rattle.match_like.specs.Like.{IsLike}
-use Rattle.match_cidr.specs.declared.block.Block.{Block}
-use Rattle.match_cidr.specs.Block.{IsWithin}
-use Rattle.match_cidr.specs.BlockText.{IsBlockText}
+use Rattle.pattern_cidr.specs.declared.block.Block.{Block}
+use Rattle.pattern_cidr.specs.Block.{IsWithin}
+use Rattle.pattern_cidr.specs.BlockText.{IsBlockText}
 use Rattle.match_paths.specs.Selection.{EndsIn, last_name, IsRoot, IsSelected}
 
 -- the last property name of a path

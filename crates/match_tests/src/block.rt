@@ -1,10 +1,10 @@
 ghost use Rattle.std.specs.Prelude.{◌≡◌, ◌↔◌, Some, IfSome, IsTrue};
-ghost use Rattle.match_cidr.specs.Block.{IsValid, IsWithin};
-ghost use Rattle.match_cidr.specs.declared.block.Block.{Block};
+ghost use Rattle.pattern_cidr.specs.Block.{IsValid, IsWithin};
+ghost use Rattle.pattern_cidr.specs.declared.block.Block.{Block};
 ghost use Rattle.stix_json.specs.DataOf.{data_of};
 ghost use Rattle.match_tests.specs.Tests.{IsBlockOf};
 
-use match_cidr::{Block, read_block, within};
+use pattern_cidr::{Block, read_block, within};
 use stix_json::{Json, text_of};
 
 /// The block whose text a value is.

@@ -1,9 +1,9 @@
 -- What is asked of a value.
 use Rattle.std.proofs.Common.{◌≡◌, ◌≤◌, ◌⊎◌, inl, inr, ℕ, List, length, Option, Result, refl, sym, ◌∙◌}
 use Rattle.std.specs.Option.{ok_or}
-use Rattle.match_cidr.specs.declared.block.Block.{Block}
-use Rattle.match_cidr.specs.Block.{IsValid}
-use Rattle.match_cidr.specs.BlockText.{IsBlockText}
+use Rattle.pattern_cidr.specs.declared.block.Block.{Block}
+use Rattle.pattern_cidr.specs.Block.{IsValid}
+use Rattle.pattern_cidr.specs.BlockText.{IsBlockText}
 use Rattle.flow_values.specs.Answers.{FindsExactly}
 use Rattle.pattern_tokens.specs.declared.token.Token.{Token}
 use Rattle.pattern_tokens.specs.declared.token.TokenKind.TheVariants as kind

@@ -1,7 +1,7 @@
 -- What the parts of a syntax tree mean: the path, the check and the test that their tokens stand for.
 use Rattle.std.specs.Prelude.{◌≡◌, ◌≢◌, ◌⊎◌, ℕ, true, false, List}
 use Rattle.std.specs.List.{AllZip}
-use Rattle.match_cidr.specs.BlockText.{IsBlockText}
+use Rattle.pattern_cidr.specs.BlockText.{IsBlockText}
 use Rattle.pattern_tokens.specs.{declared.token.Token.Token, Spans.At, Spans.IsItself, Spans.IsPlace}
 use Rattle.pattern_tokens.specs.declared.token.TokenKind.TheVariants as kind
 use Rattle.pattern_tokens.specs.Values.{IsIntegerText, IsStringText, IsHexText, IsBinaryText, IsTimestampText}

@@ -1,5 +1,5 @@
 ghost use Rattle.std.specs.Prelude.{◌≡◌, IfOk};
-ghost use Rattle.match_cidr.specs.BlockText.{IsBlockText};
+ghost use Rattle.pattern_cidr.specs.BlockText.{IsBlockText};
 ghost use Rattle.flow_values.specs.Answers.{FindsExactly};
 ghost use Rattle.pattern_meaning.specs.Meaning.{IsCheckOf, IsTestOf};
 ghost use Rattle.pattern_types.specs.Soundness.{IsSoundTest};
@@ -11,8 +11,8 @@ use crate::constants::{constant_of, constants_of};
 use crate::outcomes::both;
 use crate::paths::path_of;
 use flow_values::{NoMemory, Text};
-use match_cidr::laws::valid_block;
-use match_cidr::read_block;
+use pattern_cidr::laws::valid_block;
+use pattern_cidr::read_block;
 use pattern_grammar::{CheckTree, TestTree};
 use pattern_tokens::{Token, TokenKind, one_meaning, string_at};
 use pattern_types::{AddressBlock, Check, Test};

@@ -15,7 +15,7 @@ pub fn one_meaning()
         → MeansPattern text tree second → first ≡ second }
 {
     pattern_tokens::one_meaning();
-    match_cidr::laws::one_block();
+    pattern_cidr::laws::one_block();
 }
 
 /// In a syntax tree that means a sound pattern no value is refused.

@@ -1,7 +1,7 @@
 -- Patterns of which the canonical text reads back, but for the limits of depth and of values: those with
 -- numbers in their ranges, and with the shapes that the grammar has (STIX 2.1, section 9).
 use Rattle.std.specs.Prelude.{◌≢◌, ◌⊎◌, ◌≤◌, true, false, List, [], ◌∷◌, All, codes}
-use Rattle.match_cidr.specs.BlockText.{IsBlockText}
+use Rattle.pattern_cidr.specs.BlockText.{IsBlockText}
 use Rattle.hex.specs.Hex.{IsBytes}
 use Rattle.base64.specs.Engines.{standard}
 use Rattle.base64.specs.GeneralPurpose.{encode_of}

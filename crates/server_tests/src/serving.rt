@@ -9,7 +9,7 @@ use std::alloc::Global;
 use std::process::Abort;
 use std::test::Fail;
 use taxii_rows::MemoryKeeper;
-use taxii_service::{ServeEnding, serve};
+use command_serve::{ServeEnding, serve};
 
 /// 2021-06-10T00:00:00Z.
 const MOMENT: u64 = 1_623_283_200_000_000;

@@ -12,9 +12,9 @@ use Rattle.stix_command.specs.declared.making.MakeEnding.{MakeEnding}
 use Rattle.stix_command.specs.declared.making.MakeEnding.TheVariants as making
 use Rattle.stix_command.specs.declared.ending.Ending.{Ending}
 use Rattle.stix_command.specs.declared.ending.Ending.TheVariants.{Match, Check, Show, Make, Serve, Usage, NoMemory}
-use Rattle.taxii_service.specs.declared.ending.ServeEnding.{ServeEnding}
-use Rattle.taxii_service.specs.declared.ending.ServeEnding.TheVariants as serving
-use Rattle.taxii_service.specs.ServeEndings.{serve_status, serve_reason}
+use Rattle.command_serve.specs.declared.ending.ServeEnding.{ServeEnding}
+use Rattle.command_serve.specs.declared.ending.ServeEnding.TheVariants as serving
+use Rattle.command_serve.specs.ServeEndings.{serve_status, serve_reason}
 use Rattle.match_input.specs.declared.mode.Mode.{Mode}
 use Rattle.command_line.specs.CommandLines.{PlainRequest, PlainService, IsCommandLine}
 use Rattle.command_line.specs.CommandLines as asked

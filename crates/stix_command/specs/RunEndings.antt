@@ -23,9 +23,9 @@ use Rattle.stix_command.specs.declared.making.MakeEnding.{MakeEnding}
 use Rattle.stix_command.specs.declared.making.MakeEnding.TheVariants as making
 use Rattle.stix_command.specs.declared.ending.Ending.TheVariants.{Match, Check, Show, Make, Serve, Usage, NoMemory}
 use Rattle.command_line.specs.CommandLines.{PlainRequest, PlainService, IsCommandLine}
-use Rattle.taxii_service.specs.declared.ending.ServeEnding.{ServeEnding}
-use Rattle.taxii_service.specs.declared.ending.ServeEnding.TheVariants as serving
-use Rattle.taxii_service.specs.ServeEndings.{IsEarly, serve_status, serve_reason}
+use Rattle.command_serve.specs.declared.ending.ServeEnding.{ServeEnding}
+use Rattle.command_serve.specs.declared.ending.ServeEnding.TheVariants as serving
+use Rattle.command_serve.specs.ServeEndings.{IsEarly, serve_status, serve_reason}
 use Rattle.stix_command.specs.Requests.{MatchTask, IsMatchLine, IsShowLine, IsCheckLine, IsMakeLine, IsServeLine}
 use Rattle.stix_command.specs.Streams.{Streams, AreUntouched}
 use Rattle.stix_command.specs.MatchEndings.{IsUnread, EndsMatch, match_status, IsMatchReason}

@@ -8,7 +8,7 @@ use crate::reasons::write_no_memory;
 use crate::showing::ShowEnding;
 use flow_edges::{Sink, write_whole};
 use flow_values::Fault;
-use taxii_service::ServeEnding;
+use command_serve::ServeEnding;
 
 /// How the program ends: how its command did, or that the words are none.
 #[derive(Debug, Drop)]

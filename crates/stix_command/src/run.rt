@@ -1,8 +1,8 @@
 ghost use Rattle.std.specs.Prelude.{◌≡◌, ◌≢◌, ◌⊎◌, ℕ, List};
 ghost use Rattle.flow_edges.specs.Faults.{Counted};
 ghost use Rattle.command_line.specs.CommandLines.{texts, PlainService};
-ghost use Rattle.taxii_service.specs.declared.ending.ServeEnding.{ServeEnding};
-ghost use Rattle.taxii_service.specs.ServeEndings.{EndsServe, serve_status, serve_reason};
+ghost use Rattle.command_serve.specs.declared.ending.ServeEnding.{ServeEnding};
+ghost use Rattle.command_serve.specs.ServeEndings.{EndsServe, serve_status, serve_reason};
 ghost use Rattle.stix_command.specs.Requests.{MatchTask, IsMatchLine, IsShowLine, IsMakeLine, IsServeLine};
 ghost use Rattle.stix_command.specs.Streams.{streams};
 ghost use Rattle.stix_command.specs.RunEndings.{status_of, IsReasonOf, IsNoCommand, RefusesPattern, EndsRun, IsReadFault, IsWriteFault, IsDoorFault, IsStoreFault, IsWithoutCallers, EndsServing, WritesReason, Ends, ListsBindings, TellsNumbers};
@@ -18,7 +18,7 @@ use flow_edges::{Sink, Source};
 use flow_links::{Clock, Door};
 use std::alloc::Global;
 use taxii_rows::Keeper;
-use taxii_service::serve;
+use command_serve::serve;
 
 /// Does what the words ask for.
 fn obey<I: Source, O: Sink, D: Door, K: Keeper, C: Clock>(

@@ -1,5 +1,5 @@
 use Rattle.stix_json.specs.DataOf.{data_of}
-use Rattle.match_cidr.specs.Block.{IsWithin}
+use Rattle.pattern_cidr.specs.Block.{IsWithin}
 use Rattle.match_tests.proofs.BlockLemmas.{block_stands, no_block}
 use Rattle.match_tests.proofs.block.lies_in.Goals as goal
 

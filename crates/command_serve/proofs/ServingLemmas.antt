@@ -1,0 +1,69 @@
+-- What stands around a server when it ends, from what its parts say.
+use Rattle.std.proofs.Common.{◌≡◌, ℕ, List, Option, Some, None, option_map, IfSome, refl, sym, subst}
+use Rattle.flow_edges.specs.Flow.{written_with}
+use Rattle.taxii_rows.specs.StoreState.{StoreState}
+use Rattle.taxii_rows.specs.SoundRow.{IsSoundState}
+use Rattle.taxii_requests.specs.declared.config.Config.{Config}
+use Rattle.taxii_statuses.specs.Statuses.{StatusesState, no_statuses}
+use Rattle.taxii_changes.specs.ServerState.{ServerState, server_of}
+use Rattle.taxii_store.specs.Loading.{IsBadAfter}
+use Rattle.taxii_store.specs.declared.load_refusal.LoadRefusal.{LoadRefusal}
+use Rattle.taxii_store.specs.declared.load_refusal.LoadRefusal.TheVariants as refused
+use Rattle.taxii_walks.specs.History.{IsDated}
+use Rattle.taxii_histories.specs.Visits.{WalksSkipNoRow}
+use Rattle.taxii_connections.specs.Outside.{LinkView}
+use Rattle.taxii_connections.specs.Connections.{Pass}
+use Rattle.taxii_server.specs.declared.served.Served.{Served}
+use Rattle.taxii_server.specs.Serving.{Caller, exchanges_of, HaveConnections}
+use Rattle.command_line.specs.CommandLines.{PlainService}
+use Rattle.command_serve.specs.declared.ending.ServeEnding.{ServeEnding}
+use Rattle.command_serve.specs.declared.ending.ServeEnding.TheVariants.{Done, NoMemory, WriteFault, DoorFault, StoreFault, BadRow}
+use Rattle.command_serve.specs.Services.{IsConfigOf, store_name, Places, Serves}
+use Rattle.command_serve.specs.ServeEndings.{summary_text, ServesAll, IsUnserved, EndsServe, Concludes, load_ending}
+
+some_same : {A : Type 0} (told : Option A) (one : A) → IfSome told (λ kept. kept ≡ one) → IfSome told (λ kept. one ≡ kept)
+some_same None one is = tt
+some_same (Some kept) one is = sym is
+
+named_some : {A : Type 0} (told : Option A) (name : Option (List ℕ)) (text : List ℕ) → name ≡ option_map (λ _. text) told → IfSome told (λ _. name ≡ Some text)
+named_some None name text is = tt
+named_some (Some kept) name text is = is
+
+dated : (store : StoreState) → IsSoundState store → IsDated store
+dated store sound = record { rise = sound.rise; marked = sound.marked }
+
+module _ {L : Type 0} (view : L → LinkView) (service : PlainService) (before after : Places L) where
+  pub refused-ends : (refusal : LoadRefusal) → IsUnserved before after → ((date : ℕ) → refusal ≡ refused.BadRow date → IfSome before.rows (λ state. IsBadAfter state date))
+      → EndsServe view service before after (load_ending refusal)
+  refused-ends refused.KeeperFault same bad = same
+  refused-ends (refused.BadRow date) same bad = (same, bad date refl)
+  refused-ends refused.NoMemory same bad = same
+
+  pub concluded-ends : (served : Served) (ending : ServeEnding) → ServesAll view service before after served → Concludes served before.written after.written ending
+      → EndsServe view service before after ending
+  concluded-ends served (Done told) all ends = (subst (λ (it : Served). ServesAll view service before after it) (sym ends.0) all, subst (λ (it : Served). after.written ≡ written_with (summary_text it) before.written) (sym ends.0) ends.1)
+  concluded-ends served WriteFault all ends = (served, all, ends)
+  concluded-ends served DoorFault all ends = absurd ends
+  concluded-ends served NoMemory all ends = absurd ends
+  concluded-ends served StoreFault all ends = absurd ends
+  concluded-ends served (BadRow date) all ends = absurd ends
+
+  pub serves-of : (config : Config) (store : StoreState) (statuses : StatusesState) (last : ServerState) (callers : List (Caller L)) (told : Option StoreState)
+      → IsConfigOf service config → IfSome told (λ kept. kept ≡ store) → told ≡ before.rows → statuses ≡ no_statuses → IsSoundState store
+      → after.name ≡ option_map (λ _. store_name service.store) before.rows
+      → HaveConnections view config (server_of store statuses) callers last → IfSome after.rows (λ kept. kept ≡ last.store)
+      → Pass (exchanges_of callers) before.around after.around
+      → (IsDated store → WalksSkipNoRow config (exchanges_of callers)) → Serves view service before after callers
+  serves-of config store statuses last callers told config_is agrees same none sound named connections kept pass walks = record {
+    config = config;
+    config_is = config_is;
+    store = store;
+    loaded = subst (λ (it : Option StoreState). IfSome it (λ rows. store ≡ rows)) same (some_same told store agrees);
+    sound = sound;
+    named = named_some before.rows after.name (store_name service.store) named;
+    last = last;
+    connections = subst (λ (it : StatusesState). HaveConnections view config (server_of store it) callers last) none connections;
+    kept = kept;
+    pass = pass;
+    walks = walks (dated store sound);
+  }

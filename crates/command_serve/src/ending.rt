@@ -1,0 +1,76 @@
+ghost use Rattle.std.specs.Prelude.{◌≡◌, IsErr};
+
+use crate::reasons::write_bad_row;
+use flow_edges::{Sink, write_whole};
+use flow_values::Fault;
+use taxii_server::Served;
+use taxii_store::LoadRefusal;
+
+/// How a `serve` ends.
+#[derive(Clone, Copy, Debug, PartialEq, Eq)]
+pub enum ServeEnding {
+    /// Callers were served, and what was done was written.
+    Done(Served),
+    /// Memory ran out before the door was opened.
+    NoMemory,
+    /// Callers were served, and the output failed.
+    WriteFault,
+    /// The door failed. The callers before that were served.
+    DoorFault,
+    /// The store failed while it was read, before the door was opened.
+    StoreFault,
+    /// The row behind this date is bad, or the mark behind the last row.
+    BadRow {
+        /// In microseconds since 1970; 0 where it is the first row.
+        after: u64,
+    },
+}
+
+impl ServeEnding {
+    ghost use Rattle.flow_edges.specs.Faults.{Counted};
+    ghost use Rattle.flow_edges.specs.Flow.{WritesWhole};
+    ghost use Rattle.command_serve.specs.ServeEndings.{serve_status, serve_reason};
+
+    /// The status of the program.
+    pub fn status(self) -> u8
+        ensures { result ≡ serve_status self }
+    {
+        match self {
+            ServeEnding::Done(_) => 0,
+            ServeEnding::NoMemory => 1,
+            ServeEnding::WriteFault => 6,
+            ServeEnding::DoorFault => 8,
+            ServeEnding::StoreFault => 9,
+            ServeEnding::BadRow { .. } => 10,
+        }
+    }
+
+    /// Writes why it ends so. Takes no memory.
+    pub fn write_reason<S: Sink>(self, reasons: &mut S) -> Result<(), Fault>
+        ensures text { WritesWhole (serve_reason self) (S.written reasons.old) (S.written reasons.new) result }
+        ensures causes { Counted (IsErr result) (S.faults reasons.old) (S.faults reasons.new) }
+    {
+        match self {
+            ServeEnding::Done(_) => write_whole(reasons, b""),
+            ServeEnding::NoMemory => write_whole(reasons, b"out of memory\n"),
+            ServeEnding::WriteFault => write_whole(reasons, b"write fault\n"),
+            ServeEnding::DoorFault => write_whole(reasons, b"door fault\n"),
+            ServeEnding::StoreFault => write_whole(reasons, b"store fault\n"),
+            ServeEnding::BadRow { after } => write_bad_row(after, reasons),
+        }
+    }
+}
+
+impl From<LoadRefusal> for ServeEnding {
+    ghost use Rattle.command_serve.specs.ServeEndings.{load_ending};
+
+    ghost from_gives = { λ refusal ending. ending ≡ load_ending refusal };
+
+    fn from(refusal: LoadRefusal) -> ServeEnding {
+        match refusal {
+            LoadRefusal::KeeperFault => ServeEnding::StoreFault,
+            LoadRefusal::BadRow { after } => ServeEnding::BadRow { after },
+            LoadRefusal::NoMemory => ServeEnding::NoMemory,
+        }
+    }
+}
