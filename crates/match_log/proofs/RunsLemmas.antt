@@ -26,7 +26,7 @@ use Rattle.match_input.specs.declared.stage.Stage.TheVariants as stage
 use Rattle.match_input.specs.Line.{last_after}
 use Rattle.match_input.specs.Reading.{BundleOf, IsRefusedAt}
 use Rattle.match_input.specs.Ahead.{ReaderState, reader_start, next_number, ahead, IsOpen, AnswersNext, ComesToEnd, GivesBatch, BreaksOff, TakesLittle}
-use Rattle.match_log.specs.Streams.{Streams, streams}
+use Rattle.flow_edges.specs.Streams.{Streams, streams}
 use Rattle.match_log.specs.Entries.{AreEntriesOf}
 use Rattle.match_log.specs.Listing.{listing_text}
 use Rattle.match_log.specs.Matching.{IsNeverCrowded, ListsLog, ListsWhole, ListsBefore, ListsTaken, StopsCrowded, StopsWriting, StopsWithoutMemory, AnswersMatch}

@@ -1,4 +1,3 @@
-pub mod Streams
 pub mod Entries
 pub mod Listing
 pub mod Matching

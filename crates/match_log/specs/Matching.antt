@@ -18,7 +18,7 @@ use Rattle.match_input.specs.declared.mode.Mode.{Mode}
 use Rattle.match_input.specs.declared.mode.Mode.TheVariants.{Lines, Whole as WholeInput}
 use Rattle.match_input.specs.declared.rule.InputRule.{InputRule}
 use Rattle.match_input.specs.Reading.{BundleOf, InputEnd, Whole, Refused, Reads, Reading}
-use Rattle.match_log.specs.Streams.{Streams}
+use Rattle.flow_edges.specs.Streams.{Streams}
 use Rattle.match_log.specs.Entries.{AreEntriesOf, AreEntries}
 use Rattle.match_log.specs.Listing.{AreBindings, listing_text, last_number}
 use Rattle.match_log.specs.declared.end.MatchEnd.{MatchEnd}

@@ -4,7 +4,7 @@ ghost use Rattle.pattern_types.specs.PlainPattern.{plain_pattern};
 ghost use Rattle.pattern_types.specs.Soundness.{IsSoundPattern};
 ghost use Rattle.match_live.specs.View.{matcher_state, pattern_of};
 ghost use Rattle.match_live.specs.MatcherState.{StandsFor};
-ghost use Rattle.match_log.specs.Streams.{streams};
+ghost use Rattle.flow_edges.specs.Streams.{streams};
 ghost use Rattle.match_log.specs.Matching.{AnswersMatch};
 
 use crate::batch::match_batch;
@@ -35,7 +35,6 @@ pub fn match_stream<I: Source, O: Sink>(
         (streams (I.left input.new) (O.written output.new)) (matcher_state matcher.new) result }
     ensures input { Counted (result ≡ MatchEnd.ReadFault) (I.faults input.old) (I.faults input.new) }
     ensures output { Counted (result ≡ MatchEnd.WriteFault) (O.faults output.old) (O.faults output.new) }
-    ensures later { (I.faults input.old ≤ I.faults input.new) × (O.faults output.old ≤ O.faults output.new) }
 {
     goes_on();
     observations_are_spans();

@@ -19,7 +19,7 @@ use Rattle.match_input.specs.declared.stage.Stage.{Stage}
 use Rattle.match_input.specs.declared.stage.Stage.TheVariants as stage
 use Rattle.match_input.specs.Reading.{BundleOf, InputEnd, Reads}
 use Rattle.match_input.specs.Ahead.{ReaderState, next_number, ahead}
-use Rattle.match_log.specs.Streams.{Streams}
+use Rattle.flow_edges.specs.Streams.{Streams}
 use Rattle.match_log.specs.Entries.{AreEntries}
 use Rattle.match_log.specs.Listing.{listing_text}
 use Rattle.match_log.specs.Matching.{ReadsInput}

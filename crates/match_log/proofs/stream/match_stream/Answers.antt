@@ -3,7 +3,7 @@ use Rattle.stix_bundles.specs.Objects.{data_in}
 use Rattle.match_live.specs.View.{matcher_state, pattern_of}
 use Rattle.match_input.specs.declared.batch.Batch.{Batch}
 use Rattle.match_input.specs.Ahead.{reader_start, AnswersNext}
-use Rattle.match_log.specs.Streams.{streams}
+use Rattle.flow_edges.specs.Streams.{streams}
 use Rattle.match_log.specs.Matching.{AnswersMatch}
 use Rattle.match_log.specs.inner.Rows.{no_tally}
 use Rattle.match_log.specs.declared.end.MatchEnd.{MatchEnd}
@@ -116,6 +116,6 @@ bundles-preserved g c =
           left_after written_after batch far gives
           (rows-here (pattern_of m) (pattern_of old) m.run.cap old.run.cap invariant.pattern invariant.most (data_in batch.bundle) batch.observations (matcher_state old)
           (matcher_state new) c.bundles.tally c.match_batch.new.tally now.written written_after c.in-Ok-match_batch.ensures.rows far.log far.answers far.behind);
-      read_quiet = c.in-Ok-Some.ensures.quiet (λ failed. cc failed) ∙ invariant.read_quiet;
-      write_quiet = c.in-Ok-match_batch.ensures.quiet (λ failed. cc failed) ∙ invariant.write_quiet;
+      read_quiet = c.in-Ok-Some.ensures.causes.quiet (λ failed. cc failed.1) ∙ invariant.read_quiet;
+      write_quiet = c.in-Ok-match_batch.ensures.causes.quiet (λ failed. cc failed) ∙ invariant.write_quiet;
     }

@@ -1,6 +1,6 @@
 use Rattle.std.proofs.Common.{◌≡◌}
 use Rattle.match_live.specs.View.{matcher_state, pattern_of}
-use Rattle.match_log.specs.Streams.{streams}
+use Rattle.flow_edges.specs.Streams.{streams}
 use Rattle.match_log.specs.inner.Runs.{RunsSo, turns_left}
 use Rattle.match_log.proofs.stream.match_stream.Given as goal
 

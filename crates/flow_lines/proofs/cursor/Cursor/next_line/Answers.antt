@@ -33,7 +33,7 @@ lines-preserved g c =
         c.in_ok-read_next.ensures.held c.if-not-branch.false (c.lines.invariant.held holds).1 (ap is_blank (sym c.deref.ensures.value) ∙ sym c.if-not-is_blank_line.ensures),
       );
       moved = omega (arith, next.moved);
-      quiet = c.in_ok-read_next.ensures.quiet (λ failed. cc failed) ∙ c.lines.invariant.quiet;
+      quiet = c.in_ok-read_next.ensures.causes.quiet (λ failed. cc failed) ∙ c.lines.invariant.quiet;
     }
 
 pub returns-in_err-read_next-clause-stops : goal.returns-in_err-read_next-clause-stops
