@@ -1,5 +1,4 @@
 pub mod Faults
 pub mod Flow
-pub mod Memory
 pub mod System
 pub mod Streams

@@ -3,8 +3,8 @@ ghost use Rattle.flow_edges.specs.Faults.{counted};
 
 use flow_values::Fault;
 
-/// A fault, which is counted.
-pub(crate) fn counted_fault(faults: &mut u64) -> Fault
+/// A fault of an object of the outside, counted by one more in its count.
+pub fn counted_fault(faults: &mut u64) -> Fault
     ensures counted { faults.new ≡ counted faults.old }
     ensures later { faults.old ≤ faults.new }
 {

@@ -6,16 +6,13 @@
 #![tactic(auto)]
 
 mod fault;
-mod memory;
 mod pieces;
-mod quiet;
 mod sink;
 mod source;
 mod system;
 
-pub use memory::{MemorySink, MemorySource};
+pub use fault::counted_fault;
 pub use pieces::write_pieces;
-pub use quiet::{QuietSink, QuietSource};
 pub use sink::{Sink, write_whole};
 pub use source::{MAX_READ, Source};
 pub use system::{ReadSource, WriteSink};

@@ -1,4 +1,3 @@
 pub mod Doors
 pub mod Moments
-pub mod Memory
 pub mod System

@@ -1,7 +1,7 @@
 -- The keeper in memory: what contracts see of it, and which of its calls fail.
 use Rattle.std.specs.Prelude.{◌≡◌, ◌↔◌, ℕ, List, Option, Result, Err, true}
 use Rattle.flow_edges.specs.Faults.{counted}
-use Rattle.flow_edges.specs.Memory.{is_failing}
+use Rattle.flow_memory.specs.Streams.{is_failing}
 use Rattle.taxii_rows.specs.declared.keeper_refusal.KeeperRefusal.{KeeperRefusal}
 use Rattle.taxii_rows.specs.declared.keeper_refusal.KeeperRefusal.TheVariants.{Fault as KeeperFault}
 use Rattle.taxii_rows.specs.StoreState.{StoreState}

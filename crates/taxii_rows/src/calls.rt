@@ -1,6 +1,6 @@
 ghost use Rattle.std.specs.Prelude.{◌≡◌, ◌≤◌, ◌↔◌, true, IsErr, OnOk, OnErr};
 ghost use Rattle.flow_edges.specs.Faults.{counted};
-ghost use Rattle.flow_edges.specs.Memory.{is_failing};
+ghost use Rattle.flow_memory.specs.Streams.{is_failing};
 
 use flow_values::{Fault, Items};
 

@@ -4,7 +4,7 @@ ghost use Rattle.std.specs.Prelude.{ℕ, List};
 ghost use Rattle.pattern_reader.specs.Read.{IsReadAs};
 
 use crate::lists::listed;
-use flow_edges::{MemorySink, MemorySource};
+use flow_memory::{MemorySink, MemorySource};
 use match_log::{MatchEnd, Matcher, Mode, match_stream};
 use pattern_reader::{Pattern, read_pattern};
 use pattern_types::laws::leaves_are_brackets;

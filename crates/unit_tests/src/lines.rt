@@ -1,7 +1,8 @@
 //! Lines of an input of which a read fails, an input that is read whole, and the limits of both.
 
 use crate::lists::listed;
-use flow_edges::{MAX_READ, MemorySource, QuietSource};
+use flow_edges::MAX_READ;
+use flow_memory::{MemorySource, QuietSource};
 use flow_lines::{
     InputRefusal, LineRefusal, Lines, MAX_INPUT, MAX_LINE, MAX_WHOLE_INPUT, read_whole,
 };

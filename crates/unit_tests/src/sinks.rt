@@ -1,7 +1,8 @@
 //! Sinks in memory: the room that they have, and the writes of them that fail.
 
 use crate::lists::listed;
-use flow_edges::{MemorySink, QuietSink, write_pieces, write_whole};
+use flow_edges::{write_pieces, write_whole};
+use flow_memory::{MemorySink, QuietSink};
 use flow_values::{Fault, Items};
 use std::test::Fail;
 

@@ -1,7 +1,8 @@
 //! Sources in memory: the pieces that they give, and the reads of them that fail.
 
 use crate::lists::listed;
-use flow_edges::{MemorySource, QuietSource, Source};
+use flow_edges::Source;
+use flow_memory::{MemorySource, QuietSource};
 use flow_values::Fault;
 use std::test::Fail;
 

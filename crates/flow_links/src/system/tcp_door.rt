@@ -3,8 +3,8 @@ ghost use Rattle.flow_edges.specs.Faults.{Counted};
 ghost use Rattle.flow_links.specs.Doors.{Stays, Listens, GivesNext, Finishes};
 ghost use Rattle.flow_links.specs.System.{StreamState};
 
-use crate::fault::counted_fault;
 use crate::{Door, TcpLink};
+use flow_edges::counted_fault;
 use flow_values::Fault;
 use std::io;
 use std::marker::Model;

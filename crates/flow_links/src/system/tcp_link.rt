@@ -3,8 +3,7 @@ ghost use Rattle.std.specs.Io.KnownBytes.{ReadConsumes, WriteAppends};
 ghost use Rattle.flow_edges.specs.Faults.{Counted};
 
 use crate::Link;
-use crate::fault::counted_fault;
-use flow_edges::{Sink, Source};
+use flow_edges::{Sink, Source, counted_fault};
 use flow_values::Fault;
 use std::io::{Read, Write};
 use std::marker::Model;

@@ -1,6 +1,6 @@
 -- Links, doors and clocks in memory: what contracts see of them.
 use Rattle.std.specs.Prelude.{ℕ, ◌-◌, List, Option, length, min, slice_get}
-use Rattle.flow_edges.specs.Memory.{SourceState, SinkState}
+use Rattle.flow_memory.specs.Streams.{SourceState, SinkState}
 use Rattle.flow_links.specs.Doors.{DoorState}
 
 -- what comes from the peer, and what goes to it

@@ -1,10 +1,11 @@
 ghost use Rattle.std.specs.Prelude.{◌≡◌, ◌≤◌, ◌<◌, ◌-◌, ◌↔◌, [], Ok, Some, refl, true, length, take, drop, min, IsErr, IfOk, OnErr, ◌||◌, nat_le};
 ghost use Rattle.flow_edges.specs.Faults.{counted, Counted};
 ghost use Rattle.flow_edges.specs.Flow.{left_after, IsNextOf, IsAtEnd, written_with};
-ghost use Rattle.flow_edges.specs.Memory.{is_failing};
+ghost use Rattle.flow_memory.specs.Streams.{is_failing};
 
-use crate::Link;
-use flow_edges::{MemorySink, MemorySource, Sink, Source};
+use crate::{MemorySink, MemorySource};
+use flow_edges::{Sink, Source};
+use flow_links::Link;
 use flow_values::{Fault, Items, NoMemory};
 use std::alloc::Global;
 use std::marker::Model;
@@ -17,7 +18,7 @@ pub struct MemoryLink {
 }
 
 impl Model for MemoryLink {
-    ghost use Rattle.flow_links.specs.Memory.{LinkState};
+    ghost use Rattle.flow_memory.specs.Links.{LinkState};
 
     ghost Value = { LinkState };
 

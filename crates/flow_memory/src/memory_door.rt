@@ -1,9 +1,10 @@
 ghost use Rattle.std.specs.Prelude.{◌≡◌, ◌≤◌, ◌+◌, ◌<◌, ◌↔◌, [], None, Some, true, length, IsErr, IfOk, OnErr, IfSome};
 ghost use Rattle.flow_edges.specs.Faults.{counted, Counted};
-ghost use Rattle.flow_edges.specs.Memory.{is_failing};
+ghost use Rattle.flow_memory.specs.Streams.{is_failing};
 ghost use Rattle.flow_links.specs.Doors.{Stays, Listens, GivesNext, Finishes};
 
-use crate::{Door, MemoryLink};
+use crate::MemoryLink;
+use flow_links::Door;
 use flow_values::{Fault, Items, NoMemory};
 use std::alloc::Global;
 use std::marker::Model;
@@ -23,7 +24,7 @@ pub struct MemoryDoor {
 
 impl Model for MemoryDoor {
     ghost use Rattle.std.specs.Prelude.{◌≤◌, ◌+◌, vec_len, vec_capacity, reverse};
-    ghost use Rattle.flow_links.specs.Memory.{MemoryDoorState};
+    ghost use Rattle.flow_memory.specs.Links.{MemoryDoorState};
 
     ghost Value = { MemoryDoorState };
 

@@ -1,8 +1,8 @@
 ghost use Rattle.std.specs.Prelude.{◌≡◌, ◌≤◌, ◌<◌, length};
-ghost use Rattle.flow_links.specs.Memory.{moment_at};
+ghost use Rattle.flow_memory.specs.Links.{moment_at};
 ghost use Rattle.flow_links.specs.Moments.{IsNext, GoesOn};
 
-use crate::Clock;
+use flow_links::Clock;
 use flow_values::Items;
 use std::marker::Model;
 

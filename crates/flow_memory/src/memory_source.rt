@@ -1,10 +1,9 @@
 ghost use Rattle.std.specs.Prelude.{◌≡◌, ◌≤◌, ◌<◌, ◌↔◌, Ok, Some, true, length, take, drop, min, IsErr, IfOk, OnErr};
 ghost use Rattle.flow_edges.specs.Faults.{counted, Counted};
 ghost use Rattle.flow_edges.specs.Flow.{left_after, IsNextOf, IsAtEnd};
-ghost use Rattle.flow_edges.specs.Memory.{is_failing};
+ghost use Rattle.flow_memory.specs.Streams.{is_failing};
 
-use crate::Source;
-use crate::fault::counted_fault;
+use flow_edges::{Source, counted_fault};
 use flow_values::{Fault, Items};
 use std::marker::Model;
 
@@ -21,7 +20,7 @@ pub struct MemorySource {
 
 impl Model for MemorySource {
     ghost use Rattle.std.specs.Prelude.{◌≤◌, length, drop};
-    ghost use Rattle.flow_edges.specs.Memory.{SourceState};
+    ghost use Rattle.flow_memory.specs.Streams.{SourceState};
 
     ghost Value = { SourceState };
 

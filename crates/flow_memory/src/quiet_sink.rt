@@ -1,6 +1,6 @@
 ghost use Rattle.std.specs.Prelude.{None};
 
-use crate::Sink;
+use flow_edges::Sink;
 use flow_values::Fault;
 
 /// A sink that takes all bytes, and keeps none.

@@ -1,10 +1,9 @@
 ghost use Rattle.std.specs.Prelude.{◌≡◌, ◌≤◌, ◌<◌, ◌-◌, ◌↔◌, [], Some, true, length, take, min, IsErr, IfOk, OnErr, ◌||◌, nat_le};
 ghost use Rattle.flow_edges.specs.Faults.{counted, Counted};
 ghost use Rattle.flow_edges.specs.Flow.{written_with};
-ghost use Rattle.flow_edges.specs.Memory.{is_failing};
+ghost use Rattle.flow_memory.specs.Streams.{is_failing};
 
-use crate::Sink;
-use crate::fault::counted_fault;
+use flow_edges::{Sink, counted_fault};
 use flow_values::{Fault, Items, NoMemory};
 use std::alloc::Global;
 use std::marker::Model;
@@ -21,7 +20,7 @@ pub struct MemorySink {
 
 impl Model for MemorySink {
     ghost use Rattle.std.specs.Prelude.{◌≤◌, vec_len, vec_capacity};
-    ghost use Rattle.flow_edges.specs.Memory.{SinkState};
+    ghost use Rattle.flow_memory.specs.Streams.{SinkState};
 
     ghost Value = { SinkState };
 

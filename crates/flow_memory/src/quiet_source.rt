@@ -2,7 +2,7 @@ ghost use Rattle.std.specs.Prelude.{◌≡◌, ◌≤◌, ◌<◌, Some, Ok, len
 ghost use Rattle.flow_edges.specs.Faults.{Counted};
 ghost use Rattle.flow_edges.specs.Flow.{left_after, IsNextOf, IsAtEnd};
 
-use crate::Source;
+use flow_edges::Source;
 use flow_values::{Fault, Items};
 use std::marker::Model;
 
