@@ -1,5 +1,5 @@
 -- What stands on the input and on the output at one moment of a run, where that is told.
-use Rattle.std.specs.Prelude.{ℕ, List, Option}
+use Rattle.std.specs.Prelude.{◌≡◌, ℕ, List, Option}
 
 -- the bytes that are left in the input, and those that are written on the output
 pub record Streams : Type 0 where
@@ -8,3 +8,7 @@ pub record Streams : Type 0 where
 
 abbrev pub streams : Option (List ℕ) → Option (List ℕ) → Streams
 streams left written = record { left = left; written = written }
+
+-- nothing was read or written
+abbrev pub AreUntouched : Streams → Streams → Type 0
+AreUntouched before after = after ≡ before

@@ -1,3 +1,1 @@
-pub mod VerdictsLemmas
-pub mod WritesWholeLemmas
 pub mod RunEndingsLemmas

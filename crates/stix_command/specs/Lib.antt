@@ -1,9 +1,2 @@
 pub mod Requests
-pub mod MatchRequests
-pub mod Streams
-pub mod Verdicts
-pub mod MatchEndings
-pub mod CheckEndings
-pub mod ShowEndings
-pub mod MakeEndings
 pub mod RunEndings

@@ -1,19 +1,7 @@
 -- What the words ask for, by command.
-use Rattle.std.specs.Prelude.{◌≡◌, ℕ, List, Bool, true, false}
-use Rattle.match_input.specs.declared.mode.Mode.{Mode}
-use Rattle.match_input.specs.declared.mode.Mode.TheVariants.{Lines, Whole}
+use Rattle.std.specs.Prelude.{◌≡◌, ◌⊎◌, ℕ, List, Bool}
+use Rattle.command_match.specs.Tasks.{MatchTask, mode_of}
 use Rattle.command_line.specs.CommandLines.{PlainService, Match, Check, Show, Make, Serve, IsCommandLine}
-
--- how the input is cut into bundles: `--whole` says that it is one
-abbrev pub mode_of : Bool → Mode
-mode_of true = Whole
-mode_of false = Lines
-
--- what a `match` is to do: how the input is cut, how much may be live, and the pattern
-pub record MatchTask : Type 0 where
-  pub mode : Mode
-  pub cap : ℕ
-  pub pattern : List ℕ
 
 -- match [--whole] [--cap N] PATTERN
 pub record IsMatchLine (words : List (List ℕ)) (request : MatchTask) : Type 0 where
@@ -36,3 +24,11 @@ IsMakeLine words seed count = IsCommandLine words (Make seed count)
 -- serve --port P --connections N [--store FILE] [--base URL] COLLECTION...
 abbrev pub IsServeLine : List (List ℕ) → PlainService → Type 0
 IsServeLine words service = IsCommandLine words (Serve service)
+
+-- the words ask for callers to be served
+abbrev pub AskToServe : List (List ℕ) → Type 0
+AskToServe words = (service : PlainService) × IsServeLine words service
+
+-- the words are a command that reads no input
+abbrev pub AskForNoInput : List (List ℕ) → Type 0
+AskForNoInput words = ((pattern : List ℕ) × IsShowLine words pattern) ⊎ ((seed : ℕ) × (count : ℕ) × IsMakeLine words seed count) ⊎ AskToServe words

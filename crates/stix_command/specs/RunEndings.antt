@@ -1,5 +1,5 @@
 -- What stands when the program ended, by the command that it ran and how that ended.
-use Rattle.std.specs.Prelude.{◌≡◌, ◌⊎◌, ⊤, ℕ, List, Option, codes}
+use Rattle.std.specs.Prelude.{◌≡◌, ◌≢◌, ◌⊎◌, ℕ, List, Option, codes}
 use Rattle.flow_edges.specs.Faults.{Rose}
 use Rattle.flow_edges.specs.Flow.{written_with, WritesPrefix}
 use Rattle.pattern_types.specs.declared.pattern.Pattern.{Pattern}
@@ -11,31 +11,53 @@ use Rattle.match_bindings.specs.BindTree.{BindTree}
 use Rattle.match_log.specs.Entries.{AreEntries}
 use Rattle.match_log.specs.Listing.{AreBindings, listing_text}
 use Rattle.match_log.specs.Matching.{ReadsInput}
-use Rattle.match_log.specs.declared.end.MatchEnd.TheVariants as match_end
-use Rattle.stix_command.specs.declared.matching.MatchEnding.{MatchEnding}
-use Rattle.stix_command.specs.declared.matching.MatchEnding.TheVariants as matching
-use Rattle.stix_command.specs.declared.checking.CheckEnding.{CheckEnding}
-use Rattle.stix_command.specs.declared.checking.CheckEnding.TheVariants as checking
-use Rattle.stix_command.specs.declared.showing.ShowEnding.{ShowEnding}
-use Rattle.stix_command.specs.declared.showing.ShowEnding.TheVariants as showing
+use Rattle.command_match.specs.declared.matching.MatchEnding.{MatchEnding}
+use Rattle.command_check.specs.declared.checking.CheckEnding.{CheckEnding}
+use Rattle.command_show.specs.declared.showing.ShowEnding.{ShowEnding}
 use Rattle.stix_command.specs.declared.ending.Ending.{Ending}
-use Rattle.stix_command.specs.declared.making.MakeEnding.{MakeEnding}
-use Rattle.stix_command.specs.declared.making.MakeEnding.TheVariants as making
+use Rattle.command_make.specs.declared.making.MakeEnding.{MakeEnding}
 use Rattle.stix_command.specs.declared.ending.Ending.TheVariants.{Match, Check, Show, Make, Serve, Usage, NoMemory}
 use Rattle.command_line.specs.CommandLines.{PlainRequest, PlainService, IsCommandLine}
 use Rattle.command_serve.specs.declared.ending.ServeEnding.{ServeEnding}
-use Rattle.command_serve.specs.declared.ending.ServeEnding.TheVariants as serving
-use Rattle.command_serve.specs.ServeEndings.{IsEarly, serve_status, serve_reason}
-use Rattle.stix_command.specs.Requests.{MatchTask, IsMatchLine, IsShowLine, IsCheckLine, IsMakeLine, IsServeLine}
-use Rattle.stix_command.specs.Streams.{Streams, AreUntouched}
-use Rattle.stix_command.specs.MatchEndings.{IsUnread, EndsMatch, match_status, IsMatchReason}
-use Rattle.stix_command.specs.CheckEndings.{EndsCheck, check_status, IsCheckReason}
-use Rattle.stix_command.specs.ShowEndings.{EndsShow, show_status, IsShowReason}
-use Rattle.stix_command.specs.MakeEndings.{IsTextOfLog, EndsMake, make_status, IsMakeReason}
+use Rattle.command_serve.specs.ServeEndings.{EndsServe, serve_status, serve_reason}
+use Rattle.command_match.specs.Tasks.{MatchTask}
+use Rattle.stix_command.specs.Requests.{IsMatchLine, IsShowLine, IsCheckLine, IsMakeLine, IsServeLine}
+use Rattle.flow_edges.specs.Streams.{Streams, streams}
+use Rattle.flow_links.specs.Doors.{DoorState}
+use Rattle.taxii_rows.specs.StoreState.{StoreState}
+use Rattle.taxii_connections.specs.Outside.{LinkView}
+use Rattle.command_serve.specs.Services.{Places}
+use Rattle.command_reasons.specs.Reasons.{IsUnread}
+use Rattle.command_match.specs.MatchEndings.{EndsMatch, match_status, IsMatchReason}
+use Rattle.command_check.specs.CheckEndings.{EndsCheck, check_status, IsCheckReason}
+use Rattle.command_show.specs.ShowEndings.{EndsShow, show_status, IsShowReason}
+use Rattle.command_make.specs.MakeEndings.{IsTextOfLog, EndsMake, make_status, IsMakeReason}
 
 -- the words are no command line
 abbrev pub IsNoCommand : List (List ℕ) → Type 0
 IsNoCommand words = (request : PlainRequest) → ¬ IsCommandLine words request
+
+-- what stands outside at one moment of a run: what is left of the input, and the places around a server, among them the output
+pub record Outside (L : Type 0) : Type 0 where
+  pub left : Option (List ℕ)
+  pub places : Places L
+
+-- the same, from what each object tells
+abbrev pub outside : {L : Type 0} → Option (List ℕ) → Option (List ℕ) → Option (DoorState L) → Option StoreState → Option (List ℕ)
+    → (ℕ → Option ℕ) → ℕ → Outside L
+outside left written door rows name moments faults = record {
+  left = left;
+  places = record { door = door; rows = rows; name = name; written = written; around = record { moments = moments; faults = faults } };
+}
+
+-- what a link tells, from what each of its two sides does
+abbrev pub links : {L : Type 0} → (L → Option (List ℕ)) → (L → Option (List ℕ)) → (L → ℕ) → (L → ℕ) → L → LinkView
+links left written read_faults write_faults link =
+    record { left = left link; written = written link; read_faults = read_faults link; write_faults = write_faults link }
+
+-- the input and the output alone
+abbrev pub streams_of : {L : Type 0} → Outside L → Streams
+streams_of around = streams around.left around.places.written
 
 -- the words are `match` with that request, which ended so
 pub record RunsMatch (words : List (List ℕ)) (before after : Streams) (ending : MatchEnding) : Type 0 where
@@ -63,21 +85,22 @@ pub record RunsMake (words : List (List ℕ)) (before after : Streams) (ending :
   pub make_ends : EndsMake seed count before.written after.written ending
   pub unread : after.left ≡ before.left
 
--- the words are `serve` with a service; nothing was read. What stands around the server then, `run` says in a clause of its own
-pub record RunsServe (words : List (List ℕ)) (before after : Streams) : Type 0 where
+-- the words are `serve` with a service, which ended so; nothing was read
+pub record RunsServe {L : Type 0} (view : L → LinkView) (words : List (List ℕ)) (before after : Outside L) (ending : ServeEnding) : Type 0 where
   pub service : PlainService
   pub command : IsServeLine words service
+  pub serve_ends : EndsServe view service before.places after.places ending
   pub unread : after.left ≡ before.left
 
--- what an ending says of the words and the streams
-abbrev pub EndsRun : List (List ℕ) → Streams → Streams → Ending → Type 0
-EndsRun words before after (Match ending) = RunsMatch words before after ending
-EndsRun words before after (Check ending) = RunsCheck words before after ending
-EndsRun words before after (Show ending) = RunsShow words before after ending
-EndsRun words before after (Make ending) = RunsMake words before after ending
-EndsRun words before after (Serve ending) = RunsServe words before after
-EndsRun words before after Usage = IsNoCommand words × AreUntouched before after
-EndsRun words before after NoMemory = AreUntouched before after
+-- what an ending says of the words and of what is outside
+abbrev pub EndsRun : {L : Type 0} → (L → LinkView) → List (List ℕ) → Outside L → Outside L → Ending → Type 0
+EndsRun view words before after (Match ending) = RunsMatch words (streams_of before) (streams_of after) ending
+EndsRun view words before after (Check ending) = RunsCheck words (streams_of before) (streams_of after) ending
+EndsRun view words before after (Show ending) = RunsShow words (streams_of before) (streams_of after) ending
+EndsRun view words before after (Make ending) = RunsMake words (streams_of before) (streams_of after) ending
+EndsRun view words before after (Serve ending) = RunsServe view words before after ending
+EndsRun view words before after Usage = IsNoCommand words × (after ≡ before)
+EndsRun view words before after NoMemory = after ≡ before
 
 abbrev pub status_of : Ending → ℕ
 status_of (Match ending) = match_status ending
@@ -97,41 +120,6 @@ IsReasonOf (Make ending) text = IsMakeReason ending text
 IsReasonOf (Serve ending) text = text ≡ serve_reason ending
 IsReasonOf Usage text = text ≡ codes "usage: stix_command (match | check | show | serve | make) WORDS\n"
 IsReasonOf NoMemory text = text ≡ codes "out of memory\n"
-
--- the run ended by a fault of the input, and of the output
-abbrev pub IsReadFault : Ending → Type 0
-IsReadFault ending = (ending ≡ Match (matching.Ended match_end.ReadFault)) ⊎ (ending ≡ Check checking.ReadFault)
-
-abbrev pub IsWriteFault : Ending → Type 0
-IsWriteFault ending = (ending ≡ Match (matching.Ended match_end.WriteFault)) ⊎ (ending ≡ Check checking.WriteFault)
-    ⊎ (ending ≡ Show showing.WriteFault) ⊎ (ending ≡ Make making.WriteFault) ⊎ (ending ≡ Serve serving.WriteFault)
-
--- and of the door, and of the store while it was read
-abbrev pub IsDoorFault : Ending → Type 0
-IsDoorFault ending = ending ≡ Serve serving.DoorFault
-
-abbrev pub IsStoreFault : Ending → Type 0
-IsStoreFault ending = ending ≡ Serve serving.StoreFault
-
--- no caller was served: the command isn't `serve`, or it ended before the door was opened
-abbrev pub IsWithoutCallers : Ending → Type 0
-IsWithoutCallers (Match ending) = ⊤
-IsWithoutCallers (Check ending) = ⊤
-IsWithoutCallers (Show ending) = ⊤
-IsWithoutCallers (Make ending) = ⊤
-IsWithoutCallers (Serve ending) = IsEarly ending
-IsWithoutCallers Usage = ⊤
-IsWithoutCallers NoMemory = ⊤
-
--- so a `serve` ended; want of memory for its words is one of its own
-abbrev pub EndsServing : Ending → ServeEnding → Type 0
-EndsServing (Match other) ending = ⊥
-EndsServing (Check other) ending = ⊥
-EndsServing (Show other) ending = ⊥
-EndsServing (Make other) ending = ⊥
-EndsServing (Serve its) ending = its ≡ ending
-EndsServing Usage ending = ⊥
-EndsServing NoMemory ending = ending ≡ serving.NoMemory
 
 -- the words are `match` with a text that is read as no pattern
 pub record RefusesMatch (words : List (List ℕ)) : Type 0 where
@@ -154,14 +142,22 @@ abbrev pub WritesReason : List ℕ → Option (List ℕ) → Option (List ℕ) �
 WritesReason text written written_after faults faults_after =
     (written_after ≡ written_with text written) ⊎ (WritesPrefix text written written_after × Rose faults faults_after)
 
--- the program ended in one of its ways, with that status
-pub record Ends (words : List (List ℕ)) (before after : Streams) (status : ℕ) (Writes : List ℕ → Type 0) : Type 0 where
+-- the statuses 2 and 3 tell that the words are no command line, and that their pattern is refused; only want of memory comes instead
+pub record TellsRefusals (words : List (List ℕ)) (status : ℕ) : Type 0 where
+  pub usage : status ≡ 2 → IsNoCommand words
+  pub no_line : IsNoCommand words → (status ≡ 2) ⊎ (status ≡ 1)
+  pub pattern : status ≡ 3 → RefusesPattern words
+  pub refused : RefusesPattern words → (status ≡ 3) ⊎ (status ≡ 1)
+
+-- the program ended in one of its ways, with that status and that reason
+pub record Ends {L : Type 0} (view : L → LinkView) (words : List (List ℕ)) (before after : Outside L) (status : ℕ) (Writes : List ℕ → Type 0) : Type 0 where
   pub ending : Ending
   pub status_is : status ≡ status_of ending
-  pub stands : EndsRun words before after ending
+  pub stands : EndsRun view words before after ending
   pub text : List ℕ
   pub reason_is : IsReasonOf ending text
   pub reason : Writes text
+  pub refusals : TellsRefusals words status
 
 -- the text is read as a pattern, the whole input as bundles, and these make a log for it: all bindings of the pattern over
 -- that log are written, and nothing else
@@ -179,3 +175,12 @@ pub record ListsBindings (request : MatchTask) (before after : Streams) : Type 0
 -- the numbers of the generated log were written, and nothing else
 abbrev pub TellsNumbers : ℕ → ℕ → Streams → Streams → Type 0
 TellsNumbers seed count before after = (text : List ℕ) × IsTextOfLog seed count text × (after.written ≡ written_with text before.written)
+
+-- what was asked for was done: a `match` wrote the listing, a `make` the numbers
+pub record IsDone (words : List (List ℕ)) (before after : Streams) : Type 0 where
+  pub listing : (task : MatchTask) → IsMatchLine words task → ListsBindings task before after
+  pub numbers : (seed count : ℕ) → IsMakeLine words seed count → TellsNumbers seed count before after
+
+-- a run with that status served no caller
+abbrev pub ServesNone : ℕ → Type 0
+ServesNone status = (status ≢ 0) × (status ≢ 6) × (status ≢ 8)

@@ -1,14 +1,14 @@
 ghost use Rattle.flow_edges.specs.Faults.{Counted};
 ghost use Rattle.flow_edges.specs.Flow.{WritesWhole};
 
-use crate::checking::CheckEnding;
-use crate::making::MakeEnding;
-use crate::matching::MatchEnding;
-use crate::reasons::write_no_memory;
-use crate::showing::ShowEnding;
+use command_check::CheckEnding;
+use command_make::MakeEnding;
+use command_match::MatchEnding;
+use command_reasons::write_no_memory;
+use command_serve::ServeEnding;
+use command_show::ShowEnding;
 use flow_edges::{Sink, write_whole};
 use flow_values::Fault;
-use command_serve::ServeEnding;
 
 /// How the program ends: how its command did, or that the words are none.
 #[derive(Debug, Drop)]

@@ -1,20 +1,10 @@
 //! The program `stix_command`: STIX 2.1 patterns matched against observed data, and a TAXII 2.1 server.
 #![tactic(auto)]
 
-mod checking;
 mod ending;
-mod judging;
-mod laws;
-mod making;
-mod matching;
-mod reasons;
-mod refusal_text;
 mod run;
-mod showing;
-mod verdict;
-mod verdict_text;
 
-use crate::reasons::write_no_memory;
+use command_reasons::write_no_memory;
 use flow_edges::{ReadSource, WriteSink};
 use flow_links::{SystemClock, TcpDoor};
 use std::alloc::Global;

@@ -1,24 +1,22 @@
-ghost use Rattle.std.specs.Prelude.{◌≡◌, ◌≢◌, ◌⊎◌, ℕ, List};
+ghost use Rattle.std.specs.Prelude.{◌≡◌, ◌⊎◌, ℕ, List};
 ghost use Rattle.flow_edges.specs.Faults.{Counted};
-ghost use Rattle.command_line.specs.CommandLines.{texts, PlainService};
-ghost use Rattle.command_serve.specs.declared.ending.ServeEnding.{ServeEnding};
-ghost use Rattle.command_serve.specs.ServeEndings.{EndsServe, serve_status, serve_reason};
-ghost use Rattle.stix_command.specs.Requests.{MatchTask, IsMatchLine, IsShowLine, IsMakeLine, IsServeLine};
-ghost use Rattle.stix_command.specs.Streams.{streams};
-ghost use Rattle.stix_command.specs.RunEndings.{status_of, IsReasonOf, IsNoCommand, RefusesPattern, EndsRun, IsReadFault, IsWriteFault, IsDoorFault, IsStoreFault, IsWithoutCallers, EndsServing, WritesReason, Ends, ListsBindings, TellsNumbers};
+ghost use Rattle.flow_edges.specs.Streams.{streams};
+ghost use Rattle.command_line.specs.CommandLines.{texts};
+ghost use Rattle.stix_command.specs.Requests.{AskForNoInput, AskToServe};
+ghost use Rattle.stix_command.specs.RunEndings.{status_of, IsReasonOf, EndsRun, ServesNone, WritesReason, Ends, IsDone, outside, links};
 
-use crate::checking::check;
 use crate::ending::Ending;
-use crate::making::make;
-use crate::matching::match_bindings;
-use crate::showing::show;
+use command_check::check;
 use command_line::laws::one_request;
 use command_line::{Request, WordsRefusal, read_words};
+use command_make::make;
+use command_match::match_bindings;
+use command_serve::serve;
+use command_show::show;
 use flow_edges::{Sink, Source};
 use flow_links::{Clock, Door};
 use std::alloc::Global;
 use taxii_rows::Keeper;
-use command_serve::serve;
 
 /// Does what the words ask for.
 fn obey<I: Source, O: Sink, D: Door, K: Keeper, C: Clock>(
@@ -30,22 +28,17 @@ fn obey<I: Source, O: Sink, D: Door, K: Keeper, C: Clock>(
     keeper: &mut K,
     clock: &mut C,
 ) -> Ending
-    ensures end { EndsRun (texts words.now) (streams (I.left input.old) (O.written output.old))
-        (streams (I.left input.new) (O.written output.new)) result }
-    ensures untouched { (status_of result ≡ 2) ⊎ (status_of result ≡ 3) → (input.new ≡ input.old) × (output.new ≡ output.old) }
-    ensures unread { (pattern : List ℕ) → IsShowLine (texts words.now) pattern → input.new ≡ input.old }
-    ensures made_unread { (seed count : ℕ) → IsMakeLine (texts words.now) seed count → input.new ≡ input.old }
-    ensures input { Counted (IsReadFault result) (I.faults input.old) (I.faults input.new) }
-    ensures output { Counted (IsWriteFault result) (O.faults output.old) (O.faults output.new) }
-    ensures serving { (service : PlainService) → IsServeLine (texts words.now) service → (ending : ServeEnding) × EndsServing result ending
-        × EndsServe (λ link. record { left = D.Link.left link; written = D.Link.written link; read_faults = D.Link.Source.faults link; write_faults = D.Link.Sink.faults link }) service
-        (record { door = D.told door.old; rows = K.told keeper.old; name = K.name keeper.old; written = O.written output.old; around = record { moments = C.moments clock.old; faults = K.faults keeper.old } })
-        (record { door = D.told door.new; rows = K.told keeper.new; name = K.name keeper.new; written = O.written output.new; around = record { moments = C.moments clock.new; faults = K.faults keeper.new } }) ending }
-    ensures served_unread { (service : PlainService) → IsServeLine (texts words.now) service → input.new ≡ input.old }
-    ensures unserved { IsWithoutCallers result → (door.new ≡ door.old) × (clock.new ≡ clock.old) × (K.told keeper.new ≡ K.told keeper.old) }
-    ensures others { ((service : PlainService) → ¬ IsServeLine (texts words.now) service) → (door.new ≡ door.old) × (clock.new ≡ clock.old) × (keeper.new ≡ keeper.old) }
-    ensures door { Counted (IsDoorFault result) (D.faults door.old) (D.faults door.new) }
-    ensures keeper { IsWithoutCallers result → Counted (IsStoreFault result) (K.faults keeper.old) (K.faults keeper.new) }
+    ensures end { EndsRun (links D.Link.left D.Link.written D.Link.Source.faults D.Link.Sink.faults) (texts words.now)
+        (outside (I.left input.old) (O.written output.old) (D.told door.old) (K.told keeper.old) (K.name keeper.old) (C.moments clock.old) (K.faults keeper.old))
+        (outside (I.left input.new) (O.written output.new) (D.told door.new) (K.told keeper.new) (K.name keeper.new) (C.moments clock.new) (K.faults keeper.new)) result }
+    ensures unread { (status_of result ≡ 2) ⊎ (status_of result ≡ 3) ⊎ AskForNoInput (texts words.now) → input.new ≡ input.old }
+    ensures unwritten { (status_of result ≡ 2) ⊎ (status_of result ≡ 3) → output.new ≡ output.old }
+    ensures unserved { ServesNone (status_of result) → (door.new ≡ door.old) × (clock.new ≡ clock.old) × (K.told keeper.new ≡ K.told keeper.old) }
+    ensures others { ¬ AskToServe (texts words.now) → (door.new ≡ door.old) × (clock.new ≡ clock.old) × (keeper.new ≡ keeper.old) }
+    ensures input { Counted (status_of result ≡ 5) (I.faults input.old) (I.faults input.new) }
+    ensures output { Counted (status_of result ≡ 6) (O.faults output.old) (O.faults output.new) }
+    ensures door { Counted (status_of result ≡ 8) (D.faults door.old) (D.faults door.new) }
+    ensures keeper { ServesNone (status_of result) → Counted (status_of result ≡ 9) (K.faults keeper.old) (K.faults keeper.new) }
 {
     one_request();
     match read_words(alloc, words) {
@@ -89,32 +82,19 @@ pub fn run<I: Source, O: Sink, E: Sink, D: Door, K: Keeper, C: Clock>(
     keeper: &mut K,
     clock: &mut C,
 ) -> u8
-    ensures ends { Ends (texts words.now) (streams (I.left input.old) (O.written output.old))
-        (streams (I.left input.new) (O.written output.new)) result
+    ensures ends { Ends (links D.Link.left D.Link.written D.Link.Source.faults D.Link.Sink.faults) (texts words.now)
+        (outside (I.left input.old) (O.written output.old) (D.told door.old) (K.told keeper.old) (K.name keeper.old) (C.moments clock.old) (K.faults keeper.old))
+        (outside (I.left input.new) (O.written output.new) (D.told door.new) (K.told keeper.new) (K.name keeper.new) (C.moments clock.new) (K.faults keeper.new)) result
         (λ reason. WritesReason reason (E.written reasons.old) (E.written reasons.new) (E.faults reasons.old) (E.faults reasons.new)) }
-    ensures listing { result ≡ 0 → (task : MatchTask) → IsMatchLine (texts words.now) task
-        → ListsBindings task (streams (I.left input.old) (O.written output.old)) (streams (I.left input.new) (O.written output.new)) }
-    ensures making { result ≡ 0 → (seed count : ℕ) → IsMakeLine (texts words.now) seed count
-        → TellsNumbers seed count (streams (I.left input.old) (O.written output.old)) (streams (I.left input.new) (O.written output.new)) }
-    ensures serving { (service : PlainService) → IsServeLine (texts words.now) service → (ending : ServeEnding) × (result ≡ serve_status ending)
-        × EndsServe (λ link. record { left = D.Link.left link; written = D.Link.written link; read_faults = D.Link.Source.faults link; write_faults = D.Link.Sink.faults link }) service
-        (record { door = D.told door.old; rows = K.told keeper.old; name = K.name keeper.old; written = O.written output.old; around = record { moments = C.moments clock.old; faults = K.faults keeper.old } })
-        (record { door = D.told door.new; rows = K.told keeper.new; name = K.name keeper.new; written = O.written output.new; around = record { moments = C.moments clock.new; faults = K.faults keeper.new } }) ending
-        × WritesReason (serve_reason ending) (E.written reasons.old) (E.written reasons.new) (E.faults reasons.old) (E.faults reasons.new) }
-    ensures usage { result ≡ 2 → IsNoCommand (texts words.now) }
-    ensures no_line { IsNoCommand (texts words.now) → (result ≡ 2) ⊎ (result ≡ 1) }
-    ensures pattern { result ≡ 3 → RefusesPattern (texts words.now) }
-    ensures refused { RefusesPattern (texts words.now) → (result ≡ 3) ⊎ (result ≡ 1) }
+    ensures done { result ≡ 0 → IsDone (texts words.now) (streams (I.left input.old) (O.written output.old)) (streams (I.left input.new) (O.written output.new)) }
     ensures untouched { (result ≡ 2) ⊎ (result ≡ 3) → (input.new ≡ input.old) × (output.new ≡ output.old) }
-    ensures unread { (pattern : List ℕ) → IsShowLine (texts words.now) pattern → input.new ≡ input.old }
-    ensures made_unread { (seed count : ℕ) → IsMakeLine (texts words.now) seed count → input.new ≡ input.old }
-    ensures served_unread { (service : PlainService) → IsServeLine (texts words.now) service → input.new ≡ input.old }
-    ensures unserved { result ≢ 0 → result ≢ 6 → result ≢ 8 → (door.new ≡ door.old) × (clock.new ≡ clock.old) × (K.told keeper.new ≡ K.told keeper.old) }
-    ensures others { ((service : PlainService) → ¬ IsServeLine (texts words.now) service) → (door.new ≡ door.old) × (clock.new ≡ clock.old) × (keeper.new ≡ keeper.old) }
+    ensures unread { AskForNoInput (texts words.now) → input.new ≡ input.old }
+    ensures unserved { ServesNone result → (door.new ≡ door.old) × (clock.new ≡ clock.old) × (K.told keeper.new ≡ K.told keeper.old) }
+    ensures others { ¬ AskToServe (texts words.now) → (door.new ≡ door.old) × (clock.new ≡ clock.old) × (keeper.new ≡ keeper.old) }
     ensures input { Counted (result ≡ 5) (I.faults input.old) (I.faults input.new) }
     ensures output { Counted (result ≡ 6) (O.faults output.old) (O.faults output.new) }
     ensures door { Counted (result ≡ 8) (D.faults door.old) (D.faults door.new) }
-    ensures keeper { result ≢ 0 → result ≢ 6 → result ≢ 8 → Counted (result ≡ 9) (K.faults keeper.old) (K.faults keeper.new) }
+    ensures keeper { ServesNone result → Counted (result ≡ 9) (K.faults keeper.old) (K.faults keeper.new) }
 {
     one_request();
     let ending = obey(alloc, words, input, output, door, keeper, clock);

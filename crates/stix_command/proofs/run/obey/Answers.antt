@@ -1,9 +1,8 @@
-use Rattle.std.proofs.Common.{refl, subst, sym}
+use Rattle.std.proofs.Common.{refl, subst}
 use Rattle.command_line.specs.declared.request.Request.{Request}
-use Rattle.command_line.specs.CommandLines.{texts, IsCommandLine, Serve}
+use Rattle.command_line.specs.CommandLines.{texts, IsCommandLine}
 use Rattle.command_line.specs.Request.{plain_request, plain_service}
-use Rattle.stix_command.specs.MatchRequests.{request_of}
-use Rattle.stix_command.proofs.RunEndingsLemmas.{one_served}
+use Rattle.command_match.specs.Tasks.{request_of}
 use Rattle.stix_command.proofs.run.obey.Goals as goal
 
 pub returns-in-Ok-Match-clause-end : goal.returns-in-Ok-Match-clause-end
@@ -22,11 +21,10 @@ returns-in-Ok-Show-clause-end g c = record {
   unread = refl;
 }
 
-pub returns-in-Ok-Serve-clause-serving : goal.returns-in-Ok-Serve-clause-serving
-returns-in-Ok-Serve-clause-serving g c = λ service line.
-    let own = subst (λ (r : Request). IsCommandLine (texts c.args.words.now) (plain_request r)) c.in-Ok-Serve.field-0-is c.in-Ok-Serve.ensures.ok in
-    let same = one_served c.one_request.ensures (texts c.args.words.now) (plain_service c.in-Ok-Serve.request) service own line in
-    (c.serve.result, refl, rw (sym same) c.serve.ensures.ends)
-
-pub returns-in-Err-NoLine-clause-serving : goal.returns-in-Err-NoLine-clause-serving
-returns-in-Err-NoLine-clause-serving g c = λ service line. absurd (c.in-Err-NoLine.ensures.no_line c.in-Err-NoLine.field-0-is (Serve service) line)
+pub returns-in-Ok-Serve-clause-end : goal.returns-in-Ok-Serve-clause-end
+returns-in-Ok-Serve-clause-end g c = record {
+  service = plain_service c.in-Ok-Serve.request;
+  command = subst (λ (r : Request). IsCommandLine (texts c.args.words.now) (plain_request r)) c.in-Ok-Serve.field-0-is c.in-Ok-Serve.ensures.ok;
+  serve_ends = c.serve.ensures.ends;
+  unread = refl;
+}

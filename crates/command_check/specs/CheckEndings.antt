@@ -1,0 +1,80 @@
+-- What `check` writes, and what an ending of it says of its input and of what was written; its status, and its reason as a text.
+use Rattle.std.specs.Prelude.{◌≡◌, ℕ, ◌+◌, List, [], ◌++◌, flat_map, codes, decimal, Option}
+use Rattle.flow_edges.specs.declared.source.TheConstants.{MAX_READ}
+use Rattle.flow_edges.specs.Flow.{TakesAtMost, written_with, WritesPrefix}
+use Rattle.flow_lines.specs.declared.whole_input.TheConstants.{MAX_WHOLE_INPUT}
+use Rattle.flow_lines.specs.WholeInput.{IsWhole, IsTooLong}
+use Rattle.stix_bundles.specs.declared.object_break.ObjectBreak.{ObjectBreak}
+use Rattle.stix_versions.specs.declared.version_break.VersionBreak.{VersionBreak}
+use Rattle.stix_versions.specs.declared.marking_break.MarkingBreak.{MarkingBreak}
+use Rattle.stix_versions.specs.Names.{version_rule_name, marking_rule_name}
+use Rattle.match_input.specs.declared.rule.InputRule.TheVariants.{InputTooLong}
+use Rattle.match_input.specs.Texts.{break_text, IsInputRefusalText}
+use Rattle.command_check.specs.declared.verdict.Verdict.{Verdict}
+use Rattle.command_check.specs.declared.verdict.Verdict.TheVariants as verdict
+use Rattle.command_check.specs.declared.checking.CheckEnding.{CheckEnding}
+use Rattle.command_check.specs.declared.checking.CheckEnding.TheVariants.{Judged, TooLong, ReadFault, WriteFault, NoMemory}
+use Rattle.flow_edges.specs.Streams.{Streams}
+use Rattle.command_check.specs.Verdicts.{IsJudged}
+
+-- object I: RULE at PATH
+abbrev pub break_line : ObjectBreak → List ℕ
+break_line broken = break_text broken ++ codes "\n"
+
+-- object I: RULE
+abbrev pub version_line : VersionBreak → List ℕ
+version_line broken = codes "object " ++ (decimal broken.object ++ (codes ": " ++ (version_rule_name broken.rule ++ codes "\n")))
+
+-- object I: marking J: RULE
+abbrev pub marking_line : MarkingBreak → List ℕ
+marking_line broken = codes "object " ++ (decimal broken.object ++ (codes ": marking " ++ (decimal broken.marking ++ (codes ": " ++ (marking_rule_name broken.rule ++ codes "\n")))))
+
+-- what is written of a verdict: the breaks, a line each, those of versions before those of markings, or how many objects
+-- are sound
+abbrev pub verdict_text : Verdict → List ℕ
+verdict_text (verdict.Sound count) = codes "ok " ++ (decimal count ++ codes " objects\n")
+verdict_text (verdict.Broken breaks) = flat_map break_line breaks
+verdict_text (verdict.Unfit versions markings) = flat_map version_line versions ++ flat_map marking_line markings
+verdict_text (verdict.Refused rule) = []
+
+-- the whole input was read, and that is the verdict on it
+pub record IsVerdictOn (before after : Streams) (found : Verdict) : Type 0 where
+  pub bytes : List ℕ
+  pub whole : IsWhole bytes before.left after.left
+  pub judged : IsJudged bytes found
+
+abbrev pub EndsCheck : Streams → Streams → CheckEnding → Type 0
+EndsCheck before after (Judged found) = IsVerdictOn before after found × (after.written ≡ written_with (verdict_text found) before.written)
+EndsCheck before after TooLong = IsTooLong before.left × TakesAtMost (MAX_WHOLE_INPUT + MAX_READ) before.left after.left × (after.written ≡ before.written)
+EndsCheck before after ReadFault = after.written ≡ before.written
+EndsCheck before after WriteFault = (found : Verdict) × IsVerdictOn before after found × WritesPrefix (verdict_text found) before.written after.written
+EndsCheck before after NoMemory = after.written ≡ before.written
+
+abbrev pub check_status : CheckEnding → ℕ
+check_status (Judged (verdict.Sound count)) = 0
+check_status NoMemory = 1
+check_status (Judged (verdict.Broken breaks)) = 4
+check_status (Judged (verdict.Unfit versions markings)) = 4
+check_status (Judged (verdict.Refused rule)) = 4
+check_status TooLong = 4
+check_status ReadFault = 5
+check_status WriteFault = 6
+
+-- an input that is refused is line 1
+abbrev pub IsCheckReason : CheckEnding → List ℕ → Type 0
+IsCheckReason (Judged (verdict.Sound count)) text = text ≡ []
+IsCheckReason NoMemory text = text ≡ codes "out of memory\n"
+IsCheckReason (Judged (verdict.Broken breaks)) text = text ≡ []
+IsCheckReason (Judged (verdict.Unfit versions markings)) text = text ≡ []
+IsCheckReason (Judged (verdict.Refused rule)) text = IsInputRefusalText 1 rule text
+IsCheckReason TooLong text = IsInputRefusalText 1 InputTooLong text
+IsCheckReason ReadFault text = text ≡ codes "read fault\n"
+IsCheckReason WriteFault text = text ≡ codes "write fault\n"
+
+-- For private clauses: what an ending says of bytes that were read.
+abbrev pub EndsJudging : List ℕ → Option (List ℕ) → Option (List ℕ) → CheckEnding → Type 0
+EndsJudging bytes written written_after (Judged found) = IsJudged bytes found × (written_after ≡ written_with (verdict_text found) written)
+EndsJudging bytes written written_after TooLong = ⊥
+EndsJudging bytes written written_after ReadFault = ⊥
+EndsJudging bytes written written_after WriteFault = (found : Verdict) × IsJudged bytes found × WritesPrefix (verdict_text found) written written_after
+EndsJudging bytes written written_after NoMemory = written_after ≡ written

@@ -1,0 +1,60 @@
+-- What an input is found to be, as a bundle.
+use Rattle.std.specs.Prelude.{◌≡◌, ◌≢◌, ℕ, List, [], length}
+use Rattle.serde_json.specs.Data.{Data}
+use Rattle.stix_json.specs.declared.value.Json.{Json}
+use Rattle.stix_json.specs.declared.refusal.JsonRefusal.TheVariants as json_refusal
+use Rattle.stix_json.specs.DataOf.{data_of}
+use Rattle.stix_json.specs.Reading.{IsJsonOf, IsJsonRefusedAs}
+use Rattle.stix_bundles.specs.declared.refusal.BundleRefusal.TheVariants.{NotBundle, Breaks, NoMemory}
+use Rattle.stix_bundles.specs.Bundle.{IsBundle, IsBundleRefused}
+use Rattle.stix_versions.specs.Versions.{AreVersionBreaks}
+use Rattle.stix_versions.specs.Markings.{AreMarkingBreaks}
+use Rattle.match_input.specs.declared.rule.InputRule.{InputRule}
+use Rattle.match_input.specs.declared.rule.InputRule.TheVariants.{LineTooLong, InputTooLong, Json as NoJson, Bundle as NoBundle, Embedded, OutOfOrder}
+use Rattle.command_check.specs.declared.verdict.Verdict.{Verdict}
+use Rattle.command_check.specs.declared.verdict.Verdict.TheVariants.{Sound, Broken, Unfit, Refused}
+
+-- a value that is no bundle is refused for the first condition that fails
+abbrev pub IsNotBundleFor : Data → InputRule → Type 0
+IsNotBundleFor d LineTooLong = ⊥
+IsNotBundleFor d InputTooLong = ⊥
+IsNotBundleFor d (Embedded object) = ⊥
+IsNotBundleFor d (OutOfOrder last now) = ⊥
+IsNotBundleFor d (NoJson refusal) = ⊥
+IsNotBundleFor d (NoBundle (NotBundle path)) = IsBundleRefused d (NotBundle path)
+IsNotBundleFor d (NoBundle (Breaks breaks)) = ⊥
+IsNotBundleFor d (NoBundle NoMemory) = ⊥
+
+-- objects that meet the rules of their types are so many, or their versions and markings break these rules
+abbrev pub AreJudged : List Data → Verdict → Type 0
+AreJudged objects (Sound count) = (count ≡ length objects) × AreVersionBreaks objects [] × AreMarkingBreaks objects []
+AreJudged objects (Broken breaks) = ⊥
+AreJudged objects (Unfit versions markings) = AreVersionBreaks objects versions × AreMarkingBreaks objects markings × (¬ ((versions ≡ []) × (markings ≡ [])))
+AreJudged objects (Refused rule) = ⊥
+
+-- a value is a bundle, of which that is found, or one with these breaks, or none
+abbrev pub IsBundleJudged : Data → Verdict → Type 0
+IsBundleJudged d (Sound count) = (objects : List Data) × IsBundle d objects × AreJudged objects (Sound count)
+IsBundleJudged d (Unfit versions markings) = (objects : List Data) × IsBundle d objects × AreJudged objects (Unfit versions markings)
+IsBundleJudged d (Broken breaks) = IsBundleRefused d (Breaks breaks)
+IsBundleJudged d (Refused rule) = IsNotBundleFor d rule
+
+-- some bytes are a JSON value of which that is known
+abbrev pub HasJson : List ℕ → (Data → Type 0) → Type 0
+HasJson bytes P = (value : Json) × IsJsonOf bytes value × P (data_of value)
+
+-- why bytes are refused, of which there aren't too many: they are no JSON value, or it is no bundle
+abbrev pub IsRefusedFor : List ℕ → InputRule → Type 0
+IsRefusedFor bytes LineTooLong = ⊥
+IsRefusedFor bytes InputTooLong = ⊥
+IsRefusedFor bytes (Embedded object) = ⊥
+IsRefusedFor bytes (OutOfOrder last now) = ⊥
+IsRefusedFor bytes (NoJson refusal) = (refusal ≢ json_refusal.NoMemory) × IsJsonRefusedAs bytes refusal
+IsRefusedFor bytes (NoBundle refusal) = HasJson bytes (λ d. IsNotBundleFor d (NoBundle refusal))
+
+-- what bytes are
+abbrev pub IsJudged : List ℕ → Verdict → Type 0
+IsJudged bytes (Sound count) = HasJson bytes (λ d. IsBundleJudged d (Sound count))
+IsJudged bytes (Broken breaks) = HasJson bytes (λ d. IsBundleJudged d (Broken breaks))
+IsJudged bytes (Unfit versions markings) = HasJson bytes (λ d. IsBundleJudged d (Unfit versions markings))
+IsJudged bytes (Refused rule) = IsRefusedFor bytes rule

@@ -1,0 +1,78 @@
+ghost use Rattle.std.specs.Prelude.{◌≡◌, ◌≢◌, IfOk, IfErr};
+ghost use Rattle.stix_json.specs.declared.refusal.JsonRefusal.TheVariants as json_refusal;
+ghost use Rattle.stix_bundles.specs.Objects.{data_in};
+ghost use Rattle.stix_json.specs.DataOf.{data_of};
+ghost use Rattle.stix_json.specs.Ordered.{IsOrdered};
+ghost use Rattle.stix_json.specs.Reading.{IsJsonOf, IsJsonRefusedAs};
+ghost use Rattle.command_check.specs.Verdicts.{IsJudged, IsBundleJudged, AreJudged};
+
+use crate::verdict::Verdict;
+use flow_values::{Items, NoMemory};
+use match_input::InputRule;
+use std::alloc::Global;
+use stix_bundles::{Bundle, BundleRefusal, read_bundle};
+use stix_json::{Json, JsonRefusal, read_json};
+use stix_versions::{marking_breaks, version_breaks};
+
+/// What bytes are, as a bundle. They are let go once they are read, before the objects are judged.
+pub(crate) fn judge(alloc: Global, bytes: Items<u8>) -> Result<Verdict, NoMemory>
+    ensures { IfOk result (IsJudged bytes) }
+{
+    match value_of(alloc, bytes) {
+        Ok(value) => judge_value(alloc, value),
+        Err(refusal) => refuse(refusal),
+    }
+}
+
+/// The value of bytes, which are let go.
+fn value_of(alloc: Global, bytes: Items<u8>) -> Result<Json, JsonRefusal>
+    ensures ok { IfOk result (λ json. IsJsonOf bytes json) }
+    ensures err { IfErr result (λ refusal. IsJsonRefusedAs bytes refusal) }
+{
+    read_json(alloc, bytes.as_slice())
+}
+
+/// The verdict on bytes that are refused as JSON.
+fn refuse(refusal: JsonRefusal) -> Result<Verdict, NoMemory>
+    ensures { IfOk result (λ verdict. (refusal ≢ json_refusal.NoMemory) × (verdict ≡ Verdict.Refused (InputRule.Json refusal))) }
+{
+    match &refusal {
+        JsonRefusal::NoMemory => Err(NoMemory),
+        JsonRefusal::NotJson
+        | JsonRefusal::TooDeep { .. }
+        | JsonRefusal::NotWhole { .. }
+        | JsonRefusal::Null { .. }
+        | JsonRefusal::OutOfRange { .. }
+        | JsonRefusal::NotList => Ok(Verdict::Refused(InputRule::Json(refusal))),
+    }
+}
+
+/// What a value is, as a bundle.
+fn judge_value(alloc: Global, value: Json) -> Result<Verdict, NoMemory>
+    requires { IsOrdered (data_of value) }
+    ensures { IfOk result (IsBundleJudged (data_of value)) }
+{
+    match read_bundle(alloc, value) {
+        Ok(bundle) => judge_bundle(alloc, &bundle),
+        Err(BundleRefusal::Breaks(breaks)) => Ok(Verdict::Broken(breaks)),
+        Err(BundleRefusal::NotBundle { path }) => {
+            let refusal = BundleRefusal::NotBundle { path };
+            Ok(Verdict::Refused(InputRule::Bundle(refusal)))
+        }
+        Err(BundleRefusal::NoMemory) => Err(NoMemory),
+    }
+}
+
+/// What objects are that meet the rules of their types.
+fn judge_bundle(alloc: Global, bundle: &Bundle) -> Result<Verdict, NoMemory>
+    ensures { IfOk result (AreJudged (data_in bundle.now)) }
+{
+    let versions = version_breaks(alloc, bundle)?;
+    let markings = marking_breaks(alloc, bundle)?;
+    if versions.is_empty() && markings.is_empty() {
+        return Ok(Verdict::Sound {
+            objects: bundle.len(),
+        });
+    }
+    Ok(Verdict::Unfit { versions, markings })
+}

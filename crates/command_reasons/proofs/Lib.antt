@@ -1,0 +1,2 @@
+pub mod WritesWholeLemmas
+pub mod CountedLemmas

@@ -1,7 +1,0 @@
-use Rattle.std.proofs.Common.{◌≡◌, take}
-use Rattle.std.specs.List.{flat_map}
-use Rattle.stix_command.specs.CheckEndings.{break_line}
-use Rattle.stix_command.proofs.verdict_text.breaks_text.Given as goal
-
-abbrev pub invariant-loop-broken : goal.invariant-loop-broken
-invariant-loop-broken l = l.text ≡ flat_map break_line (take l.broken-index l.breaks)

@@ -1,7 +1,0 @@
-use Rattle.std.proofs.Common.{◌≡◌, take}
-use Rattle.std.specs.List.{flat_map}
-use Rattle.stix_command.specs.CheckEndings.{version_line}
-use Rattle.stix_command.proofs.verdict_text.versions_text.Given as goal
-
-abbrev pub invariant-loop-broken : goal.invariant-loop-broken
-invariant-loop-broken l = l.text ≡ flat_map version_line (take l.broken-index l.versions)
