@@ -6,3 +6,4 @@ pub mod Shape
 pub mod Runs
 pub mod Numbers
 pub mod TreeCode
+pub mod Seen

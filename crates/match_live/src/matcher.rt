@@ -31,32 +31,20 @@ pub struct Matcher<'p> {
 }
 
 impl<'p> Model for Matcher<'p> {
-    ghost use Rattle.std.specs.Prelude.{◌≡◌, true, ◌||◌, is_some};
     ghost use Rattle.std.specs.Coded.{codes};
     ghost use Rattle.pattern_types.specs.contracts.pattern.Pattern as held;
-    ghost use Rattle.match_bindings.specs.Bounds.{no_bounds};
-    ghost use Rattle.match_bindings.specs.NumberedPattern.{numbered_pattern};
     ghost use Rattle.match_live.specs.MatcherState.{MatcherState};
     ghost use Rattle.match_live.specs.inner.TreeCode.{tree_code};
-    ghost use Rattle.match_live.specs.inner.Steps.{contents_of};
-    ghost use Rattle.match_live.specs.inner.Nodes.{state_of};
-    ghost use Rattle.match_live.specs.inner.Shape.{fits};
 
     ghost Value = { MatcherState };
 
     ghost coded = { Prim.hlevel (codes, held.the_row.coded, tree_code) };
 
+    ghost use Rattle.match_live.specs.inner.Seen.{seen, IsMade};
 
-    ghost view = { λ matcher. record {
-        pattern = matcher.pattern.now;
-        cap = matcher.run.cap;
-        ended = matcher.ended;
-        rows = matcher.run.rows;
-        last = matcher.run.last;
-        contents = contents_of (state_of matcher.run.node);
-    } };
+    ghost view = { seen };
 
-    ghost invariant = { λ matcher. (is_some matcher.ended || fits no_bounds (numbered_pattern matcher.pattern.now) (state_of matcher.run.node)) ≡ true };
+    ghost invariant = { IsMade };
 }
 
 impl<'p> Matcher<'p> {

@@ -11,29 +11,18 @@ use Rattle.match_bindings.proofs.LogLemmas.{in_order_more}
 use Rattle.match_live.specs.declared.matcher.Matcher.TheInside.{Inside}
 use Rattle.match_live.specs.declared.ending.Ending.TheVariants as ending
 use Rattle.match_live.specs.LivePart.{IsLivePart}
-use Rattle.match_live.specs.MatcherState.{MatcherState, StandsFor, with_row, Falls}
+use Rattle.match_live.specs.MatcherState.{StandsFor, with_row, Falls}
 use Rattle.match_live.specs.inner.Steps.{State, contents_of}
 use Rattle.match_live.specs.inner.Nodes.{state_of}
 use Rattle.match_live.specs.inner.Shape.{fits}
 use Rattle.match_live.specs.inner.Runs.{next_row, live_after}
+use Rattle.match_live.specs.inner.Seen.{seen, IsMade}
 use Rattle.match_live.proofs.LogLemmas.{not_falls, length_more, last_of_more}
 use Rattle.match_live.proofs.ShapeLemmas.{fits_step}
 use Rattle.match_live.proofs.TakeLemmas.{entry, runs_fits, Goes, live_then, answer_then, count_then, stopped_same, same_stopped, same_err}
 use Rattle.match_live.proofs.matcher.Matcher.take.Goals as goal
 
--- what contracts see
-abbrev seen : Inside → MatcherState
-seen m = record {
-  pattern = m.pattern.now;
-  cap = m.run.cap;
-  ended = m.ended;
-  rows = m.run.rows;
-  last = m.run.last;
-  contents = contents_of (state_of m.run.node);
-}
-
-goes : (m : Inside) (log : List LogEntry) (last : ℤ) → (is_some m.ended || fits no_bounds (numbered_pattern m.pattern.now) (state_of m.run.node)) ≡ true
-    → StandsFor (seen m) log → IsInOrder log → ¬ (Falls m.run.last last)
+goes : (m : Inside) (log : List LogEntry) (last : ℤ) → IsMade m → StandsFor (seen m) log → IsInOrder log → ¬ (Falls m.run.last last)
     → Goes (numbered_pattern m.pattern.now) (state_of m.run.node) m.run.rows m.run.last log last
 goes m log last made st order after = record {
   made = runs_fits m.ended (fits no_bounds (numbered_pattern m.pattern.now) (state_of m.run.node)) st.runs made;
