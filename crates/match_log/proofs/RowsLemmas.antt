@@ -73,7 +73,6 @@ follow-more p cap objects o state after tally later log answers text text_after 
     subst (λ (l : Option ℤ). MayFollow l (after.rows + 1) observations) (sym last)
     (subst (λ (n : ℕ). MayFollow (Some o.last) (n + 1) observations) (sym rows) follow)
 
-}
 
 -- one more observation
 pub adds-more : (p : Pattern) (cap : ℕ) (objects : List Data) (observations : List Observation) (o : Observation) (log : List LogEntry)
