@@ -11,7 +11,7 @@ use Rattle.match_bindings.specs.inner.Candidates.{joined_span, lies_within, lies
 use Rattle.match_bindings.specs.Bounds.{least_seconds, latest_start, earliest_stop, within, between}
 use Rattle.match_bindings.proofs.IsBindingLemmas.{lt_true, true_lt, le_true, true_le}
 
-both_ways : (p q : Bool) → (p ≡ true → q ≡ true) → (q ≡ true → p ≡ true) → p ≡ q
+pub both_ways : (p q : Bool) → (p ≡ true → q ≡ true) → (q ≡ true → p ≡ true) → p ≡ q
 both_ways true q f g = sym (f refl)
 both_ways false true f g = g refl
 both_ways false false f g = refl

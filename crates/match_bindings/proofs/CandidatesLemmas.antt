@@ -20,10 +20,6 @@ use Rattle.match_bindings.proofs.BoundsLemmas.{fits_parts, fits_within, fits_bet
 pub exactly_same : (f g : BindTree → Bool) (xs : List BindTree) → ((x : BindTree) → f x ≡ g x) → Exactly f xs → Exactly g xs
 exactly_same f g xs h e x = e x ∙ ap bit (h x)
 
--- a binding that fits
-abbrev fitting : Observed → Bounds → (BindTree → Bool) → BindTree → Bool
-fitting o w f x = f x && fits w (span_of o x)
-
 -- the spanned_trees are those trees that pass and fit, each once, with their spans
 abbrev pub AreAll : Observed → Bounds → (BindTree → Bool) → List SpannedTree → Type 0
 AreAll o w f spanned_trees = (xs : List BindTree) × (spanned_trees ≡ map (hold o) xs) × Exactly (λ x. f x && fits w (span_of o x)) xs
@@ -196,10 +192,10 @@ all_made : (j : Join) (mk : BindTree → BindTree → BindTree) → ((a b : Bind
 all_made j mk h [] = tt
 all_made j mk h (x ∷ xs) = (h x, all_made j mk h xs)
 
-pair_joins : Joins Pair
+pub pair_joins : Joins Pair
 pair_joins = record { tells = λ a b c d. refl }
 
-more_joins : Joins More
+pub more_joins : Joins More
 more_joins = record { tells = λ a b c d. refl }
 
 no_pairs : (o : Observed) (j : Join) (w : Bounds) (xs ys : List BindTree) (x : BindTree) → ((a b : BindTree) → same x (Pair a b) ≡ false) →

@@ -123,7 +123,7 @@ first_before x (z ∷ zs) rises y h = by_test (same y z) refl (λ k. first_befor
       let h'' : 0 < bit false + count y zs = rw e at h' in
       before_trans x z y rises.0 (ih (omega arith))
 
-tail_rises : (x : BindTree) (xs : List BindTree) → Rises (x ∷ xs) → Rises xs
+pub tail_rises : (x : BindTree) (xs : List BindTree) → Rises (x ∷ xs) → Rises xs
 tail_rises x [] rises = tt
 tail_rises x (y ∷ xs) rises = rises.1
 

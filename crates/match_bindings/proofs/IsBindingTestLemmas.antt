@@ -25,19 +25,8 @@ pub no_pair : (o : Observed) (p q : NumberedPattern) (x : BindTree) → is_pair 
 no_pair o p q (Pair a b) h = absurd (cc)
 no_pair o p q x h = refl
 
-pub no_pair_then : (o : Observed) (p q : NumberedPattern) (x : BindTree) → is_pair x ≡ false → is_binding o (Then p q) x ≡ false
-no_pair_then o p q (Pair a b) h = absurd (cc)
-no_pair_then o p q x h = refl
-
 pub either_many : (o : Observed) (p q : NumberedPattern) (xs : List BindTree) → is_binding o (Either p q) (many_of xs) ≡ false
 either_many o p q xs = of_many (λ x. is_binding o (Either p q) x ≡ false) refl (λ a. refl) (λ m a. refl) xs
-
-pub no_repeats : (f : BindTree → Bool) (n : ℕ) (x : BindTree) → is_chain x ≡ false → are_repeats f n x ≡ false
-no_repeats f zero x h = refl
-no_repeats f (suc zero) (Single a) h = absurd (cc)
-no_repeats f (suc zero) x h = refl
-no_repeats f (suc (suc n)) (More m a) h = absurd (cc)
-no_repeats f (suc (suc n)) x h = refl
 
 -- a span that a test let through
 pub passed : (b : Bool) (s t : Span) → span_if b s ≡ Some t → (b ≡ true) × (s ≡ t)
@@ -46,13 +35,6 @@ passed b s t h = cond_some b s t h
 pub failed : (b : Bool) (s : Span) → span_if b s ≡ None → b ≡ false
 failed true s h = absurd (cc)
 failed false s h = refl
-
-pub judged_within : (o : Observed) (p : NumberedPattern) (x : BindTree) (n : ℕ) (s : Span) → judged o p x ≡ Some s →
-    span_if (lies_within n s) s ≡ judged o (Within p n) x
-judged_within o p x n s h =
-    let parts = passed (is_binding o p x) (span_of o x) s h in
-    let yes_it_is = parts.0 in
-    subst (λ (s : Span). span_if (lies_within n s) s ≡ judged o (Within p n) x) parts.1 (rw yes_it_is refl)
 
 pub judged_between : (o : Observed) (p : NumberedPattern) (x : BindTree) (start stop : ℤ) (s : Span) → judged o p x ≡ Some s →
     span_if (lies_between start stop s) s ≡ judged o (Between p start stop) x
@@ -181,10 +163,3 @@ goes_well f parts at x r low high e h one two =
     ∙ ap (λ b. (b && (nat_lt (greatest (many_of (map tree_of (take at parts)))) (greatest (tree_of x)) && disjoint (many_of (map tree_of (take at parts))) (tree_of x)))
     && go_on f (many_of (map tree_of (take (at + 1) parts))) (map tree_of (drop (at + 1) parts))) one
     ∙ ap (λ b. b && go_on f (many_of (map tree_of (take (at + 1) parts))) (map tree_of (drop (at + 1) parts))) two
-
-pub goes_badly : (f : BindTree → Bool) (parts : List Bind) (at : ℕ) (x : Bind) (r : Bool) → 1 ≤ at → at < length parts → get_or parts at x ≡ x →
-    r ≡ go_on f (many_of (map tree_of (take at parts))) (map tree_of (drop at parts)) →
-    (f (tree_of x) && (nat_lt (greatest (many_of (map tree_of (take at parts)))) (greatest (tree_of x)) && disjoint (many_of (map tree_of (take at parts))) (tree_of x))) ≡ false →
-    r ≡ false
-goes_badly f parts at x r low high e h one =
-    h ∙ next_rest f parts at x low high e ∙ ap (λ b. b && go_on f (many_of (map tree_of (take (at + 1) parts))) (map tree_of (drop (at + 1) parts))) one

@@ -7,15 +7,11 @@ use Rattle.std.proofs.lemmas.Int.{ints, clamps}
 use Rattle.match_bindings.specs.declared.bounds.Bounds.{Bounds}
 use Rattle.match_bindings.specs.Bounds.{least_seconds, latest_start, earliest_stop, within, between}
 use Rattle.match_bindings.specs.Span.{later_by}
+use Rattle.match_bindings.proofs.IsBindingLemmas.{lt_true, true_lt, le_true, true_le}
+use Rattle.match_bindings.proofs.BoundsLemmas.{both_ways}
 use Rattle.match_windows.specs.declared.window.Window.{Window}
 use Rattle.match_windows.specs.Stores.{window_of}
 use Rattle.match_live.specs.inner.Lives.{in_seconds, from_start, before_stop, alive, is_ahead, lives}
-use Rattle.match_live.proofs.LivesLemmas.{lt_true, true_lt, le_true, true_le}
-
-pub both_ways : (p q : Bool) → (p ≡ true → q ≡ true) → (q ≡ true → p ≡ true) → p ≡ q
-both_ways true q f g = sym (f refl)
-both_ways false true f g = g refl
-both_ways false false f g = refl
 
 -- ---- two things together
 

@@ -14,7 +14,7 @@ use Rattle.match_bindings.specs.Once.{bit, same, count}
 use Rattle.match_bindings.specs.Flat.{comes_before, Rises}
 use Rattle.match_live.specs.PieceTree.{PieceTree, trees_in}
 use Rattle.match_live.specs.Answer.{EndsAtLast, IsAnswer}
-use Rattle.match_live.proofs.OnceLemmas.{same_is, same_self}
+use Rattle.match_bindings.proofs.OnceLemmas.{same_is, same_self}
 use Rattle.match_live.proofs.NumberLemmas.{has_greatest, greatest_binding, old_binding}
 use Rattle.match_live.proofs.StoreLemmas.{AreHeld}
 use Rattle.match_live.proofs.StepLemmas.{ends}

@@ -3,8 +3,8 @@ use Rattle.std.proofs.Common.{◌≡◌, ℕ, ◌+◌, ◌*◌, List, ◌++◌, 
 use Rattle.std.specs.Prelude.{Bool, true, false, ◌&&◌, ◌||◌, not}
 use Rattle.match_bindings.specs.BindTree.{BindTree, has}
 use Rattle.match_bindings.specs.Once.{bit, count, Exactly}
-use Rattle.match_live.proofs.PairsLemmas.{pairs}
-use Rattle.match_live.proofs.OnceLemmas.{count_append, count_pairs, Joins}
+use Rattle.match_bindings.proofs.PairsLemmas.{pairs}
+use Rattle.match_bindings.proofs.OnceLemmas.{count_append, count_pairs, Joins}
 
 left_bits : (c p u q v r : Bool) → (p ≡ true → u ≡ true → c ≡ true → r ≡ (q && not v)) →
     bit c * (bit (p && u) * bit r) ≡ bit c * (bit (p && u) * bit (q && not v))

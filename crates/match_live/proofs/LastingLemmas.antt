@@ -17,7 +17,7 @@ use Rattle.match_live.specs.declared.join.Join.TheVariants as join
 use Rattle.match_live.specs.PieceTree.{PieceTree, hold}
 use Rattle.match_live.specs.inner.Lives.{lives}
 use Rattle.match_live.specs.inner.Steps.{SideStores, State, a_leaf, a_join, a_choice, a_limit, a_chain}
-use Rattle.match_live.proofs.OnceLemmas.{same_self}
+use Rattle.match_bindings.proofs.OnceLemmas.{same_self}
 use Rattle.match_live.proofs.NumberLemmas.{both_parts}
 use Rattle.match_live.proofs.StoreLemmas.{AreHeld, exactly_same, held_same, bit_positive}
 use Rattle.match_live.proofs.StepLemmas.{SidesStand, LevelsStand, AllLevelsStand, Stands, all_of, without}

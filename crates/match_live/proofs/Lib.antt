@@ -1,6 +1,3 @@
-pub mod ListLemmas
-pub mod PairsLemmas
-pub mod OnceLemmas
 pub mod LivesLemmas
 pub mod LevelLemmas
 pub mod AliveLemmas

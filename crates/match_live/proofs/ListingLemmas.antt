@@ -13,9 +13,9 @@ use Rattle.match_bindings.specs.Once.{bit, same, count, Exactly}
 use Rattle.match_bindings.specs.Flat.{comes_before, Rises}
 use Rattle.match_bindings.specs.Listing.{IsListing}
 use Rattle.match_live.specs.Answer.{IsAnswer, AnswersAfter, AreAnswers, joined_answers}
-use Rattle.match_live.proofs.OnceLemmas.{same_self, count_append}
+use Rattle.match_bindings.proofs.OnceLemmas.{same_self, count_append}
 use Rattle.match_live.proofs.NumberLemmas.{greatest_binding}
-use Rattle.match_live.proofs.StoreLemmas.{bit_positive}
+use Rattle.match_live.proofs.StoreLemmas.{bit_positive, sum_bits}
 use Rattle.match_live.proofs.LastingLemmas.{lasting}
 use Rattle.match_live.proofs.LogLemmas.{holds_inside, length_more, goes_on, nothing}
 use Rattle.match_live.proofs.ShapeLemmas.{Rule}
@@ -25,11 +25,6 @@ use Rattle.match_live.proofs.CountLemmas.{answer_counts}
 -- a listing is what passes the test, each once, rising
 abbrev pub ByTest : Type 0
 ByTest = (o : Observed) (p : NumberedPattern) (xs : List BindTree) → IsListing o p xs ↔ (Exactly (is_binding o p) xs × Rises xs)
-
-sum_bits : (b h : Bool) → bit (b && not h) + bit (b && h) ≡ bit b
-sum_bits true true = refl
-sum_bits true false = refl
-sum_bits false h = refl
 
 -- what has the lesser greatest number comes first
 pub lesser_first : (x y : BindTree) → greatest x < greatest y → comes_before x y ≡ true

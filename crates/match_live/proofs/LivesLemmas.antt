@@ -7,17 +7,14 @@ use Rattle.match_windows.specs.declared.window.Window.{Window}
 use Rattle.match_windows.specs.Expiry.{ArePast, IsBeforeStart, IsStopped, HasExpired}
 use Rattle.match_live.specs.inner.Lives.{in_seconds, from_start, before_stop, is_ahead, lives}
 
-pub lt_true : (a b : ℤ) → int_lt a b ≡ true → a <ℤ b
-lt_true a b h = grind (arith, ints)
+pub le_self : (a : ℤ) → a ≤ℤ a
+le_self a = omega (arith, ints)
 
-pub true_lt : (a b : ℤ) → a <ℤ b → int_lt a b ≡ true
-true_lt a b h = grind (arith, ints)
+pub le_trans : (a b c : ℤ) → a ≤ℤ b → b ≤ℤ c → a ≤ℤ c
+le_trans a b c h k = omega (arith, ints)
 
-pub le_true : (a b : ℤ) → int_le a b ≡ true → a ≤ℤ b
-le_true a b h = grind (arith, ints)
-
-pub true_le : (a b : ℤ) → a ≤ℤ b → int_le a b ≡ true
-true_le a b h = grind (arith, ints)
+pub le_both : (a b : ℤ) → a ≤ℤ b → b ≤ℤ a → a ≡ b
+le_both a b h k = omega (arith, ints)
 
 lt_false : (a b : ℤ) → int_lt a b ≡ false → b ≤ℤ a
 lt_false a b h = grind (arith, ints)

@@ -11,6 +11,7 @@ use Rattle.match_bindings.specs.BindTree.{BindTree, One, Pair, First, Second}
 use Rattle.match_bindings.specs.Log.{LastIsBy, IsInOrder, numbered, first_time, last_time, truth, observed_in}
 use Rattle.match_bindings.specs.Span.{earliest}
 use Rattle.match_bindings.specs.Test.{are_repeats, is_binding}
+use Rattle.match_bindings.proofs.IsBindingLemmas.{le_true}
 use Rattle.match_windows.specs.declared.window.Window.{Window}
 use Rattle.match_windows.specs.Stores.{window_of}
 use Rattle.match_live.specs.declared.row.Row.{Row}
@@ -18,7 +19,7 @@ use Rattle.match_live.specs.LivePart.{time_of}
 use Rattle.match_live.specs.MatcherState.{last_of, Falls}
 use Rattle.match_live.specs.inner.Lives.{lives}
 use Rattle.match_live.specs.inner.Steps.{State, step_new, step_state, no_levels, empty_sides, empty_state}
-use Rattle.match_live.proofs.LivesLemmas.{le_true, le_false}
+use Rattle.match_live.proofs.LivesLemmas.{le_false, le_trans, le_self}
 use Rattle.match_live.proofs.StoreLemmas.{AreHeld}
 use Rattle.match_live.proofs.StepLemmas.{SidesStand, LevelsStand, AllLevelsStand, Stands, all_of, ends, Given, step_law}
 use Rattle.match_live.proofs.LastingLemmas.{GoesOn, lasting_stands, no_sets, any_time}
@@ -94,12 +95,6 @@ goes_on log r = record { holds = holds; first = first; last = last } where
 
 -- ---- times
 
-le_trans : (a b c : ℤ) → a ≤ℤ b → b ≤ℤ c → a ≤ℤ c
-le_trans a b c h k = omega (arith, ints)
-
-le_self : (a : ℤ) → a ≤ℤ a
-le_self a = omega (arith, ints)
-
 -- no row of a log in order is later than its last one
 all_by : (log : List LogEntry) (t : ℤ) → IsInOrder log → LastIsBy log t → (i : ℕ) → i < length log → last_time (slice_get log i) ≤ℤ t
 all_by [] t order by i h = absurd (omega arith)
@@ -121,12 +116,6 @@ not_falls (r ∷ []) t h = by (int_le r.last t) refl where
   by true e = le_true r.last t e
   by false e = absurd (h (le_false r.last t e))
 not_falls (r ∷ q ∷ log) t h = not_falls (q ∷ log) t h
-
--- a row goes at the end of a log whose last time it doesn't precede
-pub in_order_more : (log : List LogEntry) (r : LogEntry) → IsInOrder log → r.first ≤ℤ r.last → LastIsBy log r.last → IsInOrder (log ++ r ∷ [])
-in_order_more [] r order span after = span
-in_order_more (q ∷ []) r order span after = (order, after, span)
-in_order_more (q ∷ s ∷ log) r order span after = (order.0, order.1, in_order_more (s ∷ log) r order.2 span after)
 
 pub time_new : (log : List LogEntry) (r : LogEntry) → time_of (log ++ r ∷ []) ≡ r.last
 time_new log r = ap (λ n. last_time (numbered (log ++ r ∷ []) n)) (length_more log r) ∙ ap last_time (get_seam log r)

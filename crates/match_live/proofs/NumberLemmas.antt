@@ -9,6 +9,7 @@ use Rattle.match_bindings.specs.BindTree.{BindTree, One, Pair, First, Second, Em
 use Rattle.match_bindings.specs.Log.{Observed}
 use Rattle.match_bindings.specs.Span.{earliest, latest}
 use Rattle.match_bindings.specs.Test.{are_repeats, is_binding}
+use Rattle.match_live.proofs.LivesLemmas.{le_self}
 
 le_max_left : (t a b : ℤ) → t ≤ℤ a → t ≤ℤ int_max a b
 le_max_left t a b h = omega (arith, ints, clamps)
@@ -18,9 +19,6 @@ le_max_right t a b h = omega (arith, ints, clamps)
 
 max_le : (t a b : ℤ) → a ≤ℤ t → b ≤ℤ t → int_max a b ≤ℤ t
 max_le t a b h k = omega (arith, ints, clamps)
-
-le_self : (t : ℤ) → t ≤ℤ t
-le_self t = omega (arith, ints)
 
 -- the latest time of a tree with a number isn't earlier than that row's time
 pub latest_new : (time : ℕ → ℤ) (n : ℕ) (x : BindTree) → has n x ≡ true → time n ≤ℤ latest time x

@@ -6,17 +6,15 @@ use Rattle.std.proofs.lemmas.Bool.{and_parts, and_from}
 use Rattle.std.proofs.lemmas.Int.{ints, clamps}
 use Rattle.std.proofs.lemmas.List.{take_more}
 use Rattle.match_bindings.specs.Span.{later_by}
+use Rattle.match_bindings.proofs.IsBindingLemmas.{lt_true, true_lt, le_true, true_le}
 use Rattle.match_windows.specs.declared.window.Window.{Window}
 use Rattle.match_live.specs.declared.piece.Piece.{Piece}
 use Rattle.match_live.specs.PieceTree.{PieceTree}
 use Rattle.match_live.specs.inner.Lives.{in_seconds, from_start, before_stop, is_ahead, lives}
 use Rattle.match_live.specs.inner.Pieces.{piece_tree, piece_trees, none_before, oldest_with}
 use Rattle.match_live.specs.inner.Steps.{kept}
-use Rattle.match_live.proofs.ListLemmas.{map_append}
-use Rattle.match_live.proofs.LivesLemmas.{lt_true, true_lt, le_true, true_le}
-
-le_trans : (a b c : ℤ) → a ≤ℤ b → b ≤ℤ c → a ≤ℤ c
-le_trans a b c h k = omega (arith, ints)
+use Rattle.match_bindings.proofs.ListLemmas.{map_append}
+use Rattle.match_live.proofs.LivesLemmas.{le_trans, le_self}
 
 lt_later : (t e f : ℤ) (n : ℕ) → t <ℤ (e +ℤ pos n) → e ≤ℤ f → t <ℤ (f +ℤ pos n)
 lt_later t e f n h k = omega (arith, ints)
@@ -54,9 +52,6 @@ min_first a b = omega (arith, ints, clamps)
 
 min_second : (a b : ℤ) → int_min a b ≤ℤ b
 min_second a b = omega (arith, ints, clamps)
-
-le_self : (a : ℤ) → a ≤ℤ a
-le_self a = omega (arith, ints)
 
 weaker : (e f : ℤ) (held : List PieceTree) → f ≤ℤ e → none_before (Some e) held ≡ true → none_before (Some f) held ≡ true
 weaker e f [] h k = refl

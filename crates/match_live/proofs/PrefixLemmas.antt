@@ -10,7 +10,8 @@ use Rattle.match_bindings.specs.Test.{is_binding}
 use Rattle.match_bindings.specs.Once.{bit, same, count, Exactly}
 use Rattle.match_bindings.specs.Flat.{comes_before, Rises}
 use Rattle.match_bindings.specs.Listing.{IsListing}
-use Rattle.match_live.proofs.OnceLemmas.{same_self, count_append, count_filter}
+use Rattle.match_bindings.proofs.OnceLemmas.{same_self, count_append, count_filter}
+use Rattle.match_bindings.proofs.FlatLemmas.{tail_rises}
 use Rattle.match_live.proofs.NumberLemmas.{has_greatest, greatest_binding, old_binding}
 use Rattle.match_live.proofs.StoreLemmas.{bit_positive}
 use Rattle.match_live.proofs.LastingLemmas.{lasting}
@@ -72,10 +73,6 @@ lasting_long (r ∷ more) log p x =
       counted k i h = let within_log : i ≤ length (log ++ r ∷ []) = holds_inside (log ++ r ∷ []) k i h in omega (arith, within_log, length_more log r)
 
 -- ---- rising lists
-
-tail_rises : (x : BindTree) (xs : List BindTree) → Rises (x ∷ xs) → Rises xs
-tail_rises x [] rises = tt
-tail_rises x (y ∷ xs) rises = rises.1
 
 rises_cons : (x : BindTree) (zs : List BindTree) → Rises zs → ((y : BindTree) → 0 < count y zs → comes_before x y ≡ true) → Rises (x ∷ zs)
 rises_cons x [] rises h = tt

@@ -7,7 +7,7 @@ use Rattle.match_live.specs.LivePart.{held_count}
 use Rattle.match_live.specs.inner.Pieces.{piece_tree}
 use Rattle.match_live.specs.inner.Steps.{no_levels, all_levels, levels_above}
 use Rattle.match_live.specs.inner.Nodes.{store_list, store_lists}
-use Rattle.match_live.proofs.ListLemmas.{map_append}
+use Rattle.match_bindings.proofs.ListLemmas.{map_append}
 
 pub count_append : (xs ys : List (List PieceTree)) → held_count (xs ++ ys) ≡ held_count xs + held_count ys
 count_append [] ys = omega arith

@@ -13,6 +13,7 @@ use Rattle.match_bindings.specs.Span.{earliest}
 use Rattle.match_bindings.specs.Binding.{IsBinding}
 use Rattle.match_bindings.specs.Test.{are_repeats, is_binding}
 use Rattle.match_bindings.specs.Once.{bit, count}
+use Rattle.match_bindings.proofs.IsBindingLemmas.{le_true, true_le}
 use Rattle.match_windows.specs.declared.window.Window.{Window}
 use Rattle.match_windows.specs.Stores.{Part, a_side, Store, window_of, side, level, levels, stores_under}
 use Rattle.match_live.specs.declared.row.Row.{Row}
@@ -22,7 +23,7 @@ use Rattle.match_live.specs.LivePart.{MayHold, IsLive, HoldsLive, AreLive}
 use Rattle.match_live.specs.inner.Lives.{lives}
 use Rattle.match_live.specs.inner.Steps.{held_with, SideStores, State, a_leaf, a_join, a_choice, a_limit, a_chain, step_new, step_state, levels_after, no_levels, empty_state, contents_of}
 use Rattle.match_live.specs.inner.Shape.{same_bool, same_count, same_time, same_window, have_windows, fits}
-use Rattle.match_live.proofs.LivesLemmas.{le_true, true_le, gone_expired, expired_gone}
+use Rattle.match_live.proofs.LivesLemmas.{gone_expired, expired_gone, le_both, le_self}
 use Rattle.match_live.proofs.LevelLemmas.{length_after}
 use Rattle.match_live.proofs.StoreLemmas.{AreHeld}
 use Rattle.match_live.proofs.StepLemmas.{SidesStand, LevelsStand, AllLevelsStand, Stands, all_of}
@@ -120,12 +121,6 @@ same_count_is (Some m) None h = absurd (cc)
 count_self : (a : Option ℕ) → same_count a a ≡ true
 count_self None = refl
 count_self (Some n) = eq-eqb n n refl
-
-le_both : (a b : ℤ) → a ≤ℤ b → b ≤ℤ a → a ≡ b
-le_both a b h k = omega (arith, ints)
-
-le_self : (a : ℤ) → a ≤ℤ a
-le_self a = omega (arith, ints)
 
 same_time_is : (a b : Option ℤ) → same_time a b ≡ true → a ≡ b
 same_time_is None None h = refl

@@ -11,6 +11,8 @@ use Rattle.match_bindings.specs.Log.{Observed}
 use Rattle.match_bindings.specs.Span.{earliest, latest, later_by}
 use Rattle.match_bindings.specs.Test.{are_repeats, is_binding}
 use Rattle.match_bindings.specs.Once.{bit, same, count, Exactly}
+use Rattle.match_bindings.proofs.IsBindingLemmas.{le_true}
+use Rattle.match_bindings.proofs.CandidatesLemmas.{pair_joins, more_joins}
 use Rattle.match_windows.specs.declared.window.Window.{Window}
 use Rattle.match_windows.specs.Stores.{window_of}
 use Rattle.match_live.specs.declared.join.Join.{Join}
@@ -19,14 +21,14 @@ use Rattle.match_live.specs.declared.row.Row.{Row}
 use Rattle.match_live.specs.PieceTree.{PieceTree, hold}
 use Rattle.match_live.specs.inner.Lives.{alive, lives}
 use Rattle.match_live.specs.inner.Steps.{held_with, joined_tree, may_join, joins, kept, SideStores, State, a_leaf, a_join, a_choice, a_limit, a_chain, truth_at, new_at_leaf, joins_new, sides_after, levels_new, levels_after, counted, step_new, step_state}
-use Rattle.match_live.proofs.ListLemmas.{map_append}
-use Rattle.match_live.proofs.PairsLemmas.{pairs}
-use Rattle.match_live.proofs.OnceLemmas.{same_self, Joins, count_append, count_others, count_under, count_not_under}
-use Rattle.match_live.proofs.LivesLemmas.{le_true}
+use Rattle.match_bindings.proofs.ListLemmas.{map_append}
+use Rattle.match_bindings.proofs.PairsLemmas.{pairs}
+use Rattle.match_bindings.proofs.OnceLemmas.{same_self, Joins, count_append, count_others, count_under, count_not_under}
 use Rattle.match_live.proofs.AliveLemmas.{alive_min, alive_within, alive_between, behind_alive, behind_ahead}
 use Rattle.match_live.proofs.NumberLemmas.{latest_new, latest_binding, has_greatest, greatest_binding, old_set, apart}
 use Rattle.match_live.proofs.JoinLemmas.{join_law, level_law}
 use Rattle.match_live.proofs.StoreLemmas.{AreHeld, held_same, joins_are, both_joins_are, under_are, bit_positive, sets_made, kept_law, added_law, stored_law}
+use Rattle.match_live.proofs.LivesLemmas.{le_both}
 
 -- ---- what stands before and after a row
 
@@ -164,9 +166,6 @@ within_bits true true al lt false k = let e : lt ≡ false = k refl refl in rw e
   last true = refl
   last false = refl
 
-le_both : (a b : ℤ) → a ≤ℤ b → b ≤ℤ a → a ≡ b
-le_both a b h k = omega (arith, ints)
-
 -- a new binding ends now
 ends_now : (o : Observed) (row : Row) (truths : List Bool) (s : ℤ) → Given o row truths s → (p : NumberedPattern) (b : BindTree) →
     is_binding o p b ≡ true → has row.number b ≡ true → row.last ≡ latest o.last b
@@ -192,12 +191,6 @@ between_law o row truths s g p w x y b =
     (λ i h. ap (λ z. int_le x (earliest o.first b) && int_lt z y) (ends_now o row truths s g p b i h)))
 
 -- ---- AND and FOLLOWEDBY
-
-pair_joins : Joins Pair
-pair_joins = record { tells = λ a b c d. refl }
-
-more_joins : Joins More
-more_joins = record { tells = λ a b c d. refl }
 
 side_bits : (p q c x y h : Bool) → (((p && x) && (q && y) && c) && h) ≡ (((p && q && c) && (x && y)) && h)
 side_bits false q c x y h = refl

@@ -14,9 +14,9 @@ use Rattle.match_live.specs.declared.join.Join.TheVariants as join
 use Rattle.match_live.specs.PieceTree.{PieceTree, hold}
 use Rattle.match_live.specs.inner.Lives.{alive, lives}
 use Rattle.match_live.specs.inner.Steps.{held_with, joined_tree, joined, may_join, join_row, joins, kept}
-use Rattle.match_live.proofs.ListLemmas.{map_append, map_map, map_agree, filter_map}
-use Rattle.match_live.proofs.PairsLemmas.{pairs}
-use Rattle.match_live.proofs.OnceLemmas.{same_self, count_append, count_filter}
+use Rattle.match_bindings.proofs.ListLemmas.{map_append, map_map, map_agree, filter_map}
+use Rattle.match_bindings.proofs.PairsLemmas.{pairs}
+use Rattle.match_bindings.proofs.OnceLemmas.{same_self, count_append, count_filter}
 use Rattle.match_live.proofs.AliveLemmas.{lives_before}
 
 -- the things are the trees that pass, each once, with their times
@@ -111,7 +111,7 @@ new_bits false true h al k = omega arith
 new_bits true false h al k = omega arith
 new_bits true true h al k = rw (k refl) (omega arith)
 
-sum_bits : (b h : Bool) → bit (b && not h) + bit (b && h) ≡ bit b
+pub sum_bits : (b h : Bool) → bit (b && not h) + bit (b && h) ≡ bit b
 sum_bits true true = refl
 sum_bits true false = refl
 sum_bits false h = refl

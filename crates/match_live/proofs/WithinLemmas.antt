@@ -12,16 +12,17 @@ use Rattle.match_bindings.specs.BindTree.{BindTree, One, Pair, First, Second, Em
 use Rattle.match_bindings.specs.Log.{Observed, observed_in}
 use Rattle.match_bindings.specs.Span.{earliest, later_by}
 use Rattle.match_bindings.specs.Once.{same, count}
+use Rattle.match_bindings.proofs.IsBindingLemmas.{lt_true}
 use Rattle.match_windows.specs.Stores.{Store, level, levels, stores_under}
 use Rattle.match_live.specs.PieceTree.{PieceTree, hold}
 use Rattle.match_live.specs.LivePart.{HoldsLive, AreLive, IsLivePart, time_of}
 use Rattle.match_live.specs.RowNumbers.{any_has, is_kept}
 use Rattle.match_live.specs.inner.Lives.{in_seconds, from_start, before_stop, is_ahead, lives}
-use Rattle.match_live.proofs.OnceLemmas.{same_self}
-use Rattle.match_live.proofs.LivesLemmas.{lt_true}
+use Rattle.match_bindings.proofs.OnceLemmas.{same_self}
 use Rattle.match_live.proofs.StoreLemmas.{bit_positive}
 use Rattle.match_live.proofs.ShapeLemmas.{Rule, to_held}
 use Rattle.match_live.proofs.CountLemmas.{may_hold, may_rule}
+use Rattle.match_live.proofs.LivesLemmas.{le_self}
 
 -- ---- all stores are that narrow
 
@@ -67,9 +68,6 @@ min_left a b t h = omega (arith, ints, clamps)
 
 min_right : (a b t : ℤ) → b ≤ℤ t → int_min a b ≤ℤ t
 min_right a b t h = omega (arith, ints, clamps)
-
-le_self : (a : ℤ) → a ≤ℤ a
-le_self a = omega (arith, ints)
 
 earliest_has : (time : ℕ → ℤ) (n : ℕ) (x : BindTree) → has n x ≡ true → earliest time x ≤ℤ time n
 earliest_has time n (One m) h = let same : n ≡ m = eqb-true n m h in rw same (le_self (time m))

@@ -1,7 +1,6 @@
 pub mod PieceTree
 pub mod LivePart
-pub mod Answer
 pub mod MatcherState
+pub mod Answer
 pub mod RowNumbers
-pub mod View
 pub mod inner

@@ -1,13 +1,15 @@
 -- What a matcher is, without where it lies in memory, and the log that it stands for.
 use Rattle.std.specs.Prelude.{◌≡◌, ℕ, ℤ, ◌<ℤ◌, Bool, Option, Some, None, List, [], ◌∷◌, ◌++◌, length}
 use Rattle.match_bindings.specs.declared.log_entry.LogEntry.{LogEntry}
-use Rattle.match_bindings.specs.NumberedPattern.{NumberedPattern}
+use Rattle.match_bindings.specs.NumberedPattern.{numbered_pattern}
+use Rattle.pattern_types.specs.declared.pattern.Pattern.{Pattern}
 use Rattle.match_live.specs.declared.ending.Ending.{Ending}
 use Rattle.match_live.specs.PieceTree.{PieceTree}
 use Rattle.match_live.specs.LivePart.{IsLivePart}
 
 pub record MatcherState : Type 0 where
-  pub pattern : NumberedPattern
+  -- what it was made for
+  pub pattern : Pattern
   -- how much may be live
   pub cap : ℕ
   -- how it ended, where it did
@@ -30,7 +32,7 @@ pub record StandsFor (state : MatcherState) (log : List LogEntry) : Type 0 where
   pub runs : state.ended ≡ None
   pub rows : state.rows ≡ length log
   pub last : state.last ≡ last_of log
-  pub live : IsLivePart state.pattern log state.contents
+  pub live : IsLivePart (numbered_pattern state.pattern) log state.contents
 
 -- a log and a row more
 abbrev pub with_row : List LogEntry → ℤ → ℤ → List Bool → List LogEntry

@@ -5,3 +5,5 @@ pub mod Steps
 pub mod Shape
 pub mod Runs
 pub mod Numbers
+pub mod TreeCode
+pub mod Seen

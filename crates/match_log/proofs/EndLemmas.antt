@@ -1,8 +1,7 @@
 -- How a run ends where the matcher does.
-use Rattle.std.proofs.Common.{◌≡◌, ℕ, suc, ℤ, ◌<ℤ◌, Bool, List, [], ◌∷◌, ◌++◌, length, Option, None, Some, Result, Err, refl, sym, subst, arith}
+use Rattle.std.proofs.Common.{◌≡◌, ℕ, ℤ, ◌<ℤ◌, Bool, List, [], ◌∷◌, ◌++◌, length, Option, None, Some, Result, Err, refl, sym, subst, arith, length-append}
 use Rattle.serde_json.specs.Data.{Data}
 use Rattle.stix_bundles.specs.declared.observation.Observation.{Observation}
-use Rattle.pattern_types.specs.declared.pattern.Pattern.{Pattern}
 use Rattle.pattern_types.specs.PlainPattern.{plain_pattern}
 use Rattle.match_tests.specs.Truths.{AreTruths}
 use Rattle.match_bindings.specs.declared.bind.Bind.{Bind}
@@ -13,7 +12,7 @@ use Rattle.match_live.specs.declared.ending.Ending.TheVariants as ending
 use Rattle.match_live.specs.declared.ending.MatchRefusal.{MatchRefusal}
 use Rattle.match_live.specs.declared.ending.MatchRefusal.TheVariants as refusal
 use Rattle.match_live.specs.MatcherState.{MatcherState, Falls}
-use Rattle.match_live.specs.Answer.{IsCrowded}
+use Rattle.match_live.specs.Answer.{IsCrowded, IsCrowdedAtRow}
 use Rattle.match_log.specs.inner.Ends.{MayEnd, end_of_match}
 use Rattle.match_log.specs.inner.Rows.{row_of, EndsAtRow}
 
@@ -31,25 +30,24 @@ may_end (refusal.Stopped (ending.OutOfOrder before time)) state now runs order f
 may_end (refusal.Stopped ending.NoMemory) state now runs order fallen ended = tt
 may_end (refusal.Ended e) state now runs order fallen ended = let some = ended e refl in cc
 
-pub ends_row : (p : Pattern) (cap : ℕ) (objects : List Data) (o : Observation) (log : List LogEntry) (state after : MatcherState) (text : List ℕ)
-    (truths : List Bool) (why : MatchRefusal) → AreTruths objects o.roots (plain_pattern p) truths
-    → ((number named : ℕ) → Answers why (refusal.Stopped (ending.Crowded number named)) → (number ≡ suc (length log)) × (named ≡ cap)
-    × (¬ (Falls state.last o.last)) × IsCrowded (numbered_pattern p) (log ++ row_of o truths ∷ []) named)
+pub ends_row : (objects : List Data) (o : Observation) (log : List LogEntry) (state after : MatcherState) (text : List ℕ)
+    (truths : List Bool) (why : MatchRefusal) → AreTruths objects o.roots (plain_pattern state.pattern) truths
+    → ((number named : ℕ) → Answers why (refusal.Stopped (ending.Crowded number named)) → IsCrowdedAtRow state (log ++ row_of o truths ∷ []) number named)
     → ((e : Ending) → Answers why (refusal.Stopped e) → (state.ended ≡ None) × (after.ended ≡ Some e))
-    → EndsAtRow p cap objects o log after text text (end_of_match why)
-ends_row p most objects o log state after text truths (refusal.Stopped (ending.Crowded number named)) are crowded stopped =
+    → EndsAtRow state.pattern state.cap objects o log after text text (end_of_match why)
+ends_row objects o log state after text truths (refusal.Stopped (ending.Crowded number named)) are crowded stopped =
     let is = crowded number named refl in
     let end = stopped (ending.Crowded number named) refl in (
       record {
         truths = truths;
         are = are;
-        numbered = omega (arith, is.0);
-        cap_is = is.1;
-        crowded = subst (λ (n : ℕ). IsCrowded (numbered_pattern p) (log ++ row_of o truths ∷ []) n) is.1 is.3;
-        ended = subst (λ (n : ℕ). after.ended ≡ Some (ending.Crowded number n)) is.1 end.1;
+        numbered = omega (arith, is.numbered, length-append log (row_of o truths ∷ []));
+        cap_is = is.cap_is;
+        crowded = subst (λ (n : ℕ). IsCrowded (numbered_pattern state.pattern) (log ++ row_of o truths ∷ []) n) is.cap_is is.crowded;
+        ended = subst (λ (n : ℕ). after.ended ≡ Some (ending.Crowded number n)) is.cap_is end.1;
       },
       refl,
     )
-ends_row p most objects o log state after text truths (refusal.Stopped (ending.OutOfOrder before time)) are crowded stopped = tt
-ends_row p most objects o log state after text truths (refusal.Stopped ending.NoMemory) are crowded stopped = tt
-ends_row p most objects o log state after text truths (refusal.Ended e) are crowded stopped = tt
+ends_row objects o log state after text truths (refusal.Stopped (ending.OutOfOrder before time)) are crowded stopped = tt
+ends_row objects o log state after text truths (refusal.Stopped ending.NoMemory) are crowded stopped = tt
+ends_row objects o log state after text truths (refusal.Ended e) are crowded stopped = tt

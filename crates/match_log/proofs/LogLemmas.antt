@@ -15,6 +15,7 @@ use Rattle.match_bindings.specs.BindTree.{BindTree, One, Pair, First, Second, Em
 use Rattle.match_bindings.specs.Line.{line_text}
 use Rattle.match_bindings.specs.Log.{IsInOrder}
 use Rattle.match_bindings.specs.Once.{same, count}
+use Rattle.match_bindings.proofs.OnceLemmas.{same_self}
 use Rattle.match_live.specs.MatcherState.{last_of, Falls}
 use Rattle.match_live.specs.Answer.{IsAnswer, IsRoomy, AnswersAfter, joined_answers}
 use Rattle.match_input.specs.Reading.{BundleOf}
@@ -76,19 +77,6 @@ pub entries_of-length : (p : PlainPattern) (objects : List Data) (observations :
 entries_of-length p objects [] log entries = ap length entries
 entries_of-length p objects (o ∷ observations) log entries = ap length entries.4 ∙ ap suc (entries_of-length p objects observations entries.1 entries.3)
 
-pub last_of-more : (log : List LogEntry) (row : LogEntry) → last_of (log ++ row ∷ []) ≡ Some row.last
-last_of-more [] row = refl
-last_of-more (first ∷ []) row = refl
-last_of-more (first ∷ next ∷ log) row = last_of-more (next ∷ log) row
-
-not_below : (a b : ℤ) → ¬ (b <ℤ a) → a ≤ℤ b
-not_below a b h = grind (arith, ints, h)
-
-pub in_order-more : (log : List LogEntry) (row : LogEntry) → IsInOrder log → row.first ≤ℤ row.last → ¬ (Falls (last_of log) row.last) → IsInOrder (log ++ row ∷ [])
-in_order-more [] row order span falls = span
-in_order-more (first ∷ []) row order span falls = (order, not_below first.last row.last falls, span)
-in_order-more (first ∷ next ∷ log) row order span falls = (order.0, order.1, in_order-more (next ∷ log) row order.2 span falls)
-
 -- where a list with one more at its end is cut: at its end or before
 abbrev Cuts : (log : List LogEntry) (end : LogEntry) (rows : List LogEntry) (row : LogEntry) → Type 0
 Cuts log end rows row = (rows ++ row ∷ [] ≡ log ++ end ∷ []) ⊎ ((more : List LogEntry) × (log ≡ rows ++ row ∷ more))
@@ -116,15 +104,6 @@ never_crowded-more p cap log end never roomy rows more row e = go (cuts log end 
     go (inr before) = never rows before.0 row before.1
 
 -- ---- the last binding
-
-same_self : (x : BindTree) → same x x ≡ true
-same_self (One n) = eq-eqb n n refl
-same_self (Pair a b) = and_from _ _ (same_self a) (same_self b)
-same_self (First a) = same_self a
-same_self (Second a) = same_self a
-same_self Empty = refl
-same_self (Single a) = same_self a
-same_self (More a b) = and_from _ _ (same_self a) (same_self b)
 
 -- an answer ends at the last row
 pub ends_at : (p : NumberedPattern) (log : List LogEntry) (xs : List BindTree) → IsAnswer p log xs → (x : BindTree) → 0 < count x xs → greatest x ≡ length log

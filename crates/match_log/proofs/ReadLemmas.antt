@@ -15,7 +15,8 @@ use Rattle.match_input.specs.Line.{IsBundleLine, last_after}
 use Rattle.match_input.specs.Reading.{BundleOf, InputEnd, Whole, Refused, IsRefusedAt, Reads, at_end, at_refusal, one_bundle}
 use Rattle.match_input.specs.Ahead.{ReaderState, reader_start, next_number, ahead, BreaksOff, GivesBatch}
 use Rattle.match_log.specs.Matching.{ReadsInput, BeginsSo, HasTaken}
-use Rattle.match_log.specs.inner.Runs.{IsStageOf, HasRead, bundle_of}
+use Rattle.match_log.specs.inner.Rows.{bundle_of}
+use Rattle.match_log.specs.inner.Runs.{IsStageOf, HasRead}
 use Rattle.match_log.proofs.StageLemmas.{ahead_none, ahead_some, start_accounts, moves_on}
 
 -- where the first line that comes is a bundle, all that comes is read as that bundle and what is behind it

@@ -12,24 +12,27 @@ use Rattle.match_tests.specs.Truths.{AreTruths, AreTruthsOfEach}
 use Rattle.match_bindings.specs.declared.log_entry.LogEntry.{LogEntry}
 use Rattle.match_bindings.specs.NumberedPattern.{numbered_pattern}
 use Rattle.match_bindings.specs.BindTree.{BindTree}
+use Rattle.match_bindings.specs.Log.{IsInOrder}
 use Rattle.match_live.specs.MatcherState.{MatcherState, StandsFor, Falls}
 use Rattle.match_live.specs.Answer.{IsAnswer, IsRoomy, joined_answers}
+use Rattle.match_input.specs.Reading.{BundleOf}
 use Rattle.match_log.specs.Listing.{listing_text, last_number}
-use Rattle.match_log.specs.inner.Rows.{counted, last_counted, IsBehind, IsBehindSome, MayFollow, row_of, AddsRow, EndsAtRow, AddsRows, ListsFirst, IsCrowdedAt, StopsAmong, EndsAmong, WritesRows, EndsInBundle}
+use Rattle.match_log.specs.inner.Rows.{counted, last_counted, IsBehind, Progress, so_far, IsAt, IsAtSome, MayFollow, row_of, AddsRow, EndsAtRow, AddsRows, ListsFirst, IsCrowdedAt, StopsAmong, EndsAmong, TakesRow, StopsAtRow, TakesRows, StopsAtOne, WritesBundle, StopsInBundle}
 use Rattle.match_log.specs.declared.end.MatchEnd.{MatchEnd}
 use Rattle.match_log.specs.declared.end.MatchEnd.TheVariants.{Done, Input, ReadFault, WriteFault, Crowded, NoMemory}
 use Rattle.flow_edges.specs.Flow.{written_with}
 use Rattle.match_log.specs.declared.tally.Tally.{Tally}
-use Rattle.match_log.proofs.LogLemmas.{joined_answers-one, listing_text-append, answers-more, entries_of-more, in_order-more, last_of-more, never_crowded-more, ends_at, last_number-more}
+use Rattle.match_live.proofs.LogLemmas.{last_of_more}
+use Rattle.match_log.proofs.LogLemmas.{joined_answers-one, listing_text-append, answers-more, entries_of-more, never_crowded-more, ends_at, last_number-more}
 
 -- the matcher took a row, and its answer was counted
 pub behind-more : (p : Pattern) (cap : ℕ) (state after : MatcherState) (tally : Tally) (log : List LogEntry) (answers : List (List BindTree))
     (o : Observation) (truths : List Bool) (answer : List BindTree) → IsBehind p cap state tally log answers
-    → o.first ≤ℤ o.last → ¬ (Falls state.last o.last) → o.number ≡ state.rows + 1 → length answer ≤ 2 ^ 64
-    → StandsFor after (log ++ row_of o truths ∷ []) → IsAnswer (numbered_pattern p) (log ++ row_of o truths ∷ []) answer
+    → o.number ≡ state.rows + 1 → length answer ≤ 2 ^ 64
+    → StandsFor after (log ++ row_of o truths ∷ []) → IsInOrder (log ++ row_of o truths ∷ []) → IsAnswer (numbered_pattern p) (log ++ row_of o truths ∷ []) answer
     → IsRoomy (numbered_pattern p) (log ++ row_of o truths ∷ []) cap
     → IsBehind p cap after (counted tally o.number (length answer)) (log ++ row_of o truths ∷ []) (answers ++ answer ∷ [])
-behind-more p cap state after tally log answers o truths answer b span falls number few stands is roomy =
+behind-more p cap state after tally log answers o truths answer b number few stands order is roomy =
     let row = row_of o truths in
     let rows : length (log ++ row ∷ []) ≡ length log + 1 = length-append log (row ∷ []) in
     let joined = joined_answers-one answers answer in
@@ -38,7 +41,7 @@ behind-more p cap state after tally log answers o truths answer b span falls num
     let last = last_number-more (joined_answers answers) answer o.number (λ x there. at x there ∙ same) in
     record {
       rows = record {
-        order = in_order-more log row b.rows.order span (subst (λ (l : Option ℤ). ¬ (Falls l o.last)) b.stands.last falls);
+        order = order;
         roomy = never_crowded-more p cap log row b.rows.roomy roomy;
         answers_are = answers-more (numbered_pattern p) [] log row answers answer b.rows.answers_are is;
       };
@@ -56,7 +59,7 @@ rows-more p cap state after tally later log answers more row b c = omega (arith,
 
 pub last-more : (p : Pattern) (cap : ℕ) (after : MatcherState) (later : Tally) (log : List LogEntry) (more : List (List BindTree))
     (row : LogEntry) → IsBehind p cap after later (log ++ row ∷ []) more → after.last ≡ Some row.last
-last-more p cap after later log more row c = c.stands.last ∙ last_of-more log row
+last-more p cap after later log more row c = c.stands.last ∙ last_of_more log row
 
 -- what may follow behind the row
 pub follow-more : (p : Pattern) (cap : ℕ) (objects : List Data) (o : Observation) (state after : MatcherState) (tally later : Tally) (log : List LogEntry)
@@ -70,17 +73,6 @@ follow-more p cap objects o state after tally later log answers text text_after 
     subst (λ (l : Option ℤ). MayFollow l (after.rows + 1) observations) (sym last)
     (subst (λ (n : ℕ). MayFollow (Some o.last) (n + 1) observations) (sym rows) follow)
 
--- no observation adds nothing
-pub adds-none : (p : Pattern) (cap : ℕ) (objects : List Data) (log : List LogEntry) (answers : List (List BindTree)) (state : MatcherState) (tally : Tally)
-    → IsBehind p cap state tally log answers → AddsRows p cap objects [] log answers state tally []
-adds-none p cap objects log answers state tally b = record {
-  own = [];
-  own_answers = [];
-  entries = refl;
-  behind = subst (λ (l : List LogEntry). IsBehind p cap state tally l (answers ++ [])) (sym (append-nil log))
-      (subst (λ (a : List (List BindTree)). IsBehind p cap state tally log a) (sym (append-nil answers)) b);
-  text_is = refl;
-}
 
 -- one more observation
 pub adds-more : (p : Pattern) (cap : ℕ) (objects : List Data) (observations : List Observation) (o : Observation) (log : List LogEntry)
@@ -145,97 +137,94 @@ all_here xs i x within is = sym (take-append-drop i xs) ∙ ap (λ (r : List Obs
 
 -- ---- one turn of the loop over the observations, at a pattern and a cap that stay the same
 
-module _ (p : Pattern) (most : ℕ) (objects : List Data) (seen : List Observation) (o : Observation) (log : List LogEntry) (answers : List (List BindTree))
-    (state after : MatcherState) (tally later : Tally) (text text_after : List ℕ) where
-  pub turn-rows : (q : Pattern) (limit : ℕ) → q ≡ p → limit ≡ most → AddsRows p most objects seen log answers state tally text
-      → ((log : List LogEntry) (answers : List (List BindTree)) → IsBehind q limit state tally log answers
-      → AddsRow q limit objects o log answers after later text text_after)
-      → AddsRows p most objects (seen ++ o ∷ []) log answers after later text_after
-  turn-rows q limit same_p same_cap adds row =
-      let at_p = subst (λ (q : Pattern). (log : List LogEntry) (answers : List (List BindTree)) → IsBehind q limit state tally log answers
-      → AddsRow q limit objects o log answers after later text text_after) same_p row in
-      let at_cap = subst (λ (c : ℕ). (log : List LogEntry) (answers : List (List BindTree)) → IsBehind p c state tally log answers
-      → AddsRow p c objects o log answers after later text text_after) same_cap at_p in
-      adds-more p most objects seen o log answers state after tally later text text_after adds
+module _ (objects : List Data) (seen : List Observation) (o : Observation) (first : Progress)
+    (state after : MatcherState) (tally later : Tally) (text text_after : List ℕ) (same_p : state.pattern ≡ first.matcher.pattern) (same_cap : state.cap ≡ first.matcher.cap)
+    (rows : TakesRows objects seen first (so_far state tally) text) where
+  pub turn-rows : TakesRow objects o (so_far state tally) (so_far after later) text text_after → TakesRows objects (seen ++ o ∷ []) first (so_far after later) text_after
+  turn-rows row log answers b =
+      let adds = rows log answers b in
+      let at_p = subst (λ (q : Pattern). (log : List LogEntry) (answers : List (List BindTree)) → IsBehind q state.cap state tally log answers
+      → AddsRow q state.cap objects o log answers after later text text_after) same_p row in
+      let at_cap = subst (λ (c : ℕ). (log : List LogEntry) (answers : List (List BindTree)) → IsBehind first.matcher.pattern c state tally log answers
+      → AddsRow first.matcher.pattern c objects o log answers after later text text_after) same_cap at_p in
+      adds-more first.matcher.pattern first.matcher.cap objects seen o log answers state after tally later text text_after adds
       (at_cap (log ++ adds.own) (answers ++ adds.own_answers) adds.behind)
 
-  ends-turn : (rest : List Observation) (end : MatchEnd) → (adds : AddsRows p most objects seen log answers state tally text)
-      → EndsAtRow p most objects o (log ++ adds.own) after text text_after end → EndsAmong p most objects (seen ++ o ∷ rest) log answers after text_after end
-  ends-turn rest (Done observations bindings last) adds ends = absurd ends
-  ends-turn rest (Input line why) adds ends = absurd ends
-  ends-turn rest ReadFault adds ends = absurd ends
-  ends-turn rest WriteFault adds ends = absurd ends
-  ends-turn rest (Crowded number named) adds ends =
-      subst (λ (t : List ℕ). StopsAmong p most objects (seen ++ o ∷ rest) log answers after t number named) (sym ends.1)
-      (stops-next p most objects seen rest o log answers state after tally text number named adds ends.0)
-  ends-turn rest NoMemory adds ends = tt
+  ends-turn : (rest : List Observation) (end : MatchEnd) (log : List LogEntry) (answers : List (List BindTree))
+      → (adds : AddsRows first.matcher.pattern first.matcher.cap objects seen log answers state tally text)
+      → EndsAtRow first.matcher.pattern first.matcher.cap objects o (log ++ adds.own) after text text_after end
+      → EndsAmong first.matcher.pattern first.matcher.cap objects (seen ++ o ∷ rest) log answers after text_after end
+  ends-turn rest (Done observations bindings last) log answers adds ends = absurd ends
+  ends-turn rest (Input line why) log answers adds ends = absurd ends
+  ends-turn rest ReadFault log answers adds ends = absurd ends
+  ends-turn rest WriteFault log answers adds ends = absurd ends
+  ends-turn rest (Crowded number named) log answers adds ends =
+      subst (λ (t : List ℕ). StopsAmong first.matcher.pattern first.matcher.cap objects (seen ++ o ∷ rest) log answers after t number named) (sym ends.1)
+      (stops-next first.matcher.pattern first.matcher.cap objects seen rest o log answers state after tally text number named adds ends.0)
+  ends-turn rest NoMemory log answers adds ends = tt
 
-  pub turn-end : (rest : List Observation) (end : MatchEnd) (q : Pattern) (limit : ℕ) → q ≡ p → limit ≡ most → AddsRows p most objects seen log answers state tally text
-      → ((log : List LogEntry) (answers : List (List BindTree)) → IsBehind q limit state tally log answers
-      → EndsAtRow q limit objects o log after text text_after end)
-      → EndsAmong p most objects (seen ++ o ∷ rest) log answers after text_after end
-  turn-end rest end q limit same_p same_cap adds row =
-      let at_p = subst (λ (q : Pattern). (log : List LogEntry) (answers : List (List BindTree)) → IsBehind q limit state tally log answers
-      → EndsAtRow q limit objects o log after text text_after end) same_p row in
-      let at_cap = subst (λ (c : ℕ). (log : List LogEntry) (answers : List (List BindTree)) → IsBehind p c state tally log answers
-      → EndsAtRow p c objects o log after text text_after end) same_cap at_p in
-      ends-turn rest end adds (at_cap (log ++ adds.own) (answers ++ adds.own_answers) adds.behind)
+  pub turn-end : (rest : List Observation) (end : MatchEnd) → StopsAtRow objects o (so_far state tally) after text text_after end
+      → StopsAtOne objects (seen ++ o ∷ rest) first after text_after end
+  turn-end rest end row log answers b =
+      let adds = rows log answers b in
+      let at_p = subst (λ (q : Pattern). (log : List LogEntry) (answers : List (List BindTree)) → IsBehind q state.cap state tally log answers
+      → EndsAtRow q state.cap objects o log after text text_after end) same_p row in
+      let at_cap = subst (λ (c : ℕ). (log : List LogEntry) (answers : List (List BindTree)) → IsBehind first.matcher.pattern c state tally log answers
+      → EndsAtRow first.matcher.pattern c objects o log after text text_after end) same_cap at_p in
+      ends-turn rest end log answers adds (at_cap (log ++ adds.own) (answers ++ adds.own_answers) adds.behind)
 
-pub turn-behind : (p q : Pattern) (most limit : ℕ) (objects : List Data) (o : Observation) (state after : MatcherState) (tally later : Tally) (text text_after : List ℕ)
-    → q ≡ p → limit ≡ most → IsBehindSome p most state tally
-    → ((log : List LogEntry) (answers : List (List BindTree)) → IsBehind p most state tally log answers → AddsRow p most objects o log answers after later text text_after)
-    → IsBehindSome q limit after later
-turn-behind p q most limit objects o state after tally later text text_after same_p same_cap some row =
+pub turn-behind : (objects : List Data) (o : Observation) (state after : MatcherState) (tally later : Tally) (text text_after : List ℕ)
+    → after.pattern ≡ state.pattern → after.cap ≡ state.cap → IsAtSome (so_far state tally)
+    → TakesRow objects o (so_far state tally) (so_far after later) text text_after → IsAtSome (so_far after later)
+turn-behind objects o state after tally later text text_after same_p same_cap some row =
     let adds = row some.0 some.1 some.2 in
-    subst (λ (x : Pattern). IsBehindSome x limit after later) (sym same_p)
-    (subst (λ (c : ℕ). IsBehindSome p c after later) (sym same_cap) (some.0 ++ row_of o adds.truths ∷ [], some.1 ++ adds.answer ∷ [], adds.behind))
+    let log = some.0 ++ row_of o adds.truths ∷ [] in
+    let answers = some.1 ++ adds.answer ∷ [] in (
+      log,
+      answers,
+      subst (λ (p : Pattern). IsBehind p after.cap after later log answers) (sym same_p)
+          (subst (λ (c : ℕ). IsBehind state.pattern c after later log answers) (sym same_cap) adds.behind),
+    )
 
-pub turn-follow : (p : Pattern) (most : ℕ) (objects : List Data) (o : Observation) (state after : MatcherState) (tally later : Tally) (text text_after : List ℕ)
-    (rest : List Observation) → IsBehindSome p most state tally
-    → ((log : List LogEntry) (answers : List (List BindTree)) → IsBehind p most state tally log answers → AddsRow p most objects o log answers after later text text_after)
+pub turn-follow : (objects : List Data) (o : Observation) (state after : MatcherState) (tally later : Tally) (text text_after : List ℕ)
+    (rest : List Observation) → IsAtSome (so_far state tally) → TakesRow objects o (so_far state tally) (so_far after later) text text_after
     → MayFollow state.last (state.rows + 1) (o ∷ rest) → MayFollow after.last (after.rows + 1) rest
-turn-follow p most objects o state after tally later text text_after rest some row follow =
-    follow-more p most objects o state after tally later some.0 some.1 text text_after rest some.2 (row some.0 some.1 some.2) follow.3
+turn-follow objects o state after tally later text text_after rest some row follow =
+    follow-more state.pattern state.cap objects o state after tally later some.0 some.1 text text_after rest some.2 (row some.0 some.1 some.2) follow.3
 
 -- ---- a bundle
 
-module _ (p : Pattern) (most : ℕ) (objects : List Data) (observations : List Observation) (log : List LogEntry) (answers : List (List BindTree))
-    (state : MatcherState) (tally : Tally) (text : List ℕ) (written written_after : Option (List ℕ)) where
-  pub batch-rows : (answer : Result (Unit {0}) MatchEnd) → OnOk answer (AddsRows p most objects observations log answers state tally text)
-      → written_after ≡ written_with text written → OnOk answer (WritesRows p most objects observations log answers state tally written written_after)
-  batch-rows (Ok done) adds is = (text, adds, is)
-  batch-rows (Err end) adds is = tt
+module _ (bundle : BundleOf) (run after : Progress) (text : List ℕ) where
+  pub batch-rows : (written written_after : Option (List ℕ)) (answer : Result (Unit {0}) MatchEnd)
+      → OnOk answer (TakesRows bundle.objects bundle.observations run after text)
+      → written_after ≡ written_with text written → OnOk answer (WritesBundle bundle run after written written_after)
+  batch-rows written written_after (Ok done) adds is = λ log answers b. (text, adds log answers b, is)
+  batch-rows written written_after (Err end) adds is = tt
 
-  pub batch-end : (answer : Result (Unit {0}) MatchEnd) → IfErr answer (EndsAmong p most objects observations log answers state text)
-      → answer ≢ Err NoMemory → written_after ≡ written_with text written → IfErr answer (EndsInBundle p most objects observations log answers state written written_after)
-  batch-end (Ok done) ends some is = tt
-  batch-end (Err (Done seen bindings last)) ends some is = absurd ends
-  batch-end (Err (Input line why)) ends some is = absurd ends
-  batch-end (Err ReadFault) ends some is = absurd ends
-  batch-end (Err WriteFault) ends some is = absurd ends
-  batch-end (Err (Crowded number named)) ends some is = (text, ends, is)
-  batch-end (Err NoMemory) ends some is = absurd (some refl)
+  pub batch-end : (written written_after : Option (List ℕ)) (answer : Result (Unit {0}) MatchEnd)
+      → IfErr answer (StopsAtOne bundle.objects bundle.observations run after.matcher text)
+      → answer ≢ Err NoMemory → written_after ≡ written_with text written → IfErr answer (StopsInBundle bundle run after.matcher written written_after)
+  batch-end written written_after (Ok done) ends some is = tt
+  batch-end written written_after (Err (Done seen bindings last)) ends some is = ends
+  batch-end written written_after (Err (Input line why)) ends some is = ends
+  batch-end written written_after (Err ReadFault) ends some is = ends
+  batch-end written written_after (Err WriteFault) ends some is = λ log answers b. absurd (ends log answers b)
+  batch-end written written_after (Err (Crowded number named)) ends some is = λ log answers b. (text, ends log answers b, is)
+  batch-end written written_after (Err NoMemory) ends some is = absurd (some refl)
 
-  pub batch-first : (answer : Result (Unit {0}) MatchEnd) → OnOk answer (AddsRows p most objects observations log answers state tally text)
-      → IfErr answer (EndsAmong p most objects observations log answers state text) → answer ≢ Err NoMemory → ListsFirst p most objects observations log answers text
-  batch-first (Ok done) adds ends some =
-      subst (λ (os : List Observation). ListsFirst p most objects os log answers text) (append-nil observations)
-      (first-all p most objects observations [] log answers state tally text adds)
-  batch-first (Err (Done seen bindings last)) adds ends some = absurd ends
-  batch-first (Err (Input line why)) adds ends some = absurd ends
-  batch-first (Err ReadFault) adds ends some = absurd ends
-  batch-first (Err WriteFault) adds ends some = absurd ends
-  batch-first (Err (Crowded number named)) adds ends some = ends.first
-  batch-first (Err NoMemory) adds ends some = absurd (some refl)
-
-  pub no_fault : (answer : Result (Unit {0}) MatchEnd) → IfErr answer (EndsAmong p most objects observations log answers state text) → answer ≢ Err WriteFault
-  no_fault (Ok done) ends is = absurd (cc)
-  no_fault (Err (Done seen bindings last)) ends is = absurd ends
-  no_fault (Err (Input line why)) ends is = absurd ends
-  no_fault (Err ReadFault) ends is = absurd ends
-  no_fault (Err WriteFault) ends is = absurd ends
-  no_fault (Err (Crowded number named)) ends is = absurd (cc)
-  no_fault (Err NoMemory) ends is = absurd (cc)
+  pub batch-first : (answer : Result (Unit {0}) MatchEnd) → OnOk answer (TakesRows bundle.objects bundle.observations run after text)
+      → IfErr answer (StopsAtOne bundle.objects bundle.observations run after.matcher text) → answer ≢ Err NoMemory
+      → (log : List LogEntry) (answers : List (List BindTree)) → IsAt run log answers
+      → ListsFirst run.matcher.pattern run.matcher.cap bundle.objects bundle.observations log answers text
+  batch-first (Ok done) adds ends some log answers b =
+      subst (λ (os : List Observation). ListsFirst run.matcher.pattern run.matcher.cap bundle.objects os log answers text) (append-nil bundle.observations)
+      (first-all run.matcher.pattern run.matcher.cap bundle.objects bundle.observations [] log answers after.matcher after.tally text (adds log answers b))
+  batch-first (Err (Done seen bindings last)) adds ends some log answers b = absurd (ends log answers b)
+  batch-first (Err (Input line why)) adds ends some log answers b = absurd (ends log answers b)
+  batch-first (Err ReadFault) adds ends some log answers b = absurd (ends log answers b)
+  batch-first (Err WriteFault) adds ends some log answers b = absurd (ends log answers b)
+  batch-first (Err (Crowded number named)) adds ends some log answers b = (ends log answers b).first
+  batch-first (Err NoMemory) adds ends some log answers b = absurd (some refl)
 
 -- the truths that were found for the observation at a place
 module _ (objects : List Data) (p : PlainPattern) (observations : List Observation) (rows : List (List Bool)) (i : ℕ) (o : Observation)

@@ -30,9 +30,9 @@ use Rattle.flow_edges.specs.Streams.{Streams, streams}
 use Rattle.match_log.specs.Entries.{AreEntriesOf}
 use Rattle.match_log.specs.Listing.{listing_text}
 use Rattle.match_log.specs.Matching.{IsNeverCrowded, ListsLog, ListsWhole, ListsBefore, ListsTaken, StopsCrowded, StopsWriting, StopsWithoutMemory, AnswersMatch}
-use Rattle.match_log.specs.inner.Rows.{no_tally, IsBehind, MayFollow, ListsFirst, StopsAmong, WritesRows, EndsInBundle, row_of}
+use Rattle.match_log.specs.inner.Rows.{no_tally, IsBehind, MayFollow, ListsFirst, StopsAmong, WritesRows, EndsInBundle, row_of, bundle_of}
 use Rattle.match_log.specs.inner.Ends.{end_of_read}
-use Rattle.match_log.specs.inner.Runs.{IsStageOf, RunsSo, HasRead, bundle_of}
+use Rattle.match_log.specs.inner.Runs.{IsStageOf, RunsSo, HasRead}
 use Rattle.match_log.specs.declared.tally.Tally.{Tally}
 use Rattle.match_log.specs.declared.end.MatchEnd.{MatchEnd}
 use Rattle.match_log.specs.declared.end.MatchEnd.TheVariants.{Done, Input, ReadFault, WriteFault, Crowded, NoMemory}

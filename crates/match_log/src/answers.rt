@@ -2,13 +2,11 @@ ghost use Rattle.std.specs.Prelude.{◌≡◌, ◌+◌, ◌++◌, ◌≤ℤ◌, 
 ghost use Rattle.serde_json.specs.Data.{Data};
 ghost use Rattle.pattern_types.specs.PlainPattern.{plain_pattern};
 ghost use Rattle.match_tests.specs.Truths.{AreTruths};
-ghost use Rattle.match_bindings.specs.declared.log_entry.LogEntry.{LogEntry};
-ghost use Rattle.match_bindings.specs.BindTree.{BindTree, tree_of};
+ghost use Rattle.match_bindings.specs.BindTree.{tree_of};
 ghost use Rattle.match_live.specs.MatcherState.{Falls};
-ghost use Rattle.match_live.specs.View.{matcher_state, pattern_of};
 ghost use Rattle.match_log.specs.Listing.{listing_text};
 ghost use Rattle.match_log.specs.inner.Ends.{MayEnd, end_of_match};
-ghost use Rattle.match_log.specs.inner.Rows.{IsBehind, IsBehindSome, AddsRow, EndsAtRow};
+ghost use Rattle.match_log.specs.inner.Rows.{so_far, IsAtSome, TakesRow, StopsAtRow};
 
 use crate::MatchEnd;
 use crate::tally::Tally;
@@ -28,22 +26,15 @@ pub(crate) fn answer(
     tally: &mut Tally,
     text: &mut Text,
 ) -> Result<(), MatchEnd>
-    requires behind { IsBehindSome (pattern_of matcher.old) (matcher_state matcher.old).cap (matcher_state matcher.old) tally.old }
+    requires behind { IsAtSome (so_far matcher.old tally.old) }
     requires span { observation.now.first ≤ℤ observation.now.last }
-    requires number { observation.now.number ≡ (matcher_state matcher.old).rows + 1 }
-    requires order { ¬ (Falls (matcher_state matcher.old).last observation.now.last) }
-    ensures row { (objects : List Data) (log : List LogEntry) (answers : List (List BindTree))
-        → AreTruths objects observation.now.roots (plain_pattern (pattern_of matcher.old)) truths.now
-        → IsBehind (pattern_of matcher.old) (matcher_state matcher.old).cap (matcher_state matcher.old) tally.old log answers
-        → OnOk result (AddsRow (pattern_of matcher.old) (matcher_state matcher.old).cap objects observation.now log answers
-        (matcher_state matcher.new) tally.new text.old text.new) }
-    ensures end { (objects : List Data) (log : List LogEntry) (answers : List (List BindTree))
-        → AreTruths objects observation.now.roots (plain_pattern (pattern_of matcher.old)) truths.now
-        → IsBehind (pattern_of matcher.old) (matcher_state matcher.old).cap (matcher_state matcher.old) tally.old log answers
-        → IfErr result (EndsAtRow (pattern_of matcher.old) (matcher_state matcher.old).cap objects observation.now log
-        (matcher_state matcher.new) text.old text.new) }
-    ensures pattern { pattern_of matcher.new ≡ pattern_of matcher.old }
-    ensures cap { (matcher_state matcher.new).cap ≡ (matcher_state matcher.old).cap }
+    requires number { observation.now.number ≡ matcher.old.rows + 1 }
+    requires order { ¬ (Falls matcher.old.last observation.now.last) }
+    ensures row { (objects : List Data) → AreTruths objects observation.now.roots (plain_pattern matcher.old.pattern) truths.now
+        → OnOk result (TakesRow objects observation.now (so_far matcher.old tally.old) (so_far matcher.new tally.new) text.old text.new) }
+    ensures end { (objects : List Data) → AreTruths objects observation.now.roots (plain_pattern matcher.old.pattern) truths.now
+        → IfErr result (StopsAtRow objects observation.now (so_far matcher.old tally.old) matcher.new text.old text.new) }
+    ensures kept { (matcher.new.pattern ≡ matcher.old.pattern) × (matcher.new.cap ≡ matcher.old.cap) }
 {
     let number = observation.number;
     match matcher.take(observation.first, observation.last, truths) {

@@ -1,12 +1,9 @@
-ghost use Rattle.std.specs.Prelude.{◌≡◌, ◌≢◌, ◌↔◌, ◌+◌, ◌≤◌, [], Err, IsTrue, List, OnOk, IfErr};
+ghost use Rattle.std.specs.Prelude.{◌≡◌, ◌↔◌, ◌+◌, [], Err, IsTrue, OnOk, IfErr};
 ghost use Rattle.flow_edges.specs.Faults.{Counted};
 ghost use Rattle.stix_bundles.specs.Objects.{data_in};
 ghost use Rattle.pattern_types.specs.PlainPattern.{plain_pattern};
 ghost use Rattle.pattern_types.specs.Soundness.{IsSoundPattern};
-ghost use Rattle.match_bindings.specs.declared.log_entry.LogEntry.{LogEntry};
-ghost use Rattle.match_bindings.specs.BindTree.{BindTree};
-ghost use Rattle.match_live.specs.View.{matcher_state, pattern_of};
-ghost use Rattle.match_log.specs.inner.Rows.{IsBehind, IsBehindSome, MayFollow, AddsRows, EndsAmong, WritesRows, EndsInBundle};
+ghost use Rattle.match_log.specs.inner.Rows.{so_far, IsAtSome, MayFollow, bundle_of, TakesRows, StopsAtOne, WritesBundle, StopsInBundle};
 
 use crate::MatchEnd;
 use crate::answers::answer;
@@ -27,19 +24,14 @@ pub(crate) fn match_batch<O: Sink>(
     tally: &mut Tally,
     output: &mut O,
 ) -> Result<(), MatchEnd>
-    requires sound { IsSoundPattern (plain_pattern (pattern_of matcher.old)) }
-    requires behind { IsBehindSome (pattern_of matcher.old) (matcher_state matcher.old).cap (matcher_state matcher.old) tally.old }
-    requires follow { MayFollow (matcher_state matcher.old).last ((matcher_state matcher.old).rows + 1) batch.now.observations }
-    ensures rows { (log : List LogEntry) (answers : List (List BindTree))
-        → IsBehind (pattern_of matcher.old) (matcher_state matcher.old).cap (matcher_state matcher.old) tally.old log answers
-        → OnOk result (WritesRows (pattern_of matcher.old) (matcher_state matcher.old).cap (data_in batch.now.bundle) batch.now.observations log answers
-        (matcher_state matcher.new) tally.new (O.written output.old) (O.written output.new)) }
-    ensures end { (log : List LogEntry) (answers : List (List BindTree))
-        → IsBehind (pattern_of matcher.old) (matcher_state matcher.old).cap (matcher_state matcher.old) tally.old log answers
-        → IfErr result (EndsInBundle (pattern_of matcher.old) (matcher_state matcher.old).cap (data_in batch.now.bundle) batch.now.observations log answers
-        (matcher_state matcher.new) (O.written output.old) (O.written output.new)) }
-    ensures pattern { pattern_of matcher.new ≡ pattern_of matcher.old }
-    ensures cap { (matcher_state matcher.new).cap ≡ (matcher_state matcher.old).cap }
+    requires sound { IsSoundPattern (plain_pattern matcher.old.pattern) }
+    requires behind { IsAtSome (so_far matcher.old tally.old) }
+    requires follow { MayFollow matcher.old.last (matcher.old.rows + 1) batch.now.observations }
+    ensures rows { OnOk result (WritesBundle (bundle_of batch.now) (so_far matcher.old tally.old) (so_far matcher.new tally.new)
+        (O.written output.old) (O.written output.new)) }
+    ensures end { IfErr result (StopsInBundle (bundle_of batch.now) (so_far matcher.old tally.old) matcher.new
+        (O.written output.old) (O.written output.new)) }
+    ensures kept { (matcher.new.pattern ≡ matcher.old.pattern) × (matcher.new.cap ≡ matcher.old.cap) }
     ensures causes { Counted (result ≡ Err MatchEnd.WriteFault) (O.faults output.old) (O.faults output.new) }
 {
     let mut text = Text::new(alloc);
@@ -68,20 +60,15 @@ fn answer_all(
     tally: &mut Tally,
     text: &mut Text,
 ) -> Result<(), MatchEnd>
-    requires sound { IsSoundPattern (plain_pattern (pattern_of matcher.old)) }
-    requires behind { IsBehindSome (pattern_of matcher.old) (matcher_state matcher.old).cap (matcher_state matcher.old) tally.old }
-    requires follow { MayFollow (matcher_state matcher.old).last ((matcher_state matcher.old).rows + 1) batch.now.observations }
+    requires sound { IsSoundPattern (plain_pattern matcher.old.pattern) }
+    requires behind { IsAtSome (so_far matcher.old tally.old) }
+    requires follow { MayFollow matcher.old.last (matcher.old.rows + 1) batch.now.observations }
     requires empty { text.old ≡ [] }
-    ensures rows { (log : List LogEntry) (answers : List (List BindTree))
-        → IsBehind (pattern_of matcher.old) (matcher_state matcher.old).cap (matcher_state matcher.old) tally.old log answers
-        → OnOk result (AddsRows (pattern_of matcher.old) (matcher_state matcher.old).cap (data_in batch.now.bundle) batch.now.observations log answers
-        (matcher_state matcher.new) tally.new text.new) }
-    ensures end { (log : List LogEntry) (answers : List (List BindTree))
-        → IsBehind (pattern_of matcher.old) (matcher_state matcher.old).cap (matcher_state matcher.old) tally.old log answers
-        → IfErr result (EndsAmong (pattern_of matcher.old) (matcher_state matcher.old).cap (data_in batch.now.bundle) batch.now.observations log answers
-        (matcher_state matcher.new) text.new) }
-    ensures pattern { pattern_of matcher.new ≡ pattern_of matcher.old }
-    ensures cap { (matcher_state matcher.new).cap ≡ (matcher_state matcher.old).cap }
+    ensures rows { OnOk result (TakesRows (data_in batch.now.bundle) batch.now.observations (so_far matcher.old tally.old)
+        (so_far matcher.new tally.new) text.new) }
+    ensures end { IfErr result (StopsAtOne (data_in batch.now.bundle) batch.now.observations (so_far matcher.old tally.old)
+        matcher.new text.new) }
+    ensures kept { (matcher.new.pattern ≡ matcher.old.pattern) × (matcher.new.cap ≡ matcher.old.cap) }
 {
     let observations = batch.observations.as_slice();
     let truths = leaf_truths(alloc, matcher.pattern(), observations, &batch.bundle)?;

@@ -1,10 +1,9 @@
-ghost use Rattle.std.specs.Prelude.{◌≡◌, ◌≢◌, ◌≤◌, []};
+ghost use Rattle.std.specs.Prelude.{◌≡◌, []};
 ghost use Rattle.flow_edges.specs.Faults.{Counted};
+ghost use Rattle.flow_edges.specs.Streams.{streams};
 ghost use Rattle.pattern_types.specs.PlainPattern.{plain_pattern};
 ghost use Rattle.pattern_types.specs.Soundness.{IsSoundPattern};
-ghost use Rattle.match_live.specs.View.{matcher_state, pattern_of};
 ghost use Rattle.match_live.specs.MatcherState.{StandsFor};
-ghost use Rattle.flow_edges.specs.Streams.{streams};
 ghost use Rattle.match_log.specs.Matching.{AnswersMatch};
 
 use crate::batch::match_batch;
@@ -29,10 +28,10 @@ pub fn match_stream<I: Source, O: Sink>(
     output: &mut O,
     mode: Mode,
 ) -> MatchEnd
-    requires start { StandsFor (matcher_state matcher.old) [] }
-    requires sound { IsSoundPattern (plain_pattern (pattern_of matcher.old)) }
-    ensures end { AnswersMatch mode (pattern_of matcher.old) (matcher_state matcher.old).cap (streams (I.left input.old) (O.written output.old))
-        (streams (I.left input.new) (O.written output.new)) (matcher_state matcher.new) result }
+    requires start { StandsFor matcher.old [] }
+    requires sound { IsSoundPattern (plain_pattern matcher.old.pattern) }
+    ensures end { AnswersMatch mode matcher.old.pattern matcher.old.cap (streams (I.left input.old) (O.written output.old))
+        (streams (I.left input.new) (O.written output.new)) matcher.new result }
     ensures input { Counted (result ≡ MatchEnd.ReadFault) (I.faults input.old) (I.faults input.new) }
     ensures output { Counted (result ≡ MatchEnd.WriteFault) (O.faults output.old) (O.faults output.new) }
 {

@@ -2,6 +2,7 @@
 use Rattle.std.specs.Prelude.{◌≡◌, ⊤, ℕ, zero, suc, ◌+◌, ◌*◌, ◌^◌, ◌≤◌, ℤ, ◌≤ℤ◌, Bool, List, [], ◌∷◌, ◌++◌, length, Option, Some}
 use Rattle.serde_json.specs.Data.{Data}
 use Rattle.stix_bundles.specs.declared.observation.Observation.{Observation}
+use Rattle.stix_bundles.specs.Objects.{data_in}
 use Rattle.pattern_types.specs.declared.pattern.Pattern.{Pattern}
 use Rattle.pattern_types.specs.PlainPattern.{plain_pattern}
 use Rattle.flow_edges.specs.Flow.{written_with, WritesPrefix}
@@ -13,6 +14,8 @@ use Rattle.match_bindings.specs.Log.{IsInOrder}
 use Rattle.match_live.specs.declared.ending.Ending.TheVariants as ending
 use Rattle.match_live.specs.MatcherState.{MatcherState, StandsFor, Falls}
 use Rattle.match_live.specs.Answer.{AreAnswers, IsCrowded, joined_answers}
+use Rattle.match_input.specs.declared.batch.Batch.{Batch}
+use Rattle.match_input.specs.Reading.{BundleOf}
 use Rattle.match_log.specs.Entries.{AreEntriesOf}
 use Rattle.match_log.specs.Listing.{listing_text, last_number}
 use Rattle.match_log.specs.Matching.{IsNeverCrowded}
@@ -54,9 +57,21 @@ pub record IsBehind (p : Pattern) (cap : ℕ) (state : MatcherState) (tally : Ta
   pub few : tally.bindings ≤ length log * 2 ^ 64
   pub last_is : tally.last ≡ last_number (joined_answers answers)
 
+-- where a run is: its matcher, and what was counted
+pub record Progress : Type 0 where
+  pub matcher : MatcherState
+  pub tally : Tally
+
+abbrev pub so_far : MatcherState → Tally → Progress
+so_far matcher tally = record { matcher = matcher; tally = tally }
+
+-- behind this log, under the pattern and the cap of the matcher
+abbrev pub IsAt : Progress → List LogEntry → List (List BindTree) → Type 0
+IsAt run log answers = IsBehind run.matcher.pattern run.matcher.cap run.matcher run.tally log answers
+
 -- behind some log
-abbrev pub IsBehindSome : Pattern → ℕ → MatcherState → Tally → Type 0
-IsBehindSome p cap state tally = (log : List LogEntry) × (answers : List (List BindTree)) × IsBehind p cap state tally log answers
+abbrev pub IsAtSome : Progress → Type 0
+IsAtSome run = (log : List LogEntry) × (answers : List (List BindTree)) × IsAt run log answers
 
 -- ---- observations
 
@@ -157,3 +172,39 @@ EndsInBundle p cap objects observations log answers state written written_after 
 EndsInBundle p cap objects observations log answers state written written_after (Crowded number named) =
     (text : List ℕ) × StopsAmong p cap objects observations log answers state text number named × (written_after ≡ written_with text written)
 EndsInBundle p cap objects observations log answers state written written_after NoMemory = written_after ≡ written
+
+-- the bundle that a batch is
+abbrev pub bundle_of : Batch → BundleOf
+bundle_of batch = record { line = batch.line; objects = data_in batch.bundle; observations = batch.observations }
+
+-- ---- the same from wherever a run is
+
+-- an observation adds its row and its lines
+abbrev pub TakesRow : List Data → Observation → Progress → Progress → List ℕ → List ℕ → Type 0
+TakesRow objects o run after text text_after = (log : List LogEntry) (answers : List (List BindTree)) → IsAt run log answers
+    → AddsRow run.matcher.pattern run.matcher.cap objects o log answers after.matcher after.tally text text_after
+
+-- or ends the run so
+abbrev pub StopsAtRow : List Data → Observation → Progress → MatcherState → List ℕ → List ℕ → MatchEnd → Type 0
+StopsAtRow objects o run after text text_after end = (log : List LogEntry) (answers : List (List BindTree)) → IsAt run log answers
+    → EndsAtRow run.matcher.pattern run.matcher.cap objects o log after text text_after end
+
+-- some observations of a bundle add their rows and their lines
+abbrev pub TakesRows : List Data → List Observation → Progress → Progress → List ℕ → Type 0
+TakesRows objects observations run after text = (log : List LogEntry) (answers : List (List BindTree)) → IsAt run log answers
+    → AddsRows run.matcher.pattern run.matcher.cap objects observations log answers after.matcher after.tally text
+
+-- or one of them ends the run so
+abbrev pub StopsAtOne : List Data → List Observation → Progress → MatcherState → List ℕ → MatchEnd → Type 0
+StopsAtOne objects observations run after text end = (log : List LogEntry) (answers : List (List BindTree)) → IsAt run log answers
+    → EndsAmong run.matcher.pattern run.matcher.cap objects observations log answers after text end
+
+-- the lines of a bundle are written
+abbrev pub WritesBundle : BundleOf → Progress → Progress → Option (List ℕ) → Option (List ℕ) → Type 0
+WritesBundle bundle run after written written_after = (log : List LogEntry) (answers : List (List BindTree)) → IsAt run log answers
+    → WritesRows run.matcher.pattern run.matcher.cap bundle.objects bundle.observations log answers after.matcher after.tally written written_after
+
+-- or the run ends in it so
+abbrev pub StopsInBundle : BundleOf → Progress → MatcherState → Option (List ℕ) → Option (List ℕ) → MatchEnd → Type 0
+StopsInBundle bundle run after written written_after end = (log : List LogEntry) (answers : List (List BindTree)) → IsAt run log answers
+    → EndsInBundle run.matcher.pattern run.matcher.cap bundle.objects bundle.observations log answers after written written_after end

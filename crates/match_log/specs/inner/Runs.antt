@@ -11,8 +11,6 @@ use Rattle.match_bindings.specs.declared.log_entry.LogEntry.{LogEntry}
 use Rattle.match_bindings.specs.BindTree.{BindTree}
 use Rattle.match_live.specs.MatcherState.{MatcherState}
 use Rattle.match_live.specs.Answer.{joined_answers}
-use Rattle.stix_bundles.specs.Objects.{data_in}
-use Rattle.match_input.specs.declared.batch.Batch.{Batch}
 use Rattle.match_input.specs.declared.mode.Mode.{Mode}
 use Rattle.match_input.specs.declared.mode.Mode.TheVariants.{Lines, Whole as WholeInput}
 use Rattle.match_input.specs.declared.stage.Stage.{Stage}
@@ -67,7 +65,3 @@ pub record RunsSo (mode : Mode) (p : Pattern) (cap : ℕ) (before now : Streams)
   pub text : now.written ≡ written_with (listing_text (joined_answers answers)) before.written
   pub number : reader.observations ≡ state.rows
   pub time : reader.last ≡ state.last
-
--- the bundle that a batch is
-abbrev pub bundle_of : Batch → BundleOf
-bundle_of batch = record { line = batch.line; objects = data_in batch.bundle; observations = batch.observations }

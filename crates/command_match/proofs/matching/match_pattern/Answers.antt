@@ -1,7 +1,6 @@
 use Rattle.std.proofs.Common.{ℕ, subst}
 use Rattle.pattern_types.specs.declared.pattern.Pattern.{Pattern}
 use Rattle.match_input.specs.declared.mode.Mode.{Mode}
-use Rattle.match_live.specs.View.{matcher_state}
 use Rattle.match_log.specs.Matching.{AnswersMatch}
 use Rattle.command_match.specs.Tasks.{mode_of}
 use Rattle.flow_edges.specs.Streams.{streams}
@@ -14,10 +13,10 @@ returns-clause-end g c =
     let mode = mode_of c.args.request.whole in
     let before = streams (g.I.Source.left c.args.input.now) (g.O.Sink.written c.args.output.now) in
     let after = streams (g.I.Source.left c.match_stream-end.new.input) (g.O.Sink.written c.match_stream-end.new.output) in
-    let state = matcher_state c.match_stream-end.new.matcher in
-    let of_mode = subst (λ (m : Mode). AnswersMatch m c.in-Ok.matcher.pattern.now (matcher_state c.in-Ok.matcher).cap before after state c.match_stream-end.result)
+    let state = c.match_stream-end.new.matcher in
+    let of_mode = subst (λ (m : Mode). AnswersMatch m c.in-Ok.matcher.pattern c.in-Ok.matcher.cap before after state c.match_stream-end.result)
     c.mode_of.ensures c.match_stream-end.ensures.end in
-    let of_pattern = subst (λ (p : Pattern). AnswersMatch mode p (matcher_state c.in-Ok.matcher).cap before after state c.match_stream-end.result) c.in-Ok.ensures.made of_mode in
+    let of_pattern = subst (λ (p : Pattern). AnswersMatch mode p c.in-Ok.matcher.cap before after state c.match_stream-end.result) c.in-Ok.ensures.pattern of_mode in
     record {
       pattern = c.args.pattern.now;
       read = c.requires;

@@ -2,7 +2,7 @@ use Rattle.std.proofs.Common.{◌≡◌, ◌++◌, ◌∷◌, [], sym, ◌∙◌
 use Rattle.match_live.specs.inner.Pieces.{piece_trees}
 use Rattle.match_live.specs.inner.Steps.{levels_new, levels_after}
 use Rattle.match_live.specs.inner.Nodes.{store_list, store_lists}
-use Rattle.match_live.proofs.ListLemmas.{map_append}
+use Rattle.match_bindings.proofs.ListLemmas.{map_append}
 use Rattle.match_live.proofs.LevelLemmas.{after_more, new_more}
 use Rattle.match_live.proofs.levels.step_made.Goals as goal
 

@@ -6,7 +6,6 @@ use Rattle.pattern_types.specs.PlainPattern.{plain_pattern}
 use Rattle.match_tests.specs.Truths.{AreTruths}
 use Rattle.match_bindings.specs.declared.bind.Bind.{Bind}
 use Rattle.match_bindings.specs.BindTree.{tree_of}
-use Rattle.match_live.specs.View.{matcher_state, pattern_of}
 use Rattle.match_log.specs.Listing.{listing_text}
 use Rattle.match_log.specs.inner.Rows.{counted, IsBehind, row_of, EndsAtRow}
 use Rattle.match_log.specs.declared.tally.Tally.{Tally}
@@ -18,36 +17,36 @@ use Rattle.match_log.proofs.answers.answer.Goals as goal
 pub end_of-requires : goal.end_of-requires
 end_of-requires c =
     let b = c.requires.behind.2 in
-    may_end c.in-Err.refusal (matcher_state c.args.matcher.now) c.args.observation.now.last b.stands.runs c.requires.order
+    may_end c.in-Err.refusal c.args.matcher.now c.args.observation.now.last b.stands.runs c.requires.order
     (λ before time is. (c.in-Err.ensures.out_of_order before time).0 is)
     (λ e is. (c.in-Err.ensures.ended e).0 is)
 
 pub returns-in_ok-add_lines-in-Ok-clause-row : goal.returns-in_ok-add_lines-in-Ok-clause-row
-returns-in_ok-add_lines-in-Ok-clause-row c objects log answers are b =
+returns-in_ok-add_lines-in-Ok-clause-row c objects are log answers b =
     let m = c.args.matcher.now in
     let o = c.args.observation.now in
     let truths = c.args.truths.now in
     let binds = map tree_of c.in-Ok.binds in
     let same : length binds ≡ length c.in-Ok.binds = length-map c.in-Ok.binds tree_of in
     let count : c.len.result ≡ length binds = c.len.ensures ∙ sym same in
+    let answered = c.in-Ok.ensures.answers log b.stands b.rows.order in
     record {
       truths = truths;
       are = are;
       answer = binds;
-      behind = subst (λ (t : Tally). IsBehind (pattern_of m) m.run.cap (matcher_state c.take.new.self) t (log ++ row_of o truths ∷ []) (answers ++ binds ∷ []))
+      behind = subst (λ (t : Tally). IsBehind m.pattern m.cap c.take.new.self t (log ++ row_of o truths ∷ []) (answers ++ binds ∷ []))
           (sym (c.count.ensures ∙ ap (counted c.args.tally.now o.number) count))
-          (behind-more (pattern_of m) m.run.cap (matcher_state m) (matcher_state c.take.new.self) c.args.tally.now log answers o truths binds b
-          c.requires.span c.requires.order c.requires.number (omega (arith, count)) (c.in-Ok.ensures.stands log b.stands b.rows.order)
-          (c.in-Ok.ensures.answers log b.stands b.rows.order) (c.in-Ok.ensures.roomy log b.stands b.rows.order));
+          (behind-more m.pattern m.cap m c.take.new.self c.args.tally.now log answers o truths binds b
+          c.requires.number (omega (arith, count)) answered.stands answered.order answered.answers answered.roomy);
       text_is = c.in_ok-add_lines-in-Ok.ensures ∙ ap (λ (bs : List Bind). c.args.text.now ++ listing_text (map tree_of bs)) c.as_slice.ensures;
     }
 
 pub returns-in-Err-clause-end : goal.returns-in-Err-clause-end
-returns-in-Err-clause-end c objects log answers are b =
+returns-in-Err-clause-end c objects are log answers b =
     let m = c.args.matcher.now in
     let o = c.args.observation.now in
-    subst (λ (e : MatchEnd). EndsAtRow (pattern_of m) m.run.cap objects o log (matcher_state c.take.new.self) c.args.text.now c.args.text.now e)
+    subst (λ (e : MatchEnd). EndsAtRow m.pattern m.cap objects o log c.take.new.self c.args.text.now c.args.text.now e)
     (sym c.end_of.ensures)
-    (ends_row (pattern_of m) m.run.cap objects o log (matcher_state m) (matcher_state c.take.new.self) c.args.text.now c.args.truths.now c.in-Err.refusal are
+    (ends_row objects o log m c.take.new.self c.args.text.now c.args.truths.now c.in-Err.refusal are
     (λ number named is. c.in-Err.ensures.crowded log b.stands b.rows.order number named is)
     (λ e is. c.in-Err.ensures.stopped e is))

@@ -1,6 +1,5 @@
 use Rattle.std.proofs.Common.{Option, Ok, refl, sym, ap, subst, ◌∙◌}
 use Rattle.stix_bundles.specs.Objects.{data_in}
-use Rattle.match_live.specs.View.{matcher_state, pattern_of}
 use Rattle.match_input.specs.declared.batch.Batch.{Batch}
 use Rattle.match_input.specs.Ahead.{reader_start, AnswersNext}
 use Rattle.flow_edges.specs.Streams.{streams}
@@ -15,8 +14,8 @@ returns-in-Err-clause-end g c =
     let m = c.args.matcher.now in
     let first = g.I.Source.left c.args.input.now in
     let written = g.O.Sink.written c.args.output.now in
-    run-memory c.answers_are_the_listing.ensures c.args.mode (pattern_of m) m.run.cap (streams first written) (streams first written) (reader_start c.args.mode) (matcher_state m) no_tally
-    (run-start c.args.mode (pattern_of m) m.run.cap first written (reader_start c.args.mode) (matcher_state m) no_tally c.requires.start refl refl)
+    run-memory c.answers_are_the_listing.ensures c.args.mode m.pattern m.cap (streams first written) (streams first written) (reader_start c.args.mode) m no_tally
+    (run-start c.args.mode m.pattern m.cap first written (reader_start c.args.mode) m no_tally c.requires.start refl refl)
     (streams first written) refl
 
 pub bundles-init : goal.bundles-init
@@ -25,7 +24,7 @@ bundles-init g c =
     record {
       pattern = refl;
       most = refl;
-      runs = run-start c.args.mode (pattern_of m) m.run.cap (g.I.Source.left c.args.input.now) (g.O.Sink.written c.args.output.now) c.in-Ok.reader (matcher_state m)
+      runs = run-start c.args.mode m.pattern m.cap (g.I.Source.left c.args.input.now) (g.O.Sink.written c.args.output.now) c.in-Ok.reader m
           c.new-tally.result c.requires.start c.in-Ok.ensures c.new-tally.ensures;
       read_quiet = refl;
       write_quiet = refl;
@@ -37,11 +36,11 @@ returns-in-Ok-None-clause-end g c =
     let before = streams (g.I.Source.left c.args.input.now) (g.O.Sink.written c.args.output.now) in
     let now = streams (g.I.Source.left c.bundles.input) (g.O.Sink.written c.bundles.output) in
     let left_after = g.I.Source.left c.next.new.source in
-    let state = matcher_state c.bundles.matcher in
+    let state = c.bundles.matcher in
     let reader = c.bundles.reader in
     let after = c.next.new.self in
-    subst (λ (e : MatchEnd). AnswersMatch c.args.mode (pattern_of m) m.run.cap before (streams left_after now.written) state e) (sym c.done.ensures)
-    (run-none c.answers_are_the_listing.ensures c.args.mode (pattern_of m) m.run.cap before now reader after state c.bundles.tally c.bundles.invariant.runs left_after
+    subst (λ (e : MatchEnd). AnswersMatch c.args.mode m.pattern m.cap before (streams left_after now.written) state e) (sym c.done.ensures)
+    (run-none c.answers_are_the_listing.ensures c.args.mode m.pattern m.cap before now reader after state c.bundles.tally c.bundles.invariant.runs left_after
     (λ opened. subst (λ (o : Option Batch). AnswersNext reader after now.left left_after (Ok o)) c.in-Ok-None.field-0-is (c.in-Ok-None.ensures.next opened))
     (λ is. ap g.I.Source.left (c.in-Ok-None.ensures.at_end is).2))
 
@@ -51,12 +50,12 @@ returns-in-Err-next-clause-end g c =
     let before = streams (g.I.Source.left c.args.input.now) (g.O.Sink.written c.args.output.now) in
     let now = streams (g.I.Source.left c.bundles.input) (g.O.Sink.written c.bundles.output) in
     let left_after = g.I.Source.left c.next.new.source in
-    let state = matcher_state c.bundles.matcher in
+    let state = c.bundles.matcher in
     let reader = c.bundles.reader in
     let after = c.next.new.self in
     let far = c.bundles.invariant.runs in
-    subst (λ (e : MatchEnd). AnswersMatch c.args.mode (pattern_of m) m.run.cap before (streams left_after now.written) state e) (sym c.from.ensures)
-    (run-read_end c.answers_are_the_listing.ensures c.args.mode (pattern_of m) m.run.cap before now reader after state c.bundles.tally far left_after c.in-Err-next.end
+    subst (λ (e : MatchEnd). AnswersMatch c.args.mode m.pattern m.cap before (streams left_after now.written) state e) (sym c.from.ensures)
+    (run-read_end c.answers_are_the_listing.ensures c.args.mode m.pattern m.cap before now reader after state c.bundles.tally far left_after c.in-Err-next.end
     (end_given far.bundles before.left now.left left_after c.args.mode reader after c.in-Err-next.end far.read.stage c.in-Err-next.ensures.next
     (λ is. (c.in-Err-next.ensures.at_end is).0)))
 
@@ -70,7 +69,7 @@ match_batch-requires-clause-follow g c =
     let far = c.bundles.invariant.runs in
     let gives = batch_given far.bundles first left left_after c.args.mode reader after c.in-Ok-Some.field-0 c.in-Ok-Some.batch far.read.stage c.in-Ok-Some.ensures.next
     (λ is. (c.in-Ok-Some.ensures.at_end is).0) c.in-Ok-Some.field-0-is in
-    given_follow c.observations_are_spans.ensures reader after left left_after c.in-Ok-Some.batch (matcher_state c.bundles.matcher) gives far.number far.time
+    given_follow c.observations_are_spans.ensures reader after left left_after c.in-Ok-Some.batch c.bundles.matcher gives far.number far.time
 
 pub returns-in-Err-match_batch-clause-end : goal.returns-in-Err-match_batch-clause-end
 returns-in-Err-match_batch-clause-end g c =
@@ -88,9 +87,9 @@ returns-in-Err-match_batch-clause-end g c =
     let far = invariant.runs in
     let gives = batch_given far.bundles before.left now.left left_after c.args.mode reader after c.in-Ok-Some.field-0 batch far.read.stage c.in-Ok-Some.ensures.next
     (λ is. (c.in-Ok-Some.ensures.at_end is).0) c.in-Ok-Some.field-0-is in
-    run-end c.answers_are_the_listing.ensures c.args.mode (pattern_of m) m.run.cap before now reader (matcher_state old) c.bundles.tally far
-    c.goes_on.ensures after (matcher_state new) left_after written_after batch gives c.in-Err-match_batch.end
-    (end-here (pattern_of m) (pattern_of old) m.run.cap old.run.cap invariant.pattern invariant.most (data_in batch.bundle) batch.observations (matcher_state old) (matcher_state new)
+    run-end c.answers_are_the_listing.ensures c.args.mode m.pattern m.cap before now reader old c.bundles.tally far
+    c.goes_on.ensures after new left_after written_after batch gives c.in-Err-match_batch.end
+    (end-here m.pattern old.pattern m.cap old.cap invariant.pattern invariant.most (data_in batch.bundle) batch.observations old new
     c.bundles.tally c.match_batch.new.tally now.written written_after c.in-Err-match_batch.end c.in-Err-match_batch.ensures.end far.log far.answers far.behind)
 
 pub bundles-preserved : goal.bundles-preserved
@@ -110,12 +109,12 @@ bundles-preserved g c =
     let gives = batch_given far.bundles before.left now.left left_after c.args.mode reader after c.in-Ok-Some.field-0 batch far.read.stage c.in-Ok-Some.ensures.next
     (λ is. (c.in-Ok-Some.ensures.at_end is).0) c.in-Ok-Some.field-0-is in
     record {
-      pattern = c.in-Ok-match_batch.ensures.pattern ∙ invariant.pattern;
-      most = c.in-Ok-match_batch.ensures.cap ∙ invariant.most;
-      runs = run-more c.goes_on.ensures c.args.mode (pattern_of m) m.run.cap before now reader after (matcher_state old) (matcher_state new) c.bundles.tally c.match_batch.new.tally
+      pattern = c.in-Ok-match_batch.ensures.kept.0 ∙ invariant.pattern;
+      most = c.in-Ok-match_batch.ensures.kept.1 ∙ invariant.most;
+      runs = run-more c.goes_on.ensures c.args.mode m.pattern m.cap before now reader after old new c.bundles.tally c.match_batch.new.tally
           left_after written_after batch far gives
-          (rows-here (pattern_of m) (pattern_of old) m.run.cap old.run.cap invariant.pattern invariant.most (data_in batch.bundle) batch.observations (matcher_state old)
-          (matcher_state new) c.bundles.tally c.match_batch.new.tally now.written written_after c.in-Ok-match_batch.ensures.rows far.log far.answers far.behind);
+          (rows-here m.pattern old.pattern m.cap old.cap invariant.pattern invariant.most (data_in batch.bundle) batch.observations old
+          new c.bundles.tally c.match_batch.new.tally now.written written_after c.in-Ok-match_batch.ensures.rows far.log far.answers far.behind);
       read_quiet = c.in-Ok-Some.ensures.causes.quiet (λ failed. cc failed.1) ∙ invariant.read_quiet;
       write_quiet = c.in-Ok-match_batch.ensures.causes.quiet (λ failed. cc failed) ∙ invariant.write_quiet;
     }

@@ -1,15 +1,14 @@
 use Rattle.std.proofs.Common.{◌≡◌}
-use Rattle.match_live.specs.View.{matcher_state, pattern_of}
 use Rattle.flow_edges.specs.Streams.{streams}
 use Rattle.match_log.specs.inner.Runs.{RunsSo, turns_left}
 use Rattle.match_log.proofs.stream.match_stream.Given as goal
 
 abbrev pub invariant-bundles : goal.invariant-bundles
 invariant-bundles g l = record {
-  pattern : pattern_of l.matcher ≡ pattern_of l.fn.matcher;
-  most : (matcher_state l.matcher).cap ≡ (matcher_state l.fn.matcher).cap;
-  runs : RunsSo l.fn.mode (pattern_of l.fn.matcher) (matcher_state l.fn.matcher).cap (streams (g.I.Source.left l.fn.input) (g.O.Sink.written l.fn.output))
-      (streams (g.I.Source.left l.input) (g.O.Sink.written l.output)) l.reader (matcher_state l.matcher) l.tally;
+  pattern : l.matcher.pattern ≡ l.fn.matcher.pattern;
+  most : l.matcher.cap ≡ l.fn.matcher.cap;
+  runs : RunsSo l.fn.mode l.fn.matcher.pattern l.fn.matcher.cap (streams (g.I.Source.left l.fn.input) (g.O.Sink.written l.fn.output))
+      (streams (g.I.Source.left l.input) (g.O.Sink.written l.output)) l.reader l.matcher l.tally;
   read_quiet : g.I.Source.faults l.input ≡ g.I.Source.faults l.fn.input;
   write_quiet : g.O.Sink.faults l.output ≡ g.O.Sink.faults l.fn.output;
 }

@@ -16,7 +16,7 @@ pub invariant_of-result : goal.invariant_of-result
 invariant_of-result c =
     let p = numbered_pattern c.args.pattern.now in
     let e : state_of c.into_inner-node.result ≡ empty_state no_bounds p = ap state_of c.into_inner-node.ensures ∙ c.in_ok-boxed.ensures ∙ ap (λ (w : Bounds). empty_state w p) c.open.ensures in
-    record { made_for = ap (fits no_bounds p) e ∙ fits_empty p no_bounds }
+    ap (fits no_bounds p) e ∙ fits_empty p no_bounds
 
 pub returns-clause-stands : goal.returns-clause-stands
 returns-clause-stands c =

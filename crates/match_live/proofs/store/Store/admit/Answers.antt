@@ -1,7 +1,7 @@
 use Rattle.std.proofs.Common.{◌∷◌, [], ◌∙◌, ap}
 use Rattle.std.specs.Prelude.{Some}
 use Rattle.match_live.specs.inner.Pieces.{piece_tree, piece_trees, none_before, oldest_with}
-use Rattle.match_live.proofs.ListLemmas.{map_append}
+use Rattle.match_bindings.proofs.ListLemmas.{map_append}
 use Rattle.match_live.proofs.OldestLemmas.{one_more}
 use Rattle.match_live.proofs.store.Store.admit.Goals as goal
 

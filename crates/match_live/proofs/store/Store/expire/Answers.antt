@@ -5,7 +5,7 @@ use Rattle.std.proofs.lemmas.Fn.{filter_same}
 use Rattle.match_live.specs.declared.piece.Piece.{Piece}
 use Rattle.match_live.specs.inner.Lives.{lives}
 use Rattle.match_live.specs.inner.Pieces.{piece_tree, piece_trees, none_before}
-use Rattle.match_live.proofs.ListLemmas.{filter_map}
+use Rattle.match_bindings.proofs.ListLemmas.{filter_map}
 use Rattle.match_live.proofs.OldestLemmas.{all_kept}
 use Rattle.match_live.proofs.store.Store.expire.Goals as goal
 
