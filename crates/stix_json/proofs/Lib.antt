@@ -7,4 +7,7 @@ pub mod ReadingLemmas
 pub mod DataOfLemmas
 pub mod EntriesLemmas
 pub mod FieldsLemmas
+pub mod PlacesLemmas
+pub mod FitsLemmas
+pub mod TokensLemmas
 mod SomeJsonLemmas
