@@ -1,8 +1,7 @@
 -- A conversion, an item or a member at a time: what is found in those before, and in those that follow.
-use Rattle.std.proofs.Common.{◌≡◌, ℕ, ℤ, Bool, ◌+◌, List, [], ◌∷◌, ◌++◌, length, map, Option, Some, None, option_map, String, Global, string_bytes, rules, arith, refl, sym, ap, ◌∙◌, add-zero, subst}
+use Rattle.std.proofs.Common.{◌≡◌, ℕ, Bool, ◌+◌, List, [], ◌∷◌, ◌++◌, length, map, Option, Some, None, option_map, String, Global, string_bytes, rules, arith, refl, sym, ap, ◌∙◌, add-zero, subst}
 use Rattle.std.specs.Option.{option_or}
-use Rattle.serde_json.specs.Data.{Data, boolean, number, string, array, member, object}
-use Rattle.serde_json.specs.Find.{of_integer}
+use Rattle.serde_json.specs.Data.{Data, boolean, string, array, member, object}
 use Rattle.serde_json.specs.View.{view, items_of, items_view, members_view}
 use Rattle.serde_json.specs.declared.value.Value.{Value}
 use Rattle.stix_json.specs.Walk.{place_part}
@@ -32,9 +31,6 @@ data_of-Object fields = search (rules, the_lemmas)
 
 pub data_of-String : (text words : List ℕ) → text ≡ words → data_of (value.String text) ≡ string words
 data_of-String text words same = let seen : data_of (value.String text) ≡ string text = search (rules, the_lemmas) in seen ∙ ap string same
-
-pub data_of-Integer : (whole : ℤ) → data_of (value.Integer whole) ≡ number (of_integer whole)
-data_of-Integer whole = search (rules, the_lemmas)
 
 pub data_of-Bool : (truth : Bool) → data_of (value.Bool truth) ≡ boolean truth
 data_of-Bool truth = search (rules, the_lemmas)

@@ -6,6 +6,7 @@ pub mod WriteLemmas
 pub mod ReadingLemmas
 pub mod DataOfLemmas
 pub mod EntriesLemmas
+pub mod GoodEntriesLemmas
 pub mod FieldsLemmas
 pub mod PlacesLemmas
 pub mod FitsLemmas

@@ -90,10 +90,6 @@ pub one_more_item : (ds : List Data) (d : Data) (r : Option (Items × List Token
 one_more_item ds d None = refl
 one_more_item ds d (Some p) = ap (λ items. Some (items, p.1)) (items_push ds d p.0)
 
-pub none_before : (r : Option (Items × List Token)) → r ≡ parse_map (λ a. a) r
-none_before None = refl
-none_before (Some p) = refl
-
 -- ---- the whole text
 
 abbrev whole : Option (json.Json × List Token) → Option Data

@@ -23,7 +23,8 @@ use std::alloc::Global;
 
 /// The `Json` of some bytes, where nothing stands against it.
 pub(crate) fn read_tokens(alloc: Global, bytes: &[u8]) -> Option<Json>
-    ensures { IfSome result (λ json. IsJsonOf bytes.now json) }
+    ensures value { IfSome result (λ json. IsJsonOf bytes.now json) }
+    ensures fits { IfSome result (λ json. Fits MAX_LEVELS (data_of json)) }
 {
     let text = std::str::from_utf8(bytes).ok()?;
     let mut scratch = Scratch::new(alloc);

@@ -1,4 +1,4 @@
-use Rattle.std.proofs.Common.{rules, ◌≡◌, List, map, ap, ◌∙◌, refl, subst}
+use Rattle.std.proofs.Common.{rules, ◌≡◌, List, map, ap, ◌∙◌, refl}
 use Rattle.std.specs.List.{insert}
 use Rattle.stix_json.specs.DataOf.{field_data, members_of}
 use Rattle.stix_json.specs.declared.value.Field.{Field}

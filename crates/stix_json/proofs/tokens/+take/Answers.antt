@@ -3,7 +3,7 @@ use Rattle.json.specs.Token.{Token}
 use Rattle.json.specs.Json.{parse_map, after_end_array, read_key, items, members, value}
 use Rattle.json.specs.Reads.{token_of}
 use Rattle.json.proofs.Grammar.{value_is, value-begin_array, value-begin_object, read_key-shorter}
-use Rattle.serde_json.specs.Data.{Data, Members, array, object, put, no_members}
+use Rattle.serde_json.specs.Data.{Data, array, object, put, no_members}
 use Rattle.serde_json.specs.Read.{of_json, of_items, of_members, converted}
 use Rattle.serde_json.specs.View.{items_of}
 use Rattle.stix_json.specs.declared.value.Json.{Json, the_lemmas}

@@ -4,8 +4,8 @@ use Rattle.json.specs.Lex.{tokens}
 use Rattle.stix_json.proofs.TokensLemmas.{json_taken}
 use Rattle.stix_json.proofs.tokens.read_tokens.Goals as goal
 
-pub returns : goal.returns
-returns c =
+pub returns-clause-value : goal.returns-clause-value
+returns-clause-value c =
     let text = c.in_ok-text.text.now in
     let same : text ≡ c.args.bytes.now = search rules in
     let utf8 : IsUtf8 c.args.bytes.now = search rules in
