@@ -14,12 +14,13 @@ for crate in flow_values flow_edges flow_lines stix_json; do
   done
 done
 cp "$top/bench/json/main.rt.txt" "$folder/repo/crates/bench_json/src/main.rt"
-{ grep -E '^(flow_values|flow_edges|flow_lines|stix_json):' "$top/crates.txt"; echo "bench_json: flow_values flow_edges flow_lines stix_json serde_json anyhow"; } > "$folder/repo/crates.txt"
+{ grep -E '^(flow_values|flow_edges|flow_lines|stix_json):' "$top/crates.txt"; echo "bench_json: flow_values flow_edges flow_lines stix_json serde_json json anyhow"; } > "$folder/repo/crates.txt"
 echo "building; this takes some minutes" >&2
 (cd "$folder/repo/crates/bench_json" && rt run < /dev/null > "$folder/build.log" 2>&1) || { tail "$folder/build.log" >&2; exit 1; }
 program=$folder/repo/crates/bench_json/out/bench_json
 for _ in 1 2 3; do
   timed "lines alone" "$program" lines
+  timed "borrowed values" "$program" borrowed
   timed "values" "$program" values
   timed "json" "$program" json
   if command -v jq >/dev/null; then

@@ -1,8 +1,8 @@
 -- A conversion, an item or a member at a time: what is found in those before, and in those that follow.
-use Rattle.std.proofs.Common.{◌≡◌, ℕ, ◌+◌, List, [], ◌∷◌, ◌++◌, length, map, Option, Some, None, option_map, String, Global, string_bytes, rules, arith, refl, sym, ap, ◌∙◌, add-zero, subst}
+use Rattle.std.proofs.Common.{◌≡◌, ℕ, Bool, ◌+◌, List, [], ◌∷◌, ◌++◌, length, map, Option, Some, None, option_map, String, Global, string_bytes, rules, arith, refl, sym, ap, ◌∙◌, add-zero, subst}
 use Rattle.std.specs.Option.{option_or}
-use Rattle.serde_json.specs.Data.{Data, member, object}
-use Rattle.serde_json.specs.View.{view, items_view, members_view}
+use Rattle.serde_json.specs.Data.{Data, boolean, string, array, member, object}
+use Rattle.serde_json.specs.View.{view, items_of, items_view, members_view}
 use Rattle.serde_json.specs.declared.value.Value.{Value}
 use Rattle.stix_json.specs.Walk.{place_part}
 use Rattle.stix_json.specs.DataOf.{Member, members_of, data_of, field_data}
@@ -11,6 +11,7 @@ use Rattle.stix_json.specs.declared.flaw.Flaw.{Flaw}
 use Rattle.stix_json.specs.declared.flaw.Halt.{Halt}
 use Rattle.stix_json.specs.declared.flaw.Halt.TheVariants.{Flawed, NoMemory}
 use Rattle.stix_json.specs.declared.value.Json.{Json, Object, the_lemmas}
+use Rattle.stix_json.specs.declared.value.Json.TheVariants as value
 use Rattle.stix_json.specs.declared.value.Field.{Field}
 use Rattle.stix_json.specs.declared.value.Json.TheViews.{roll-Field}
 
@@ -27,6 +28,15 @@ members_of-entries (e ∷ es) = ap (member (string_bytes e.0) (view e.1)) (membe
 
 pub data_of-Object : (fields : List Field) → data_of (Object fields) ≡ object (members_of (map field_data fields))
 data_of-Object fields = search (rules, the_lemmas)
+
+pub data_of-String : (text words : List ℕ) → text ≡ words → data_of (value.String text) ≡ string words
+data_of-String text words same = let seen : data_of (value.String text) ≡ string text = search (rules, the_lemmas) in seen ∙ ap string same
+
+pub data_of-Bool : (truth : Bool) → data_of (value.Bool truth) ≡ boolean truth
+data_of-Bool truth = search (rules, the_lemmas)
+
+pub data_of-Array : (row : List Json) → data_of (value.Array row) ≡ array (items_of (map data_of row))
+data_of-Array row = search (rules, the_lemmas)
 
 pub option_or_none : {X : Type 0} (a b : Option X) → option_or a b ≡ None → (a ≡ None) × (b ≡ None)
 option_or_none None b h = (refl, h)

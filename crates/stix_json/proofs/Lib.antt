@@ -6,5 +6,9 @@ pub mod WriteLemmas
 pub mod ReadingLemmas
 pub mod DataOfLemmas
 pub mod EntriesLemmas
+pub mod GoodEntriesLemmas
 pub mod FieldsLemmas
+pub mod PlacesLemmas
+pub mod FitsLemmas
+pub mod TokensLemmas
 mod SomeJsonLemmas

@@ -40,7 +40,7 @@ put_by k l d e ms more hd h above rest Less is = (is, hd, h)
 put_by k l d e ms more hd h above rest Equal is = (h.0, hd, h.2)
 put_by k l d e ms more hd h above rest Greater is = (above (turned k l is), h.1, rest)
 
-put_ordered : (k : List ℕ) (d : Data) (ms : Members) → IsOrdered d → MembersAreOrdered ms → MembersAreOrdered (put k d ms)
+pub put_ordered : (k : List ℕ) (d : Data) (ms : Members) → IsOrdered d → MembersAreOrdered ms → MembersAreOrdered (put k d ms)
 put_ordered k d no_members hd h = (tt, hd, tt)
 put_ordered k d (member l e ms) hd h =
     put_by k l d e ms (put k d ms) hd h (λ less. put_before l k d ms less h.0) (put_ordered k d ms hd h.2) (slice_cmp nat_cmp k l) refl
@@ -67,7 +67,7 @@ both (Some d) None h k = tt
 both (Some d) (Some ds) h k = (h, k)
 
 mutual
-  json_ordered : (j : json.Json) → On IsOrdered (of_json j)
+  pub json_ordered : (j : json.Json) → On IsOrdered (of_json j)
   json_ordered json.null = tt
   json_ordered (json.boolean b) = tt
   json_ordered (json.number s) = numbers (number_of s)
@@ -88,7 +88,7 @@ whole_ordered : (o : Option json.Json) → On IsOrdered (option_and_then of_json
 whole_ordered None = tt
 whole_ordered (Some j) = json_ordered j
 
-on_some : (o : Option Data) (d : Data) → o ≡ Some d → On IsOrdered o → IsOrdered d
+pub on_some : (o : Option Data) (d : Data) → o ≡ Some d → On IsOrdered o → IsOrdered d
 on_some o d is h = rw is at h
 
 pub read_ordered : (text : List ℕ) (d : Data) → read text ≡ Some d → IsOrdered d

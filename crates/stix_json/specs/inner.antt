@@ -1,2 +1,3 @@
 pub mod Naming
 pub mod Flaws
+pub mod Fits

@@ -1,12 +1,14 @@
-ghost use Rattle.std.specs.Prelude.{◌≡◌, IfOk, IfErr, option_map};
+ghost use Rattle.std.specs.Prelude.{◌≡◌, IfOk, IfErr, IfSome, map, option_map};
 ghost use Rattle.serde_json.specs.View.{view, items_view, members_view};
 ghost use Rattle.serde_json.specs.Find.{get_member};
 ghost use Rattle.stix_json.specs.Entries.{list_of, list_under, AreEntriesFor, AreEntriesOf, HasNoEntriesAs};
 ghost use Rattle.stix_json.specs.Ordered.{ItemsAreOrdered};
+ghost use Rattle.stix_json.specs.declared.entry.Entry.TheVariants.{Good};
 
 use crate::judge::judge;
 use crate::read::read_value;
-use crate::{Entry, JsonRefusal};
+use crate::tokens::read_tokens;
+use crate::{Entry, Json, JsonRefusal, take};
 use flow_values::{Items, NoMemory};
 use serde_json::{Map, Value};
 use std::alloc::Global;
@@ -57,6 +59,29 @@ fn judge_items(alloc: Global, items: Vec<Value>) -> Result<Items<Entry>, NoMemor
     Ok(entries)
 }
 
+/// Good entries of these values.
+fn good_entries(alloc: Global, items: Items<Json>) -> Option<Items<Entry>>
+    ensures { IfSome result (λ entries. entries ≡ map Good items) }
+{
+    let mut entries = Items::with_capacity(alloc, items.len()).ok()?;
+    for item in items.into_vec() {
+        entries.push(Entry::Good(item)).ok()?;
+    }
+    Some(entries)
+}
+
+/// The entries of a text that is taken the short way, so that each is good. None where it isn't, or where
+/// no list stands under the name.
+fn read_good_entries(alloc: Global, bytes: &[u8], name: &str) -> Option<Items<Entry>>
+    ensures { IfSome result (λ entries. AreEntriesOf bytes.now name.now entries) }
+{
+    let json = read_tokens(alloc, bytes)?;
+    match take(json, name)? {
+        Json::Array(items) => good_entries(alloc, items),
+        Json::Bool(_) | Json::Integer(_) | Json::String(_) | Json::Object(_) => None,
+    }
+}
+
 /// The entries of the list that an object has under a name, each judged by itself as by `read_json`:
 /// its levels begin at 1 and its paths at the entry. An absent list is empty. `NotJson` where the
 /// bytes are no JSON, `NotList` where they are no object or have another value under the name.
@@ -64,6 +89,9 @@ pub fn read_entries(alloc: Global, bytes: &[u8], name: &str) -> Result<Items<Ent
     ensures ok { IfOk result (λ entries. AreEntriesOf bytes.now name.now entries) }
     ensures err { IfErr result (λ refusal. HasNoEntriesAs bytes.now name.now refusal) }
 {
+    if let Some(entries) = read_good_entries(alloc, bytes, name) {
+        return Ok(entries);
+    }
     let value = read_value(alloc, bytes)?;
     match take_list(alloc, value, name) {
         Some(items) => Ok(judge_items(alloc, items)?),

@@ -8,6 +8,7 @@ mod convert;
 mod depth;
 mod entries;
 mod entry;
+mod fields;
 mod flaw;
 mod judge;
 pub mod laws;
@@ -18,7 +19,9 @@ mod place;
 mod property;
 mod read;
 mod refusal;
+mod tokens;
 mod value;
+mod whole;
 mod write;
 
 pub use entries::read_entries;

@@ -4,6 +4,7 @@ ghost use Rattle.stix_json.specs.Reading.{IsValueOf, HasNoValue, IsJsonOf, IsJso
 ghost use Rattle.stix_json.specs.declared.refusal.JsonRefusal.TheVariants.{NotJson, NoMemory as OutOfMemory};
 
 use crate::judge::judge;
+use crate::tokens::read_tokens;
 use crate::{Entry, Json, JsonRefusal};
 use serde_json::{Category, Value};
 use std::alloc::Global;
@@ -30,6 +31,9 @@ pub fn read_json(alloc: Global, bytes: &[u8]) -> Result<Json, JsonRefusal>
     ensures ok { IfOk result (λ json. IsJsonOf bytes.now json) }
     ensures err { IfErr result (λ refusal. IsJsonRefusedAs bytes.now refusal) }
 {
+    if let Some(json) = read_tokens(alloc, bytes) {
+        return Ok(json);
+    }
     let value = read_value(alloc, bytes)?;
     match judge(alloc, value)? {
         Entry::Good(json) => Ok(json),

@@ -1,0 +1,100 @@
+//! The short way from a text to a `Json`: straight from the tokens of the crate under `serde_json`, with no
+//! tree of another kind between.
+//!
+//! It takes what most texts are and gives up on all else: no JSON, what `Json` doesn't hold, a name that
+//! comes twice, want of memory. It says no reason. Who calls it then reads the text once more the long way,
+//! which tells the refusal and its place; a refused text is read twice.
+
+ghost use Rattle.std.specs.Prelude.{◌≡◌, ◌<◌, Some, IfSome, OnSome, length, map};
+ghost use Rattle.json.specs.Json.{value, items, members};
+ghost use Rattle.serde_json.specs.Data.{no_members};
+ghost use Rattle.serde_json.specs.Read.{of_json, of_items, of_members, converted};
+ghost use Rattle.serde_json.specs.View.{items_of};
+ghost use Rattle.stix_json.specs.DataOf.{data_of, field_data, members_of};
+ghost use Rattle.stix_json.specs.Reading.{IsJsonOf};
+ghost use Rattle.stix_json.specs.inner.Fits.{text_levels, Fits, ItemsFit, MembersFit};
+
+use crate::fields::put_field;
+use crate::whole::whole_of;
+use crate::{Field, Json, MAX_LEVELS};
+use flow_values::{Items, Text};
+use json::{Reader, Scratch, Token};
+use std::alloc::Global;
+
+/// The `Json` of some bytes, where nothing stands against it.
+pub(crate) fn read_tokens(alloc: Global, bytes: &[u8]) -> Option<Json>
+    ensures value { IfSome result (λ json. IsJsonOf bytes.now json) }
+    ensures fits { IfSome result (λ json. Fits MAX_LEVELS (data_of json)) }
+{
+    let text = std::str::from_utf8(bytes).ok()?;
+    let mut scratch = Scratch::new(alloc);
+    let mut reader = Reader::new(text, &mut scratch).ok()?;
+    let json = take_value(alloc, &mut reader, MAX_LEVELS)?;
+    if reader.next().is_some() {
+        return None;
+    }
+    Some(json)
+}
+
+/// The next value, with at most so many levels.
+#[cycle(take)]
+fn take_value(alloc: Global, reader: &mut Reader<'_>, levels: usize) -> Option<Json>
+    ensures ok { IfSome result
+        (λ json. converted of_json (value (text_levels levels) reader.old) ≡ Some (data_of json, reader.new)) }
+    ensures fits { IfSome result (λ json. Fits levels (data_of json)) }
+    ensures shorter { OnSome result (length reader.new < length reader.old) }
+{
+    match reader.next()? {
+        Token::String(text) => Some(Json::String(Text::from_text(alloc, text).ok()?)),
+        Token::Number(text) => Some(Json::Integer(whole_of(text)?)),
+        Token::Bool(truth) => Some(Json::Bool(truth)),
+        Token::BeginArray => {
+            if levels == 0 {
+                return None;
+            }
+            Some(Json::Array(take_items(alloc, reader, levels - 1)?))
+        }
+        Token::BeginObject => {
+            if levels == 0 {
+                return None;
+            }
+            Some(Json::Object(take_fields(alloc, reader, levels - 1)?))
+        }
+        Token::Null | Token::EndObject | Token::EndArray | Token::Key(_) | Token::Bad => None,
+    }
+}
+
+/// The items up to the bracket that closes their list.
+#[cycle(take)]
+fn take_items(alloc: Global, reader: &mut Reader<'_>, levels: usize) -> Option<Items<Json>>
+    ensures ok { IfSome result
+        (λ row. converted of_items (items (value (text_levels levels)) (length reader.old) reader.old)
+        ≡ Some (items_of (map data_of row), reader.new)) }
+    ensures fits { IfSome result (λ row. ItemsFit levels (items_of (map data_of row))) }
+    ensures shorter { OnSome result (length reader.new < length reader.old) }
+{
+    let mut row = Vec::new(alloc);
+    'items: while !reader.take_end_array() {
+        let item = take_value(alloc, reader, levels)?;
+        row.push(item).ok()?;
+    }
+    Some(Items::from_vec(row))
+}
+
+/// The fields up to the brace that closes their object.
+#[cycle(take)]
+fn take_fields(alloc: Global, reader: &mut Reader<'_>, levels: usize) -> Option<Items<Field>>
+    ensures ok { IfSome result
+        (λ fields. converted (λ found. of_members found no_members)
+        (members (value (text_levels levels)) (length reader.old) reader.old)
+        ≡ Some (members_of (map field_data fields), reader.new)) }
+    ensures fits { IfSome result (λ fields. MembersFit levels (members_of (map field_data fields))) }
+    ensures shorter { OnSome result (length reader.new < length reader.old) }
+{
+    let mut fields = Vec::new(alloc);
+    'fields: while let Some(name) = reader.next_key().ok()? {
+        let value = take_value(alloc, reader, levels)?;
+        put_field(alloc, &mut fields, name, value)?;
+    }
+    Some(Items::from_vec(fields))
+}
