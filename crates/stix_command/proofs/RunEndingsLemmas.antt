@@ -1,5 +1,6 @@
 -- What the status of a run says of its words and its streams.
 use Rattle.std.proofs.Common.{◌≡◌, ◌↔◌, ◌⊎◌, ◌≤◌, ℕ, List, [], Bool, false, inl, inr, refl, sym, ap, subst, ◌∙◌, arith}
+use Rattle.flow_edges.specs.Faults.{Counted}
 use Rattle.match_log.specs.declared.end.MatchEnd.TheVariants as end
 use Rattle.command_check.specs.declared.verdict.Verdict.TheVariants as verdict
 use Rattle.command_match.specs.declared.matching.MatchEnding.{MatchEnding}
@@ -14,15 +15,17 @@ use Rattle.stix_command.specs.declared.ending.Ending.{Ending}
 use Rattle.stix_command.specs.declared.ending.Ending.TheVariants.{Match, Check, Show, Make, Serve, Usage, NoMemory}
 use Rattle.command_serve.specs.declared.ending.ServeEnding.{ServeEnding}
 use Rattle.command_serve.specs.declared.ending.ServeEnding.TheVariants as serving
-use Rattle.command_serve.specs.ServeEndings.{serve_status, IsEarly}
+use Rattle.command_serve.specs.ServeEndings.{EndsServe, serve_status, IsEarly}
+use Rattle.command_serve.specs.Services.{Places}
 use Rattle.match_input.specs.declared.mode.Mode.{Mode}
-use Rattle.taxii_connections.specs.Outside.{LinkView}
+use Rattle.taxii_server.specs.Outside.{LinkView}
 use Rattle.command_line.specs.CommandLines.{PlainRequest, PlainService, IsCommandLine}
 use Rattle.command_line.specs.CommandLines as asked
 use Rattle.command_match.specs.Tasks.{MatchTask, mode_of}
-use Rattle.stix_command.specs.Requests.{IsMatchLine, IsShowLine, IsCheckLine, IsMakeLine, IsServeLine}
+use Rattle.stix_command.specs.Requests.{IsMatchLine, IsShowLine, IsCheckLine, IsMakeLine, IsServeLine, AskForNoInput}
 use Rattle.flow_edges.specs.Streams.{Streams}
 use Rattle.command_reasons.specs.Reasons.{IsUnread}
+use Rattle.command_reasons.proofs.CountedLemmas.{counted-when}
 use Rattle.command_match.specs.MatchEndings.{EndsMatch, match_status}
 use Rattle.command_check.specs.CheckEndings.{check_status}
 use Rattle.command_show.specs.ShowEndings.{EndsShow, show_status}
@@ -132,7 +135,7 @@ module _ (one : OneRequest) (words : List (List ℕ)) where
       (ap first_in same, ap second_in same)
 
 -- which statuses a command ends with
-match_isn't_usage : (ending : MatchEnding) → ¬ (match_status ending ≡ 2)
+pub match_isn't_usage : (ending : MatchEnding) → ¬ (match_status ending ≡ 2)
 match_isn't_usage (matching.PatternRefused refusal) is = omega arith
 match_isn't_usage (matching.Ended (end.Done observations bindings last)) is = omega arith
 match_isn't_usage (matching.Ended (end.Input line rule)) is = omega arith
@@ -142,7 +145,7 @@ match_isn't_usage (matching.Ended (end.Crowded number cap)) is = omega arith
 match_isn't_usage (matching.Ended end.NoMemory) is = omega arith
 match_isn't_usage matching.NoMemory is = omega arith
 
-check_statuses : (ending : CheckEnding) → (¬ (check_status ending ≡ 2)) × (¬ (check_status ending ≡ 3))
+pub check_statuses : (ending : CheckEnding) → (¬ (check_status ending ≡ 2)) × (¬ (check_status ending ≡ 3))
 check_statuses (checking.Judged (verdict.Sound count)) = (λ is. omega arith, λ is. omega arith)
 check_statuses (checking.Judged (verdict.Broken breaks)) = (λ is. omega arith, λ is. omega arith)
 check_statuses (checking.Judged (verdict.Unfit versions markings)) = (λ is. omega arith, λ is. omega arith)
@@ -152,13 +155,13 @@ check_statuses checking.ReadFault = (λ is. omega arith, λ is. omega arith)
 check_statuses checking.WriteFault = (λ is. omega arith, λ is. omega arith)
 check_statuses checking.NoMemory = (λ is. omega arith, λ is. omega arith)
 
-show_isn't_usage : (ending : ShowEnding) → ¬ (show_status ending ≡ 2)
+pub show_isn't_usage : (ending : ShowEnding) → ¬ (show_status ending ≡ 2)
 show_isn't_usage showing.Shown is = omega arith
 show_isn't_usage (showing.PatternRefused refusal) is = omega arith
 show_isn't_usage showing.WriteFault is = omega arith
 show_isn't_usage showing.NoMemory is = omega arith
 
-make_statuses : (ending : MakeEnding) → (¬ (make_status ending ≡ 2)) × (¬ (make_status ending ≡ 3))
+pub make_statuses : (ending : MakeEnding) → (¬ (make_status ending ≡ 2)) × (¬ (make_status ending ≡ 3))
 make_statuses making.Made = (λ is. omega arith, λ is. omega arith)
 make_statuses (making.Refused line rule) = (λ is. omega arith, λ is. omega arith)
 make_statuses making.WriteFault = (λ is. omega arith, λ is. omega arith)
@@ -319,3 +322,129 @@ early serving.WriteFault none = absurd (none.1 refl)
 early serving.DoorFault none = absurd (none.2 refl)
 early serving.StoreFault none = tt
 early (serving.BadRow date) none = tt
+
+-- which statuses no ending of a command has
+match_below : (ending : MatchEnding) → match_status ending ≤ 7
+match_below (matching.PatternRefused refusal) = omega arith
+match_below (matching.Ended (end.Done observations bindings last)) = omega arith
+match_below (matching.Ended (end.Input line rule)) = omega arith
+match_below (matching.Ended end.ReadFault) = omega arith
+match_below (matching.Ended end.WriteFault) = omega arith
+match_below (matching.Ended (end.Crowded number cap)) = omega arith
+match_below (matching.Ended end.NoMemory) = omega arith
+match_below matching.NoMemory = omega arith
+
+check_below : (ending : CheckEnding) → check_status ending ≤ 7
+check_below (checking.Judged (verdict.Sound count)) = omega arith
+check_below (checking.Judged (verdict.Broken breaks)) = omega arith
+check_below (checking.Judged (verdict.Unfit versions markings)) = omega arith
+check_below (checking.Judged (verdict.Refused rule)) = omega arith
+check_below checking.TooLong = omega arith
+check_below checking.ReadFault = omega arith
+check_below checking.WriteFault = omega arith
+check_below checking.NoMemory = omega arith
+
+show_below : (ending : ShowEnding) → (show_status ending ≤ 7) × (¬ (show_status ending ≡ 5))
+show_below showing.Shown = (omega arith, λ is. omega arith)
+show_below (showing.PatternRefused refusal) = (omega arith, λ is. omega arith)
+show_below showing.WriteFault = (omega arith, λ is. omega arith)
+show_below showing.NoMemory = (omega arith, λ is. omega arith)
+
+make_below : (ending : MakeEnding) → (make_status ending ≤ 7) × (¬ (make_status ending ≡ 5))
+make_below making.Made = (omega arith, λ is. omega arith)
+make_below (making.Refused line rule) = (omega arith, λ is. omega arith)
+make_below making.WriteFault = (omega arith, λ is. omega arith)
+make_below making.NoMemory = (omega arith, λ is. omega arith)
+
+serve_reads_nothing : (ending : ServeEnding) → ¬ (serve_status ending ≡ 5)
+serve_reads_nothing (serving.Done served) is = omega arith
+serve_reads_nothing serving.NoMemory is = omega arith
+serve_reads_nothing serving.WriteFault is = omega arith
+serve_reads_nothing serving.DoorFault is = omega arith
+serve_reads_nothing serving.StoreFault is = omega arith
+serve_reads_nothing (serving.BadRow date) is = omega arith
+
+-- a count that no call touched
+untouched-count : {status wanted count : ℕ} → ¬ (status ≡ wanted) → Counted (status ≡ wanted) count count
+untouched-count other = record { later = omega arith; failed = λ is. absurd (other is); quiet = λ _. refl }
+
+pub not_above : {status count : ℕ} (wanted : ℕ) → 8 ≤ wanted → status ≤ 7 → Counted (status ≡ wanted) count count
+not_above wanted great small = untouched-count (λ is. omega (arith, is))
+
+pub match-counts : {count : ℕ} (ending : MatchEnding) (wanted : ℕ) → 8 ≤ wanted → Counted (match_status ending ≡ wanted) count count
+match-counts ending wanted great = not_above wanted great (match_below ending)
+
+pub check-counts : {count : ℕ} (ending : CheckEnding) (wanted : ℕ) → 8 ≤ wanted → Counted (check_status ending ≡ wanted) count count
+check-counts ending wanted great = not_above wanted great (check_below ending)
+
+pub show-counts : {count : ℕ} (ending : ShowEnding) (wanted : ℕ) → 8 ≤ wanted → Counted (show_status ending ≡ wanted) count count
+show-counts ending wanted great = not_above wanted great (show_below ending).0
+
+pub make-counts : {count : ℕ} (ending : MakeEnding) (wanted : ℕ) → 8 ≤ wanted → Counted (make_status ending ≡ wanted) count count
+make-counts ending wanted great = not_above wanted great (make_below ending).0
+
+-- the input of a command that reads none
+pub show-input : {count : ℕ} (ending : ShowEnding) → Counted (show_status ending ≡ 5) count count
+show-input ending = untouched-count (show_below ending).1
+
+pub make-input : {count : ℕ} (ending : MakeEnding) → Counted (make_status ending ≡ 5) count count
+make-input ending = untouched-count (make_below ending).1
+
+pub serve-input : {count : ℕ} (ending : ServeEnding) → Counted (serve_status ending ≡ 5) count count
+serve-input ending = untouched-count (serve_reads_nothing ending)
+
+-- the faults of a `serve` by their statuses
+pub serve-output : {before now : ℕ} (ending : ServeEnding) → Counted (ending ≡ serving.WriteFault) before now → Counted (serve_status ending ≡ 6) before now
+serve-output ending = counted-when (there ending, λ is. ap serve_status is) where
+  there : (ending : ServeEnding) → serve_status ending ≡ 6 → ending ≡ serving.WriteFault
+  there (serving.Done served) is = absurd (omega arith)
+  there serving.NoMemory is = absurd (omega arith)
+  there serving.WriteFault is = refl
+  there serving.DoorFault is = absurd (omega arith)
+  there serving.StoreFault is = absurd (omega arith)
+  there (serving.BadRow date) is = absurd (omega arith)
+
+pub serve-door : {before now : ℕ} (ending : ServeEnding) → Counted (ending ≡ serving.DoorFault) before now → Counted (serve_status ending ≡ 8) before now
+serve-door ending = counted-when (there ending, λ is. ap serve_status is) where
+  there : (ending : ServeEnding) → serve_status ending ≡ 8 → ending ≡ serving.DoorFault
+  there (serving.Done served) is = absurd (omega arith)
+  there serving.NoMemory is = absurd (omega arith)
+  there serving.WriteFault is = absurd (omega arith)
+  there serving.DoorFault is = refl
+  there serving.StoreFault is = absurd (omega arith)
+  there (serving.BadRow date) is = absurd (omega arith)
+
+pub serve-keeper : {before now : ℕ} (ending : ServeEnding) → Counted (ending ≡ serving.StoreFault) before now → Counted (serve_status ending ≡ 9) before now
+serve-keeper ending = counted-when (there ending, λ is. ap serve_status is) where
+  there : (ending : ServeEnding) → serve_status ending ≡ 9 → ending ≡ serving.StoreFault
+  there (serving.Done served) is = absurd (omega arith)
+  there serving.NoMemory is = absurd (omega arith)
+  there serving.WriteFault is = absurd (omega arith)
+  there serving.DoorFault is = absurd (omega arith)
+  there serving.StoreFault is = refl
+  there (serving.BadRow date) is = absurd (omega arith)
+
+-- a count under a status that is another's
+pub counted-as : {status own wanted before now : ℕ} → status ≡ own → Counted (own ≡ wanted) before now → Counted (status ≡ wanted) before now
+counted-as same = counted-when (λ is. sym same ∙ is, λ is. same ∙ is)
+
+-- `match` and `check` read their input
+pub match_reads : OneRequest → (words : List (List ℕ)) (task : MatchTask) → IsMatchLine words task → ¬ AskForNoInput words
+match_reads one words task line (inl shows) = match_isn't_show one words task shows.0 line shows.1
+match_reads one words task line (inr (inl makes)) = match_isn't_make one words task makes.0 makes.1.0 line makes.1.1
+match_reads one words task line (inr (inr serves)) = match_isn't_serve one words task serves.0 line serves.1
+
+pub check_reads : OneRequest → (words : List (List ℕ)) → IsCheckLine words → ¬ AskForNoInput words
+check_reads one words line (inl shows) = show_isn't_check one words shows.0 shows.1 line
+check_reads one words line (inr (inl makes)) = check_isn't_make one words makes.0 makes.1.0 line makes.1.1
+check_reads one words line (inr (inr serves)) = check_isn't_serve one words serves.0 line serves.1
+
+-- where a `serve` ended before the door was opened, the rows are as they were
+pub early-rows : {L : Type 0} (view : L → LinkView) (service : PlainService) (before after : Places L) (ending : ServeEnding)
+    → IsEarly ending → EndsServe view service before after ending → after.kept.told ≡ before.kept.told
+early-rows view service before after (serving.Done served) is ends = absurd is
+early-rows view service before after serving.WriteFault is ends = absurd is
+early-rows view service before after serving.DoorFault is ends = absurd is
+early-rows view service before after serving.NoMemory is ends = ends.rows
+early-rows view service before after serving.StoreFault is ends = ends.rows
+early-rows view service before after (serving.BadRow date) is ends = ends.0.rows

@@ -24,8 +24,8 @@ use Rattle.command_match.specs.Tasks.{MatchTask}
 use Rattle.stix_command.specs.Requests.{IsMatchLine, IsShowLine, IsCheckLine, IsMakeLine, IsServeLine}
 use Rattle.flow_edges.specs.Streams.{Streams, streams}
 use Rattle.flow_links.specs.Doors.{DoorState}
-use Rattle.taxii_rows.specs.StoreState.{StoreState}
-use Rattle.taxii_connections.specs.Outside.{LinkView}
+use Rattle.taxii_rows.specs.Keeper.{Kept}
+use Rattle.taxii_server.specs.Outside.{LinkView}
 use Rattle.command_serve.specs.Services.{Places}
 use Rattle.command_reasons.specs.Reasons.{IsUnread}
 use Rattle.command_match.specs.MatchEndings.{EndsMatch, match_status, IsMatchReason}
@@ -43,11 +43,10 @@ pub record Outside (L : Type 0) : Type 0 where
   pub places : Places L
 
 -- the same, from what each object tells
-abbrev pub outside : {L : Type 0} → Option (List ℕ) → Option (List ℕ) → Option (DoorState L) → Option StoreState → Option (List ℕ)
-    → (ℕ → Option ℕ) → ℕ → Outside L
-outside left written door rows name moments faults = record {
+abbrev pub outside : {L : Type 0} → Option (List ℕ) → Option (List ℕ) → Option (DoorState L) → Kept → (ℕ → Option ℕ) → ℕ → Outside L
+outside left written door kept moments faults = record {
   left = left;
-  places = record { door = door; rows = rows; name = name; written = written; around = record { moments = moments; faults = faults } };
+  places = record { door = door; kept = kept; written = written; around = record { moments = moments; faults = faults } };
 }
 
 -- what a link tells, from what each of its two sides does

@@ -1,7 +1,6 @@
-use Rattle.std.proofs.Common.{◌≡◌, ◌⊎◌, ℕ, subst, sym, ◌∙◌}
-use Rattle.flow_edges.specs.Faults.{Counted}
+use Rattle.std.proofs.Common.{◌≡◌, ◌⊎◌, ℕ, inl, inr, subst, sym, ◌∙◌}
 use Rattle.stix_command.specs.RunEndings.{ServesNone}
-use Rattle.stix_command.proofs.RunEndingsLemmas.{usage-run, no_line-run, pattern-run, refused-run, listing-run, making-run}
+use Rattle.stix_command.proofs.RunEndingsLemmas.{usage-run, no_line-run, pattern-run, refused-run, listing-run, making-run, counted-as}
 use Rattle.stix_command.proofs.run.run.Goals as goal
 
 pub returns-clause-ends : goal.returns-clause-ends
@@ -27,3 +26,29 @@ returns-clause-done g c = λ is. record {
   listing = listing-run c.one_request.ensures _ _ _ _ _ c.obey-ending.ensures.end (sym c.finish.ensures.status ∙ is);
   numbers = making-run c.one_request.ensures _ _ _ _ _ c.obey-ending.ensures.end (sym c.finish.ensures.status ∙ is);
 }
+
+pub returns-clause-untouched : goal.returns-clause-untouched
+returns-clause-untouched g c = λ is.
+    let its = subst (λ (n : ℕ). (n ≡ 2) ⊎ (n ≡ 3)) c.finish.ensures.status is in (
+      c.obey-ending.ensures.unread (elim its [ inl two ↦ inl two | inr three ↦ inr (inl three) ]),
+      c.obey-ending.ensures.unwritten its,
+    )
+
+pub returns-clause-unread : goal.returns-clause-unread
+returns-clause-unread g c = λ asks. c.obey-ending.ensures.unread (inr (inr asks))
+
+pub returns-clause-unserved : goal.returns-clause-unserved
+returns-clause-unserved g c = λ none. c.obey-ending.ensures.unserved (subst (λ (n : ℕ). ServesNone n) c.finish.ensures.status none)
+
+pub returns-clause-input : goal.returns-clause-input
+returns-clause-input g c = counted-as c.finish.ensures.status c.obey-ending.ensures.input
+
+pub returns-clause-output : goal.returns-clause-output
+returns-clause-output g c = counted-as c.finish.ensures.status c.obey-ending.ensures.output
+
+pub returns-clause-door : goal.returns-clause-door
+returns-clause-door g c = counted-as c.finish.ensures.status c.obey-ending.ensures.door
+
+pub returns-clause-keeper : goal.returns-clause-keeper
+returns-clause-keeper g c = λ none.
+    counted-as c.finish.ensures.status (c.obey-ending.ensures.keeper (subst (λ (n : ℕ). ServesNone n) c.finish.ensures.status none))
