@@ -7,13 +7,13 @@ use Rattle.std.proofs.lemmas.List.{take_more, length-map, length-take}
 use Rattle.std.proofs.lemmas.Grind.{common_steps}
 use Rattle.match_bindings.specs.declared.span.Span.{Span}
 use Rattle.match_bindings.specs.declared.bind.Bind.{Bind}
-use Rattle.match_bindings.specs.NumberedPattern.{NumberedPattern, Leaf, Both, Then, Either, Within, Between}
+use Rattle.match_bindings.specs.NumberedPattern.{NumberedPattern, Leaf, Both, Either, Between}
 use Rattle.match_bindings.specs.BindTree.{tree_of, BindTree, One, Pair, Single, More, disjoint, greatest, more_of, many_of}
 use Rattle.match_bindings.specs.Log.{Observed}
 use Rattle.match_bindings.specs.Test.{is_binding, are_repeats}
-use Rattle.match_bindings.specs.inner.Kinds.{is_one, is_pair, is_chain}
+use Rattle.match_bindings.specs.inner.Kinds.{is_one, is_pair}
 use Rattle.match_bindings.proofs.PartsLemmas.{go_on}
-use Rattle.match_bindings.specs.inner.Candidates.{span_of, span_if, judged, lies_within, lies_between}
+use Rattle.match_bindings.specs.inner.Candidates.{span_of, span_if, judged, lies_between}
 use Rattle.match_bindings.proofs.ManyLemmas.{of_many, many_last}
 use Rattle.match_bindings.proofs.ListLemmas.{map_append}
 

@@ -1,6 +1,5 @@
 -- A log with one more row.
-use Rattle.std.proofs.Common.{List, [], ◌∷◌, ◌++◌, ℤ, ◌≤ℤ◌, arith}
-use Rattle.std.proofs.lemmas.Int.{ints}
+use Rattle.std.proofs.Common.{List, [], ◌∷◌, ◌++◌, ◌≤ℤ◌}
 use Rattle.match_bindings.specs.declared.log_entry.LogEntry.{LogEntry}
 use Rattle.match_bindings.specs.Log.{LastIsBy, IsInOrder}
 

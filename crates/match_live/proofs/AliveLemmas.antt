@@ -1,5 +1,5 @@
 -- What is alive by the bounds above a part: of two things together, before, and under narrower bounds.
-use Rattle.std.proofs.Common.{◌≡◌, ℕ, ◌*◌, min, ℤ, pos, ◌+ℤ◌, ◌<ℤ◌, ◌≤ℤ◌, refl, sym, arith}
+use Rattle.std.proofs.Common.{◌≡◌, ℕ, ◌*◌, min, ℤ, pos, ◌+ℤ◌, ◌<ℤ◌, ◌≤ℤ◌, refl, arith}
 use Rattle.std.specs.Prelude.{Bool, true, false, ◌&&◌, int_lt, int_le, Option, Some, None}
 use Rattle.std.specs.Int.{int_min, int_max}
 use Rattle.std.proofs.lemmas.Bool.{and_parts, and_from}

@@ -23,7 +23,7 @@ use Rattle.match_live.specs.inner.Lives.{alive, lives}
 use Rattle.match_live.specs.inner.Steps.{held_with, joined_tree, may_join, joins, kept, SideStores, State, a_leaf, a_join, a_choice, a_limit, a_chain, truth_at, new_at_leaf, joins_new, sides_after, levels_new, levels_after, counted, step_new, step_state}
 use Rattle.match_bindings.proofs.ListLemmas.{map_append}
 use Rattle.match_bindings.proofs.PairsLemmas.{pairs}
-use Rattle.match_bindings.proofs.OnceLemmas.{same_self, Joins, count_append, count_others, count_under, count_not_under}
+use Rattle.match_bindings.proofs.OnceLemmas.{same_self, count_append, count_others, count_under, count_not_under}
 use Rattle.match_live.proofs.AliveLemmas.{alive_min, alive_within, alive_between, behind_alive, behind_ahead}
 use Rattle.match_live.proofs.NumberLemmas.{latest_new, latest_binding, has_greatest, greatest_binding, old_set, apart}
 use Rattle.match_live.proofs.JoinLemmas.{join_law, level_law}

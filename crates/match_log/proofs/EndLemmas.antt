@@ -1,5 +1,5 @@
 -- How a run ends where the matcher does.
-use Rattle.std.proofs.Common.{◌≡◌, ℕ, ℤ, ◌<ℤ◌, Bool, List, [], ◌∷◌, ◌++◌, length, Option, None, Some, Result, Err, refl, sym, subst, arith, length-append}
+use Rattle.std.proofs.Common.{◌≡◌, ℕ, ℤ, ◌<ℤ◌, Bool, List, [], ◌∷◌, ◌++◌, Option, None, Some, Result, Err, refl, sym, subst, arith, length-append}
 use Rattle.serde_json.specs.Data.{Data}
 use Rattle.stix_bundles.specs.declared.observation.Observation.{Observation}
 use Rattle.pattern_types.specs.PlainPattern.{plain_pattern}

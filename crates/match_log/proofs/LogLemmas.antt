@@ -1,9 +1,8 @@
 -- A log with one more row, its entries, its answers and their lines.
-use Rattle.std.proofs.Common.{◌≡◌, ◌⊎◌, inl, inr, ℕ, suc, ◌<◌, ℤ, ◌≤ℤ◌, ◌<ℤ◌, Bool, true, false, eqb, List, [], ◌∷◌, ◌++◌, length, Some, refl, sym, ap, subst, ◌∙◌, append_assoc, arith}
+use Rattle.std.proofs.Common.{◌≡◌, ◌⊎◌, inl, inr, ℕ, suc, ◌<◌, Bool, true, false, eqb, List, [], ◌∷◌, ◌++◌, length, refl, sym, ap, subst, ◌∙◌, append_assoc, arith}
 use Rattle.std.proofs.lemmas.List.{append-nil}
 use Rattle.std.proofs.lemmas.Grind.{flat_map-append}
-use Rattle.std.proofs.lemmas.Int.{ints}
-use Rattle.std.proofs.lemmas.Bool.{and_from, eq-eqb, eqb-true}
+use Rattle.std.proofs.lemmas.Bool.{eq-eqb, eqb-true}
 use Rattle.serde_json.specs.Data.{Data}
 use Rattle.stix_bundles.specs.declared.observation.Observation.{Observation}
 use Rattle.pattern_types.specs.declared.pattern.Pattern.{Pattern}
@@ -11,12 +10,10 @@ use Rattle.pattern_types.specs.PlainPattern.{PlainPattern}
 use Rattle.match_tests.specs.Truths.{AreTruths}
 use Rattle.match_bindings.specs.declared.log_entry.LogEntry.{LogEntry}
 use Rattle.match_bindings.specs.NumberedPattern.{NumberedPattern, numbered_pattern}
-use Rattle.match_bindings.specs.BindTree.{BindTree, One, Pair, First, Second, Empty, Single, More, greatest}
+use Rattle.match_bindings.specs.BindTree.{BindTree, greatest}
 use Rattle.match_bindings.specs.Line.{line_text}
-use Rattle.match_bindings.specs.Log.{IsInOrder}
-use Rattle.match_bindings.specs.Once.{same, count}
+use Rattle.match_bindings.specs.Once.{count}
 use Rattle.match_bindings.proofs.OnceLemmas.{same_self}
-use Rattle.match_live.specs.MatcherState.{last_of, Falls}
 use Rattle.match_live.specs.Answer.{IsAnswer, IsRoomy, AnswersAfter, joined_answers}
 use Rattle.match_input.specs.Reading.{BundleOf}
 use Rattle.match_log.specs.Entries.{AreEntriesOf, AreEntries}

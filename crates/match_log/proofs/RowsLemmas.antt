@@ -1,5 +1,5 @@
 -- What the observations of one bundle add.
-use Rattle.std.proofs.Common.{◌≡◌, ◌≢◌, ℕ, suc, ◌+◌, ◌^◌, ◌≤◌, ◌<◌, ℤ, ◌≤ℤ◌, Bool, List, [], ◌∷◌, ◌++◌, length, Option, Some, None, Result, Ok, Err, OnOk, IfErr, refl, sym, ap, subst, ◌∙◌, append_assoc, length-append, take, drop, get_or, drop-cons, arith}
+use Rattle.std.proofs.Common.{◌≡◌, ◌≢◌, ℕ, suc, ◌+◌, ◌^◌, ◌≤◌, ◌<◌, ℤ, Bool, List, [], ◌∷◌, ◌++◌, length, Option, Some, None, Result, Ok, Err, OnOk, IfErr, refl, sym, ap, subst, ◌∙◌, append_assoc, length-append, take, drop, get_or, drop-cons, arith}
 use Rattle.std.specs.Prelude.{slice_get, MatchOption, IsSomeAnd}
 use Rattle.std.proofs.lemmas.List.{append-nil, take_more, take-append-drop}
 use Rattle.std.proofs.lemmas.Option.{slice_get_read, slice_get_within}
@@ -13,14 +13,13 @@ use Rattle.match_bindings.specs.declared.log_entry.LogEntry.{LogEntry}
 use Rattle.match_bindings.specs.NumberedPattern.{numbered_pattern}
 use Rattle.match_bindings.specs.BindTree.{BindTree}
 use Rattle.match_bindings.specs.Log.{IsInOrder}
-use Rattle.match_live.specs.MatcherState.{MatcherState, StandsFor, Falls}
+use Rattle.match_live.specs.MatcherState.{MatcherState, StandsFor}
 use Rattle.match_live.specs.Answer.{IsAnswer, IsRoomy, joined_answers}
 use Rattle.match_input.specs.Reading.{BundleOf}
 use Rattle.match_log.specs.Listing.{listing_text, last_number}
-use Rattle.match_log.specs.inner.Rows.{counted, last_counted, IsBehind, Progress, so_far, IsAt, IsAtSome, MayFollow, row_of, AddsRow, EndsAtRow, AddsRows, ListsFirst, IsCrowdedAt, StopsAmong, EndsAmong, TakesRow, StopsAtRow, TakesRows, StopsAtOne, WritesBundle, StopsInBundle}
+use Rattle.match_log.specs.inner.Rows.{counted, last_counted, IsBehind, Progress, so_far, IsAt, IsAtSome, MayFollow, row_of, AddsRow, EndsAtRow, AddsRows, ListsFirst, IsCrowdedAt, StopsAmong, EndsAmong, TakesRow, StopsAtRow, TakesRows, StopsAtOne}
 use Rattle.match_log.specs.declared.end.MatchEnd.{MatchEnd}
 use Rattle.match_log.specs.declared.end.MatchEnd.TheVariants.{Done, Input, ReadFault, WriteFault, Crowded, NoMemory}
-use Rattle.flow_edges.specs.Flow.{written_with}
 use Rattle.match_log.specs.declared.tally.Tally.{Tally}
 use Rattle.match_live.proofs.LogLemmas.{last_of_more}
 use Rattle.match_log.proofs.LogLemmas.{joined_answers-one, listing_text-append, answers-more, entries_of-more, never_crowded-more, ends_at, last_number-more}
@@ -72,7 +71,6 @@ follow-more p cap objects o state after tally later log answers text text_after 
     let rows = rows-more p cap state after tally later log answers (answers ++ adds.answer ∷ []) row b adds.behind in
     subst (λ (l : Option ℤ). MayFollow l (after.rows + 1) observations) (sym last)
     (subst (λ (n : ℕ). MayFollow (Some o.last) (n + 1) observations) (sym rows) follow)
-
 
 -- one more observation
 pub adds-more : (p : Pattern) (cap : ℕ) (objects : List Data) (observations : List Observation) (o : Observation) (log : List LogEntry)
@@ -195,23 +193,6 @@ turn-follow objects o state after tally later text text_after rest some row foll
 -- ---- a bundle
 
 module _ (bundle : BundleOf) (run after : Progress) (text : List ℕ) where
-  pub batch-rows : (written written_after : Option (List ℕ)) (answer : Result (Unit {0}) MatchEnd)
-      → OnOk answer (TakesRows bundle.objects bundle.observations run after text)
-      → written_after ≡ written_with text written → OnOk answer (WritesBundle bundle run after written written_after)
-  batch-rows written written_after (Ok done) adds is = λ log answers b. (text, adds log answers b, is)
-  batch-rows written written_after (Err end) adds is = tt
-
-  pub batch-end : (written written_after : Option (List ℕ)) (answer : Result (Unit {0}) MatchEnd)
-      → IfErr answer (StopsAtOne bundle.objects bundle.observations run after.matcher text)
-      → answer ≢ Err NoMemory → written_after ≡ written_with text written → IfErr answer (StopsInBundle bundle run after.matcher written written_after)
-  batch-end written written_after (Ok done) ends some is = tt
-  batch-end written written_after (Err (Done seen bindings last)) ends some is = ends
-  batch-end written written_after (Err (Input line why)) ends some is = ends
-  batch-end written written_after (Err ReadFault) ends some is = ends
-  batch-end written written_after (Err WriteFault) ends some is = λ log answers b. absurd (ends log answers b)
-  batch-end written written_after (Err (Crowded number named)) ends some is = λ log answers b. (text, ends log answers b, is)
-  batch-end written written_after (Err NoMemory) ends some is = absurd (some refl)
-
   pub batch-first : (answer : Result (Unit {0}) MatchEnd) → OnOk answer (TakesRows bundle.objects bundle.observations run after text)
       → IfErr answer (StopsAtOne bundle.objects bundle.observations run after.matcher text) → answer ≢ Err NoMemory
       → (log : List LogEntry) (answers : List (List BindTree)) → IsAt run log answers

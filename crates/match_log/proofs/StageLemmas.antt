@@ -1,16 +1,15 @@
 -- Where a reader stands in a run, and how it moves on.
-use Rattle.std.proofs.Common.{◌≡◌, ◌⊎◌, inl, inr, ℕ, ◌+◌, ◌<◌, Bool, true, false, List, [], Option, None, Some, IfSome, if◌then◌else◌, refl, sym, subst, arith}
+use Rattle.std.proofs.Common.{◌≡◌, ◌⊎◌, inl, inr, ℕ, ◌+◌, ◌<◌, true, List, [], Option, None, Some, refl, sym, subst, arith}
 use Rattle.std.proofs.lemmas.List.Elements.{All-nil}
 use Rattle.flow_edges.specs.declared.source.TheConstants.{MAX_READ}
 use Rattle.flow_edges.specs.Flow.{IsAtEnd, TakesAtMost}
-use Rattle.flow_lines.specs.Lines.{Lined, ended, refused, line_then, LinesState, RawLine, NoLineFeed, lines_start, AccountsFor}
-use Rattle.flow_lines.specs.declared.refusal.LineRefusal.TheVariants.{InputTooLong}
+use Rattle.flow_lines.specs.Lines.{Lined, LinesState, RawLine, NoLineFeed, lines_start, AccountsFor}
 use Rattle.flow_lines.specs.declared.whole_input.TheConstants.{MAX_WHOLE_INPUT}
 use Rattle.match_input.specs.declared.mode.Mode.{Mode}
 use Rattle.match_input.specs.declared.mode.Mode.TheVariants.{Lines, Whole as WholeInput}
 use Rattle.match_input.specs.declared.stage.Stage.{Stage}
 use Rattle.match_input.specs.declared.stage.Stage.TheVariants as stage
-use Rattle.match_input.specs.Reading.{BundleOf, one_line}
+use Rattle.match_input.specs.Reading.{BundleOf}
 use Rattle.match_input.specs.Ahead.{IsOpen, ahead, Moves, TakesLittle, ComesToEnd}
 use Rattle.match_log.specs.Matching.{TakesLittle as RunTakesLittle, TakesFew}
 use Rattle.match_log.specs.inner.Runs.{IsStageOf, turns_left}

@@ -1,9 +1,5 @@
-use Rattle.std.proofs.Common.{◌≡◌, List, [], ◌∷◌, ◌++◌, length, map, sym, ap, subst, ◌∙◌, arith, Bool}
+use Rattle.std.proofs.Common.{◌≡◌, List, [], ◌∷◌, ◌++◌, length, map, sym, ap, subst, ◌∙◌, arith}
 use Rattle.std.proofs.lemmas.List.{length-map}
-use Rattle.stix_bundles.specs.Objects.{data_in}
-use Rattle.pattern_types.specs.declared.pattern.Pattern.{Pattern}
-use Rattle.pattern_types.specs.PlainPattern.{plain_pattern}
-use Rattle.match_tests.specs.Truths.{AreTruths}
 use Rattle.match_bindings.specs.declared.bind.Bind.{Bind}
 use Rattle.match_bindings.specs.BindTree.{tree_of}
 use Rattle.match_log.specs.Listing.{listing_text}

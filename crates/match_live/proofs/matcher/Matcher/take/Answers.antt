@@ -1,6 +1,6 @@
 -- The law of a row at the log that the matcher stands for.
 use Rattle.std.proofs.Common.{ℤ, ◌≡◌, ◌+◌, ◌≤ℤ◌, List, length, sym, ◌∙◌, ap, subst, arith, rules}
-use Rattle.std.specs.Prelude.{Bool, true, Option, map, ◌||◌, is_some}
+use Rattle.std.specs.Prelude.{Bool, Option, map, ◌||◌, is_some}
 use Rattle.match_bindings.specs.declared.bind.Bind.{Bind}
 use Rattle.match_bindings.specs.declared.log_entry.LogEntry.{LogEntry}
 use Rattle.match_bindings.specs.Bounds.{no_bounds}
