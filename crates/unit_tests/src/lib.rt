@@ -1,11 +1,16 @@
-//! The unit tests of the crates: public calls that no command of the program reaches, each once, and streams that fail
-//! in turn. They stand in a crate of their own, since a crate with tests is proved twice.
+//! The unit tests of the crates: public calls that no command of the program reaches, each once; streams, links, doors
+//! and keepers that fail in turn, under whole servers too. They stand in a crate of their own, since a crate with tests
+//! is proved twice.
 #![tactic(auto)]
 
 #[cfg(test)]
 mod bindings;
 #[cfg(test)]
+mod doors;
+#[cfg(test)]
 mod failing_streams;
+#[cfg(test)]
+mod frames;
 #[cfg(test)]
 mod generated_log;
 #[cfg(test)]
@@ -15,7 +20,11 @@ mod lists;
 #[cfg(test)]
 mod paths;
 #[cfg(test)]
+mod serving;
+#[cfg(test)]
 mod sinks;
+#[cfg(test)]
+mod sockets;
 #[cfg(test)]
 mod sources;
 #[cfg(test)]

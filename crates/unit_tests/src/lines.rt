@@ -2,10 +2,10 @@
 
 use crate::lists::listed;
 use flow_edges::MAX_READ;
-use flow_memory::{MemorySource, QuietSource};
 use flow_lines::{
     InputRefusal, LineRefusal, Lines, MAX_INPUT, MAX_LINE, MAX_WHOLE_INPUT, read_whole,
 };
+use flow_memory::{MemorySource, QuietSource};
 use std::test::Fail;
 
 #[test]

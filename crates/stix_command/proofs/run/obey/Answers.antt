@@ -36,8 +36,10 @@ returns-in-Ok-Match-clause-unread g c =
     let task = record { whole = c.in-Ok-Match.request.whole; mode_is = refl; line = line } in
     λ is. elim is [
       | inl two ↦ absurd (match_isn't_usage _ two)
-      | inr more ↦ elim more [ inl three ↦ (c.match_bindings.ensures.untouched three).0
-        | inr asks ↦ absurd (match_reads c.one_request.ensures _ (request_of c.in-Ok-Match.request) task asks) ]
+      | inr more ↦ elim more [
+        | inl three ↦ (c.match_bindings.ensures.untouched three).0
+        | inr asks ↦ absurd (match_reads c.one_request.ensures _ (request_of c.in-Ok-Match.request) task asks)
+      ]
     ]
 
 pub returns-in-Ok-Match-clause-unwritten : goal.returns-in-Ok-Match-clause-unwritten

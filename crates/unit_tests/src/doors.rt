@@ -2,7 +2,8 @@
 
 use crate::lists::listed;
 use flow_edges::{Sink, Source, write_whole};
-use flow_links::{Clock, Door, ListClock, MemoryDoor, MemoryLink};
+use flow_links::{Clock, Door};
+use flow_memory::{ListClock, MemoryDoor, MemoryLink};
 use flow_values::{Fault, Items, NoMemory};
 use std::alloc::Global;
 use std::test::Fail;
