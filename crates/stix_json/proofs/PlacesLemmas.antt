@@ -12,10 +12,6 @@ use Rattle.stix_json.specs.Ordered.{MembersAreOrdered}
 use Rattle.stix_json.specs.inner.Naming.{IsFreePlace}
 use Rattle.stix_json.proofs.FieldsLemmas.{named, non_decreasing}
 
-unwrap_at : Result ℕ ℕ → ℕ
-unwrap_at (Ok k) = k
-unwrap_at (Err k) = k
-
 -- where a search among ordered fields ends at none, it ends at the free place
 pub searched_free : (name : List ℕ) (fields : List Field) (answer : Result ℕ ℕ) (at : ℕ) → MembersAreOrdered (named fields) → IsSearchInRange answer (length fields)
     → IsBinarySearchResult (λ f. slice_cmp nat_cmp f.name name) fields answer → answer ≡ Err at → IsFreePlace name fields at

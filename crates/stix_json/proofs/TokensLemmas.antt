@@ -1,5 +1,5 @@
 -- The loops of the grammar under the conversion to data, a turn at a time, as the tokens are taken.
-use Rattle.std.proofs.Common.{◌≡◌, ℕ, ◌-◌, ◌<◌, ◌≤◌, List, [], ◌∷◌, ◌++◌, length, Option, Some, None, option_map, option_and_then, refl, sym, ap, ◌∙◌}
+use Rattle.std.proofs.Common.{◌≡◌, ℕ, ◌-◌, ◌<◌, ◌≤◌, List, [], ◌∷◌, ◌++◌, length, Option, Some, None, IfSome, option_map, option_and_then, refl, sym, ap, subst, ◌∙◌}
 use Rattle.std.specs.Prelude.{IsUtf8}
 use Rattle.json.specs.Token.{Token}
 use Rattle.json.specs.Lex.{tokens}
@@ -71,6 +71,11 @@ module _ (p : Parse json.Json) where
 -- what was read has its names in order
 pub read_value_ordered : (o : Option (json.Json × List Token)) (d : Data) (r : List Token) → converted of_json o ≡ Some (d, r) → IsOrdered d
 read_value_ordered o d r e = let j = converted_some of_json o d r e in on_some (of_json j.0) d j.2 (json_ordered j.0)
+
+-- what holds of a value holds of what is found, where that can only be the value
+pub if_same : {A : Type 0} (P : A → Type 0) (found : Option A) (a : A) → P a → IfSome found (λ b. b ≡ a) → IfSome found P
+if_same P None a here same = tt
+if_same P (Some b) a here same = subst P (sym same) here
 
 -- ---- a list that grows at its end
 

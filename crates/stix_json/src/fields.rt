@@ -7,12 +7,15 @@ ghost use Rattle.stix_json.specs.Ordered.{MembersAreOrdered};
 ghost use Rattle.stix_json.specs.inner.Naming.{IsFreePlace};
 
 use crate::{Field, Json};
-use flow_values::Text;
+use flow_values::{Items, Text};
 use std::alloc::Global;
 
 /// Among more fields than these none is put before another: each would move all that follow it, which for
 /// many thousands of names in falling order is too dear.
 const MAX_MOVED: usize = 256;
+
+/// Room for so many more fields may stay unused.
+const MAX_SPARE: usize = 3;
 
 /// Puts a field at the place of its name. None where a field has that name, where too many would have to
 /// move, or without memory.
@@ -33,6 +36,21 @@ pub(crate) fn put_field(
     let name = Text::from_text(alloc, name).ok()?;
     fields.insert(at, Field { name, value }).ok()?;
     Some(())
+}
+
+/// The fields as they are, in memory of their own size where more than a little would stay unused: values
+/// are kept, and fields take most of the memory of one. (To copy them costs a third of what it costs to
+/// shrink the memory where it lies.)
+pub(crate) fn fitted(alloc: Global, fields: Vec<Field>) -> Option<Items<Field>>
+    ensures { IfSome result (λ copy. copy ≡ fields.items) }
+{
+    if fields.capacity() - fields.len() <= MAX_SPARE {
+        return Some(Items::from_vec(fields));
+    }
+    let mut fields = fields;
+    let mut copy = Vec::with_capacity(alloc, fields.len()).ok()?;
+    copy.append(&mut fields).ok()?;
+    Some(Items::from_vec(copy))
 }
 
 /// Where a field of that name belongs. None where there is one.

@@ -14,7 +14,7 @@ ghost use Rattle.stix_json.specs.DataOf.{data_of, field_data, members_of};
 ghost use Rattle.stix_json.specs.Reading.{IsJsonOf};
 ghost use Rattle.stix_json.specs.inner.Fits.{text_levels, Fits, ItemsFit, MembersFit};
 
-use crate::fields::put_field;
+use crate::fields::{fitted, put_field};
 use crate::whole::whole_of;
 use crate::{Field, Json, MAX_LEVELS};
 use flow_values::{Items, Text};
@@ -96,5 +96,5 @@ fn take_fields(alloc: Global, reader: &mut Reader<'_>, levels: usize) -> Option<
         let value = take_value(alloc, reader, levels)?;
         put_field(alloc, &mut fields, name, value)?;
     }
-    Some(Items::from_vec(fields))
+    fitted(alloc, fields)
 }

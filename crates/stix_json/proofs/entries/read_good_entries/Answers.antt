@@ -1,4 +1,4 @@
-use Rattle.std.proofs.Common.{◌≡◌, List, Option, Some, None, IfSome, map, ap, subst, sym, ◌∙◌}
+use Rattle.std.proofs.Common.{◌≡◌, List, Some, map, ap, sym, ◌∙◌}
 use Rattle.serde_json.specs.Data.{array}
 use Rattle.serde_json.specs.Find.{get}
 use Rattle.serde_json.specs.View.{items_of}
@@ -9,11 +9,8 @@ use Rattle.stix_json.specs.declared.entry.Entry.TheVariants.{Good}
 use Rattle.stix_json.specs.declared.value.Json.{Json}
 use Rattle.stix_json.proofs.FlawsLemmas.{data_of-Array}
 use Rattle.stix_json.proofs.GoodEntriesLemmas.{good_entries}
+use Rattle.stix_json.proofs.TokensLemmas.{if_same}
 use Rattle.stix_json.proofs.entries.read_good_entries.Goals as goal
-
-if_same : {A : Type 0} (P : A → Type 0) (found : Option A) (a : A) → P a → IfSome found (λ b. b ≡ a) → IfSome found P
-if_same P None a here same = tt
-if_same P (Some b) a here same = subst P (sym same) here
 
 pub returns-in-Array : goal.returns-in-Array
 returns-in-Array c =

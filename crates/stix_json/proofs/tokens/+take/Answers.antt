@@ -14,7 +14,7 @@ use Rattle.stix_json.specs.inner.Fits.{text_levels, ItemsFit, MembersFit}
 use Rattle.stix_json.proofs.FlawsLemmas.{map_pushed, data_of-String, data_of-Bool, data_of-Array, data_of-Object}
 use Rattle.stix_json.proofs.FitsLemmas.{items_fit_push, members_fit_put}
 use Rattle.stix_json.proofs.OrderedLemmas.{put_ordered}
-use Rattle.stix_json.proofs.TokensLemmas.{converted-array, converted-object, item_read, items_over, member_read, members_over, read_value_ordered, items_before, items_before-no_items, one_more_item}
+use Rattle.stix_json.proofs.TokensLemmas.{converted-array, converted-object, item_read, items_over, member_read, members_over, read_value_ordered, items_before, items_before-no_items, one_more_item, if_same}
 use Rattle.stix_json.proofs.tokens.+take.Goals as goal
 
 pub take_value-returns-in_ok-ok-in-String-clause-ok : goal.take_value-returns-in_ok-ok-in-String-clause-ok
@@ -126,5 +126,6 @@ take_fields-returns-clause-ok t c =
     let r = c.next_key.new.self in
     let old = members_of (map field_data l.fields.items) in
     let over : read_key l.reader ≡ Some (None, r) = search rules in
-    l.invariant.2 ∙ members_over p old n l.reader r l.invariant.1 over
-    ∙ ap (λ (fields : List Field). Some (members_of (map field_data fields), r)) (sym c.from_vec.ensures)
+    let all = converted (λ ms. of_members ms no_members) (members p (length c.args.reader.now) c.args.reader.now) in
+    if_same (λ (fields : List Field). all ≡ Some (members_of (map field_data fields), r)) c.fitted.result l.fields.items
+    (l.invariant.2 ∙ members_over p old n l.reader r l.invariant.1 over) c.fitted.ensures
