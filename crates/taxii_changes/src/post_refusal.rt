@@ -1,6 +1,6 @@
 ghost use Rattle.std.specs.Prelude.{ℕ, List, codes};
 ghost use Rattle.stix_json.specs.Entries.{HasNoEntriesAs};
-ghost use Rattle.taxii_posts.specs.Posted.{IsUnreadable};
+ghost use Rattle.taxii_changes.specs.Posted.{IsUnreadable};
 
 use flow_values::NoMemory;
 use std::error::Error;
@@ -50,7 +50,7 @@ impl Error for PostRefusal {}
 
 impl From<NoMemory> for PostRefusal {
     ghost use Rattle.std.specs.Prelude.{◌≡◌};
-    ghost use Rattle.taxii_posts.specs.declared.refusal.PostRefusal.TheVariants as PostRefusal;
+    ghost use Rattle.taxii_changes.specs.declared.post_refusal.PostRefusal.TheVariants as PostRefusal;
 
     ghost from_gives = { λ _ refusal. refusal ≡ PostRefusal.NoMemory };
 

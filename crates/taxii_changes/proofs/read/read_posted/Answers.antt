@@ -1,7 +1,7 @@
 use Rattle.std.proofs.Common.{All, sym, subst}
-use Rattle.taxii_posts.specs.inner.Adding.{IsTaken}
-use Rattle.taxii_posts.proofs.TakenLemmas.{taken_all}
-use Rattle.taxii_posts.proofs.read.read_posted.Goals as goal
+use Rattle.taxii_changes.specs.inner.Posting.{IsTaken}
+use Rattle.taxii_changes.proofs.TakenLemmas.{taken_all}
+use Rattle.taxii_changes.proofs.read.read_posted.Goals as goal
 
 pub judge_entries-requires : goal.judge_entries-requires
 judge_entries-requires c =

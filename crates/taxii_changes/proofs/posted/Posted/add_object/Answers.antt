@@ -4,8 +4,8 @@ use Rattle.stix_json.specs.Refusal.{refusal_of}
 use Rattle.taxii_rows.specs.declared.described.Described.{Described}
 use Rattle.taxii_rows.specs.Described.{Describes}
 use Rattle.taxii_store.specs.Planned.{IsSound}
-use Rattle.taxii_posts.proofs.NamedLemmas.{named_has_id}
-use Rattle.taxii_posts.proofs.posted.Posted.add_object.Goals as goal
+use Rattle.taxii_changes.proofs.NamedLemmas.{named_has_id}
+use Rattle.taxii_changes.proofs.posted.Posted.add_object.Goals as goal
 
 pub unreachable-requires : goal.unreachable-requires
 unreachable-requires c =

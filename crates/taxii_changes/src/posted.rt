@@ -2,8 +2,8 @@ ghost use Rattle.std.specs.Prelude.{◌≡◌, ◌+◌, ◌<◌, ◌^◌, [], �
 ghost use Rattle.stix_json.specs.DataOf.{data_of};
 ghost use Rattle.stix_json.specs.declared.entry.Entry.TheVariants.{Good, Bad};
 ghost use Rattle.stix_objects.specs.Breaks.{AreBreaksOf};
-ghost use Rattle.taxii_posts.specs.Posted.{BreaksFirst};
-ghost use Rattle.taxii_posts.specs.inner.Adding.{IsTaken, Adds, AddsObject, AddsFailure};
+ghost use Rattle.taxii_changes.specs.Posted.{BreaksFirst};
+ghost use Rattle.taxii_changes.specs.inner.Posting.{IsTaken, Adds, AddsObject, AddsFailure};
 
 use flow_values::{Items, NoMemory};
 use std::alloc::Global;

@@ -8,9 +8,9 @@ use Rattle.stix_json.specs.Refusal.{refusal_of}
 use Rattle.taxii_rows.specs.declared.described.Described.{Described}
 use Rattle.taxii_store.specs.Planned.{IsSound}
 use Rattle.taxii_bodies.specs.declared.details.Detail.{Detail}
-use Rattle.taxii_posts.specs.declared.posted.Posted.{Posted}
-use Rattle.taxii_posts.specs.declared.posted.TheConstants.{MAX_DETAILS}
-use Rattle.taxii_posts.specs.Posted.{IsKept, Fails, IsDetailOf}
+use Rattle.taxii_changes.specs.declared.posted.Posted.{Posted}
+use Rattle.taxii_changes.specs.declared.posted.TheConstants.{MAX_DETAILS}
+use Rattle.taxii_changes.specs.Posted.{IsKept, Fails, IsDetailOf}
 
 -- where the entry is a value, JSON's limits take it, and its names are in order
 abbrev pub IsTaken : Entry → Type 0

@@ -1,9 +1,9 @@
 use Rattle.std.proofs.Common.{◌<◌, ◌^◌, [], ◌∷◌, ◌++◌, length, All, Vec, Global, sym, ap, subst, ◌∙◌, append_assoc, arith}
 use Rattle.std.proofs.lemmas.List.Elements.{All-tail}
 use Rattle.stix_json.specs.declared.entry.Entry.{Entry}
-use Rattle.taxii_posts.specs.inner.Adding.{IsTaken}
-use Rattle.taxii_posts.proofs.HoldsLemmas.{holds_adds, sound_adds, holds_within}
-use Rattle.taxii_posts.proofs.read.judge_entries.Goals as goal
+use Rattle.taxii_changes.specs.inner.Posting.{IsTaken}
+use Rattle.taxii_changes.proofs.HoldsLemmas.{holds_adds, sound_adds, holds_within}
+use Rattle.taxii_changes.proofs.read.judge_entries.Goals as goal
 
 within_room : (entries : Vec Entry Global) → length entries.items < 2 ^ 63
 within_room entries = let (length_is, within) = entries.ok in let small = entries.small in omega (arith, length_is, within, small)

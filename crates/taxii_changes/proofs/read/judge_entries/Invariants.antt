@@ -1,8 +1,8 @@
 use Rattle.std.proofs.Common.{◌≡◌, ◌++◌, All}
 use Rattle.taxii_store.specs.Planned.{IsSound}
-use Rattle.taxii_posts.specs.Posted.{Holds}
-use Rattle.taxii_posts.specs.inner.Adding.{IsTaken}
-use Rattle.taxii_posts.proofs.read.judge_entries.Given as goal
+use Rattle.taxii_changes.specs.Posted.{Holds}
+use Rattle.taxii_changes.specs.inner.Posting.{IsTaken}
+use Rattle.taxii_changes.proofs.read.judge_entries.Given as goal
 
 abbrev pub invariant-loop-entry : goal.invariant-loop-entry
 invariant-loop-entry l = record {

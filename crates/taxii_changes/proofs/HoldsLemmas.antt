@@ -8,10 +8,10 @@ use Rattle.stix_json.specs.declared.entry.Entry.{Entry}
 use Rattle.taxii_rows.specs.declared.described.Described.{Described}
 use Rattle.taxii_store.specs.Planned.{IsSound}
 use Rattle.taxii_bodies.specs.declared.details.Detail.{Detail}
-use Rattle.taxii_posts.specs.declared.posted.Posted.{Posted}
-use Rattle.taxii_posts.specs.declared.posted.TheConstants.{MAX_DETAILS}
-use Rattle.taxii_posts.specs.Posted.{IsKept, Fails, IsDetailOf, Splits, Holds}
-use Rattle.taxii_posts.specs.inner.Adding.{AddsDetail, Adds}
+use Rattle.taxii_changes.specs.declared.posted.Posted.{Posted}
+use Rattle.taxii_changes.specs.declared.posted.TheConstants.{MAX_DETAILS}
+use Rattle.taxii_changes.specs.Posted.{IsKept, Fails, IsDetailOf, Splits, Holds}
+use Rattle.taxii_changes.specs.inner.Posting.{AddsDetail, Adds}
 
 -- ---- one more
 

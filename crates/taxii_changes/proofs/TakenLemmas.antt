@@ -8,7 +8,7 @@ use Rattle.stix_json.specs.Entries.{AreEntriesFor}
 use Rattle.stix_json.specs.Ordered.{IsOrdered}
 use Rattle.stix_json.specs.Reading.{IsEntryFor}
 use Rattle.stix_json.specs.Refusal.{refusal_of}
-use Rattle.taxii_posts.specs.inner.Adding.{IsTaken}
+use Rattle.taxii_changes.specs.inner.Posting.{IsTaken}
 
 taken_one : (d : Data) (entry : Entry) → IsEntryFor d entry → IsTaken entry
 taken_one d (Good value) is = (subst (λ (v : Data). refusal_of v ≡ None) (sym is.same) is.good, subst IsOrdered (sym is.same) is.ordered)

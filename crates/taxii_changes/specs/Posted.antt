@@ -13,10 +13,10 @@ use Rattle.taxii_rows.specs.declared.described.Described.{Described}
 use Rattle.taxii_rows.specs.Described.{IsDescribed}
 use Rattle.taxii_bodies.specs.declared.details.Detail.{Detail}
 use Rattle.taxii_bodies.specs.Details.{IsFailureOf, IsRefusalOf}
-use Rattle.taxii_posts.specs.declared.posted.Posted.{Posted}
-use Rattle.taxii_posts.specs.declared.posted.TheConstants.{MAX_DETAILS}
-use Rattle.taxii_posts.specs.declared.refusal.PostRefusal.{PostRefusal}
-use Rattle.taxii_posts.specs.declared.refusal.PostRefusal.TheVariants.{NotJson, NotList, NoMemory}
+use Rattle.taxii_changes.specs.declared.posted.Posted.{Posted}
+use Rattle.taxii_changes.specs.declared.posted.TheConstants.{MAX_DETAILS}
+use Rattle.taxii_changes.specs.declared.post_refusal.PostRefusal.{PostRefusal}
+use Rattle.taxii_changes.specs.declared.post_refusal.PostRefusal.TheVariants.{NotJson, NotList, NoMemory}
 
 -- the value has breaks, and this is the first of them
 pub record BreaksFirst (value : Data) (first : Break) : Type 0 where

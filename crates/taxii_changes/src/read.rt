@@ -1,7 +1,7 @@
 ghost use Rattle.std.specs.Prelude.{◌+◌, ◌<◌, ◌^◌, All, IfOk, IfErr, length};
 ghost use Rattle.taxii_store.specs.Planned.{IsSound};
-ghost use Rattle.taxii_posts.specs.Posted.{Holds, IsPosted, IsUnreadable};
-ghost use Rattle.taxii_posts.specs.inner.Adding.{IsTaken};
+ghost use Rattle.taxii_changes.specs.Posted.{Holds, IsPosted, IsUnreadable};
+ghost use Rattle.taxii_changes.specs.inner.Posting.{IsTaken};
 
 use crate::{PostRefusal, Posted};
 use flow_values::NoMemory;
