@@ -1,2 +1,5 @@
 mod RowLemmas
 mod AnswerLemmas
+mod TakenLemmas
+mod HoldsLemmas
+mod NamedLemmas

@@ -9,15 +9,15 @@ use Rattle.taxii_bodies.specs.declared.details.Detail.{Detail}
 use Rattle.taxii_bodies.specs.declared.status.StatusReport.{StatusReport}
 use Rattle.taxii_bodies.specs.Details.{IsSuccessOf}
 use Rattle.taxii_bodies.specs.Status.{status_id_of, IsStatus}
-use Rattle.taxii_posts.specs.declared.posted.Posted.{Posted}
-use Rattle.taxii_posts.specs.declared.posted.TheConstants.{MAX_DETAILS}
-use Rattle.taxii_posts.specs.declared.refusal.PostRefusal.TheVariants as post
-use Rattle.taxii_posts.specs.Posted.{IsPosted, IsUnreadable}
+use Rattle.taxii_changes.specs.declared.posted.Posted.{Posted}
+use Rattle.taxii_changes.specs.declared.posted.TheConstants.{MAX_DETAILS}
+use Rattle.taxii_changes.specs.declared.post_refusal.PostRefusal.TheVariants as post
+use Rattle.taxii_changes.specs.Posted.{IsPosted, IsUnreadable}
 use Rattle.taxii_statuses.specs.Statuses.{next_number, with_status}
 use Rattle.taxii_bodies.specs.declared.problem.Problem.TheVariants.{BadValue, Repeated, Forbidden, NotFound, NotAcceptable, UnsupportedMediaType, NotJson, NotList, StoreFault, DatesUsedUp}
 use Rattle.taxii_requests.specs.declared.refusal.Refusal.{Refusal}
 use Rattle.taxii_requests.specs.declared.refusal.Refusal.TheVariants.{NotAllowed, Problem, NoMemory}
-use Rattle.taxii_changes.specs.ServerState.{ServerState}
+use Rattle.taxii_state.specs.declared.state.State.{State}
 
 -- the detail is that of the row of an outcome
 abbrev pub IsSuccess : List StoredRow → AddOutcome → Detail → Type 0
@@ -33,30 +33,30 @@ pub record IsReport (number moment : ℕ) (posted : Posted) (outcomes : List Add
   pub failure_count : report.failure_count ≡ posted.failure_count
 
 -- an addition to a collection at a moment: what the body holds, what becomes of it, the new rows, and the text that tells of it
-pub record IsAdding (before : ServerState) (collection moment : ℕ) (body : List ℕ) (new : List StoredRow) (text : List ℕ) : Type 0 where
+pub record IsAdding (before : State) (collection moment : ℕ) (body : List ℕ) (new : List StoredRow) (text : List ℕ) : Type 0 where
   pub posted : Posted
   pub outcomes : List AddOutcome
   pub report : StatusReport
   pub posted_is : IsPosted body moment posted
-  pub addition : IsAddition before.store collection moment posted.objects.items outcomes new
-  pub report_is : IsReport (next_number before.statuses) moment posted outcomes (before.store.rows ++ new) report
+  pub addition : IsAddition before.library collection moment posted.objects.items outcomes new
+  pub report_is : IsReport (next_number before.statuses) moment posted outcomes (before.library.rows ++ new) report
   pub text_is : IsStatus report text
 
 -- the state with new rows, and with the text as the latest status
-abbrev pub with_added : List StoredRow → List ℕ → ServerState → ServerState
+abbrev pub with_added : List StoredRow → List ℕ → State → State
 with_added new text before = record {
-  store = with_rows new (mark_after before.store.mark new) before.store;
+  library = with_rows new (mark_after before.library.mark new) before.library;
   statuses = with_status (record { id = status_id_of (next_number before.statuses); body = text }) before.statuses;
 }
 
 -- fewer dates are left than the addition has new rows
-pub record LacksDates (before : ServerState) (collection moment : ℕ) (body : List ℕ) : Type 0 where
+pub record LacksDates (before : State) (collection moment : ℕ) (body : List ℕ) : Type 0 where
   pub posted : Posted
   pub posted_is : IsPosted body moment posted
-  pub lacks : UsesUpDates before.store collection posted.objects.items
+  pub lacks : UsesUpDates before.library collection posted.objects.items
 
 -- why nothing can be added
-abbrev pub CannotAdd : ServerState → ℕ → ℕ → List ℕ → Refusal → Type 0
+abbrev pub CannotAdd : State → ℕ → ℕ → List ℕ → Refusal → Type 0
 CannotAdd before collection moment body (NotAllowed its) = ⊥
 CannotAdd before collection moment body (Problem (BadValue param)) = ⊥
 CannotAdd before collection moment body (Problem (Repeated param)) = ⊥

@@ -5,8 +5,10 @@ use Rattle.stix_ids.specs.declared.id.Id.{Id}
 use Rattle.stix_ids.specs.declared.pick.Pick.{Pick}
 use Rattle.stix_ids.specs.declared.pick.Pick.TheVariants.{All}
 use Rattle.taxii_rows.specs.StoreState.{StoreState}
+use Rattle.taxii_rows.specs.Keeper.{without}
 use Rattle.taxii_routes.specs.declared.query.Query.{Query}
 use Rattle.taxii_store.specs.Deleting.{AreDatesTaken}
+use Rattle.taxii_state.specs.declared.state.State.{State}
 
 -- the versions that are deleted: all where the query names none
 abbrev pub deleted_picks : Query → List Pick
@@ -20,3 +22,7 @@ AllowsStandard query = IfSome query.specs (λ specs. Contains specs (codes "2.1"
 pub record AreDeleted (store : StoreState) (collection : ℕ) (id : Id) (query : Query) (dates : List ℕ) : Type 0 where
   pub taken : AllowsStandard query → AreDatesTaken store.rows collection id (deleted_picks query) dates
   pub none : (AllowsStandard query → ⊥) → dates ≡ []
+
+-- the state without the rows of these dates
+abbrev pub without_dates : List ℕ → State → State
+without_dates dates before = record { library = without dates before.library; statuses = before.statuses }

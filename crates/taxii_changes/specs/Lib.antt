@@ -1,4 +1,4 @@
-pub mod ServerState
+pub mod Posted
 pub mod Adding
 pub mod Deleting
 pub mod inner

@@ -7,7 +7,6 @@ ghost use Rattle.taxii_bodies.specs.declared.problem.Problem.TheVariants as Trou
 ghost use Rattle.taxii_requests.specs.declared.refusal.Refusal.TheVariants as Refused;
 ghost use Rattle.taxii_requests.specs.Answers.{body_answer as answer_with};
 ghost use Rattle.taxii_changes.specs.Adding.{IsAdding, CannotAdd, with_added};
-ghost use Rattle.taxii_changes.specs.ServerState.{server_of};
 
 use crate::prepared::Prepared;
 use http_frames::{Answer, Status};
@@ -15,8 +14,7 @@ use std::alloc::Global;
 use taxii_bodies::Problem;
 use taxii_requests::{Refusal, body_answer};
 use taxii_rows::{Keeper, KeeperRefusal};
-use taxii_statuses::Statuses;
-use taxii_store::Library;
+use taxii_state::State;
 
 /// Adds the objects in the body of a request, which came at that moment, in microseconds since 1970, to
 /// a collection (TAXII 2.1, section 5.5), and keeps its status. Nothing changes where it is refused:
@@ -25,35 +23,34 @@ use taxii_store::Library;
 pub fn add_objects<K: Keeper>(
     alloc: Global,
     collection: u128,
-    library: &mut Library,
+    state: &mut State,
     keeper: &mut K,
-    statuses: &mut Statuses,
     moment: u64,
     body: &[u8],
 ) -> Result<Answer, Refusal>
-    requires agrees { Agrees (K.attached keeper.old) (K.told keeper.old) library.old }
-    ensures agrees { Agrees (K.attached keeper.new) (K.told keeper.new) library.new }
-    ensures name { K.name keeper.new ≡ K.name keeper.old }
+    requires agrees { Agrees (K.kept keeper.old) state.old.library }
+    ensures agrees { Agrees (K.kept keeper.new) state.new.library }
+    ensures name { (K.kept keeper.new).name ≡ (K.kept keeper.old).name }
     ensures ok { IfOk result (λ answer. (new : List Row) × (text : List ℕ)
-        × IsAdding (server_of library.old statuses.old) collection moment body.now new text
+        × IsAdding state.old collection moment body.now new text
         × (answer ≡ answer_with Accepted text)
-        × (server_of library.new statuses.new ≡ with_added new text (server_of library.old statuses.old))) }
+        × (state.new ≡ with_added new text state.old)) }
     ensures err { IfErr result (λ refusal. (refusal ≡ Refused.NoMemory)
-        ⊎ (CannotAdd (server_of library.old statuses.old) collection moment body.now refusal
+        ⊎ (CannotAdd state.old collection moment body.now refusal
         ⊎ ((refusal ≡ Refused.Problem Trouble.StoreFault) × ((new : List Row) × (text : List ℕ) × (new ≢ [])
-        × IsAdding (server_of library.old statuses.old) collection moment body.now new text)))) }
-    ensures unchanged { OnErr result ((library.new ≡ library.old) × (statuses.new ≡ statuses.old)) }
+        × IsAdding state.old collection moment body.now new text)))) }
+    ensures unchanged { OnErr result (state.new ≡ state.old) }
     ensures causes { Counted (result ≡ Err (Refused.Problem Trouble.StoreFault)) (K.faults keeper.old) (K.faults keeper.new) }
 {
-    let prepared = Prepared::of(alloc, collection, library, statuses, moment, body)?;
+    let prepared = Prepared::of(alloc, collection, state, moment, body)?;
     let Prepared {
         planned,
         status,
         body,
     } = prepared;
-    match library.commit_add(keeper, planned) {
+    match state.library.commit_add(keeper, planned) {
         Ok(()) => {
-            statuses.add(status);
+            state.statuses.add(status);
             Ok(body_answer(Status::Accepted, body))
         }
         Err(KeeperRefusal::Fault) => Err(Refusal::Problem(Problem::StoreFault)),

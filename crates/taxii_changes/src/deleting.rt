@@ -2,14 +2,13 @@ ghost use Rattle.std.specs.Prelude.{◌≡◌, ◌≢◌, ◌⊎◌, ◌↔◌, 
 ghost use Rattle.flow_edges.specs.Faults.{Counted};
 ghost use Rattle.http_frames.specs.declared.status.Status.TheVariants.{Okay};
 ghost use Rattle.stix_ids.specs.declared.pick.Pick.TheVariants.{All as PickAll};
-ghost use Rattle.taxii_rows.specs.Keeper.{without};
 ghost use Rattle.taxii_rows.specs.StoreState.{RiseFrom};
 ghost use Rattle.taxii_store.specs.Agreement.{Agrees};
 ghost use Rattle.taxii_store.specs.Deleting.{AreDatesTaken};
 ghost use Rattle.taxii_bodies.specs.declared.problem.Problem.TheVariants as Trouble;
 ghost use Rattle.taxii_requests.specs.declared.refusal.Refusal.TheVariants as Refused;
 ghost use Rattle.taxii_requests.specs.Answers.{bare_answer as bare};
-ghost use Rattle.taxii_changes.specs.Deleting.{AreDeleted, AllowsStandard, deleted_picks};
+ghost use Rattle.taxii_changes.specs.Deleting.{AreDeleted, AllowsStandard, deleted_picks, without_dates};
 
 use flow_values::{Items, NoMemory};
 use http_frames::{Answer, Status};
@@ -19,6 +18,7 @@ use taxii_bodies::Problem;
 use taxii_requests::{Refusal, bare_answer};
 use taxii_routes::Query;
 use taxii_rows::{Keeper, KeeperRefusal};
+use taxii_state::State;
 use taxii_store::Library;
 
 /// Deletes the rows of an object of a collection that the query picks (TAXII 2.1, section 5.7): all of
@@ -29,21 +29,21 @@ pub fn delete_object<K: Keeper>(
     collection: u128,
     id: &Id,
     query: Query,
-    library: &mut Library,
+    state: &mut State,
     keeper: &mut K,
 ) -> Result<Answer, Refusal>
-    requires agrees { Agrees (K.attached keeper.old) (K.told keeper.old) library.old }
-    ensures agrees { Agrees (K.attached keeper.new) (K.told keeper.new) library.new }
-    ensures name { K.name keeper.new ≡ K.name keeper.old }
-    ensures ok { IfOk result (λ answer. (dates : List ℕ) × AreDeleted library.old collection id.now query dates
-        × (answer ≡ bare Okay None) × (library.new ≡ without dates library.old)) }
+    requires agrees { Agrees (K.kept keeper.old) state.old.library }
+    ensures agrees { Agrees (K.kept keeper.new) state.new.library }
+    ensures name { (K.kept keeper.new).name ≡ (K.kept keeper.old).name }
+    ensures ok { IfOk result (λ answer. (dates : List ℕ) × AreDeleted state.old.library collection id.now query dates
+        × (answer ≡ bare Okay None) × (state.new ≡ without_dates dates state.old)) }
     ensures err { IfErr result (λ refusal. (refusal ≡ Refused.NoMemory) ⊎ ((refusal ≡ Refused.Problem Trouble.StoreFault)
-        × ((dates : List ℕ) × (dates ≢ []) × AreDeleted library.old collection id.now query dates))) }
-    ensures unchanged { OnErr result (library.new ≡ library.old) }
+        × ((dates : List ℕ) × (dates ≢ []) × AreDeleted state.old.library collection id.now query dates))) }
+    ensures unchanged { OnErr result (state.new ≡ state.old) }
     ensures causes { Counted (result ≡ Err (Refused.Problem Trouble.StoreFault)) (K.faults keeper.old) (K.faults keeper.new) }
 {
-    let dates = dates_of(alloc, collection, id, query, library)?;
-    match library.commit_delete(keeper, dates.as_slice()) {
+    let dates = dates_of(alloc, collection, id, query, &state.library)?;
+    match state.library.commit_delete(keeper, dates.as_slice()) {
         Ok(()) => Ok(bare_answer(Status::Okay, None)),
         Err(KeeperRefusal::Fault) => Err(Refusal::Problem(Problem::StoreFault)),
         Err(KeeperRefusal::NoMemory) => Err(Refusal::NoMemory),

@@ -4,11 +4,11 @@ ghost use Rattle.taxii_store.specs.Addition.{date_in};
 ghost use Rattle.taxii_changes.specs.Adding.{IsSuccess};
 ghost use Rattle.taxii_changes.specs.inner.Preparing.{HasRow, IsReportOf};
 
+use crate::MAX_DETAILS;
 use flow_values::{Items, NoMemory};
 use std::alloc::Global;
 use taxii_bodies::laws::sound_rows_are_writable;
 use taxii_bodies::{Detail, StatusReport, success_detail};
-use taxii_posts::MAX_DETAILS;
 use taxii_rows::row_at;
 use taxii_store::{AddOutcome, Library, Planned};
 

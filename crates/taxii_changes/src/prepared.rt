@@ -1,6 +1,6 @@
 ghost use Rattle.std.specs.Prelude.{◌≡◌, ◌⊎◌, ◌+◌, ◌<◌, ◌^◌, All, IfOk, IfErr, length};
-ghost use Rattle.taxii_posts.specs.Posted.{IsPosted, IsUnreadable};
-ghost use Rattle.taxii_posts.specs.declared.refusal.PostRefusal.TheVariants as Unread;
+ghost use Rattle.taxii_changes.specs.Posted.{IsPosted, IsUnreadable};
+ghost use Rattle.taxii_changes.specs.declared.post_refusal.PostRefusal.TheVariants as Unread;
 ghost use Rattle.taxii_store.specs.Addition.{IsAddition, UsesUpDates};
 ghost use Rattle.taxii_store.specs.Planned.{IsSound};
 ghost use Rattle.taxii_bodies.specs.Status.{status_id_of};
@@ -8,16 +8,16 @@ ghost use Rattle.taxii_bodies.specs.declared.problem.Problem.TheVariants as Trou
 ghost use Rattle.taxii_requests.specs.declared.refusal.Refusal.TheVariants as Refused;
 ghost use Rattle.taxii_statuses.specs.Statuses.{next_number};
 ghost use Rattle.taxii_changes.specs.Adding.{IsAdding, CannotAdd};
-ghost use Rattle.taxii_changes.specs.ServerState.{server_of};
 
 use crate::outcomes::report_of;
+use crate::{PostRefusal, Posted, read_posted};
 use flow_values::Text;
 use std::alloc::Global;
 use taxii_bodies::{Problem, status_body};
-use taxii_posts::{PostRefusal, Posted, read_posted};
 use taxii_requests::Refusal;
 use taxii_rows::Described;
-use taxii_statuses::{KeptStatus, Statuses};
+use taxii_state::State;
+use taxii_statuses::KeptStatus;
 use taxii_store::laws::outcomes_have_rows;
 use taxii_store::{Library, PlanRefusal, Planned};
 
@@ -34,15 +34,14 @@ impl Prepared {
     pub(crate) fn of(
         alloc: Global,
         collection: u128,
-        library: &Library,
-        statuses: &Statuses,
+        state: &State,
         moment: u64,
         body: &[u8],
     ) -> Result<Prepared, Refusal>
-        ensures mark { IfOk result (λ prepared. prepared.planned.mark ≡ library.now.mark) }
-        ensures adding { IfOk result (λ prepared. IsAdding (server_of library.now statuses.now) collection moment body.now prepared.planned.rows prepared.body) }
-        ensures status { IfOk result (λ prepared. prepared.status ≡ record { id = status_id_of (next_number statuses.now); body = prepared.body }) }
-        ensures err { IfErr result (λ refusal. (refusal ≡ Refused.NoMemory) ⊎ CannotAdd (server_of library.now statuses.now) collection moment body.now refusal) }
+        ensures mark { IfOk result (λ prepared. prepared.planned.mark ≡ state.now.library.mark) }
+        ensures adding { IfOk result (λ prepared. IsAdding state.now collection moment body.now prepared.planned.rows prepared.body) }
+        ensures status { IfOk result (λ prepared. prepared.status ≡ record { id = status_id_of (next_number state.now.statuses); body = prepared.body }) }
+        ensures err { IfErr result (λ refusal. (refusal ≡ Refused.NoMemory) ⊎ CannotAdd state.now collection moment body.now refusal) }
     {
         let posted = posted_of(alloc, body, moment)?;
         let Posted {
@@ -50,12 +49,12 @@ impl Prepared {
             failures,
             failure_count,
         } = posted;
-        let planned = planned_of(library, collection, moment, objects)?;
+        let planned = planned_of(&state.library, collection, moment, objects)?;
         outcomes_have_rows();
-        let number = statuses.next_number();
+        let number = state.statuses.next_number();
         let report = report_of(
             alloc,
-            library,
+            &state.library,
             &planned,
             number,
             moment,
@@ -64,7 +63,7 @@ impl Prepared {
         )?;
         let text = status_body(alloc, &report)?;
         let copy = Text::from_text(alloc, text.as_str())?;
-        let status = statuses.prepare(copy)?;
+        let status = state.statuses.prepare(copy)?;
         Ok(Prepared {
             planned,
             status,

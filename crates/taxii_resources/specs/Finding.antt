@@ -7,7 +7,8 @@ use Rattle.taxii_routes.specs.declared.route.Route.{Route}
 use Rattle.taxii_routes.specs.declared.route.Route.TheVariants.{Discovery, Root, Status, Collections, Collection, Manifest, Objects, Object, Versions, None as NoRoute}
 use Rattle.taxii_rows.specs.declared.stored_row.StoredRow.{StoredRow}
 use Rattle.taxii_bodies.specs.declared.collections.CollectionInfo.{CollectionInfo}
-use Rattle.taxii_statuses.specs.Statuses.{StatusesState, body_of}
+use Rattle.taxii_statuses.specs.Statuses.{body_of}
+use Rattle.taxii_state.specs.declared.state.State.{State}
 use Rattle.taxii_requests.specs.declared.rights.Rights.{Rights}
 use Rattle.taxii_requests.specs.Config.{collection_named, rights_of, all_rights}
 
@@ -33,16 +34,16 @@ abbrev pub NamesRowOf : List ℕ → ℕ → List StoredRow → Type 0
 NamesRowOf text collection rows = Any (λ row. (row.collection ≡ collection) × IsTextOf text row.id) rows
 
 -- the resource of the route is there, and a client may do that with it
-abbrev pub IsFound : List CollectionInfo → List StoredRow → StatusesState → Route → Rights → Type 0
-IsFound infos rows statuses Discovery rights = rights ≡ all_rights
-IsFound infos rows statuses Root rights = rights ≡ all_rights
-IsFound infos rows statuses (Status id) rights = (rights ≡ all_rights) × (body_of id statuses ≢ None)
-IsFound infos rows statuses Collections rights = rights ≡ all_rights
-IsFound infos rows statuses (Collection id) rights = (rights ≡ all_rights) × (collection_named id infos ≢ None)
-IsFound infos rows statuses (Manifest id) rights = (info : CollectionInfo) × Names id infos info × (rights ≡ rights_of info)
-IsFound infos rows statuses (Objects id) rights = (info : CollectionInfo) × Names id infos info × (rights ≡ rights_of info)
-IsFound infos rows statuses (Object collection object) rights =
-    (info : CollectionInfo) × Names collection infos info × (rights ≡ rights_of info) × NamesRowOf object info.id rows
-IsFound infos rows statuses (Versions collection object) rights =
-    (info : CollectionInfo) × Names collection infos info × (rights ≡ rights_of info) × NamesRowOf object info.id rows
-IsFound infos rows statuses NoRoute rights = ⊥
+abbrev pub IsFound : List CollectionInfo → State → Route → Rights → Type 0
+IsFound infos state Discovery rights = rights ≡ all_rights
+IsFound infos state Root rights = rights ≡ all_rights
+IsFound infos state (Status id) rights = (rights ≡ all_rights) × (body_of id state.statuses ≢ None)
+IsFound infos state Collections rights = rights ≡ all_rights
+IsFound infos state (Collection id) rights = (rights ≡ all_rights) × (collection_named id infos ≢ None)
+IsFound infos state (Manifest id) rights = (info : CollectionInfo) × Names id infos info × (rights ≡ rights_of info)
+IsFound infos state (Objects id) rights = (info : CollectionInfo) × Names id infos info × (rights ≡ rights_of info)
+IsFound infos state (Object collection object) rights =
+    (info : CollectionInfo) × Names collection infos info × (rights ≡ rights_of info) × NamesRowOf object info.id state.library.rows
+IsFound infos state (Versions collection object) rights =
+    (info : CollectionInfo) × Names collection infos info × (rights ≡ rights_of info) × NamesRowOf object info.id state.library.rows
+IsFound infos state NoRoute rights = ⊥

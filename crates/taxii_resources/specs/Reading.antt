@@ -17,7 +17,8 @@ use Rattle.taxii_bodies.specs.Collections.{collection_data, collections_data}
 use Rattle.taxii_bodies.specs.Envelope.{envelope_text}
 use Rattle.taxii_bodies.specs.Manifest.{IsManifest}
 use Rattle.taxii_bodies.specs.Versions.{AreVersions}
-use Rattle.taxii_statuses.specs.Statuses.{StatusesState, body_of}
+use Rattle.taxii_statuses.specs.Statuses.{body_of}
+use Rattle.taxii_state.specs.declared.state.State.{State}
 use Rattle.taxii_requests.specs.declared.config.Config.{Config}
 use Rattle.taxii_requests.specs.Answers.{body_answer, page_answer}
 use Rattle.taxii_requests.specs.declared.rights.Rights.{Rights}
@@ -70,23 +71,23 @@ IsPageOfObject rows collection text query IsBody answer =
     (id : Id) × IsTextOf text id × IsPageOf rows collection (Some id) query IsBody answer
 
 -- the answer to a GET of the resource of a route, whose query asks for this
-abbrev pub IsReading : Config → List StoredRow → StatusesState → Route → Query → Answer → Type 0
-IsReading config rows statuses Discovery query answer = HasBody (compact_text (discovery_data config.base)) answer
-IsReading config rows statuses Root query answer = HasBody (compact_text root_data) answer
-IsReading config rows statuses (Status id) query answer = (body : List ℕ) × (body_of id statuses ≡ Some body) × HasBody body answer
-IsReading config rows statuses Collections query answer = HasBody (compact_text (collections_data config.collections)) answer
-IsReading config rows statuses (Collection id) query answer =
+abbrev pub IsReading : Config → State → Route → Query → Answer → Type 0
+IsReading config state Discovery query answer = HasBody (compact_text (discovery_data config.base)) answer
+IsReading config state Root query answer = HasBody (compact_text root_data) answer
+IsReading config state (Status id) query answer = (body : List ℕ) × (body_of id state.statuses ≡ Some body) × HasBody body answer
+IsReading config state Collections query answer = HasBody (compact_text (collections_data config.collections)) answer
+IsReading config state (Collection id) query answer =
     (info : CollectionInfo) × Names id config.collections info × HasBody (compact_text (collection_data info)) answer
-IsReading config rows statuses (Manifest id) query answer =
-    (info : CollectionInfo) × Names id config.collections info × IsPageOf rows info.id None query IsManifest answer
-IsReading config rows statuses (Objects id) query answer =
-    (info : CollectionInfo) × Names id config.collections info × IsPageOf rows info.id None query IsEnvelope answer
-IsReading config rows statuses (Object collection object) query answer =
-    (info : CollectionInfo) × Names collection config.collections info × IsPageOfObject rows info.id object (object_query query) IsEnvelope answer
-IsReading config rows statuses (Versions collection object) query answer =
-    (info : CollectionInfo) × Names collection config.collections info × IsPageOfObject rows info.id object (versions_query query) AreVersions answer
-IsReading config rows statuses NoRoute query answer = ⊥
+IsReading config state (Manifest id) query answer =
+    (info : CollectionInfo) × Names id config.collections info × IsPageOf state.library.rows info.id None query IsManifest answer
+IsReading config state (Objects id) query answer =
+    (info : CollectionInfo) × Names id config.collections info × IsPageOf state.library.rows info.id None query IsEnvelope answer
+IsReading config state (Object collection object) query answer =
+    (info : CollectionInfo) × Names collection config.collections info × IsPageOfObject state.library.rows info.id object (object_query query) IsEnvelope answer
+IsReading config state (Versions collection object) query answer =
+    (info : CollectionInfo) × Names collection config.collections info × IsPageOfObject state.library.rows info.id object (versions_query query) AreVersions answer
+IsReading config state NoRoute query answer = ⊥
 
 -- no client may do anything with the resource of the route: it isn't there
-abbrev pub IsNoResource : Config → List StoredRow → StatusesState → Route → Type 0
-IsNoResource config rows statuses route = (rights : Rights) → ¬ IsFound config.collections rows statuses route rights
+abbrev pub IsNoResource : Config → State → Route → Type 0
+IsNoResource config state route = (rights : Rights) → ¬ IsFound config.collections state route rights

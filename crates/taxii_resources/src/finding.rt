@@ -11,6 +11,7 @@ use stix_ids::is_text_of;
 use taxii_requests::{Config, Rights};
 use taxii_routes::Route;
 use taxii_rows::StoredRow;
+use taxii_state::State;
 use taxii_statuses::Statuses;
 use taxii_store::Library;
 
@@ -34,25 +35,20 @@ pub fn allow_of(route: &Route) -> Allow
 
 /// What a client may do with the resource of a route, where there is one: a status that is kept, a
 /// collection that is served, an object of which the collection has a row. Takes no memory.
-pub fn rights_for(
-    config: &Config,
-    library: &Library,
-    statuses: &Statuses,
-    route: &Route,
-) -> Option<Rights>
-    ensures { FindsExactly (IsFound config.now.collections library.now.rows statuses.now route.now) result }
+pub fn rights_for(config: &Config, state: &State, route: &Route) -> Option<Rights>
+    ensures { FindsExactly (IsFound config.now.collections state.now route.now) result }
 {
     match route {
         Route::Discovery | Route::Root | Route::Collections => Some(Rights::ALL),
-        Route::Status(id) => rights_to_status(statuses, id.as_str()),
+        Route::Status(id) => rights_to_status(&state.statuses, id.as_str()),
         Route::Collection(id) => rights_to_info(config, id.as_str()),
         Route::Manifest(id) => rights_in(config, id.as_str()),
         Route::Objects(id) => rights_in(config, id.as_str()),
         Route::Object { collection, object } => {
-            rights_to_object(config, library, collection.as_str(), object.as_str())
+            rights_to_object(config, &state.library, collection.as_str(), object.as_str())
         }
         Route::Versions { collection, object } => {
-            rights_to_object(config, library, collection.as_str(), object.as_str())
+            rights_to_object(config, &state.library, collection.as_str(), object.as_str())
         }
         Route::None => None,
     }

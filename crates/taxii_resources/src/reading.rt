@@ -23,6 +23,7 @@ use stix_ids::{Id, IdRefusal, Pick, read_id};
 use taxii_bodies::{Problem, collection_body, collections_body, discovery_body, root_body};
 use taxii_requests::{Config, Refusal, body_answer};
 use taxii_routes::{Query, Route};
+use taxii_state::State;
 use taxii_statuses::Statuses;
 use taxii_store::Library;
 
@@ -30,21 +31,16 @@ const NOT_FOUND: Refusal = Refusal::Problem(Problem::NotFound);
 
 /// The answer to a GET of the resource of a route, whose query asks for that. `NotFound` where there is
 /// no such resource.
-pub fn read(
-    config: &Config,
-    library: &Library,
-    statuses: &Statuses,
-    route: &Route,
-    query: Query,
-) -> Result<Answer, Refusal>
-    ensures ok { IfOk result (IsReading config.now library.now.rows statuses.now route.now query) }
+pub fn read(config: &Config, state: &State, route: &Route, query: Query) -> Result<Answer, Refusal>
+    ensures ok { IfOk result (IsReading config.now state.now route.now query) }
     ensures err { IfErr result (λ refusal. (refusal ≡ Refused.NoMemory)
-        ⊎ ((refusal ≡ Refused.Problem Trouble.NotFound) × IsNoResource config.now library.now.rows statuses.now route.now)) }
+        ⊎ ((refusal ≡ Refused.Problem Trouble.NotFound) × IsNoResource config.now state.now route.now)) }
 {
+    let library = &state.library;
     match route {
         Route::Discovery => Ok(read_discovery(config)?),
         Route::Root => Ok(okay(root_body(config.alloc)?)),
-        Route::Status(id) => read_status(config, statuses, id.as_str()),
+        Route::Status(id) => read_status(config, &state.statuses, id.as_str()),
         Route::Collections => Ok(okay(collections_body(
             config.alloc,
             config.collections.as_slice(),

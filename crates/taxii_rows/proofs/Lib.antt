@@ -3,4 +3,3 @@ pub mod VersionLemmas
 pub mod SoundLemmas
 pub mod RiseLemmas
 pub mod StateLemmas
-pub mod KeptLemmas

@@ -24,6 +24,17 @@ with_rows rows mark state = record { rows = state.rows ++ rows; mark = mark }
 abbrev pub without : List ℕ → StoreState → StoreState
 without dates state = record { rows = filter (λ row. not (is_date_in dates row.date)) state.rows; mark = state.mark }
 
+-- what contracts see of a keeper: where it tells its rows, these with the last date ever given, and the name that an `attach` last took;
+-- and whether an `attach` has answered `Ok`, which every keeper tells
+pub record Kept : Type 0 where
+  pub told : Option StoreState
+  pub name : Option (List ℕ)
+  pub attached : Bool
+
+-- with another state, where one is told
+abbrev pub retold : (StoreState → StoreState) → Kept → Kept
+retold change kept = record { told = option_map change kept.told; name = kept.name; attached = kept.attached }
+
 -- with the rows at the end the dates rise strictly, and the mark isn't earlier than one of the rows
 pub record CanAppend (rows : List StoredRow) (mark : ℕ) (state : StoreState) : Type 0 where
   pub rise : RiseFrom 1 (dates_of (state.rows ++ rows))
@@ -31,7 +42,7 @@ pub record CanAppend (rows : List StoredRow) (mark : ℕ) (state : StoreState) :
 
 -- what stands after an `attach` under a text: the keeper is attached, and where it tells its rows, their dates rise strictly
 -- and the text is its name
-pub record IsAttached (text : List ℕ) (told : Option StoreState) (name : Option (List ℕ)) (ready : Bool) : Type 0 where
-  pub attached : ready ≡ true
-  pub named : name ≡ option_map (λ _. text) told
-  pub rise : IfSome told (λ state. RiseFrom 1 (dates_of state.rows))
+pub record IsAttached (text : List ℕ) (kept : Kept) : Type 0 where
+  pub attached : kept.attached ≡ true
+  pub named : kept.name ≡ option_map (λ _. text) kept.told
+  pub rise : IfSome kept.told (λ state. RiseFrom 1 (dates_of state.rows))

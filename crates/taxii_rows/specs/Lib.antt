@@ -1,6 +1,5 @@
 pub mod Described
 pub mod Keeper
-pub mod MemoryKeeper
 pub mod SoundRow
 pub mod StoreState
 pub mod Version

@@ -2,18 +2,15 @@
 //! (section 3.4), and what the object says of itself: its identifier, its version (STIX 2.1, sections
 //! 2.9 and 3.2) and its compact text.
 //!
-//! Where rows last is a `Keeper`, a trait with a ghost meaning (its rows, the last date given) and a
-//! count of faults; `MemoryKeeper` is one in memory that can be made to fail.
+//! Where rows last is a `Keeper`, a trait with a ghost meaning (its rows, the last date given, its name)
+//! and a count of faults.
 #![tactic(auto)]
 
 mod by_date;
-mod calls;
 mod described;
-mod held;
 mod keeper;
 mod keeper_refusal;
 pub mod laws;
-mod memory_keeper;
 mod sound;
 mod stored_row;
 mod type_set;
@@ -23,7 +20,6 @@ pub use by_date::{row_after, row_at};
 pub use described::{Described, describe};
 pub use keeper::Keeper;
 pub use keeper_refusal::KeeperRefusal;
-pub use memory_keeper::MemoryKeeper;
 pub use sound::is_sound_row;
 pub use stored_row::{LAST_DATE, StoredRow};
 pub use type_set::TypeSet;

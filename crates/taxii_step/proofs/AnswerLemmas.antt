@@ -24,7 +24,7 @@ use Rattle.taxii_requests.specs.Answers.{body_answer, bare_answer, page_answer, 
 use Rattle.taxii_requests.specs.Checking.{IsRefusedFor}
 use Rattle.taxii_resources.specs.Finding.{allowed_of}
 use Rattle.taxii_resources.specs.Reading.{IsPageOf, IsReading}
-use Rattle.taxii_changes.specs.ServerState.{ServerState}
+use Rattle.taxii_state.specs.declared.state.State.{State}
 use Rattle.taxii_changes.specs.Adding.{CannotAdd}
 use Rattle.taxii_step.specs.Step.{Posts, Deletes, Does, CannotPost, CannotDo, IsRefused, IsDone, IsAnswerTo, RouteStep, Step}
 
@@ -46,8 +46,8 @@ page_holds : (P : Answer → Type 0) (rows : List StoredRow) → HoldsOfForms ro
 page_holds P rows forms collection only query Rule answer its =
     subst P (sym its.answer_is) (forms.pages collection only query its.page its.more its.body its.page_is)
 
-reading_holds : (P : Answer → Type 0) (config : Config) (before : ServerState) → HoldsOfForms before.store.rows P → (route : Route) (query : Query) (answer : Answer)
-    → IsReading config before.store.rows before.statuses route query answer → P answer
+reading_holds : (P : Answer → Type 0) (config : Config) (before : State) → HoldsOfForms before.library.rows P → (route : Route) (query : Query) (answer : Answer)
+    → IsReading config before route query answer → P answer
 reading_holds P config before forms Discovery query answer its = body_holds P forms _ _ answer (λ is. absurd (cc is)) its
 reading_holds P config before forms Root query answer its = body_holds P forms _ _ answer (λ is. absurd (cc is)) its
 reading_holds P config before forms (Status id) query answer its = body_holds P forms _ _ answer (λ is. absurd (cc is)) its.2
@@ -59,7 +59,7 @@ reading_holds P config before forms (Object collection object) query answer its 
 reading_holds P config before forms (Versions collection object) query answer its = page_holds P _ forms _ _ _ _ answer its.2.2
 reading_holds P config before forms NoRoute query answer its = absurd its
 
-post_holds : (P : Answer → Type 0) (config : Config) (before : ServerState) → HoldsOfForms before.store.rows P → (moment : ℕ) (request : Request) (route : Route) (answer : Answer) (after : ServerState)
+post_holds : (P : Answer → Type 0) (config : Config) (before : State) → HoldsOfForms before.library.rows P → (moment : ℕ) (request : Request) (route : Route) (answer : Answer) (after : State)
     → Posts config before moment request route answer after → P answer
 post_holds P config before forms moment request Discovery answer after its = absurd its
 post_holds P config before forms moment request Root answer after its = absurd its
@@ -72,7 +72,7 @@ post_holds P config before forms moment request (Object collection object) answe
 post_holds P config before forms moment request (Versions collection object) answer after its = absurd its
 post_holds P config before forms moment request NoRoute answer after its = absurd its
 
-delete_holds : (P : Answer → Type 0) (config : Config) (before : ServerState) → HoldsOfForms before.store.rows P → (route : Route) (query : Query) (answer : Answer) (after : ServerState)
+delete_holds : (P : Answer → Type 0) (config : Config) (before : State) → HoldsOfForms before.library.rows P → (route : Route) (query : Query) (answer : Answer) (after : State)
     → Deletes config before route query answer after → P answer
 delete_holds P config before forms Discovery query answer after its = absurd its
 delete_holds P config before forms Root query answer after its = absurd its
@@ -85,7 +85,7 @@ delete_holds P config before forms (Object collection object) query answer after
 delete_holds P config before forms (Versions collection object) query answer after its = absurd its
 delete_holds P config before forms NoRoute query answer after its = absurd its
 
-does_holds : (P : Answer → Type 0) (config : Config) (before : ServerState) → HoldsOfForms before.store.rows P → (moment : ℕ) (request : Request) (route : Route) (query : Query) (method : Method) (answer : Answer) (after : ServerState)
+does_holds : (P : Answer → Type 0) (config : Config) (before : State) → HoldsOfForms before.library.rows P → (moment : ℕ) (request : Request) (route : Route) (query : Query) (method : Method) (answer : Answer) (after : State)
     → Does config before moment request route query method answer after → P answer
 does_holds P config before forms moment request route query Get answer after its = reading_holds P config before forms route query answer its.0
 does_holds P config before forms moment request route query Head answer after its = absurd its
@@ -93,7 +93,7 @@ does_holds P config before forms moment request route query Post answer after it
 does_holds P config before forms moment request route query Delete answer after its = delete_holds P config before forms route query answer after its
 does_holds P config before forms moment request route query Other answer after its = absurd its
 
-pub done_holds : (P : Answer → Type 0) (config : Config) (before : ServerState) → HoldsOfForms before.store.rows P → (moment : ℕ) (request : Request) (route : Route) (text : List ℕ) (answer : Answer) (after : ServerState)
+pub done_holds : (P : Answer → Type 0) (config : Config) (before : State) → HoldsOfForms before.library.rows P → (moment : ℕ) (request : Request) (route : Route) (text : List ℕ) (answer : Answer) (after : State)
     → IsDone config before moment request route text answer after → P answer
 done_holds P config before forms moment request route text answer after done =
     does_holds P config before forms moment request route done.query request.method answer after done.does
@@ -108,11 +108,11 @@ refused_other : (its : Allow) (rights : Rights) (request : Request) (text : List
 refused_other its rights request text (Problem StoreFault) refused = absurd refused
 refused_other its rights request text refusal refused = λ is. absurd (cc is)
 
-add_other : (before : ServerState) (collection moment : ℕ) (body : List ℕ) (refusal : Refusal) → CannotAdd before collection moment body refusal → IsOther refusal
+add_other : (before : State) (collection moment : ℕ) (body : List ℕ) (refusal : Refusal) → CannotAdd before collection moment body refusal → IsOther refusal
 add_other before collection moment body (Problem StoreFault) cannot = absurd cannot
 add_other before collection moment body refusal cannot = λ is. absurd (cc is)
 
-post_other : (config : Config) (before : ServerState) (moment : ℕ) (request : Request) (route : Route) (refusal : Refusal)
+post_other : (config : Config) (before : State) (moment : ℕ) (request : Request) (route : Route) (refusal : Refusal)
     → CannotPost config before moment request route refusal → IsOther refusal
 post_other config before moment request Discovery refusal cannot = absurd cannot
 post_other config before moment request Root refusal cannot = absurd cannot
@@ -125,7 +125,7 @@ post_other config before moment request (Object collection object) refusal canno
 post_other config before moment request (Versions collection object) refusal cannot = absurd cannot
 post_other config before moment request NoRoute refusal cannot = absurd cannot
 
-do_other : (config : Config) (before : ServerState) (moment : ℕ) (request : Request) (route : Route) (method : Method) (refusal : Refusal)
+do_other : (config : Config) (before : State) (moment : ℕ) (request : Request) (route : Route) (method : Method) (refusal : Refusal)
     → CannotDo config before moment request route method refusal → IsOther refusal
 do_other config before moment request route Get refusal cannot = absurd cannot
 do_other config before moment request route Head refusal cannot = absurd cannot
@@ -133,7 +133,7 @@ do_other config before moment request route Post refusal cannot = post_other con
 do_other config before moment request route Delete refusal cannot = absurd cannot
 do_other config before moment request route Other refusal cannot = absurd cannot
 
-is_other : (config : Config) (before : ServerState) (moment : ℕ) (request : Request) (route : Route) (text : List ℕ) (refusal : Refusal)
+is_other : (config : Config) (before : State) (moment : ℕ) (request : Request) (route : Route) (text : List ℕ) (refusal : Refusal)
     → IsRefused config before moment request route text refusal → IsOther refusal
 is_other config before moment request route text refusal (inl nothing) = λ is. absurd (cc (is, nothing.1))
 is_other config before moment request route text refusal (inr (rights, found, inl refused)) = refused_other (allowed_of route) rights request text refusal refused
@@ -160,15 +160,15 @@ answer_no_fault (NotAllowed its) answer other is = subst IsNoFault (sym is) (λ 
 answer_no_fault (Problem problem) answer other is = subst IsNoFault (sym is) (problem_no_fault problem other)
 answer_no_fault NoMemory answer other is = absurd is
 
-route_step_no_fault : (config : Config) (before : ServerState) (moment : ℕ) (request : Request) (route : Route) (text : List ℕ) (answer : Answer) (after : ServerState)
+pub route_step_no_fault : (config : Config) (before : State) (moment : ℕ) (request : Request) (route : Route) (text : List ℕ) (answer : Answer) (after : State)
     → RouteStep config before moment request route text answer after → IsNoFault answer
 route_step_no_fault config before moment request route text answer after (inl (refusal, refused, is, same)) =
     answer_no_fault refusal answer (is_other config before moment request route text refusal refused) is
 route_step_no_fault config before moment request route text answer after (inr done) =
-    done_holds IsNoFault config before (no_fault before.store.rows) moment request route text answer after done
+    done_holds IsNoFault config before (no_fault before.library.rows) moment request route text answer after done
 
 -- no step tells of a fault of the keeper
-pub step_no_fault : (config : Config) (before : ServerState) (moment : ℕ) (request : Request) (answer : Answer) (after : ServerState)
+pub step_no_fault : (config : Config) (before : State) (moment : ℕ) (request : Request) (answer : Answer) (after : State)
     → Step config before moment request answer after → IsNoFault answer
 step_no_fault config before moment request answer after step = elim step.outcome [
   | inl nowhere ↦ subst IsNoFault (sym nowhere.1) (λ same. absurd (cc same))

@@ -16,7 +16,7 @@ use Rattle.taxii_rows.specs.SoundRow.{IsSoundState}
 use Rattle.taxii_walks.specs.Page.{IsPage}
 use Rattle.taxii_requests.specs.declared.config.Config.{Config}
 use Rattle.taxii_requests.specs.Answers.{first_of}
-use Rattle.taxii_changes.specs.ServerState.{ServerState}
+use Rattle.taxii_state.specs.declared.state.State.{State}
 use Rattle.taxii_step.specs.Step.{IsDone}
 use Rattle.taxii_step.proofs.AnswerLemmas.{HoldsOfForms, done_holds}
 
@@ -51,11 +51,11 @@ dated stored rows early = record {
 }
 
 -- the rows of a sound store are early
-pub sound_early : (state : ServerState) → IsSoundState state.store → All IsEarly state.store.rows
+pub sound_early : (state : State) → IsSoundState state.library → All IsEarly state.library.rows
 sound_early state sound k d within = let marked = sound.marked k d within in omega (arith, marked, sound.last)
 
 -- whatever is done, the answer has such dates
-pub done_dated : PagesAreStored → (config : Config) (before : ServerState) (moment : ℕ) (request : Request) (route : Route) (text : List ℕ) (answer : Answer) (after : ServerState)
-    → IsSoundState before.store → IsDone config before moment request route text answer after → HasDates answer
+pub done_dated : PagesAreStored → (config : Config) (before : State) (moment : ℕ) (request : Request) (route : Route) (text : List ℕ) (answer : Answer) (after : State)
+    → IsSoundState before.library → IsDone config before moment request route text answer after → HasDates answer
 done_dated stored config before moment request route text answer after sound done =
-    done_holds HasDates config before (dated stored before.store.rows (sound_early before sound)) moment request route text answer after done
+    done_holds HasDates config before (dated stored before.library.rows (sound_early before sound)) moment request route text answer after done

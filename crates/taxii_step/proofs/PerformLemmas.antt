@@ -1,10 +1,11 @@
 -- What requests do, in the words of one step.
 use Rattle.std.proofs.Common.{◌≡◌, ◌≢◌, ◌⊎◌, inl, inr, ℕ, List, [], ◌∷◌, ◌++◌, length, not, All, Bool, true, false, Result, Ok, Err, refl, sym, ap, subst, ◌∙◌, arith}
-use Rattle.std.specs.Prelude.{IfOk, IfErr, ◌||◌}
+use Rattle.std.specs.Prelude.{IfOk, IfErr, IsOk, IsOkAnd, ◌||◌}
 use Rattle.std.specs.List.{Contains}
 use Rattle.std.proofs.lemmas.Bool.{eq-eqb}
 use Rattle.std.proofs.lemmas.List.{length-append}
 use Rattle.std.proofs.lemmas.List.Elements.{All-contains, filter_passes}
+use Rattle.flow_edges.specs.Faults.{Counted}
 use Rattle.stix_ids.specs.declared.id.Id.{Id}
 use Rattle.stix_ids.specs.declared.refusal.IdRefusal.{IdRefusal}
 use Rattle.stix_ids.specs.declared.refusal.IdRefusal.TheVariants.{BadUuid, BadKind, NoMemory as WantOfMemory}
@@ -85,11 +86,26 @@ is_fault NotList is = absurd (cc)
 is_fault StoreFault is = refl
 is_fault DatesUsedUp is = absurd (cc)
 
-pub fault_answered : (refusal : Refusal) (answer : Answer) → IsAnswerTo refusal answer → answer.status ≡ InternalServerError → refusal ≡ Problem StoreFault
+fault_answered : (refusal : Refusal) (answer : Answer) → IsAnswerTo refusal answer → answer.status ≡ InternalServerError → refusal ≡ Problem StoreFault
 fault_answered (NotAllowed its) answer is failed = absurd (let e = sym (ap (λ (one : Answer). one.status) is) ∙ failed in cc e)
 fault_answered (Problem problem) answer is failed = ap Problem (is_fault problem (sym (ap (λ (one : Answer). one.status) is) ∙ failed))
 fault_answered NoMemory answer is failed = absurd is
 
-pub other_answered : (refusal : Refusal) (answer : Answer) → IsAnswerTo refusal answer → answer.status ≢ InternalServerError → refusal ≢ Problem StoreFault
+other_answered : (refusal : Refusal) (answer : Answer) → IsAnswerTo refusal answer → answer.status ≢ InternalServerError → refusal ≢ Problem StoreFault
 other_answered refusal answer is other fault =
     let told = subst (λ (one : Refusal). IsAnswerTo one answer) fault is in other (ap (λ (one : Answer). one.status) told)
+
+-- the keeper's count where a refusal was answered: a fault of the store has an answer, which is an error of the server
+pub refusal_counted : {E : Type 0} (refusal : Refusal) (answer : Result Answer E) (before now : ℕ) → IfOk answer (IsAnswerTo refusal)
+    → (refusal ≡ Problem StoreFault → IsOk answer) → Counted (◌≡◌ {A = Result Answer Refusal} (Err refusal) (Err (Problem StoreFault))) before now
+    → Counted (IsOkAnd answer (λ one. one.status ≡ InternalServerError)) before now
+refusal_counted refusal (Ok answer) before now its there counted = record {
+  later = counted.later;
+  failed = λ failed. counted.failed (ap Err (fault_answered refusal answer its failed));
+  quiet = λ other. counted.quiet (λ same. other_answered refusal answer its other (let is : refusal ≡ Problem StoreFault = cc same in is));
+}
+refusal_counted refusal (Err error) before now its there counted = record {
+  later = counted.later;
+  failed = λ failed. absurd failed;
+  quiet = λ other. counted.quiet (λ same. let is : refusal ≡ Problem StoreFault = cc same in absurd (cc (there is)));
+}

@@ -14,7 +14,6 @@ use Rattle.taxii_routes.specs.Query.{pairs_of, IsQueryOf}
 use Rattle.taxii_routes.specs.Route.{IsPathOf}
 use Rattle.taxii_routes.specs.Target.{IsTargetOf}
 use Rattle.taxii_rows.specs.declared.stored_row.StoredRow.{StoredRow}
-use Rattle.taxii_rows.specs.Keeper.{without}
 use Rattle.taxii_bodies.specs.declared.collections.CollectionInfo.{CollectionInfo}
 use Rattle.taxii_bodies.specs.declared.problem.Problem.TheVariants.{NotFound, StoreFault}
 use Rattle.taxii_requests.specs.declared.config.Config.{Config}
@@ -25,16 +24,12 @@ use Rattle.taxii_requests.specs.Answers.{body_answer, bare_answer, problem_answe
 use Rattle.taxii_requests.specs.Checking.{IsFit, IsRefusedFor}
 use Rattle.taxii_resources.specs.Finding.{Names, IsFound, allowed_of}
 use Rattle.taxii_resources.specs.Reading.{IsReading, IsNoResource}
-use Rattle.taxii_changes.specs.ServerState.{ServerState}
+use Rattle.taxii_state.specs.declared.state.State.{State}
 use Rattle.taxii_changes.specs.Adding.{IsAdding, CannotAdd, with_added}
-use Rattle.taxii_changes.specs.Deleting.{AreDeleted}
-
--- the state without the rows of these dates
-abbrev pub without_dates : List ℕ → ServerState → ServerState
-without_dates dates before = record { store = without dates before.store; statuses = before.statuses }
+use Rattle.taxii_changes.specs.Deleting.{AreDeleted, without_dates}
 
 -- POST of objects: they are added to the collection
-abbrev pub Posts : Config → ServerState → ℕ → Request → Route → Answer → ServerState → Type 0
+abbrev pub Posts : Config → State → ℕ → Request → Route → Answer → State → Type 0
 Posts config before moment request Discovery answer after = ⊥
 Posts config before moment request Root answer after = ⊥
 Posts config before moment request (Status id) answer after = ⊥
@@ -49,7 +44,7 @@ Posts config before moment request (Versions collection object) answer after = �
 Posts config before moment request NoRoute answer after = ⊥
 
 -- DELETE of an object: the rows that the query picks are gone
-abbrev pub Deletes : Config → ServerState → Route → Query → Answer → ServerState → Type 0
+abbrev pub Deletes : Config → State → Route → Query → Answer → State → Type 0
 Deletes config before Discovery query answer after = ⊥
 Deletes config before Root query answer after = ⊥
 Deletes config before (Status id) query answer after = ⊥
@@ -59,20 +54,20 @@ Deletes config before (Manifest id) query answer after = ⊥
 Deletes config before (Objects id) query answer after = ⊥
 Deletes config before (Object collection object) query answer after =
     (info : CollectionInfo) × Names collection config.collections info × (id : Id) × IsTextOf object id × (dates : List ℕ)
-    × AreDeleted before.store info.id id query dates × (answer ≡ bare_answer Okay None) × (after ≡ without_dates dates before)
+    × AreDeleted before.library info.id id query dates × (answer ≡ bare_answer Okay None) × (after ≡ without_dates dates before)
 Deletes config before (Versions collection object) query answer after = ⊥
 Deletes config before NoRoute query answer after = ⊥
 
 -- what a request does against which nothing stands
-abbrev pub Does : Config → ServerState → ℕ → Request → Route → Query → Method → Answer → ServerState → Type 0
-Does config before moment request route query Get answer after = IsReading config before.store.rows before.statuses route query answer × (after ≡ before)
+abbrev pub Does : Config → State → ℕ → Request → Route → Query → Method → Answer → State → Type 0
+Does config before moment request route query Get answer after = IsReading config before route query answer × (after ≡ before)
 Does config before moment request route query Head answer after = ⊥
 Does config before moment request route query Post answer after = Posts config before moment request route answer after
 Does config before moment request route query Delete answer after = Deletes config before route query answer after
 Does config before moment request route query Other answer after = ⊥
 
 -- why objects can't be added
-abbrev pub CannotPost : Config → ServerState → ℕ → Request → Route → Refusal → Type 0
+abbrev pub CannotPost : Config → State → ℕ → Request → Route → Refusal → Type 0
 CannotPost config before moment request Discovery refusal = ⊥
 CannotPost config before moment request Root refusal = ⊥
 CannotPost config before moment request (Status id) refusal = ⊥
@@ -86,7 +81,7 @@ CannotPost config before moment request (Versions collection object) refusal = �
 CannotPost config before moment request NoRoute refusal = ⊥
 
 -- why a request against which nothing stands can't be done
-abbrev pub CannotDo : Config → ServerState → ℕ → Request → Route → Method → Refusal → Type 0
+abbrev pub CannotDo : Config → State → ℕ → Request → Route → Method → Refusal → Type 0
 CannotDo config before moment request route Get refusal = ⊥
 CannotDo config before moment request route Head refusal = ⊥
 CannotDo config before moment request route Post refusal = CannotPost config before moment request route refusal
@@ -94,18 +89,18 @@ CannotDo config before moment request route Delete refusal = ⊥
 CannotDo config before moment request route Other refusal = ⊥
 
 -- what stands against a request to the resource of a route
-abbrev pub IsRefused : Config → ServerState → ℕ → Request → Route → List ℕ → Refusal → Type 0
+abbrev pub IsRefused : Config → State → ℕ → Request → Route → List ℕ → Refusal → Type 0
 IsRefused config before moment request route text refusal =
-    (IsNoResource config before.store.rows before.statuses route × (refusal ≡ Problem NotFound))
-    ⊎ ((rights : Rights) × IsFound config.collections before.store.rows before.statuses route rights
+    (IsNoResource config before route × (refusal ≡ Problem NotFound))
+    ⊎ ((rights : Rights) × IsFound config.collections before route rights
     × (IsRefusedFor (allowed_of route) rights request text refusal
     ⊎ (IsFit (allowed_of route) rights request × CannotDo config before moment request route request.method refusal)))
 
 -- the request is done
-pub record IsDone (config : Config) (before : ServerState) (moment : ℕ) (request : Request) (route : Route) (text : List ℕ) (answer : Answer) (after : ServerState) : Type 0 where
+pub record IsDone (config : Config) (before : State) (moment : ℕ) (request : Request) (route : Route) (text : List ℕ) (answer : Answer) (after : State) : Type 0 where
   pub rights : Rights
   pub query : Query
-  pub found : IsFound config.collections before.store.rows before.statuses route rights
+  pub found : IsFound config.collections before route rights
   pub fit : IsFit (allowed_of route) rights request
   pub query_is : IsQueryOf (pairs_of text) query
   pub does : Does config before moment request route query request.method answer after
@@ -117,13 +112,13 @@ IsAnswerTo (Problem problem) answer = answer ≡ problem_answer problem
 IsAnswerTo NoMemory answer = ⊥
 
 -- a request to the resource of a route is refused or done
-abbrev pub RouteStep : Config → ServerState → ℕ → Request → Route → List ℕ → Answer → ServerState → Type 0
+abbrev pub RouteStep : Config → State → ℕ → Request → Route → List ℕ → Answer → State → Type 0
 RouteStep config before moment request route text answer after =
     ((refusal : Refusal) × IsRefused config before moment request route text refusal × IsAnswerTo refusal answer × (after ≡ before))
     ⊎ IsDone config before moment request route text answer after
 
 -- one step: a path without a route isn't found
-pub record Step (config : Config) (before : ServerState) (moment : ℕ) (request : Request) (answer : Answer) (after : ServerState) : Type 0 where
+pub record Step (config : Config) (before : State) (moment : ℕ) (request : Request) (answer : Answer) (after : State) : Type 0 where
   pub path : List ℕ
   pub query : Option (List ℕ)
   pub target_is : IsTargetOf request.target path query
@@ -132,10 +127,10 @@ pub record Step (config : Config) (before : ServerState) (moment : ℕ) (request
       ⊎ ((route : Route) × IsPathOf path route × RouteStep config before moment request route (unwrap_or query []) answer after)
 
 -- the keeper failed in a request whose step changes rows; nothing has changed
-pub record FailsToKeep (config : Config) (before : ServerState) (moment : ℕ) (request : Request) (answer : Answer) (after : ServerState) : Type 0 where
+pub record FailsToKeep (config : Config) (before : State) (moment : ℕ) (request : Request) (answer : Answer) (after : State) : Type 0 where
   pub answer_is : answer ≡ problem_answer StoreFault
   pub unchanged : after ≡ before
   pub wanted : Answer
-  pub changed : ServerState
+  pub changed : State
   pub step : Step config before moment request wanted changed
-  pub rows : changed.store.rows ≢ before.store.rows
+  pub rows : changed.library.rows ≢ before.library.rows

@@ -5,11 +5,11 @@ ghost use Rattle.http_frames.specs.declared.answer.Answer.{Answer};
 ghost use Rattle.http_frames.specs.declared.request.Request.{Request};
 ghost use Rattle.http_frames.specs.declared.status.Status.TheVariants as Code;
 ghost use Rattle.taxii_requests.specs.declared.config.Config.{Config};
-ghost use Rattle.taxii_changes.specs.ServerState.{ServerState};
+ghost use Rattle.taxii_state.specs.declared.state.State.{State};
 ghost use Rattle.taxii_step.specs.Step.{Step};
 
 /// No step answers 500: where a server does, its keeper failed.
 pub fn no_step_tells_a_store_fault()
-    ensures { (config : Config) (before : ServerState) (moment : ℕ) (request : Request) (answer : Answer) (after : ServerState)
+    ensures { (config : Config) (before : State) (moment : ℕ) (request : Request) (answer : Answer) (after : State)
         → Step config before moment request answer after → answer.status ≢ Code.InternalServerError }
 {}

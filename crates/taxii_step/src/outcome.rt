@@ -1,9 +1,8 @@
-ghost use Rattle.std.specs.Prelude.{◌≡◌, ◌≢◌, ◌⊎◌, IfOk, IfErr, OnErr, Err};
+ghost use Rattle.std.specs.Prelude.{◌≡◌, ◌⊎◌, IfOk, IfErr, OnErr, Err};
 ghost use Rattle.flow_edges.specs.Faults.{Counted};
 ghost use Rattle.taxii_bodies.specs.declared.problem.Problem.TheVariants as Trouble;
 ghost use Rattle.taxii_requests.specs.declared.refusal.Refusal.TheVariants as Refused;
 ghost use Rattle.taxii_store.specs.Agreement.{Agrees};
-ghost use Rattle.taxii_changes.specs.ServerState.{server_of};
 ghost use Rattle.taxii_step.specs.Step.{IsRefused, IsDone};
 ghost use Rattle.taxii_step.specs.inner.Performing.{RouteChanges};
 
@@ -14,37 +13,33 @@ use taxii_requests::{Config, Refusal, check};
 use taxii_resources::{allow_of, rights_for};
 use taxii_routes::Route;
 use taxii_rows::Keeper;
-use taxii_statuses::Statuses;
-use taxii_store::Library;
+use taxii_state::State;
 
 /// What comes of a request to the resource of a route.
 pub(crate) fn outcome<K: Keeper>(
     config: &Config,
-    library: &mut Library,
+    state: &mut State,
     keeper: &mut K,
-    statuses: &mut Statuses,
     moment: u64,
     request: &Request,
     route: &Route,
     query: &str,
 ) -> Result<Answer, Refusal>
-    requires agrees { Agrees (K.attached keeper.old) (K.told keeper.old) library.old }
-    ensures agrees { Agrees (K.attached keeper.new) (K.told keeper.new) library.new }
-    ensures name { K.name keeper.new ≡ K.name keeper.old }
-    ensures ok { IfOk result (λ answer. IsDone config.now (server_of library.old statuses.old) moment request.now route.now query.now
-        answer (server_of library.new statuses.new)) }
+    requires agrees { Agrees (K.kept keeper.old) state.old.library }
+    ensures agrees { Agrees (K.kept keeper.new) state.new.library }
+    ensures name { (K.kept keeper.new).name ≡ (K.kept keeper.old).name }
+    ensures ok { IfOk result (λ answer. IsDone config.now state.old moment request.now route.now query.now
+        answer state.new) }
     ensures err { IfErr result (λ refusal. (refusal ≡ Refused.NoMemory)
-        ⊎ (IsRefused config.now (server_of library.old statuses.old) moment request.now route.now query.now refusal
+        ⊎ (IsRefused config.now state.old moment request.now route.now query.now refusal
         ⊎ ((refusal ≡ Refused.Problem Trouble.StoreFault)
-        × RouteChanges config.now (server_of library.old statuses.old) moment request.now route.now query.now))) }
-    ensures unchanged { OnErr result ((library.new ≡ library.old) × (statuses.new ≡ statuses.old)) }
+        × RouteChanges config.now state.old moment request.now route.now query.now))) }
+    ensures unchanged { OnErr result (state.new ≡ state.old) }
     ensures causes { Counted (result ≡ Err (Refused.Problem Trouble.StoreFault)) (K.faults keeper.old) (K.faults keeper.new) }
 {
-    let Some(rights) = rights_for(config, library, statuses, route) else {
+    let Some(rights) = rights_for(config, state, route) else {
         return Err(Refusal::Problem(Problem::NotFound));
     };
     let asked = check(config.alloc, request, query, allow_of(route), rights)?;
-    perform(
-        config, library, keeper, statuses, moment, request, route, asked,
-    )
+    perform(config, state, keeper, moment, request, route, asked)
 }

@@ -1,4 +1,4 @@
-ghost use Rattle.std.specs.Prelude.{◌≡◌, ◌≢◌, ◌⊎◌, IfOk, IfErr, OnErr, true, Err};
+ghost use Rattle.std.specs.Prelude.{◌≡◌, ◌⊎◌, IfOk, IfErr, OnErr, true, Err};
 ghost use Rattle.flow_edges.specs.Faults.{Counted};
 ghost use Rattle.http_frames.specs.declared.method.Method.TheVariants as Verb;
 ghost use Rattle.taxii_bodies.specs.declared.problem.Problem.TheVariants as Trouble;
@@ -7,9 +7,7 @@ ghost use Rattle.taxii_requests.specs.declared.rights.Rights.{Rights};
 ghost use Rattle.taxii_requests.specs.Checking.{allows};
 ghost use Rattle.taxii_resources.specs.Finding.{IsFound, allowed_of};
 ghost use Rattle.taxii_store.specs.Agreement.{Agrees};
-ghost use Rattle.taxii_changes.specs.ServerState.{server_of};
 ghost use Rattle.taxii_step.specs.Step.{Posts, CannotPost, Deletes, Does, CannotDo};
-ghost use Rattle.taxii_statuses.specs.Statuses.{StatusesState};
 ghost use Rattle.stix_ids.specs.declared.id.Id.{Id as Identifier};
 ghost use Rattle.stix_ids.specs.Identifier.{IsTextOf};
 ghost use Rattle.taxii_step.specs.inner.Performing.{PostChanges, DeleteChanges, Changes};
@@ -23,29 +21,27 @@ use taxii_requests::{Config, Refusal};
 use taxii_resources::read;
 use taxii_routes::{Query, Route};
 use taxii_rows::Keeper;
-use taxii_statuses::Statuses;
-use taxii_store::Library;
+use taxii_state::State;
 
 /// Adds the objects of a POST.
 pub(crate) fn post<K: Keeper>(
     config: &Config,
-    library: &mut Library,
+    state: &mut State,
     keeper: &mut K,
-    statuses: &mut Statuses,
     moment: u64,
     request: &Request,
     route: &Route,
 ) -> Result<Answer, Refusal>
-    requires agrees { Agrees (K.attached keeper.old) (K.told keeper.old) library.old }
+    requires agrees { Agrees (K.kept keeper.old) state.old.library }
     requires allowed { allows (allowed_of route.now) Verb.Post ≡ true }
-    requires found { (rights : Rights) × IsFound config.now.collections library.old.rows statuses.old route.now rights }
-    ensures agrees { Agrees (K.attached keeper.new) (K.told keeper.new) library.new }
-    ensures name { K.name keeper.new ≡ K.name keeper.old }
-    ensures ok { IfOk result (λ answer. Posts config.now (server_of library.old statuses.old) moment request.now route.now answer (server_of library.new statuses.new)) }
+    requires found { (rights : Rights) × IsFound config.now.collections state.old route.now rights }
+    ensures agrees { Agrees (K.kept keeper.new) state.new.library }
+    ensures name { (K.kept keeper.new).name ≡ (K.kept keeper.old).name }
+    ensures ok { IfOk result (λ answer. Posts config.now state.old moment request.now route.now answer state.new) }
     ensures err { IfErr result (λ refusal. (refusal ≡ Refused.NoMemory)
-        ⊎ (CannotPost config.now (server_of library.old statuses.old) moment request.now route.now refusal
-        ⊎ ((refusal ≡ Refused.Problem Trouble.StoreFault) × PostChanges config.now (server_of library.old statuses.old) moment request.now route.now))) }
-    ensures unchanged { OnErr result ((library.new ≡ library.old) × (statuses.new ≡ statuses.old)) }
+        ⊎ (CannotPost config.now state.old moment request.now route.now refusal
+        ⊎ ((refusal ≡ Refused.Problem Trouble.StoreFault) × PostChanges config.now state.old moment request.now route.now))) }
+    ensures unchanged { OnErr result (state.new ≡ state.old) }
     ensures causes { Counted (result ≡ Err (Refused.Problem Trouble.StoreFault)) (K.faults keeper.old) (K.faults keeper.new) }
 {
     let Route::Objects(id) = route else {
@@ -54,35 +50,27 @@ pub(crate) fn post<K: Keeper>(
     let Some(info) = config.collection(id.as_str()) else {
         unreachable!();
     };
-    add_objects(
-        config.alloc,
-        info.id,
-        library,
-        keeper,
-        statuses,
-        moment,
-        request.body.as_slice(),
-    )
+    let body = request.body.as_slice();
+    add_objects(config.alloc, info.id, state, keeper, moment, body)
 }
 
 /// Deletes the rows of an object that the query of a DELETE picks.
 pub(crate) fn delete<K: Keeper>(
     config: &Config,
-    library: &mut Library,
+    state: &mut State,
     keeper: &mut K,
     route: &Route,
     query: Query,
 ) -> Result<Answer, Refusal>
-    requires agrees { Agrees (K.attached keeper.old) (K.told keeper.old) library.old }
+    requires agrees { Agrees (K.kept keeper.old) state.old.library }
     requires allowed { allows (allowed_of route.now) Verb.Delete ≡ true }
-    requires found { (statuses : StatusesState) × (rights : Rights) × IsFound config.now.collections library.old.rows statuses route.now rights }
-    ensures agrees { Agrees (K.attached keeper.new) (K.told keeper.new) library.new }
-    ensures name { K.name keeper.new ≡ K.name keeper.old }
-    ensures ok { IfOk result (λ answer. (statuses : StatusesState)
-        → Deletes config.now (server_of library.old statuses) route.now query answer (server_of library.new statuses)) }
+    requires found { (rights : Rights) × IsFound config.now.collections state.old route.now rights }
+    ensures agrees { Agrees (K.kept keeper.new) state.new.library }
+    ensures name { (K.kept keeper.new).name ≡ (K.kept keeper.old).name }
+    ensures ok { IfOk result (λ answer. Deletes config.now state.old route.now query answer state.new) }
     ensures err { IfErr result (λ refusal. (refusal ≡ Refused.NoMemory) ⊎ ((refusal ≡ Refused.Problem Trouble.StoreFault)
-        × ((statuses : StatusesState) → DeleteChanges config.now (server_of library.old statuses) route.now query))) }
-    ensures unchanged { OnErr result (library.new ≡ library.old) }
+        × DeleteChanges config.now state.old route.now query)) }
+    ensures unchanged { OnErr result (state.new ≡ state.old) }
     ensures causes { Counted (result ≡ Err (Refused.Problem Trouble.StoreFault)) (K.faults keeper.old) (K.faults keeper.new) }
 {
     let Route::Object { collection, object } = route else {
@@ -92,7 +80,7 @@ pub(crate) fn delete<K: Keeper>(
         unreachable!();
     };
     let id = identifier(config.alloc, object.as_str())?;
-    delete_object(config.alloc, info.id, &id, query, library, keeper)
+    delete_object(config.alloc, info.id, &id, query, state, keeper)
 }
 
 /// The identifier that a text is.
@@ -112,32 +100,31 @@ fn identifier(alloc: Global, text: &str) -> Result<Id, NoMemory>
 /// Does what a request asks for against which nothing stands.
 pub(crate) fn perform<K: Keeper>(
     config: &Config,
-    library: &mut Library,
+    state: &mut State,
     keeper: &mut K,
-    statuses: &mut Statuses,
     moment: u64,
     request: &Request,
     route: &Route,
     query: Query,
 ) -> Result<Answer, Refusal>
-    requires agrees { Agrees (K.attached keeper.old) (K.told keeper.old) library.old }
+    requires agrees { Agrees (K.kept keeper.old) state.old.library }
     requires allowed { allows (allowed_of route.now) request.now.method ≡ true }
-    requires found { (rights : Rights) × IsFound config.now.collections library.old.rows statuses.old route.now rights }
-    ensures agrees { Agrees (K.attached keeper.new) (K.told keeper.new) library.new }
-    ensures name { K.name keeper.new ≡ K.name keeper.old }
-    ensures ok { IfOk result (λ answer. Does config.now (server_of library.old statuses.old) moment request.now route.now query request.now.method
-        answer (server_of library.new statuses.new)) }
+    requires found { (rights : Rights) × IsFound config.now.collections state.old route.now rights }
+    ensures agrees { Agrees (K.kept keeper.new) state.new.library }
+    ensures name { (K.kept keeper.new).name ≡ (K.kept keeper.old).name }
+    ensures ok { IfOk result (λ answer. Does config.now state.old moment request.now route.now query request.now.method
+        answer state.new) }
     ensures err { IfErr result (λ refusal. (refusal ≡ Refused.NoMemory)
-        ⊎ (CannotDo config.now (server_of library.old statuses.old) moment request.now route.now request.now.method refusal
+        ⊎ (CannotDo config.now state.old moment request.now route.now request.now.method refusal
         ⊎ ((refusal ≡ Refused.Problem Trouble.StoreFault)
-        × Changes config.now (server_of library.old statuses.old) moment request.now route.now query))) }
-    ensures unchanged { OnErr result ((library.new ≡ library.old) × (statuses.new ≡ statuses.old)) }
+        × Changes config.now state.old moment request.now route.now query))) }
+    ensures unchanged { OnErr result (state.new ≡ state.old) }
     ensures causes { Counted (result ≡ Err (Refused.Problem Trouble.StoreFault)) (K.faults keeper.old) (K.faults keeper.new) }
 {
     match request.method {
-        Method::Get => read(config, library, statuses, route, query),
-        Method::Post => post(config, library, keeper, statuses, moment, request, route),
-        Method::Delete => delete(config, library, keeper, route, query),
+        Method::Get => read(config, state, route, query),
+        Method::Post => post(config, state, keeper, moment, request, route),
+        Method::Delete => delete(config, state, keeper, route, query),
         Method::Head => unreachable!(),
         Method::Other => unreachable!(),
     }

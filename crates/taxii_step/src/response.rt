@@ -1,4 +1,4 @@
-ghost use Rattle.std.specs.Prelude.{◌≡◌, ◌≢◌, ◌⊎◌, ◌≤◌, [], IfOk, IsOk, OnErr, option_map, unwrap_or, IsOkAnd};
+ghost use Rattle.std.specs.Prelude.{◌≡◌, ◌⊎◌, [], IfOk, IsOk, OnErr, option_map, unwrap_or, IsOkAnd};
 ghost use Rattle.flow_edges.specs.Faults.{Counted};
 ghost use Rattle.http_frames.specs.declared.status.Status.TheVariants as Code;
 ghost use Rattle.http_frames.specs.Answers.{HasDates};
@@ -6,7 +6,6 @@ ghost use Rattle.taxii_bodies.specs.declared.problem.Problem.TheVariants as Trou
 ghost use Rattle.taxii_requests.specs.Answers as spec;
 ghost use Rattle.taxii_requests.specs.declared.refusal.Refusal.TheVariants as Refused;
 ghost use Rattle.taxii_store.specs.Agreement.{Agrees};
-ghost use Rattle.taxii_changes.specs.ServerState.{server_of};
 ghost use Rattle.taxii_step.specs.Step.{IsAnswerTo, RouteStep, Step, FailsToKeep};
 ghost use Rattle.taxii_step.specs.inner.Performing.{RouteChanges};
 
@@ -19,8 +18,7 @@ use taxii_pages::laws::rows_of_pages;
 use taxii_requests::{Config, Refusal, bare_answer, problem_answer};
 use taxii_routes::{Route, split_target};
 use taxii_rows::Keeper;
-use taxii_statuses::Statuses;
-use taxii_store::Library;
+use taxii_state::State;
 
 /// Answers a request that came at a moment, in microseconds since 1970. A POST adds objects and keeps
 /// its status, a DELETE takes rows away, and nothing else changes anything. Where the keeper failed the
@@ -28,18 +26,17 @@ use taxii_store::Library;
 /// fail. The dates of an answer lie before the year 10000.
 pub fn respond<K: Keeper>(
     config: &Config,
-    library: &mut Library,
+    state: &mut State,
     keeper: &mut K,
-    statuses: &mut Statuses,
     moment: u64,
     request: &Request,
 ) -> Result<Answer, NoMemory>
-    requires agrees { Agrees (K.attached keeper.old) (K.told keeper.old) library.old }
-    ensures agrees { Agrees (K.attached keeper.new) (K.told keeper.new) library.new }
-    ensures name { K.name keeper.new ≡ K.name keeper.old }
-    ensures ok { IfOk result (λ answer. Step config.now (server_of library.old statuses.old) moment request.now answer (server_of library.new statuses.new)
-        ⊎ FailsToKeep config.now (server_of library.old statuses.old) moment request.now answer (server_of library.new statuses.new)) }
-    ensures err { OnErr result ((library.new ≡ library.old) × (statuses.new ≡ statuses.old)) }
+    requires agrees { Agrees (K.kept keeper.old) state.old.library }
+    ensures agrees { Agrees (K.kept keeper.new) state.new.library }
+    ensures name { (K.kept keeper.new).name ≡ (K.kept keeper.old).name }
+    ensures ok { IfOk result (λ answer. Step config.now state.old moment request.now answer state.new
+        ⊎ FailsToKeep config.now state.old moment request.now answer state.new) }
+    ensures err { OnErr result (state.new ≡ state.old) }
     ensures causes { Counted (IsOkAnd result (λ answer. answer.status ≡ Code.InternalServerError)) (K.faults keeper.old) (K.faults keeper.new) }
     ensures dates { IfOk result HasDates }
 {
@@ -48,9 +45,7 @@ pub fn respond<K: Keeper>(
         Route::None => problem_answer(config.alloc, Problem::NotFound),
         route => {
             let query = query_text(query);
-            respond_at(
-                config, library, keeper, statuses, moment, request, &route, query,
-            )
+            respond_at(config, state, keeper, moment, request, &route, query)
         }
     }
 }
@@ -68,33 +63,30 @@ fn query_text(query: Option<&str>) -> &str
 /// Answers a request to the resource of a route.
 fn respond_at<K: Keeper>(
     config: &Config,
-    library: &mut Library,
+    state: &mut State,
     keeper: &mut K,
-    statuses: &mut Statuses,
     moment: u64,
     request: &Request,
     route: &Route,
     query: &str,
 ) -> Result<Answer, NoMemory>
-    requires agrees { Agrees (K.attached keeper.old) (K.told keeper.old) library.old }
-    ensures agrees { Agrees (K.attached keeper.new) (K.told keeper.new) library.new }
-    ensures name { K.name keeper.new ≡ K.name keeper.old }
-    ensures ok { IfOk result (λ answer. RouteStep config.now (server_of library.old statuses.old) moment request.now route.now query.now
-        answer (server_of library.new statuses.new)
-        ⊎ ((answer ≡ spec.problem_answer Trouble.StoreFault) × (server_of library.new statuses.new ≡ server_of library.old statuses.old)
-        × RouteChanges config.now (server_of library.old statuses.old) moment request.now route.now query.now)) }
-    ensures err { OnErr result ((library.new ≡ library.old) × (statuses.new ≡ statuses.old)) }
+    requires agrees { Agrees (K.kept keeper.old) state.old.library }
+    ensures agrees { Agrees (K.kept keeper.new) state.new.library }
+    ensures name { (K.kept keeper.new).name ≡ (K.kept keeper.old).name }
+    ensures ok { IfOk result (λ answer. RouteStep config.now state.old moment request.now route.now query.now
+        answer state.new
+        ⊎ ((answer ≡ spec.problem_answer Trouble.StoreFault) × (state.new ≡ state.old)
+        × RouteChanges config.now state.old moment request.now route.now query.now)) }
+    ensures err { OnErr result (state.new ≡ state.old) }
     ensures causes { Counted (IsOkAnd result (λ answer. answer.status ≡ Code.InternalServerError)) (K.faults keeper.old) (K.faults keeper.new) }
     ensures dates { IfOk result HasDates }
 {
     rows_of_pages();
-    library.rows();
+    state.library.rows();
     // The text of the keeper's fault is there before the keeper is called, so that a change that the
     // keeper refused is never told as want of memory.
     let store_fault = problem_answer(config.alloc, Problem::StoreFault)?;
-    match outcome(
-        config, library, keeper, statuses, moment, request, route, query,
-    ) {
+    match outcome(config, state, keeper, moment, request, route, query) {
         Ok(answer) => Ok(answer),
         Err(refusal) => answer_to(config.alloc, refusal, store_fault),
     }

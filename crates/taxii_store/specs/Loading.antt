@@ -1,13 +1,14 @@
--- Which row of a keeper is bad, where its rows are read by date.
-use Rattle.std.specs.Prelude.{◌≡◌, ◌⊎◌, ℕ, ◌≤◌, ◌<◌, MatchOption}
+-- What it is to load the rows of a keeper, and which row of it is bad, where they are read by date.
+use Rattle.std.specs.Prelude.{◌≡◌, ◌⊎◌, ℕ, ◌≤◌, ◌<◌, List, option_map, MatchOption}
 use Rattle.std.specs.List.{Contains}
 use Rattle.taxii_rows.specs.declared.stored_row.StoredRow.{StoredRow}
 use Rattle.taxii_rows.specs.declared.stored_row.TheConstants.{LAST_DATE}
 use Rattle.taxii_rows.specs.StoreState.{StoreState}
-use Rattle.taxii_rows.specs.SoundRow.{IsSoundRow}
-use Rattle.taxii_rows.specs.Keeper.{row_after}
+use Rattle.taxii_rows.specs.SoundRow.{IsSoundRow, IsSoundState}
+use Rattle.taxii_rows.specs.Keeper.{Kept, row_after}
 use Rattle.taxii_rows.specs.declared.keeper_refusal.KeeperRefusal.{KeeperRefusal}
 use Rattle.taxii_rows.specs.declared.keeper_refusal.KeeperRefusal.TheVariants.{Fault, NoMemory as KeeperWants}
+use Rattle.taxii_store.specs.Agreement.{Agrees}
 use Rattle.taxii_store.specs.declared.load_refusal.LoadRefusal.{LoadRefusal}
 use Rattle.taxii_store.specs.declared.load_refusal.LoadRefusal.TheVariants.{KeeperFault, NoMemory as OutOfMemory}
 
@@ -31,3 +32,9 @@ pub record AreFitUpTo (state : StoreState) (after : ℕ) : Type 0 where
 pub record IsBadAfter (state : StoreState) (after : ℕ) : Type 0 where
   pub before : AreFitUpTo state after
   pub bad : MatchOption (row_after after state.rows) (LAST_DATE < state.mark) (λ row. ¬ IsFit state.mark row)
+
+-- a library was loaded from the rows that a keeper has under a name
+pub record IsLoaded (name : List ℕ) (kept : Kept) (library : StoreState) : Type 0 where
+  pub agrees : Agrees kept library
+  pub sound : IsSoundState library
+  pub named : kept.name ≡ option_map (λ _. name) kept.told

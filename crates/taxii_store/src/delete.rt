@@ -46,10 +46,10 @@ impl Library {
         keeper: &mut K,
         dates: &[u64],
     ) -> Result<(), KeeperRefusal>
-        requires agrees { Agrees (K.attached keeper.old) (K.told keeper.old) self.old }
+        requires agrees { Agrees (K.kept keeper.old) self.old }
         requires rise { RiseFrom 0 dates.now }
-        ensures agrees { Agrees (K.attached keeper.new) (K.told keeper.new) self.new }
-        ensures name { K.name keeper.new ≡ K.name keeper.old }
+        ensures agrees { Agrees (K.kept keeper.new) self.new }
+        ensures name { (K.kept keeper.new).name ≡ (K.kept keeper.old).name }
         ensures ok { OnOk result (self.new ≡ without dates.now self.old) }
         ensures err { OnErr result (self.new ≡ self.old) }
         ensures nothing { dates.now ≡ [] → IsOk result × (keeper.new ≡ keeper.old) }

@@ -72,10 +72,10 @@ impl Library {
         keeper: &mut K,
         planned: Planned,
     ) -> Result<(), KeeperRefusal>
-        requires agrees { Agrees (K.attached keeper.old) (K.told keeper.old) self.old }
+        requires agrees { Agrees (K.kept keeper.old) self.old }
         requires mark { planned.mark ≡ self.old.mark }
-        ensures agrees { Agrees (K.attached keeper.new) (K.told keeper.new) self.new }
-        ensures name { K.name keeper.new ≡ K.name keeper.old }
+        ensures agrees { Agrees (K.kept keeper.new) self.new }
+        ensures name { (K.kept keeper.new).name ≡ (K.kept keeper.old).name }
         ensures ok { OnOk result (self.new ≡ with_rows planned.rows (mark_after planned.mark planned.rows) self.old) }
         ensures err { OnErr result (self.new ≡ self.old) }
         ensures nothing { planned.rows ≡ [] → IsOk result × (keeper.new ≡ keeper.old) }

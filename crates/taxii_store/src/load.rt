@@ -1,11 +1,9 @@
-ghost use Rattle.std.specs.Prelude.{◌≡◌, ◌≢◌, ◌≤◌, ◌<◌, ◌↔◌, ℕ, true, IsTrue, Ok, Err, None, All, MatchOption, IfOk, IfErr, IfSome, OnOk, option_map};
+ghost use Rattle.std.specs.Prelude.{◌≡◌, ◌≤◌, ◌<◌, ◌↔◌, ℕ, true, IsTrue, Ok, Err, None, All, MatchOption, IfOk, IfErr, IfSome};
 ghost use Rattle.flow_edges.specs.Faults.{Counted};
 ghost use Rattle.taxii_rows.specs.declared.stored_row.TheConstants.{LAST_DATE as last_date};
 ghost use Rattle.taxii_rows.specs.Keeper.{row_after};
 ghost use Rattle.taxii_rows.specs.StoreState.{dates_of, RiseFrom};
-ghost use Rattle.taxii_rows.specs.SoundRow.{IsSoundState};
-ghost use Rattle.taxii_store.specs.Agreement.{Agrees};
-ghost use Rattle.taxii_store.specs.Loading.{IsFit, IsBadAfter};
+ghost use Rattle.taxii_store.specs.Loading.{IsFit, IsBadAfter, IsLoaded};
 ghost use Rattle.taxii_store.specs.inner.Reading.{AreFit, IsBadNext};
 ghost use Rattle.taxii_store.specs.declared.load_refusal.LoadRefusal.TheVariants as Refused;
 
@@ -22,11 +20,9 @@ impl Library {
         keeper: &mut K,
         name: &str,
     ) -> Result<Library, LoadRefusal>
-        ensures ok { IfOk result (λ library. Agrees (K.attached keeper.new) (K.told keeper.new) library) }
-        ensures sound { IfOk result IsSoundState }
-        ensures name { OnOk result (K.name keeper.new ≡ option_map (λ _. name.now) (K.told keeper.old)) }
-        ensures bad { IfErr result (λ refusal. (after : ℕ) → refusal ≡ Refused.BadRow after → IfSome (K.told keeper.old) (λ state. IsBadAfter state after)) }
-        ensures told { K.told keeper.new ≡ K.told keeper.old }
+        ensures ok { IfOk result (IsLoaded name.now (K.kept keeper.new)) }
+        ensures bad { IfErr result (λ refusal. (after : ℕ) → refusal ≡ Refused.BadRow after → IfSome (K.kept keeper.old).told (λ state. IsBadAfter state after)) }
+        ensures told { (K.kept keeper.new).told ≡ (K.kept keeper.old).told }
         ensures causes { Counted (result ≡ Err Refused.KeeperFault) (K.faults keeper.old) (K.faults keeper.new) }
     {
         keeper.attach(name)?;
@@ -44,14 +40,12 @@ fn read_rows<K: Keeper>(
     keeper: &mut K,
     mark: u64,
 ) -> Result<Items<StoredRow>, LoadRefusal>
-    requires attached { K.attached keeper.old ≡ true }
-    requires told { IfSome (K.told keeper.old) (λ state. (state.mark ≡ mark) × RiseFrom 1 (dates_of state.rows)) }
-    ensures rows { IfOk result (λ rows. IfSome (K.told keeper.old) (λ state. rows ≡ state.rows)) }
+    requires attached { (K.kept keeper.old).attached ≡ true }
+    requires told { IfSome (K.kept keeper.old).told (λ state. (state.mark ≡ mark) × RiseFrom 1 (dates_of state.rows)) }
+    ensures rows { IfOk result (λ rows. IfSome (K.kept keeper.old).told (λ state. rows ≡ state.rows)) }
     ensures fit { IfOk result (λ rows. AreFit mark rows) }
-    ensures bad { IfErr result (λ refusal. (after : ℕ) → refusal ≡ Refused.BadRow after → IfSome (K.told keeper.old) (λ state. IsBadAfter state after)) }
-    ensures told { K.told keeper.new ≡ K.told keeper.old }
-    ensures name { K.name keeper.new ≡ K.name keeper.old }
-    ensures attached { K.attached keeper.new ≡ K.attached keeper.old }
+    ensures bad { IfErr result (λ refusal. (after : ℕ) → refusal ≡ Refused.BadRow after → IfSome (K.kept keeper.old).told (λ state. IsBadAfter state after)) }
+    ensures stays { K.kept keeper.new ≡ K.kept keeper.old }
     ensures causes { Counted (result ≡ Err Refused.KeeperFault) (K.faults keeper.old) (K.faults keeper.new) }
 {
     let mut rows = Items::new(alloc);
@@ -72,15 +66,13 @@ fn next_fit<K: Keeper>(
     after: u64,
     mark: u64,
 ) -> Result<Option<StoredRow>, LoadRefusal>
-    requires attached { K.attached keeper.old ≡ true }
-    requires mark { IfSome (K.told keeper.old) (λ state. state.mark ≡ mark) }
-    ensures next { IfOk result (λ found. IfSome (K.told keeper.old) (λ state. found ≡ row_after after state.rows)) }
+    requires attached { (K.kept keeper.old).attached ≡ true }
+    requires mark { IfSome (K.kept keeper.old).told (λ state. state.mark ≡ mark) }
+    ensures next { IfOk result (λ found. IfSome (K.kept keeper.old).told (λ state. found ≡ row_after after state.rows)) }
     ensures fit { IfOk result (λ found. IfSome found (λ row. (after < row.date) × IsFit mark row)) }
     ensures last { result ≡ Ok None → mark ≤ last_date }
-    ensures bad { IfErr result (λ refusal. (at : ℕ) → refusal ≡ Refused.BadRow at → (at ≡ after) × IfSome (K.told keeper.old) (λ state. IsBadNext state after)) }
-    ensures told { K.told keeper.new ≡ K.told keeper.old }
-    ensures name { K.name keeper.new ≡ K.name keeper.old }
-    ensures attached { K.attached keeper.new ≡ K.attached keeper.old }
+    ensures bad { IfErr result (λ refusal. (at : ℕ) → refusal ≡ Refused.BadRow at → (at ≡ after) × IfSome (K.kept keeper.old).told (λ state. IsBadNext state after)) }
+    ensures stays { K.kept keeper.new ≡ K.kept keeper.old }
     ensures causes { Counted (result ≡ Err Refused.KeeperFault) (K.faults keeper.old) (K.faults keeper.new) }
 {
     let found = keeper.next_after(after)?;

@@ -6,7 +6,7 @@ use Rattle.taxii_store.specs.declared.add_outcome.AddOutcome.{AddOutcome}
 use Rattle.taxii_store.specs.Addition.{date_in}
 use Rattle.taxii_bodies.specs.declared.details.Detail.{Detail}
 use Rattle.taxii_bodies.specs.declared.status.StatusReport.{StatusReport}
-use Rattle.taxii_posts.specs.declared.posted.TheConstants.{MAX_DETAILS}
+use Rattle.taxii_changes.specs.declared.posted.TheConstants.{MAX_DETAILS}
 use Rattle.taxii_changes.specs.Adding.{IsSuccess}
 
 -- the date in the outcome is that of a row

@@ -5,22 +5,22 @@ use Rattle.http_frames.specs.declared.request.Request.{Request}
 use Rattle.taxii_routes.specs.declared.query.Query.{Query}
 use Rattle.taxii_routes.specs.declared.route.Route.{Route}
 use Rattle.taxii_requests.specs.declared.config.Config.{Config}
-use Rattle.taxii_changes.specs.ServerState.{ServerState}
+use Rattle.taxii_state.specs.declared.state.State.{State}
 use Rattle.taxii_step.specs.Step.{Posts, Deletes, Does, IsDone}
 
 -- an answer and a state with other rows
-abbrev pub ChangesBy : (Answer → ServerState → Type 0) → ServerState → Type 0
-ChangesBy Rule before = (answer : Answer) × (after : ServerState) × Rule answer after × (after.store.rows ≢ before.store.rows)
+abbrev pub ChangesBy : (Answer → State → Type 0) → State → Type 0
+ChangesBy Rule before = (answer : Answer) × (after : State) × Rule answer after × (after.library.rows ≢ before.library.rows)
 
-abbrev pub PostChanges : Config → ServerState → ℕ → Request → Route → Type 0
+abbrev pub PostChanges : Config → State → ℕ → Request → Route → Type 0
 PostChanges config before moment request route = ChangesBy (Posts config before moment request route) before
 
-abbrev pub DeleteChanges : Config → ServerState → Route → Query → Type 0
+abbrev pub DeleteChanges : Config → State → Route → Query → Type 0
 DeleteChanges config before route query = ChangesBy (Deletes config before route query) before
 
-abbrev pub Changes : Config → ServerState → ℕ → Request → Route → Query → Type 0
+abbrev pub Changes : Config → State → ℕ → Request → Route → Query → Type 0
 Changes config before moment request route query =
     ChangesBy (Does config before moment request route query request.method) before
 
-abbrev pub RouteChanges : Config → ServerState → ℕ → Request → Route → List ℕ → Type 0
+abbrev pub RouteChanges : Config → State → ℕ → Request → Route → List ℕ → Type 0
 RouteChanges config before moment request route text = ChangesBy (IsDone config before moment request route text) before

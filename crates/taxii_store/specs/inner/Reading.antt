@@ -1,13 +1,10 @@
 -- The rows of a keeper, read one after the other.
-use Rattle.std.specs.Prelude.{◌≡◌, ◌≢◌, ◌≤◌, ◌<◌, ℕ, List, Result, Err, All, MatchOption}
-use Rattle.flow_edges.specs.Faults.{Rose}
+use Rattle.std.specs.Prelude.{◌≤◌, ◌<◌, ℕ, List, All, MatchOption}
 use Rattle.taxii_rows.specs.declared.stored_row.StoredRow.{StoredRow}
 use Rattle.taxii_rows.specs.declared.stored_row.TheConstants.{LAST_DATE}
 use Rattle.taxii_rows.specs.Keeper.{row_after}
 use Rattle.taxii_rows.specs.StoreState.{StoreState, dates_of, RiseFrom}
 use Rattle.taxii_store.specs.Loading.{IsFit}
-use Rattle.taxii_store.specs.declared.load_refusal.LoadRefusal.{LoadRefusal}
-use Rattle.taxii_store.specs.declared.load_refusal.LoadRefusal.TheVariants.{KeeperFault}
 
 -- rows that a store with that mark may have
 pub record AreFit (mark : ℕ) (rows : List StoredRow) : Type 0 where

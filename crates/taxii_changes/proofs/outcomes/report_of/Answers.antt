@@ -1,7 +1,7 @@
 use Rattle.std.proofs.Common.{◌≡◌, ℕ, List, ◌++◌, length, take, min, refl, ap, subst, ◌∙◌, arith}
 use Rattle.std.specs.List.{AllZip}
 use Rattle.std.proofs.lemmas.List.{take_min}
-use Rattle.taxii_posts.specs.declared.posted.TheConstants.{MAX_DETAILS}
+use Rattle.taxii_changes.specs.declared.posted.TheConstants.{MAX_DETAILS}
 use Rattle.taxii_store.specs.declared.add_outcome.AddOutcome.{AddOutcome}
 use Rattle.taxii_changes.specs.Adding.{IsSuccess}
 use Rattle.taxii_changes.proofs.outcomes.report_of.Goals as goal

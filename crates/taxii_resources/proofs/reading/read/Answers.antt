@@ -14,16 +14,16 @@ use Rattle.taxii_resources.proofs.reading.read.Goals as goal
 pub returns-in-Object-clause-err : goal.returns-in-Object-clause-err
 returns-in-Object-clause-err c =
     let infos = c.args.config.now.collections in
-    let rows = c.args.library.now.rows in
-    let Says = λ (route : Route). IfErr c.read_object.result (λ refusal. (refusal ≡ NoMemory) ⊎ ((refusal ≡ Problem NotFound) × IsNoResource c.args.config.now rows c.args.statuses.now route)) in
+    let state = c.args.state.now in
+    let Says = λ (route : Route). IfErr c.read_object.result (λ refusal. (refusal ≡ NoMemory) ⊎ ((refusal ≡ Problem NotFound) × IsNoResource c.args.config.now state route)) in
     let collection = c.as_str-in-Object.result.now in
     let object = c.as_str-in-Object-2.result.now in
     let its = if_err c.read_object.result
     (λ refusal. (refusal ≡ NoMemory) ⊎ ((refusal ≡ Problem NotFound) × ((collection_named collection infos ≡ None) ⊎ ((id : Id) → ¬ IsTextOf object id))))
-    (λ refusal. (refusal ≡ NoMemory) ⊎ ((refusal ≡ Problem NotFound) × IsNoResource c.args.config.now rows c.args.statuses.now (Object collection object)))
+    (λ refusal. (refusal ≡ NoMemory) ⊎ ((refusal ≡ Problem NotFound) × IsNoResource c.args.config.now state (Object collection object)))
     (λ refusal why. elim why [
       | inl none ↦ inl none
-      | inr absent ↦ inr (absent.0, λ rights found. no_object collection object infos rows rights absent.1 found)
+      | inr absent ↦ inr (absent.0, λ rights found. no_object collection object infos state.library.rows rights absent.1 found)
     ]) c.read_object.ensures.err in
     let first = subst (λ (text : List ℕ). Says (Object text object)) c.as_str-in-Object.ensures its in
     let both = subst (λ (text : List ℕ). Says (Object c.in-Object.collection text)) c.as_str-in-Object-2.ensures first in
@@ -32,16 +32,16 @@ returns-in-Object-clause-err c =
 pub returns-in-Versions-clause-err : goal.returns-in-Versions-clause-err
 returns-in-Versions-clause-err c =
     let infos = c.args.config.now.collections in
-    let rows = c.args.library.now.rows in
-    let Says = λ (route : Route). IfErr c.read_versions.result (λ refusal. (refusal ≡ NoMemory) ⊎ ((refusal ≡ Problem NotFound) × IsNoResource c.args.config.now rows c.args.statuses.now route)) in
+    let state = c.args.state.now in
+    let Says = λ (route : Route). IfErr c.read_versions.result (λ refusal. (refusal ≡ NoMemory) ⊎ ((refusal ≡ Problem NotFound) × IsNoResource c.args.config.now state route)) in
     let collection = c.as_str-in-Versions.result.now in
     let object = c.as_str-in-Versions-2.result.now in
     let its = if_err c.read_versions.result
     (λ refusal. (refusal ≡ NoMemory) ⊎ ((refusal ≡ Problem NotFound) × ((collection_named collection infos ≡ None) ⊎ ((id : Id) → ¬ IsTextOf object id))))
-    (λ refusal. (refusal ≡ NoMemory) ⊎ ((refusal ≡ Problem NotFound) × IsNoResource c.args.config.now rows c.args.statuses.now (Versions collection object)))
+    (λ refusal. (refusal ≡ NoMemory) ⊎ ((refusal ≡ Problem NotFound) × IsNoResource c.args.config.now state (Versions collection object)))
     (λ refusal why. elim why [
       | inl none ↦ inl none
-      | inr absent ↦ inr (absent.0, λ rights found. no_object collection object infos rows rights absent.1 found)
+      | inr absent ↦ inr (absent.0, λ rights found. no_object collection object infos state.library.rows rights absent.1 found)
     ]) c.read_versions.ensures.err in
     let first = subst (λ (text : List ℕ). Says (Versions text object)) c.as_str-in-Versions.ensures its in
     let both = subst (λ (text : List ℕ). Says (Versions c.in-Versions.collection text)) c.as_str-in-Versions-2.ensures first in

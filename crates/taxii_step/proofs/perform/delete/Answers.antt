@@ -9,17 +9,14 @@ use Rattle.taxii_requests.specs.declared.refusal.Refusal.TheVariants.{NoMemory, 
 use Rattle.taxii_requests.specs.Answers.{bare_answer}
 use Rattle.taxii_requests.specs.Config.{collection_named}
 use Rattle.taxii_resources.specs.Finding.{Names}
-use Rattle.taxii_statuses.specs.Statuses.{StatusesState}
-use Rattle.taxii_changes.specs.ServerState.{server_of}
-use Rattle.taxii_changes.specs.Deleting.{AreDeleted}
-use Rattle.taxii_step.specs.Step.{without_dates}
+use Rattle.taxii_changes.specs.Deleting.{AreDeleted, without_dates}
 use Rattle.taxii_step.specs.inner.Performing.{DeleteChanges}
 use Rattle.taxii_step.proofs.PerformLemmas.{if_err, rows_go}
 use Rattle.taxii_step.proofs.perform.delete.Goals as goal
 
 pub returns-clause-err : goal.returns-clause-err
 returns-clause-err g c =
-    let store = c.args.library.now in
+    let before = c.args.state.now in
     let config = c.args.config.now in
     let query = c.args.query in
     let collection = c.in-Object.collection in
@@ -29,22 +26,21 @@ returns-clause-err g c =
     let named : Names collection config.collections info = ap (λ (text : List ℕ). collection_named text config.collections) (sym c.as_str.ensures) ∙ sym c.in-Some.ensures in
     let its = subst (λ (text : List ℕ). IsTextOf text id) c.as_str-2.ensures c.in_ok-id.ensures in
     let Says = λ (route : Route). IfErr c.delete_object.result (λ refusal. (refusal ≡ NoMemory)
-    ⊎ ((refusal ≡ Problem StoreFault) × ((statuses : StatusesState) → DeleteChanges config (server_of store statuses) route query))) in
+    ⊎ ((refusal ≡ Problem StoreFault) × DeleteChanges config before route query)) in
     subst Says (sym c.in-Object.is) (if_err c.delete_object.result
-    (λ refusal. (refusal ≡ NoMemory) ⊎ ((refusal ≡ Problem StoreFault) × ((dates : List ℕ) × (dates ≢ []) × AreDeleted store info.id id query dates)))
-    (λ refusal. (refusal ≡ NoMemory) ⊎ ((refusal ≡ Problem StoreFault)
-    × ((statuses : StatusesState) → DeleteChanges config (server_of store statuses) (Object collection object) query)))
+    (λ refusal. (refusal ≡ NoMemory) ⊎ ((refusal ≡ Problem StoreFault) × ((dates : List ℕ) × (dates ≢ []) × AreDeleted before.library info.id id query dates)))
+    (λ refusal. (refusal ≡ NoMemory) ⊎ ((refusal ≡ Problem StoreFault) × DeleteChanges config before (Object collection object) query))
     (λ refusal why. elim why [
       | inl none ↦ inl none
       | inr fault ↦
           let (dates, some, deleted) = fault.1 in
           inr (
             fault.0,
-            λ statuses. (
+            (
               bare_answer Okay None,
-              without_dates dates (server_of store statuses),
+              without_dates dates before,
               (info, named, id, its, dates, deleted, refl, refl),
-              rows_go store info.id id query dates deleted some,
+              rows_go before.library info.id id query dates deleted some,
             ),
           )
     ]) c.delete_object.ensures.err)

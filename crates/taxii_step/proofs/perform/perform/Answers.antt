@@ -4,8 +4,6 @@ use Rattle.http_frames.specs.declared.method.Method.{Method}
 use Rattle.http_frames.specs.declared.method.Method.TheVariants.{Delete}
 use Rattle.taxii_bodies.specs.declared.problem.Problem.TheVariants.{StoreFault}
 use Rattle.taxii_requests.specs.declared.refusal.Refusal.TheVariants.{NoMemory, Problem}
-use Rattle.taxii_statuses.specs.Statuses.{StatusesState}
-use Rattle.taxii_changes.specs.ServerState.{server_of}
 use Rattle.taxii_step.specs.Step.{Does, CannotDo}
 use Rattle.taxii_step.specs.inner.Performing.{ChangesBy, DeleteChanges}
 use Rattle.taxii_step.proofs.PerformLemmas.{if_err}
@@ -13,8 +11,7 @@ use Rattle.taxii_step.proofs.perform.perform.Goals as goal
 
 pub returns-in-Delete-clause-err : goal.returns-in-Delete-clause-err
 returns-in-Delete-clause-err g c =
-    let store = c.args.library.now in
-    let before = server_of store c.args.statuses.now in
+    let before = c.args.state.now in
     let config = c.args.config.now in
     let request = c.args.request.now in
     let route = c.args.route.now in
@@ -23,11 +20,11 @@ returns-in-Delete-clause-err g c =
     ⊎ (CannotDo config before c.args.moment request route method refusal
     ⊎ ((refusal ≡ Problem StoreFault) × ChangesBy (Does config before c.args.moment request route query method) before))) in
     subst Says (sym c.in-Delete.is) (if_err c.delete.result
-    (λ refusal. (refusal ≡ NoMemory) ⊎ ((refusal ≡ Problem StoreFault) × ((statuses : StatusesState) → DeleteChanges config (server_of store statuses) route query)))
+    (λ refusal. (refusal ≡ NoMemory) ⊎ ((refusal ≡ Problem StoreFault) × DeleteChanges config before route query))
     (λ refusal. (refusal ≡ NoMemory)
     ⊎ (CannotDo config before c.args.moment request route Delete refusal
     ⊎ ((refusal ≡ Problem StoreFault) × ChangesBy (Does config before c.args.moment request route query Delete) before)))
     (λ refusal why. elim why [
       | inl none ↦ inl none
-      | inr fault ↦ inr (inr (fault.0, fault.1 c.args.statuses.now))
+      | inr fault ↦ inr (inr fault)
     ]) c.delete.ensures.err)

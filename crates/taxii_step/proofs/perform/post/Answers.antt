@@ -9,7 +9,6 @@ use Rattle.taxii_requests.specs.declared.refusal.Refusal.TheVariants.{NoMemory, 
 use Rattle.taxii_requests.specs.Answers.{body_answer}
 use Rattle.taxii_requests.specs.Config.{collection_named}
 use Rattle.taxii_resources.specs.Finding.{Names}
-use Rattle.taxii_changes.specs.ServerState.{server_of}
 use Rattle.taxii_changes.specs.Adding.{IsAdding, CannotAdd, with_added}
 use Rattle.taxii_step.specs.Step.{CannotPost}
 use Rattle.taxii_step.specs.inner.Performing.{PostChanges}
@@ -18,13 +17,13 @@ use Rattle.taxii_step.proofs.perform.post.Goals as goal
 
 pub returns-clause-err : goal.returns-clause-err
 returns-clause-err g c =
-    let before = server_of c.args.library.now c.args.statuses.now in
+    let before = c.args.state.now in
     let config = c.args.config.now in
     let request = c.args.request.now in
     let moment = c.args.moment in
     let id = c.in-Objects.id in
     let info = c.in-Some.info.now in
-    let body = c.as_slice.result.now in
+    let body = c.as_slice-body.result.now in
     let named : Names id config.collections info = ap (λ (text : List ℕ). collection_named text config.collections) (sym c.as_str.ensures) ∙ sym c.in-Some.ensures in
     let Says = λ (route : Route). IfErr c.add_objects.result (λ refusal. (refusal ≡ NoMemory)
     ⊎ (CannotPost config before moment request route refusal ⊎ ((refusal ≡ Problem StoreFault) × PostChanges config before moment request route))) in
@@ -36,7 +35,7 @@ returns-clause-err g c =
     (λ refusal why. elim why [
       | inl none ↦ inl none
       | inr other ↦ elim other [
-        | inl cannot ↦ inr (inl (info, named, subst (λ (bytes : List ℕ). CannotAdd before info.id moment bytes refusal) c.as_slice.ensures cannot))
+        | inl cannot ↦ inr (inl (info, named, subst (λ (bytes : List ℕ). CannotAdd before info.id moment bytes refusal) c.as_slice-body.ensures cannot))
         | inr fault ↦
             let (new, text, some, adding) = fault.1 in
             inr (inr (
@@ -44,8 +43,8 @@ returns-clause-err g c =
               (
                 body_answer Accepted text,
                 with_added new text before,
-                (info, named, new, text, subst (λ (bytes : List ℕ). IsAdding before info.id moment bytes new text) c.as_slice.ensures adding, refl, refl),
-                rows_grow before.store.rows new some,
+                (info, named, new, text, subst (λ (bytes : List ℕ). IsAdding before info.id moment bytes new text) c.as_slice-body.ensures adding, refl, refl),
+                rows_grow before.library.rows new some,
               ),
             ))
       ]

@@ -4,7 +4,7 @@ use Rattle.taxii_bodies.specs.declared.problem.Problem.TheVariants.{StoreFault}
 use Rattle.taxii_requests.specs.Answers.{problem_answer}
 use Rattle.taxii_routes.specs.Route.{IsPathOf}
 use Rattle.taxii_routes.specs.Target.{IsTargetOf}
-use Rattle.taxii_changes.specs.ServerState.{ServerState, server_of}
+use Rattle.taxii_state.specs.declared.state.State.{State}
 use Rattle.taxii_step.specs.Step.{RouteStep, Step, FailsToKeep}
 use Rattle.taxii_step.specs.inner.Performing.{RouteChanges}
 use Rattle.taxii_step.proofs.PerformLemmas.{if_ok}
@@ -15,15 +15,15 @@ returns-in_default g c =
     let config = c.args.config.now in
     let request = c.args.request.now in
     let moment = c.args.moment in
-    let before = server_of c.args.library.now c.args.statuses.now in
-    let after = server_of c.respond_at.new.library c.respond_at.new.statuses in
+    let before = c.args.state.now in
+    let after = c.respond_at.new.state in
     let route = c.in_ok-route.route in
     let path = c.split_target.result.0.now in
     let query = option_map (λ text. text.now) c.split_target.result.1 in
     let target : IsTargetOf request.target path query = subst (λ (text : List ℕ). IsTargetOf text path query) c.as_str.ensures c.split_target.ensures in
     let path_is : IsPathOf path route = c.in_ok-route.ensures.found c.in_default.not-None in
     let text : c.query_text-query.result.now ≡ unwrap_or query [] = c.query_text-query.ensures in
-    let steps = λ (answer : Answer) (now : ServerState) (step : RouteStep config before moment request route c.query_text-query.result.now answer now).
+    let steps = λ (answer : Answer) (now : State) (step : RouteStep config before moment request route c.query_text-query.result.now answer now).
     let its = subst (λ (t : List ℕ). RouteStep config before moment request route t answer now) text step in
     let whole : Step config before moment request answer now = record { path = path; query = query; target_is = target; outcome = inr (route, path_is, its) } in
     whole in
@@ -42,8 +42,6 @@ returns-in_default g c =
                 inr (record { answer_is = fault.0; unchanged = fault.1; wanted = wanted; changed = changed; step = steps wanted changed (inr done); rows = rows })
           ]) ensures.ok;
       err = ensures.err;
-      fault = ensures.fault;
-      quiet = ensures.quiet;
-      none = ensures.none;
+      causes = ensures.causes;
       dates = ensures.dates;
     }

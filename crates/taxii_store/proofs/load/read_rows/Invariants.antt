@@ -8,9 +8,7 @@ decreases-loop-rows g l = LAST_DATE - l.after
 
 abbrev pub invariant-loop-rows : goal.invariant-loop-rows
 invariant-loop-rows g l =
-    (g.K.Keeper.told l.keeper ≡ g.K.Keeper.told l.fn.keeper)
-    × (g.K.Keeper.name l.keeper ≡ g.K.Keeper.name l.fn.keeper)
-    × (g.K.Keeper.attached l.keeper ≡ g.K.Keeper.attached l.fn.keeper)
+    (g.K.Keeper.kept l.keeper ≡ g.K.Keeper.kept l.fn.keeper)
     × (g.K.Keeper.faults l.keeper ≡ g.K.Keeper.faults l.fn.keeper)
     × AreGood l.mark l.after l.rows
-    × IfSome (g.K.Keeper.told l.fn.keeper) (λ state. IsReadTo state l.rows l.after)
+    × IfSome (g.K.Keeper.kept l.fn.keeper).told (λ state. IsReadTo state l.rows l.after)

@@ -2,13 +2,12 @@ use Rattle.std.proofs.Common.{◌≡◌, ◌⊎◌, inl, inr, length, sym, subst
 use Rattle.taxii_requests.specs.declared.refusal.Refusal.TheVariants.{NoMemory}
 use Rattle.taxii_store.specs.Addition.{first_date}
 use Rattle.taxii_changes.specs.Adding.{CannotAdd}
-use Rattle.taxii_changes.specs.ServerState.{server_of}
 use Rattle.taxii_changes.proofs.AnswerLemmas.{handed_on, as_many}
 use Rattle.taxii_changes.proofs.prepared.Prepared.of.Goals as goal
 
 pub returns-in_err-planned-clause-err : goal.returns-in_err-planned-clause-err
 returns-in_err-planned-clause-err c =
-    let state = server_of c.args.library.now c.args.statuses.now in
+    let state = c.args.state.now in
     handed_on c.from_residual-in_err-planned.result c.in_err-planned.field-0.0
     (λ refusal. (refusal ≡ NoMemory) ⊎ CannotAdd state c.args.collection c.args.moment c.args.body.now refusal)
     c.from_residual-in_err-planned.ensures.1
@@ -20,7 +19,7 @@ returns-in_err-planned-clause-err c =
 
 pub report_of-requires : goal.report_of-requires
 report_of-requires c = record {
-  rows = c.outcomes_have_rows.ensures c.args.library.now c.args.collection c.args.moment c.in_ok-posted.posted.objects.items
+  rows = c.outcomes_have_rows.ensures c.args.state.now.library c.args.collection c.args.moment c.in_ok-posted.posted.objects.items
       c.in_ok-planned.planned.outcomes c.in_ok-planned.planned.rows c.in_ok-planned.ensures.ok;
 }
 
@@ -28,7 +27,7 @@ pub status_body-requires : goal.status_body-requires
 status_body-requires c =
     let addition = c.in_ok-planned.ensures.ok in
     let planned = c.in_ok-planned.planned in
-    let store = c.args.library.now in
+    let store = c.args.state.now.library in
     let many = as_many c.args.collection (first_date store.mark c.args.moment (length planned.rows)) store.rows c.in_ok-posted.posted.objects.items planned.outcomes planned.rows addition.adds in
     let report = c.in_ok-report.ensures in
     omega (arith, many, report.success_count, report.failure_count_is, c.in_ok-posted.ensures.few)

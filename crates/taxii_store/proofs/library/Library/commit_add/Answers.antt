@@ -24,7 +24,7 @@ append-requires-2-clause-later g c =
     let behind = rows_behind c.self.inside.rows c.planned.inside.rows.items c.as_slice-length.result.now c.as_slice.result.now
     c.as_slice-length.ensures.rows (c.as_slice.ensures.rows ∙ c.in_ok-append.ensures.ok) in
     let last = subst (λ (mark : ℕ). CanAppend c.planned.inside.rows.items mark state) (sym c.planned.invariant.1) can in
-    if_same (g.K.Keeper.told c.args.keeper.now) _ c.args.self.now c.requires.agrees.told_is
+    if_same (g.K.Keeper.kept c.args.keeper.now).told _ c.args.self.now c.requires.agrees.told_is
     (subst (CanAppend _ c.planned.inside.last) c.self.view_is
     (subst (λ (rows : List StoredRow). CanAppend rows c.planned.inside.last state) (sym behind) last))
 

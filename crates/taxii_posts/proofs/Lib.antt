@@ -1,3 +1,0 @@
-mod NamedLemmas
-mod TakenLemmas
-mod HoldsLemmas
