@@ -1,0 +1,2 @@
+pub mod CheckEndings
+pub mod Verdicts

@@ -1,0 +1,7 @@
+//! The command `match`: the bindings of a pattern over an input, a line each.
+#![tactic(auto)]
+
+mod crowded;
+mod matching;
+
+pub use matching::{MatchEnding, match_bindings};
