@@ -9,7 +9,8 @@ use flow_values::Items;
 use sqlite::{Connection, File, FileStore};
 use std::alloc::Global;
 use std::rt::HostRuntime;
-use taxii_rows::{Keeper, MemoryKeeper, StoredRow};
+use taxii_memory::MemoryKeeper;
+use taxii_rows::{Keeper, StoredRow};
 
 /// What a keeper has its rows in. One that is closed fails each call.
 #[derive(Drop)]

@@ -48,11 +48,7 @@ impl SqliteKeeper {
 }
 
 impl Keeper for SqliteKeeper {
-    ghost told = { λ _. None };
-
-    ghost name = { λ _. None };
-
-    ghost attached = { λ keeper. keeper.attached };
+    ghost kept = { λ keeper. record { told = None; name = None; attached = keeper.attached } };
 
     ghost faults = { λ keeper. keeper.faults };
 

@@ -5,7 +5,8 @@ ghost use Rattle.taxii_rows.specs.StoreState.{StoreState, dates_of, RiseFrom};
 ghost use Rattle.taxii_rows.specs.Keeper.{with_rows, CanAppend};
 
 use crate::failure::Failure;
-use taxii_rows::{Keeper, MemoryKeeper, StoredRow};
+use taxii_memory::MemoryKeeper;
+use taxii_rows::{Keeper, StoredRow};
 
 /// Adds the rows and sets the mark, or changes nothing. Rows that don't come behind those that are held
 /// are a fault, as a date that is taken is to a file.
