@@ -23,7 +23,7 @@ use Rattle.taxii_requests.specs.declared.refusal.Refusal.TheVariants.{NotAllowed
 use Rattle.taxii_requests.specs.Answers.{status_of, bare_answer, page_answer, problem_answer}
 use Rattle.taxii_resources.specs.Finding.{Names}
 use Rattle.taxii_resources.specs.Reading.{IsPageOf, IsEnvelope, IsReading, object_query}
-use Rattle.taxii_changes.specs.ServerState.{ServerState}
+use Rattle.taxii_state.specs.declared.state.State.{State}
 use Rattle.taxii_step.specs.Step.{Does, IsAnswerTo, IsDone, RouteStep, Step}
 use Rattle.taxii_walks.specs.Page.{IsPage}
 use Rattle.taxii_walks.specs.Walk.{Stop, Wanted}
@@ -69,32 +69,32 @@ one_collection : (text : List ℕ) (infos : List CollectionInfo) (first second :
 one_collection text infos first second names also = let same : Some first ≡ Some second = sym names ∙ also in cc
 
 -- a GET of what is asked for reads a page of the collection
-all_read : (config : Config) (before : ServerState) (route : Route) (parsed : Query) (collection : ℕ) (only : Option Id) (query : Query) (answer : Answer)
-    → AsksForAll config route parsed collection only query → IsReading config before.store.rows before.statuses route parsed answer
-    → IsPageOf before.store.rows collection only query IsEnvelope answer
+all_read : (config : Config) (before : State) (route : Route) (parsed : Query) (collection : ℕ) (only : Option Id) (query : Query) (answer : Answer)
+    → AsksForAll config route parsed collection only query → IsReading config before route parsed answer
+    → IsPageOf before.library.rows collection only query IsEnvelope answer
 all_read config before route parsed collection only query answer (id, info, route_is, names, collection_is, only_is, query_is) reading =
-    let its : IsReading config before.store.rows before.statuses (Objects id) parsed answer =
-    subst (λ (r : Route). IsReading config before.store.rows before.statuses r parsed answer) route_is reading in
+    let its : IsReading config before (Objects id) parsed answer =
+    subst (λ (r : Route). IsReading config before r parsed answer) route_is reading in
     let same : its.0.id ≡ info.id = ap (λ (i : CollectionInfo). i.id) (one_collection id config.collections its.0 info its.1 names) in
-    page_of_same before.store.rows answer its.0.id collection None only parsed query (same ∙ sym collection_is) (sym only_is) (sym query_is) its.2
+    page_of_same before.library.rows answer its.0.id collection None only parsed query (same ∙ sym collection_is) (sym only_is) (sym query_is) its.2
 
 -- or of the one object
-one_read : Laws → (config : Config) (before : ServerState) (route : Route) (parsed : Query) (collection : ℕ) (only : Option Id) (query : Query) (answer : Answer)
-    → AsksForOne config route parsed collection only query → IsReading config before.store.rows before.statuses route parsed answer
-    → IsPageOf before.store.rows collection only query IsEnvelope answer
+one_read : Laws → (config : Config) (before : State) (route : Route) (parsed : Query) (collection : ℕ) (only : Option Id) (query : Query) (answer : Answer)
+    → AsksForOne config route parsed collection only query → IsReading config before route parsed answer
+    → IsPageOf before.library.rows collection only query IsEnvelope answer
 one_read laws config before route parsed collection only query answer (name, text, info, id, route_is, names, text_of, collection_is, only_is, query_is) reading =
-    let its : IsReading config before.store.rows before.statuses (Object name text) parsed answer =
-    subst (λ (r : Route). IsReading config before.store.rows before.statuses r parsed answer) route_is reading in
+    let its : IsReading config before (Object name text) parsed answer =
+    subst (λ (r : Route). IsReading config before r parsed answer) route_is reading in
     let page = its.2 in
     let same : its.0.id ≡ info.id = ap (λ (i : CollectionInfo). i.id) (one_collection name config.collections its.0 info its.1 names) in
     let id_same : Some page.0 ≡ Some id = ap (λ (i : Id). Some i) (laws.identifier text page.0 id page.1 text_of) in
-    page_of_same before.store.rows answer its.0.id collection (Some page.0) only (object_query parsed) query (same ∙ sym collection_is) (id_same ∙ sym only_is) (sym query_is) page.2
+    page_of_same before.library.rows answer its.0.id collection (Some page.0) only (object_query parsed) query (same ∙ sym collection_is) (id_same ∙ sym only_is) (sym query_is) page.2
 
 -- or of either
-read : Laws → (config : Config) (before : ServerState) (route : Route) (parsed : Query) (collection : ℕ) (only : Option Id) (query : Query) (answer : Answer)
+read : Laws → (config : Config) (before : State) (route : Route) (parsed : Query) (collection : ℕ) (only : Option Id) (query : Query) (answer : Answer)
     → AsksForAll config route parsed collection only query ⊎ AsksForOne config route parsed collection only query
-    → IsReading config before.store.rows before.statuses route parsed answer
-    → IsPageOf before.store.rows collection only query IsEnvelope answer
+    → IsReading config before route parsed answer
+    → IsPageOf before.library.rows collection only query IsEnvelope answer
 read laws config before route parsed collection only query answer (inl asks) = all_read config before route parsed collection only query answer asks
 read laws config before route parsed collection only query answer (inr asks) = one_read laws config before route parsed collection only query answer asks
 
@@ -128,14 +128,14 @@ refusal_answered NoMemory answer none okay = none
 -- the route and the query of the step are those that the request asks by, and so its answer has a page of the visit's query
 done_read : Laws → (config : Config) (wanted : Wanted) (next : Option ℕ) (e : Exchange) (stop : Stop) (visit : IsVisit config wanted next e stop)
     (route : Route) (text : List ℕ) → route ≡ visit.asks.route → text ≡ unwrap_or visit.asks.text [] → IsDone config e.before e.moment e.request route text e.answer e.after
-    → IsPageOf e.before.store.rows wanted.collection wanted.only stop.query IsEnvelope e.answer
+    → IsPageOf e.before.library.rows wanted.collection wanted.only stop.query IsEnvelope e.answer
 done_read laws config wanted next e stop visit route text route_is text_is done =
     let parsed_is : done.query ≡ visit.asks.parsed = laws.query (pairs_of (unwrap_or visit.asks.text [])) done.query visit.asks.parsed
     (subst (λ (t : List ℕ). IsQueryOf (pairs_of t) done.query) text_is done.query_is) visit.asks.query_is in
     let does = subst (λ (m : Method). Does config e.before e.moment e.request route done.query m e.answer e.after) visit.asks.get done.does in
-    let reading : IsReading config e.before.store.rows e.before.statuses visit.asks.route visit.asks.parsed e.answer =
-    subst (λ (q : Query). IsReading config e.before.store.rows e.before.statuses visit.asks.route q e.answer) parsed_is
-    (subst (λ (r : Route). IsReading config e.before.store.rows e.before.statuses r done.query e.answer) route_is does.0) in
+    let reading : IsReading config e.before visit.asks.route visit.asks.parsed e.answer =
+    subst (λ (q : Query). IsReading config e.before visit.asks.route q e.answer) parsed_is
+    (subst (λ (r : Route). IsReading config e.before r done.query e.answer) route_is does.0) in
     read laws config e.before visit.asks.route visit.asks.parsed wanted.collection wanted.only stop.query e.answer visit.asks.asks reading
 
 route_answered : Laws → (config : Config) (wanted : Wanted) (next : Option ℕ) (e : Exchange) (stop : Stop) (visit : IsVisit config wanted next e stop)
@@ -144,9 +144,9 @@ route_answered : Laws → (config : Config) (wanted : Wanted) (next : Option ℕ
 route_answered laws config wanted next e stop visit route text route_is text_is (inl refused) =
     absurd (refusal_answered refused.0 e.answer refused.2 visit.okay)
 route_answered laws config wanted next e stop visit route text route_is text_is (inr done) =
-    let page : IsPage e.before.store.rows wanted.collection wanted.only stop.query stop.page stop.more =
+    let page : IsPage e.before.library.rows wanted.collection wanted.only stop.query stop.page stop.more =
     subst (λ (rows : List StoredRow). IsPage rows wanted.collection wanted.only stop.query stop.page stop.more) (ap (λ state. state.rows) visit.state) visit.page in
-    page_answered laws e.before.store.rows wanted.collection wanted.only stop.query stop e.answer page
+    page_answered laws e.before.library.rows wanted.collection wanted.only stop.query stop e.answer page
     (done_read laws config wanted next e stop visit route text route_is text_is done)
 
 step_answered : Laws → (config : Config) (wanted : Wanted) (next : Option ℕ) (e : Exchange) (stop : Stop) → IsVisit config wanted next e stop

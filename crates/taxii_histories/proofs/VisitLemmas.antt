@@ -4,7 +4,7 @@ use Rattle.std.proofs.lemmas.List.Elements.{All-nil, All-cons, All-head, All-tai
 use Rattle.http_frames.specs.declared.answer.Answer.{Answer}
 use Rattle.taxii_rows.specs.StoreState.{StoreState}
 use Rattle.taxii_requests.specs.declared.config.Config.{Config}
-use Rattle.taxii_changes.specs.ServerState.{ServerState}
+use Rattle.taxii_state.specs.declared.state.State.{State}
 use Rattle.taxii_walks.specs.History.{IsDated, IsHistory}
 use Rattle.taxii_walks.specs.Walk.{Stop, Wanted, IsStop, GoesFrom, last_date}
 use Rattle.taxii_histories.specs.Exchanges.{Exchange, IsExchange, Follow}
@@ -56,25 +56,25 @@ goes_on_here config wanted next e state later stop other stops some here dated b
   history = no_history state stop.state here;
 }
 
-pub reached : (config : Config) (wanted : Wanted) (next : Option ℕ) (exchanges visited : List Exchange) (before after : ServerState) (stop : Stop) (stops : List Stop)
-    → All (IsExchange config) exchanges → Follow before exchanges after → IsDated before.store → Among visited exchanges
-    → VisitFrom config wanted next visited stop stops → Reaches wanted next before.store stop stops
+pub reached : (config : Config) (wanted : Wanted) (next : Option ℕ) (exchanges visited : List Exchange) (before after : State) (stop : Stop) (stops : List Stop)
+    → All (IsExchange config) exchanges → Follow before exchanges after → IsDated before.library → Among visited exchanges
+    → VisitFrom config wanted next visited stop stops → Reaches wanted next before.library stop stops
 reached config wanted next exchanges [] before after stop stops each follow dated among visits = absurd visits
 reached config wanted next [] (e ∷ some) before after stop stops each follow dated among visits = absurd among
 reached config wanted next (first ∷ exchanges) (e ∷ some) before after stop stops each (begins, follow) dated (inr among) visits =
-    let between : IsHistory before.store first.after.store = first_history config before first begins (All-head (IsExchange config) first exchanges each) in
-    reaches_before wanted next before.store first.after.store stop stops between
+    let between : IsHistory before.library first.after.library = first_history config before first begins (All-head (IsExchange config) first exchanges each) in
+    reaches_before wanted next before.library first.after.library stop stops between
     (reached config wanted next exchanges (e ∷ some) first.after after stop stops (All-tail (IsExchange config) first exchanges each) follow
-    (history_dated before.store first.after.store between dated) among visits)
+    (history_dated before.library first.after.library between dated) among visits)
 reached config wanted next (first ∷ exchanges) (e ∷ some) before after stop [] each (begins, follow) dated (inl (same, among)) visits =
-    let here : stop.state ≡ before.store = visits.0.state ∙ ap (λ (one : Exchange). one.before.store) same ∙ ap (λ (state : ServerState). state.store) begins in
-    ends_here config wanted next e before.store stop some here dated visits
+    let here : stop.state ≡ before.library = visits.0.state ∙ ap (λ (one : Exchange). one.before.library) same ∙ ap (λ (state : State). state.library) begins in
+    ends_here config wanted next e before.library stop some here dated visits
 reached config wanted next (first ∷ exchanges) (e ∷ some) before after stop (other ∷ stops) each (begins, follow) dated (inl (same, among)) visits =
-    let here : stop.state ≡ before.store = visits.0.state ∙ ap (λ (one : Exchange). one.before.store) same ∙ ap (λ (state : ServerState). state.store) begins in
-    let between : IsHistory before.store first.after.store = first_history config before first begins (All-head (IsExchange config) first exchanges each) in
-    goes_on_here config wanted next e before.store first.after.store stop other stops some here dated between visits
+    let here : stop.state ≡ before.library = visits.0.state ∙ ap (λ (one : Exchange). one.before.library) same ∙ ap (λ (state : State). state.library) begins in
+    let between : IsHistory before.library first.after.library = first_history config before first begins (All-head (IsExchange config) first exchanges each) in
+    goes_on_here config wanted next e before.library first.after.library stop other stops some here dated between visits
     (reached config wanted (last_date stop.page) exchanges some first.after after other stops (All-tail (IsExchange config) first exchanges each) follow
-    (history_dated before.store first.after.store between dated) among visits.2)
+    (history_dated before.library first.after.library between dated) among visits.2)
 
 -- ---- the answers
 

@@ -4,7 +4,7 @@ use Rattle.http_frames.specs.declared.answer.Answer.{Answer}
 use Rattle.http_frames.specs.declared.request.Request.{Request}
 use Rattle.http_frames.specs.Answers.{no_memory_answer}
 use Rattle.taxii_requests.specs.declared.config.Config.{Config}
-use Rattle.taxii_changes.specs.ServerState.{ServerState}
+use Rattle.taxii_state.specs.declared.state.State.{State}
 use Rattle.taxii_step.specs.Step.{Step, FailsToKeep}
 
 -- what came of a request: its step, a fault of the keeper, or want of memory
@@ -15,12 +15,12 @@ pub data Course : Type 0 where
 
 -- a request and its answer
 pub record Exchange : Type 0 where
-  pub before : ServerState
+  pub before : State
   pub moment : ℕ
   pub request : Request
   pub course : Course
   pub answer : Answer
-  pub after : ServerState
+  pub after : State
 
 -- so it goes: a step, or an answer that tells what was wanting, and then nothing has changed
 abbrev pub Runs : Course → Config → Exchange → Type 0
@@ -33,11 +33,11 @@ abbrev pub IsExchange : Config → Exchange → Type 0
 IsExchange config e = Runs e.course config e
 
 -- each exchange begins with what the one before it left
-abbrev pub Follow : ServerState → List Exchange → ServerState → Type 0
+abbrev pub Follow : State → List Exchange → State → Type 0
 Follow before [] after = after ≡ before
 Follow before (e ∷ exchanges) after = (e.before ≡ before) × Follow e.after exchanges after
 
 -- the server served these requests in turn, and nothing else changed what it has
-pub record HasServed (config : Config) (before : ServerState) (exchanges : List Exchange) (after : ServerState) : Type 0 where
+pub record HasServed (config : Config) (before : State) (exchanges : List Exchange) (after : State) : Type 0 where
   pub each : All (IsExchange config) exchanges
   pub follow : Follow before exchanges after

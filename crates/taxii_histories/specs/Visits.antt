@@ -56,7 +56,7 @@ pub record IsVisit (config : Config) (wanted : Wanted) (next : Option ℕ) (e : 
   pub asks : Asks config e.request wanted.collection wanted.only stop.query
   pub alike : AsksAlike wanted.query stop.query
   pub goes_on : stop.query.next ≡ next
-  pub state : stop.state ≡ e.before.store
+  pub state : stop.state ≡ e.before.library
   pub page : IsPage stop.state.rows wanted.collection wanted.only stop.query stop.page stop.more
 
 -- the exchanges are the stops of a walk, after that date: there is more at each but the last, and the one after it goes on behind its page

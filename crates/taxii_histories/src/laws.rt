@@ -2,7 +2,7 @@
 
 ghost use Rattle.std.specs.Prelude.{List};
 ghost use Rattle.taxii_requests.specs.declared.config.Config.{Config};
-ghost use Rattle.taxii_changes.specs.ServerState.{ServerState};
+ghost use Rattle.taxii_state.specs.declared.state.State.{State};
 ghost use Rattle.taxii_walks.specs.History.{IsDated, IsHistory};
 ghost use Rattle.taxii_histories.specs.Exchanges.{Exchange, HasServed};
 ghost use Rattle.taxii_histories.specs.Visits.{WalksSkipNoRow};
@@ -14,17 +14,17 @@ use taxii_walks::laws::{one_page, walks_skip_no_row};
 /// Whatever requests a server serves, its store goes through additions and deletions alone. So a walk
 /// may go on over a restart, which leaves the store as it is.
 pub fn requests_make_history()
-    ensures history { (config : Config) (before after : ServerState) (exchanges : List Exchange)
-        → HasServed config before exchanges after → IsHistory before.store after.store }
-    ensures dated { (config : Config) (before after : ServerState) (exchanges : List Exchange)
-        → HasServed config before exchanges after → IsDated before.store → IsDated after.store }
+    ensures history { (config : Config) (before after : State) (exchanges : List Exchange)
+        → HasServed config before exchanges after → IsHistory before.library after.library }
+    ensures dated { (config : Config) (before after : State) (exchanges : List Exchange)
+        → HasServed config before exchanges after → IsDated before.library → IsDated after.library }
 {}
 
 /// Every walk among the requests that a server served gives each row that was asked for and is still
 /// stored at the last page, once each, in the order of dates.
 pub fn walks_among_requests_skip_no_row()
-    ensures { (config : Config) (before after : ServerState) (exchanges : List Exchange)
-        → IsDated before.store → HasServed config before exchanges after → WalksSkipNoRow config exchanges }
+    ensures { (config : Config) (before after : State) (exchanges : List Exchange)
+        → IsDated before.library → HasServed config before exchanges after → WalksSkipNoRow config exchanges }
 {
     one_target();
     one_route();

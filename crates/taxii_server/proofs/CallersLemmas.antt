@@ -6,22 +6,22 @@ use Rattle.std.proofs.lemmas.List.{append-nil, map-append}
 use Rattle.std.proofs.lemmas.List.Elements.{All-append}
 use Rattle.flow_links.specs.Doors.{DoorState, Listens, GivesNext, Finishes}
 use Rattle.taxii_requests.specs.declared.config.Config.{Config}
-use Rattle.taxii_changes.specs.ServerState.{ServerState}
+use Rattle.taxii_state.specs.declared.state.State.{State}
 use Rattle.taxii_histories.specs.Exchanges.{Exchange, IsExchange, Follow, HasServed}
-use Rattle.taxii_connections.specs.declared.connection.TheConstants.{MAX_REQUESTS}
-use Rattle.taxii_connections.specs.Outside.{LinkView, Outside, GivesMoments, RoseBy}
-use Rattle.taxii_connections.specs.Connections.{Connection, Pass, keeper_faults}
+use Rattle.taxii_server.specs.declared.connection.TheConstants.{MAX_REQUESTS}
+use Rattle.taxii_server.specs.Outside.{LinkView, Outside, GivesMoments, RoseBy}
+use Rattle.taxii_server.specs.Connections.{Connection, Pass, keeper_faults}
 use Rattle.taxii_server.specs.declared.served.Served.{Served}
 use Rattle.taxii_server.specs.Serving.{Caller, exchanges_of, HaveConnections, PassThrough}
 use Rattle.taxii_server.specs.inner.Serving.{ServesCaller, SoFar}
 
 -- ---- connections
 
-have_one_more : {L : Type 0} (view : L → LinkView) (config : Config) (before middle after : ServerState) (callers : List (Caller L)) (caller : Caller L)
+have_one_more : {L : Type 0} (view : L → LinkView) (config : Config) (before middle after : State) (callers : List (Caller L)) (caller : Caller L)
     → HaveConnections view config before callers middle → Connection config middle (view caller.given) (view caller.finished) caller.exchanges caller.end after
     → HaveConnections view config before (callers ++ (caller ∷ [])) after
 have_one_more view config before middle after [] caller have connection =
-    (after, subst (λ (s : ServerState). Connection config s (view caller.given) (view caller.finished) caller.exchanges caller.end after) have connection, refl)
+    (after, subst (λ (s : State). Connection config s (view caller.given) (view caller.finished) caller.exchanges caller.end after) have connection, refl)
 have_one_more view config before middle after (first ∷ callers) caller have connection =
     (have.0, have.1, have_one_more view config have.0 middle after callers caller have.2 connection)
 
@@ -29,11 +29,11 @@ exchanges_with : {L : Type 0} (callers : List (Caller L)) (caller : Caller L) �
 exchanges_with {L} callers caller =
     flat_map-append (λ (one : Caller L). one.exchanges) callers (caller ∷ []) ∙ ap (λ last. exchanges_of callers ++ last) (append-nil caller.exchanges)
 
-follow_join : (xs ys : List Exchange) (before middle after : ServerState) → Follow before xs middle → Follow middle ys after → Follow before (xs ++ ys) after
-follow_join [] ys before middle after first second = subst (λ (s : ServerState). Follow s ys after) first second
+follow_join : (xs ys : List Exchange) (before middle after : State) → Follow before xs middle → Follow middle ys after → Follow before (xs ++ ys) after
+follow_join [] ys before middle after first second = subst (λ (s : State). Follow s ys after) first second
 follow_join (x ∷ xs) ys before middle after first second = (first.0, follow_join xs ys x.after middle after first.1 second)
 
-pub callers_served : {L : Type 0} (view : L → LinkView) (config : Config) (before after : ServerState) (callers : List (Caller L))
+pub callers_served : {L : Type 0} (view : L → LinkView) (config : Config) (before after : State) (callers : List (Caller L))
     → HaveConnections view config before callers after → HasServed config before (exchanges_of callers) after
 callers_served view config before after [] have = record { each = λ k d within. absurd (omega (arith, within)); follow = have }
 callers_served view config before after (caller ∷ callers) have =
@@ -154,7 +154,7 @@ through_one_more port callers caller (Some before) state given now through gives
 
 -- ---- all of it
 
-pub none_yet : {L : Type 0} (view : L → LinkView) (config : Config) (before : ServerState) (port : ℕ) (outside : Outside) (door now : Option (DoorState L))
+pub none_yet : {L : Type 0} (view : L → LinkView) (config : Config) (before : State) (port : ℕ) (outside : Outside) (door now : Option (DoorState L))
     → Listens port door now → SoFar view config before before port outside outside door now (record { connections = 0; requests = 0 })
 none_yet view config before port outside door now listens = record {
   callers = [];
@@ -166,7 +166,7 @@ none_yet view config before port outside door now listens = record {
   few = omega arith;
 }
 
-pub one_more : {L : Type 0} (view : L → LinkView) (config its_config : Config) (before state after : ServerState) (port : ℕ) (outside middle next : Outside) (door door_state given now : Option (DoorState L))
+pub one_more : {L : Type 0} (view : L → LinkView) (config its_config : Config) (before state after : State) (port : ℕ) (outside middle next : Outside) (door door_state given now : Option (DoorState L))
     (served : Served) (link : L) (requests : ℕ) → SoFar view config before state port outside middle door door_state served → GivesNext (Some link) door_state given
     → its_config ≡ config → ServesCaller view its_config state link middle next given now requests after → requests ≤ MAX_REQUESTS
     → SoFar view config before after port outside next door now (record { connections = served.connections + 1; requests = served.requests + requests })

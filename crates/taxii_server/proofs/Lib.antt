@@ -1,1 +1,9 @@
+mod OutsideLemmas
+mod BytesLemmas
+mod TakesLemmas
+mod ExchangeLemmas
+mod RepliesLemmas
+mod SoFarLemmas
+mod EndsLemmas
+mod FarewellLemmas
 mod CallersLemmas

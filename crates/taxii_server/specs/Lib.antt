@@ -1,2 +1,4 @@
+pub mod Outside
+pub mod Connections
 pub mod Serving
 pub mod inner

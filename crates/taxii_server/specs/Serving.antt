@@ -3,11 +3,11 @@ use Rattle.std.specs.Prelude.{◌≡◌, ◌⊎◌, ℕ, ◌≤◌, List, [], �
 use Rattle.std.specs.List.{flat_map}
 use Rattle.flow_links.specs.Doors.{DoorState, Changes}
 use Rattle.taxii_requests.specs.declared.config.Config.{Config}
-use Rattle.taxii_changes.specs.ServerState.{ServerState}
+use Rattle.taxii_state.specs.declared.state.State.{State}
 use Rattle.taxii_histories.specs.Exchanges.{Exchange}
-use Rattle.taxii_connections.specs.declared.link_end.LinkEnd.{LinkEnd}
-use Rattle.taxii_connections.specs.Outside.{LinkView}
-use Rattle.taxii_connections.specs.Connections.{Connection}
+use Rattle.taxii_server.specs.declared.link_end.LinkEnd.{LinkEnd}
+use Rattle.taxii_server.specs.Outside.{LinkView}
+use Rattle.taxii_server.specs.Connections.{Connection}
 use Rattle.taxii_server.specs.declared.served.Served.{Served}
 
 -- a caller: the link as the door gave it and as it was handed back, what was asked and answered over it, and how that ended
@@ -22,9 +22,9 @@ abbrev pub exchanges_of : {L : Type 0} → List (Caller L) → List Exchange
 exchanges_of callers = flat_map (λ caller. caller.exchanges) callers
 
 -- each caller had its connection, from what the one before left
-abbrev pub HaveConnections : {L : Type 0} → (L → LinkView) → Config → ServerState → List (Caller L) → ServerState → Type 0
+abbrev pub HaveConnections : {L : Type 0} → (L → LinkView) → Config → State → List (Caller L) → State → Type 0
 HaveConnections view config before [] after = after ≡ before
-HaveConnections view config before (caller ∷ callers) after = (middle : ServerState)
+HaveConnections view config before (caller ∷ callers) after = (middle : State)
     × Connection config before (view caller.given) (view caller.finished) caller.exchanges caller.end middle
     × HaveConnections view config middle callers after
 

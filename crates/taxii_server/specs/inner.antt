@@ -1,1 +1,3 @@
+pub mod Receiving
+pub mod Answering
 pub mod Serving

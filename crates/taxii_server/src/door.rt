@@ -2,16 +2,14 @@ ghost use Rattle.std.specs.Prelude.{◌≡◌, ◌≤◌, ◌<◌, ◌⊎◌, �
 ghost use Rattle.flow_edges.specs.Faults.{Counted};
 ghost use Rattle.flow_links.specs.Doors.{Stays};
 ghost use Rattle.taxii_store.specs.Agreement.{Agrees};
-ghost use Rattle.taxii_connections.specs.Server.{state_of};
-ghost use Rattle.taxii_connections.specs.Connections.{Pass};
-ghost use Rattle.taxii_connections.specs.declared.connection.TheConstants.{MAX_REQUESTS};
+ghost use Rattle.taxii_server.specs.Connections.{Pass};
+ghost use Rattle.taxii_server.specs.declared.connection.TheConstants.{MAX_REQUESTS};
 ghost use Rattle.taxii_server.specs.inner.Serving.{ServesCaller};
 ghost use Rattle.taxii_server.specs.Serving.{Caller, exchanges_of, HaveConnections, PassThrough, IsWholeOf};
 
-use crate::Served;
+use crate::{Served, Server, serve_link};
 use flow_links::{Clock, Door};
 use flow_values::Fault;
-use taxii_connections::{Server, serve_link};
 use taxii_rows::Keeper;
 
 /// Listens at the port and serves so many callers, one after the other, or as many as come. A link that
@@ -25,14 +23,14 @@ pub fn serve_door<K: Keeper, D: Door, C: Clock>(
     port: u16,
     connections: u64,
 ) -> Result<Served, Fault>
-    requires agrees { Agrees (K.attached keeper.old) (K.told keeper.old) server.old.library }
+    requires agrees { Agrees (K.kept keeper.old) server.old.state.library }
     requires few { connections < 2 ^ 32 }
-    ensures agrees { Agrees (K.attached keeper.new) (K.told keeper.new) server.new.library }
-    ensures name { K.name keeper.new ≡ K.name keeper.old }
+    ensures agrees { Agrees (K.kept keeper.new) server.new.state.library }
+    ensures name { (K.kept keeper.new).name ≡ (K.kept keeper.old).name }
     ensures config { server.new.config ≡ server.old.config }
     ensures serves { (callers : List (Caller D.Link))
         × HaveConnections (λ link. record { left = D.Link.left link; written = D.Link.written link; read_faults = D.Link.Source.faults link; write_faults = D.Link.Sink.faults link })
-        server.old.config (state_of server.old) callers (state_of server.new)
+        server.old.config server.old.state callers server.new.state
         × Pass (exchanges_of callers) (record { moments = C.moments clock.old; faults = K.faults keeper.old }) (record { moments = C.moments clock.new; faults = K.faults keeper.new })
         × (PassThrough port callers (D.told door.old) (D.told door.new) ⊎ (IsErr result × (callers ≡ []) × Stays (D.told door.old) (D.told door.new)))
         × IfOk result (IsWholeOf connections callers (D.told door.new)) }
@@ -61,15 +59,15 @@ fn serve_caller<K: Keeper, D: Door, C: Clock>(
     door: &mut D,
     link: D::Link,
 ) -> u64
-    requires agrees { Agrees (K.attached keeper.old) (K.told keeper.old) server.old.library }
+    requires agrees { Agrees (K.kept keeper.old) server.old.state.library }
     requires given { IfSome (D.told door.old) (λ state. 1 ≤ state.given) }
-    ensures agrees { Agrees (K.attached keeper.new) (K.told keeper.new) server.new.library }
-    ensures name { K.name keeper.new ≡ K.name keeper.old }
+    ensures agrees { Agrees (K.kept keeper.new) server.new.state.library }
+    ensures name { (K.kept keeper.new).name ≡ (K.kept keeper.old).name }
     ensures config { server.new.config ≡ server.old.config }
     ensures serves { ServesCaller (λ link. record { left = D.Link.left link; written = D.Link.written link; read_faults = D.Link.Source.faults link; write_faults = D.Link.Sink.faults link })
-        server.old.config (state_of server.old) link
+        server.old.config server.old.state link
         (record { moments = C.moments clock.old; faults = K.faults keeper.old }) (record { moments = C.moments clock.new; faults = K.faults keeper.new })
-        (D.told door.old) (D.told door.new) result (state_of server.new) }
+        (D.told door.old) (D.told door.new) result server.new.state }
     ensures few { result ≤ MAX_REQUESTS }
     ensures quiet { D.faults door.new ≡ D.faults door.old }
 {

@@ -2,15 +2,15 @@
 
 ghost use Rattle.std.specs.Prelude.{List};
 ghost use Rattle.taxii_requests.specs.declared.config.Config.{Config};
-ghost use Rattle.taxii_changes.specs.ServerState.{ServerState};
+ghost use Rattle.taxii_state.specs.declared.state.State.{State};
 ghost use Rattle.taxii_histories.specs.Exchanges.{HasServed};
-ghost use Rattle.taxii_connections.specs.Outside.{LinkView};
+ghost use Rattle.taxii_server.specs.Outside.{LinkView};
 ghost use Rattle.taxii_server.specs.Serving.{Caller, exchanges_of, HaveConnections};
 
 use flow_links::Door;
 
 /// The requests of a door's callers, one caller after the other, are a history of the server.
 pub fn callers_make_history<D: Door>()
-    ensures { (view : D.Link → LinkView) (config : Config) (before after : ServerState) (callers : List (Caller D.Link))
+    ensures { (view : D.Link → LinkView) (config : Config) (before after : State) (callers : List (Caller D.Link))
         → HaveConnections view config before callers after → HasServed config before (exchanges_of callers) after }
 {}

@@ -2,16 +2,16 @@
 use Rattle.std.specs.Prelude.{◌≡◌, ◌≤◌, ◌*◌, ℕ, List, length, Option}
 use Rattle.flow_links.specs.Doors.{DoorState, Finishes}
 use Rattle.taxii_requests.specs.declared.config.Config.{Config}
-use Rattle.taxii_changes.specs.ServerState.{ServerState}
-use Rattle.taxii_connections.specs.Outside.{LinkView, Outside}
-use Rattle.taxii_connections.specs.Connections.{Connection, Pass}
-use Rattle.taxii_connections.specs.declared.connection.TheConstants.{MAX_REQUESTS}
+use Rattle.taxii_state.specs.declared.state.State.{State}
+use Rattle.taxii_server.specs.Outside.{LinkView, Outside}
+use Rattle.taxii_server.specs.Connections.{Connection, Pass}
+use Rattle.taxii_server.specs.declared.connection.TheConstants.{MAX_REQUESTS}
 use Rattle.taxii_server.specs.declared.served.Served.{Served}
 use Rattle.taxii_server.specs.Serving.{Caller, exchanges_of, HaveConnections, PassThrough}
 
 -- the caller of a link had its connection, and the link was handed back
-pub record ServesCaller {L : Type 0} (view : L → LinkView) (config : Config) (before : ServerState) (link : L) (outside outside_now : Outside)
-    (door door_now : Option (DoorState L)) (requests : ℕ) (after : ServerState) : Type 0 where
+pub record ServesCaller {L : Type 0} (view : L → LinkView) (config : Config) (before : State) (link : L) (outside outside_now : Outside)
+    (door door_now : Option (DoorState L)) (requests : ℕ) (after : State) : Type 0 where
   pub caller : Caller L
   pub given : caller.given ≡ link
   pub connection : Connection config before (view caller.given) (view caller.finished) caller.exchanges caller.end after
@@ -20,7 +20,7 @@ pub record ServesCaller {L : Type 0} (view : L → LinkView) (config : Config) (
   pub count : requests ≡ length caller.exchanges
 
 -- what stands after some callers
-pub record SoFar {L : Type 0} (view : L → LinkView) (config : Config) (before now : ServerState) (port : ℕ) (outside outside_now : Outside)
+pub record SoFar {L : Type 0} (view : L → LinkView) (config : Config) (before now : State) (port : ℕ) (outside outside_now : Outside)
     (door door_now : Option (DoorState L)) (served : Served) : Type 0 where
   pub callers : List (Caller L)
   pub connections : HaveConnections view config before callers now

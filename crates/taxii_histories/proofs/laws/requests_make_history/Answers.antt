@@ -7,4 +7,4 @@ returns-clause-history c config before after exchanges served = served_history c
 
 pub returns-clause-dated : goal.returns-clause-dated
 returns-clause-dated c config before after exchanges served =
-    history_dated before.store after.store (served_history config before exchanges after served.each served.follow)
+    history_dated before.library after.library (served_history config before exchanges after served.each served.follow)

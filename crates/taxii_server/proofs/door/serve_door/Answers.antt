@@ -14,7 +14,7 @@ loop-served-init g c = record {
   config = refl;
   so_far = none_yet _ _ _ _ _ _ _ c.in_ok-listen.ensures.ok;
   most = omega arith;
-  quiet = c.in_ok-listen.ensures.causes.quiet;
+  quiet = c.in_ok-listen.ensures.causes.quiet (λ failed. absurd (cc failed));
 }
 
 pub loop-served-preserved : goal.loop-served-preserved
@@ -27,5 +27,5 @@ loop-served-preserved g c =
           (subst (λ found. GivesNext found (g.D.Door.told c.loop-served.door) (g.D.Door.told c.next.new.self)) c.in-Some.is c.in_ok-link.ensures.ok) before.config
           c.serve_caller.ensures.serves c.serve_caller.ensures.few;
       most = search rules;
-      quiet = search rules;
+      quiet = c.serve_caller.ensures.quiet ∙ c.in_ok-link.ensures.causes.quiet (λ failed. absurd (cc failed)) ∙ before.quiet;
     }

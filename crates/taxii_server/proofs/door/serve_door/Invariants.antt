@@ -1,16 +1,15 @@
 use Rattle.std.proofs.Common.{◌-◌, ◌≡◌, ◌≤◌}
 use Rattle.taxii_store.specs.Agreement.{Agrees}
-use Rattle.taxii_connections.specs.Server.{state_of}
 use Rattle.taxii_server.specs.inner.Serving.{SoFar}
 use Rattle.taxii_server.proofs.door.serve_door.Given as goal
 
 abbrev pub invariant-loop-served : goal.invariant-loop-served
 invariant-loop-served g l = record {
-  agrees : Agrees (g.K.Keeper.attached l.keeper) (g.K.Keeper.told l.keeper) l.server.library;
-  name : g.K.Keeper.name l.keeper ≡ g.K.Keeper.name l.fn.keeper;
+  agrees : Agrees (g.K.Keeper.kept l.keeper) l.server.state.library;
+  name : (g.K.Keeper.kept l.keeper).name ≡ (g.K.Keeper.kept l.fn.keeper).name;
   config : l.server.config ≡ l.fn.server.config;
   so_far : SoFar (λ link. record { left = g.D.Link.Source.left link; written = g.D.Link.Sink.written link; read_faults = g.D.Link.Source.faults link; write_faults = g.D.Link.Sink.faults link })
-      l.fn.server.config (state_of l.fn.server) (state_of l.server) l.port
+      l.fn.server.config l.fn.server.state l.server.state l.port
       (record { moments = g.C.Clock.moments l.fn.clock; faults = g.K.Keeper.faults l.fn.keeper }) (record { moments = g.C.Clock.moments l.clock; faults = g.K.Keeper.faults l.keeper })
       (g.D.Door.told l.fn.door) (g.D.Door.told l.door) l.served;
   most : l.served.connections ≤ l.connections;

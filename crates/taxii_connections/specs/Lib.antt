@@ -1,4 +1,0 @@
-pub mod Server
-pub mod Outside
-pub mod Connections
-pub mod inner

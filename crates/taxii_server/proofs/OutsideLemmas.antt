@@ -1,0 +1,61 @@
+-- What stands outside of a server, in turn: links, moments of the clock, faults of the keeper.
+use Rattle.std.proofs.Common.{◌≡◌, ℕ, zero, suc, ◌+◌, List, [], ◌∷◌, ◌++◌, length, Option, Some, IfSome, refl, sym, ap, ◌∙◌, subst, add-zero, arith, length-append}
+use Rattle.std.proofs.lemmas.List.{map-append}
+use Rattle.std.specs.Prelude.{slice_get}
+use Rattle.flow_edges.specs.Flow.{OtherSide}
+use Rattle.taxii_histories.specs.Exchanges.{Exchange}
+use Rattle.taxii_server.specs.Outside.{Outside, GivesMoments, RoseBy}
+use Rattle.taxii_server.specs.Connections.{Pass, keeper_faults}
+
+-- a call of a link leaves its other side as it is
+pub other_side : {before now : OtherSide} {bytes bytes_now : Option (List ℕ)} {faults faults_now : ℕ} → before ≡ record { bytes = bytes; faults = faults } → now ≡ record { bytes = bytes_now; faults = faults_now } → now ≡ before
+    → (bytes_now ≡ bytes) × (faults_now ≡ faults)
+other_side {bytes = bytes} {bytes_now = bytes_now} {faults = faults} {faults_now = faults_now} is is_now same =
+    let sides : ◌≡◌ {A = OtherSide} (record { bytes = bytes_now; faults = faults_now }) (record { bytes = bytes; faults = faults }) = sym is_now ∙ same ∙ is in
+    (ap (λ (side : OtherSide). side.bytes) sides, ap (λ (side : OtherSide). side.faults) sides)
+
+-- ---- moments
+
+abbrev AreGiven : List ℕ → (ℕ → Option ℕ) → Type 0
+AreGiven moments before = (n moment : ℕ) → slice_get moments n ≡ Some moment → IfSome (before n) (λ told. moment ≡ told)
+
+are_given-then : (first later : List ℕ) (before middle : ℕ → Option ℕ) → AreGiven first before → ((n : ℕ) → middle n ≡ before (n + length first))
+    → AreGiven later middle → AreGiven (first ++ later) before
+are_given-then [] later before middle given goes_on behind n moment is =
+    subst (λ (o : Option ℕ). IfSome o (λ told. moment ≡ told)) (goes_on n ∙ ap before (add-zero n)) (behind n moment is)
+are_given-then (one ∷ first) later before middle given goes_on behind zero moment is = given zero moment is
+are_given-then (one ∷ first) later before middle given goes_on behind (suc n) moment is =
+    are_given-then first later (λ n. before (suc n)) middle (λ n moment is. given (suc n) moment is) (λ n. goes_on n ∙ ap before (omega arith)) behind n moment is
+
+pub moments-none : (before : ℕ → Option ℕ) → GivesMoments [] before before
+moments-none before = record { given = λ n moment is. absurd (cc is); goes_on = λ n. ap before (omega arith) }
+
+pub moments-then : (first later : List ℕ) (before middle now : ℕ → Option ℕ) → GivesMoments first before middle → GivesMoments later middle now
+    → GivesMoments (first ++ later) before now
+moments-then first later before middle now gives behind = record {
+  given = are_given-then first later before middle gives.given gives.goes_on behind.given;
+  goes_on = λ n. behind.goes_on n ∙ gives.goes_on (n + length later) ∙ ap before (omega (arith, length-append first later));
+}
+
+-- ---- faults of the keeper
+
+keeper_faults-append : (first later : List Exchange) → keeper_faults (first ++ later) ≡ keeper_faults first + keeper_faults later
+keeper_faults-append [] later = omega arith
+keeper_faults-append (e ∷ first) later = omega (arith, keeper_faults-append first later)
+
+pub rose_by-then : (first later before middle now : ℕ) → RoseBy first before middle → RoseBy later middle now → RoseBy (first + later) before now
+rose_by-then first later before middle now rose behind = omega arith
+
+-- ---- both
+
+pub pass-none : (before : Outside) → Pass [] before before
+pass-none before = record { moments = moments-none before.moments; faults = omega arith; quiet = λ none. refl }
+
+pub pass-then : (first later : List Exchange) (before middle now : Outside) → Pass first before middle → Pass later middle now → Pass (first ++ later) before now
+pass-then first later before middle now pass behind = record {
+  moments = rw map-append (moments-then _ _ _ _ _ pass.moments behind.moments);
+  faults = rw keeper_faults-append (rose_by-then _ _ _ _ _ pass.faults behind.faults);
+  quiet = λ none.
+      let both : keeper_faults first + keeper_faults later ≡ 0 = sym (keeper_faults-append first later) ∙ none in
+      behind.quiet (omega (arith, both)) ∙ pass.quiet (omega (arith, both));
+}

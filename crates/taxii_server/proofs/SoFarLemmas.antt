@@ -1,0 +1,168 @@
+-- A connection that goes on: what it has answered so far, and how it takes more bytes and answers one request more.
+use Rattle.std.proofs.Common.{◌≡◌, ℕ, ◌+◌, ◌-◌, ◌<◌, List, [], ◌∷◌, ◌++◌, length, map, Bool, true, false, ◌||◌, nat_eq, Option, Result, Ok, refl, sym, ap, ◌∙◌, arith, length-append}
+use Rattle.std.proofs.lemmas.Bool.Decides.{nat_tests}
+use Rattle.std.proofs.lemmas.List.{map-append}
+use Rattle.std.proofs.lemmas.List.Elements.{All-nil, All-push}
+use Rattle.http_frames.specs.declared.frame.Frame.TheVariants.{Request as Given}
+use Rattle.http_frames.specs.declared.request.Request.{Request}
+use Rattle.http_frames.specs.Frames.{IsFirstFrame}
+use Rattle.taxii_requests.specs.declared.config.Config.{Config}
+use Rattle.taxii_state.specs.declared.state.State.{State}
+use Rattle.taxii_histories.specs.Exchanges.{Exchange, IsExchange, Follow, HasServed}
+use Rattle.taxii_server.specs.declared.connection.TheConstants.{MAX_BODY, MAX_REQUESTS}
+use Rattle.taxii_server.specs.declared.pause.Pause.{Pause}
+use Rattle.taxii_server.specs.Connections.{BeginWith, Reply, is_out_of_memory, replies_within, GoOn, WritesReplies, Pass}
+use Rattle.taxii_server.specs.Outside.{LinkView, Outside, Takes}
+use Rattle.taxii_server.specs.inner.Answering.{Answers}
+use Rattle.taxii_server.specs.inner.Receiving.{Receives}
+use Rattle.taxii_server.proofs.BytesLemmas.{LaterBytesChangeNothing, begin_with-more, begin_with-next}
+use Rattle.taxii_server.proofs.OutsideLemmas.{pass-none, pass-then}
+use Rattle.taxii_server.proofs.RepliesLemmas.{reply_within, replies-next, last-within, go_on-next, writes-none, writes-next}
+use Rattle.taxii_server.proofs.TakesLemmas.{takes-none, takes-then}
+
+-- ---- what a server did, and one exchange more
+
+follow-next : (before middle after : State) (exchanges : List Exchange) (e : Exchange) → Follow before exchanges middle → e.before ≡ middle → e.after ≡ after
+    → Follow before (exchanges ++ e ∷ []) after
+follow-next before middle after [] e follow is is_after = (is ∙ follow, sym is_after)
+follow-next before middle after (first ∷ exchanges) e (its, follow) is is_after = (its, follow-next first.after middle after exchanges e follow is is_after)
+
+served-next : (config : Config) (before middle after : State) (exchanges : List Exchange) (e : Exchange) → HasServed config before exchanges middle
+    → IsExchange config e → e.before ≡ middle → e.after ≡ after → HasServed config before (exchanges ++ e ∷ []) after
+served-next config before middle after exchanges e served its is is_after = record {
+  each = All-push (IsExchange config) exchanges e served.each its;
+  follow = follow-next before middle after exchanges e served.follow is is_after;
+}
+
+-- ---- what was answered
+
+-- these requests were answered so far: all but what was written
+pub record HasAnswered (config : Config) (before : State) (outside : Outside) (left : Option (List ℕ)) (rest : List ℕ) (requests : ℕ)
+    (now : State) (outside_now : Outside) (left_now : Option (List ℕ)) (exchanges : List Exchange) : Type 0 where
+  pub taken : List ℕ
+  pub takes : Takes taken left left_now
+  pub begins : BeginWith taken (map (λ e. e.request) exchanges) rest
+  pub served : HasServed config before exchanges now
+  pub count : length exchanges ≡ requests
+  pub passes : Pass exchanges outside outside_now
+
+-- so far the connection goes on
+pub record SoFar (config : Config) (before : State) (outside : Outside) (link : LinkView) (rest : List ℕ) (requests : ℕ)
+    (now : State) (outside_now : Outside) (left_now written_now : Option (List ℕ)) : Type 0 where
+  pub exchanges : List Exchange
+  pub answered : HasAnswered config before outside link.left rest requests now outside_now left_now exchanges
+  pub go_on : GoOn (replies_within MAX_REQUESTS exchanges)
+  pub writes : WritesReplies (replies_within MAX_REQUESTS exchanges) link.written written_now
+
+-- nothing was taken yet
+pub so_far-start : (config : Config) (before : State) (outside : Outside) (link : LinkView) → SoFar config before outside link [] 0 before outside link.left link.written
+so_far-start config before outside link = record {
+  exchanges = [];
+  answered = record {
+    taken = [];
+    takes = takes-none link.left link.left refl;
+    begins = refl;
+    served = record { each = All-nil (IsExchange config); follow = refl };
+    count = refl;
+    passes = pass-none outside;
+  };
+  go_on = tt;
+  writes = writes-none link.written;
+}
+
+-- bytes were taken for the next request
+pub so_far-received : {config : Config} {before : State} {outside : Outside} {link : LinkView} {rest after : List ℕ} {requests : ℕ} {now : State}
+    {outside_now : Outside} {left_now left_then written_now written_then : Option (List ℕ)} {faults faults_now : ℕ} {result : Result Request Pause}
+    → LaterBytesChangeNothing → SoFar config before outside link rest requests now outside_now left_now written_now
+    → (received : Receives rest after left_now left_then faults faults_now result) → written_then ≡ written_now
+    → SoFar config before outside link (rest ++ received.taken) requests now outside_now left_then written_then
+so_far-received later so_far received same = record {
+  exchanges = so_far.exchanges;
+  answered = record {
+    taken = so_far.answered.taken ++ received.taken;
+    takes = takes-then so_far.answered.taken received.taken _ _ _ so_far.answered.takes received.takes;
+    begins = begin_with-more later _ received.taken _ _ so_far.answered.begins;
+    served = so_far.answered.served;
+    count = so_far.answered.count;
+    passes = so_far.answered.passes;
+  };
+  go_on = so_far.go_on;
+  writes = rw same so_far.writes;
+}
+
+-- ---- one request more
+
+-- the request is the next one, and its answer, before which so many were given, was written or less than all of it
+pub record IsNextAnswer {E : Type 0} (config : Config) (rest after : List ℕ) (requests : ℕ) (now : State) (outside_now : Outside) (written_now : Option (List ℕ))
+    (result : Result Bool E) (state_then : State) (outside_then : Outside) (written_then : Option (List ℕ)) : Type 0 where
+  pub request : Request
+  pub is_last : Bool
+  pub answers : Answers config now request is_last outside_now outside_then written_now written_then result state_then
+  pub first : IsFirstFrame MAX_BODY rest (Given request) after
+  pub last : is_last ≡ nat_eq (requests + 1) MAX_REQUESTS
+  pub few : requests < MAX_REQUESTS
+
+-- what was answered with it
+pub answered-next : {E : Type 0} {config : Config} {before : State} {outside : Outside} {left : Option (List ℕ)} {rest after : List ℕ} {requests : ℕ}
+    {now state_then : State} {outside_now outside_then : Outside} {left_now written_now written_then : Option (List ℕ)} {exchanges : List Exchange} {result : Result Bool E}
+    → HasAnswered config before outside left rest requests now outside_now left_now exchanges
+    → (next : IsNextAnswer config rest after requests now outside_now written_now result state_then outside_then written_then)
+    → HasAnswered config before outside left after (requests + 1) state_then outside_then left_now (exchanges ++ next.answers.exchange ∷ [])
+answered-next {config = config} {before = before} {rest = rest} {after = after} {now = now} {state_then = state_then} {exchanges = exchanges} has next = record {
+  taken = has.taken;
+  takes = has.takes;
+  begins = rw (map-append, next.answers.request_is) (begin_with-next has.taken _ rest next.request after has.begins next.first);
+  served = served-next config before now state_then exchanges next.answers.exchange has.served next.answers.its next.answers.before_is next.answers.after_is;
+  count = omega (arith, length-append exchanges (next.answers.exchange ∷ []), has.count);
+  passes = pass-then exchanges (next.answers.exchange ∷ []) _ _ _ has.passes next.answers.passes;
+}
+
+-- its reply
+abbrev pub next_reply : List Exchange → Exchange → Reply
+next_reply exchanges e = reply_within (MAX_REQUESTS - length exchanges) e
+
+-- its reply ends the connection where its answer does
+pub next_reply-closes : {E : Type 0} {config : Config} {rest after : List ℕ} {requests : ℕ} {now state_then : State} {outside_now outside_then : Outside}
+    {written_now written_then : Option (List ℕ)} {result : Result Bool E} (exchanges : List Exchange) → length exchanges ≡ requests
+    → (next : IsNextAnswer config rest after requests now outside_now written_now result state_then outside_then written_then)
+    → (next_reply exchanges next.answers.exchange).close ≡ next.answers.close
+next_reply-closes {requests = requests} exchanges count next =
+    let at : nat_eq (MAX_REQUESTS - length exchanges) 1 ≡ next.is_last =
+    ap (λ k. nat_eq (MAX_REQUESTS - k) 1) count ∙ last-within MAX_REQUESTS requests next.few ∙ sym next.last in
+    ap (λ (its : Request). its.close || is_out_of_memory next.answers.exchange.course || nat_eq (MAX_REQUESTS - length exchanges) 1) next.answers.request_is
+    ∙ ap (λ (its : Bool). next.request.close || is_out_of_memory next.answers.exchange.course || its) at ∙ sym next.answers.close_is
+
+not-last : (requests most : ℕ) → requests < most → nat_eq (requests + 1) most ≡ false → requests + 1 < most
+not-last requests most few not = grind (arith, nat_tests)
+
+last-is : (asked lacks last : Bool) → (asked || lacks || last) ≡ false → last ≡ false
+last-is true lacks last go_on = absurd (cc go_on)
+last-is false true last go_on = absurd (cc go_on)
+last-is false false last go_on = go_on
+
+-- where the connection goes on after it, it isn't the last that may be given
+pub few-next : {E : Type 0} {config : Config} {rest after : List ℕ} {requests : ℕ} {now state_then : State} {outside_now outside_then : Outside}
+    {written_now written_then : Option (List ℕ)} {closes : Bool}
+    → IsNextAnswer {E = E} config rest after requests now outside_now written_now (Ok closes) state_then outside_then written_then
+    → closes ≡ false → requests + 1 < MAX_REQUESTS
+few-next {requests = requests} next goes_on =
+    let not : nat_eq (requests + 1) MAX_REQUESTS ≡ false =
+    sym next.last ∙ last-is next.request.close (is_out_of_memory next.answers.exchange.course) next.is_last (sym next.answers.close_is ∙ sym next.answers.writes.0 ∙ goes_on) in
+    not-last requests MAX_REQUESTS next.few not
+
+-- the connection goes on after it
+pub so_far-next : {E : Type 0} {config : Config} {before : State} {outside : Outside} {link : LinkView} {rest after : List ℕ} {requests : ℕ}
+    {now state_then : State} {outside_now outside_then : Outside} {left_now written_now written_then : Option (List ℕ)} {closes : Bool} (left_then : Option (List ℕ))
+    → SoFar config before outside link rest requests now outside_now left_now written_now
+    → IsNextAnswer {E = E} config rest after requests now outside_now written_now (Ok closes) state_then outside_then written_then
+    → left_then ≡ left_now → closes ≡ false
+    → SoFar config before outside link after (requests + 1) state_then outside_then left_then written_then
+so_far-next left_then so_far next same goes_on =
+    let reply = next_reply so_far.exchanges next.answers.exchange in
+    let close : reply.close ≡ next.answers.close = next_reply-closes so_far.exchanges so_far.answered.count next in
+    record {
+      exchanges = so_far.exchanges ++ next.answers.exchange ∷ [];
+      answered = rw same (answered-next so_far.answered next);
+      go_on = rw replies-next (go_on-next _ reply so_far.go_on (close ∙ sym next.answers.writes.0 ∙ goes_on));
+      writes = rw replies-next (writes-next _ reply next.answers.text _ _ _ so_far.writes (rw close next.answers.text_is) next.answers.writes.1);
+    }

@@ -1,0 +1,29 @@
+use Rattle.std.proofs.Common.{◌≡◌, ◌<◌, ◌+◌, List, ℕ, ◌++◌, length, ap, ◌∙◌, arith}
+use Rattle.http_frames.specs.declared.frame.TheConstants.{MAX_HEAD}
+use Rattle.http_frames.specs.declared.frame.Frame.TheVariants.{More, Refused as Bad}
+use Rattle.http_frames.specs.Frames.{IsFirstFrame}
+use Rattle.taxii_server.specs.declared.connection.TheConstants.{MAX_BODY}
+use Rattle.taxii_server.proofs.TakesLemmas.{fed-falls, receives-pause, receives-refused}
+use Rattle.taxii_server.proofs.receiver.Receiver.receive.Goals as goal
+
+pub loop-request-smaller : goal.loop-request-smaller
+loop-request-smaller g c =
+    let more = rw c.in-More.is at c.in_ok-request.ensures.first in
+    let few : length c.self.inside.session.fed < MAX_HEAD + c.self.inside.session.greatest_body = c.few_bytes_want_more.ensures _ _ _ more in
+    let same : c.next_request.new.self.fed ≡ c.loop-request.self = more.1 ∙ c.self.view_is in
+    let gives = c.in_ok-take-in-More.ensures.takes.gives in
+    fed-falls (MAX_HEAD + MAX_BODY) _ _ _ (omega (arith, few, ap length c.self.view_is, c.self.invariant.0))
+    (gives.0 ∙ ap (λ (front : List ℕ). front ++ c.in_ok-take-in-More.ensures.takes.taken) same) gives.1
+
+pub returns-in_err-take-in-More-clause-receives : goal.returns-in_err-take-in-More-clause-receives
+returns-in_err-take-in-More-clause-receives g c =
+    let more = rw c.in-More.is at c.in_ok-request.ensures.first in
+    let more_of : IsFirstFrame MAX_BODY c.loop-request.self More c.next_request.new.self.fed = rw (← c.self.view_is, ← c.self.invariant.0) more in
+    receives-pause _ c.loop-request.invariant.taken more_of c.in_err-take-in-More.ensures.takes c.loop-request.invariant.quiet
+    c.from_residual-in_err-take-in-More.ensures.1
+
+pub returns-in-Refused-clause-receives : goal.returns-in-Refused-clause-receives
+returns-in-Refused-clause-receives g c =
+    let first = rw c.in-Refused.is at c.in_ok-request.ensures.first in
+    let refused : IsFirstFrame MAX_BODY c.loop-request.self (Bad c.in-Refused.refusal) c.next_request.new.self.fed = rw (← c.self.view_is, ← c.self.invariant.0) first in
+    receives-refused {after = c.next_request.new.self.fed} {faults_now = g.L.Source.faults c.loop-request.link} c.loop-request.invariant.taken refused

@@ -1,0 +1,133 @@
+-- One connection (RFC 9112, sections 9.3 and 9.6): the requests of its bytes, each answered in turn, and how it ends.
+use Rattle.std.specs.Prelude.{◌≡◌, ◌⊎◌, ⊤, ℕ, ◌+◌, ◌-◌, List, [], ◌∷◌, ◌++◌, length, map, Bool, true, false, ◌||◌, if◌then◌else◌, nat_eq, Option, Some, None}
+use Rattle.flow_edges.specs.Faults.{Rose}
+use Rattle.flow_edges.specs.Flow.{written_with, WritesPart, IsAtEnd}
+use Rattle.http_frames.specs.declared.answer.Answer.{Answer}
+use Rattle.http_frames.specs.declared.frame.Frame.TheVariants.{More, Request as Given, Refused}
+use Rattle.http_frames.specs.declared.refusal.Refusal.{Refusal}
+use Rattle.http_frames.specs.declared.request.Request.{Request}
+use Rattle.http_frames.specs.Answers.{IsAnswerText, answer_to, no_memory_answer}
+use Rattle.http_frames.specs.Frames.{IsFirstFrame}
+use Rattle.taxii_requests.specs.declared.config.Config.{Config}
+use Rattle.taxii_state.specs.declared.state.State.{State}
+use Rattle.taxii_histories.specs.Exchanges.{Course, Exchange, HasServed}
+use Rattle.taxii_histories.specs.Exchanges.Course.{Stepped, KeeperFailed, OutOfMemory}
+use Rattle.taxii_server.specs.declared.connection.TheConstants.{MAX_BODY, MAX_REQUESTS}
+use Rattle.taxii_server.specs.declared.link_end.LinkEnd.{LinkEnd}
+use Rattle.taxii_server.specs.declared.link_end.LinkEnd.TheVariants.{Closed, LinkFault}
+use Rattle.taxii_server.specs.Outside.{LinkView, Takes, Outside, GivesMoments, RoseBy}
+
+-- the bytes begin with these requests, one after the other, and the rest follows them
+abbrev pub BeginWith : List ℕ → List Request → List ℕ → Type 0
+BeginWith bytes [] rest = rest ≡ bytes
+BeginWith bytes (request ∷ requests) rest =
+    (more : List ℕ) × IsFirstFrame MAX_BODY bytes (Given request) more × BeginWith more requests rest
+
+-- an answer, and whether it says that the connection ends
+pub record Reply : Type 0 where
+  pub answer : Answer
+  pub close : Bool
+
+-- memory ran out
+abbrev pub is_out_of_memory : Course → Bool
+is_out_of_memory Stepped = false
+is_out_of_memory KeeperFailed = false
+is_out_of_memory OutOfMemory = true
+
+-- the keeper failed
+abbrev pub is_keeper_fault : Course → Bool
+is_keeper_fault Stepped = false
+is_keeper_fault KeeperFailed = true
+is_keeper_fault OutOfMemory = false
+
+-- how often the keeper failed
+abbrev pub keeper_faults : List Exchange → ℕ
+keeper_faults [] = 0
+keeper_faults (e ∷ exchanges) = (if is_keeper_fault e.course then 1 else 0) + keeper_faults exchanges
+
+-- the replies, where so many may be given: one ends the connection where its request asks for that, where memory ran out, and where it
+-- is the last that may be given
+abbrev pub replies_within : ℕ → List Exchange → List Reply
+replies_within left [] = []
+replies_within left (e ∷ exchanges) =
+    record { answer = e.answer; close = e.request.close || is_out_of_memory e.course || nat_eq left 1 } ∷ replies_within (left - 1) exchanges
+
+-- what is said besides the answers to requests, before the connection ends: why the bytes are refused that aren't given yet, or that
+-- memory ran out
+abbrev pub IsFarewell : List ℕ → Option Answer → Type 0
+IsFarewell rest None = ⊤
+IsFarewell rest (Some answer) = ((refusal : Refusal) × IsFirstFrame MAX_BODY rest (Refused refusal) rest × (answer ≡ answer_to refusal)) ⊎ (answer ≡ no_memory_answer)
+
+-- it ends the connection
+abbrev pub farewell_reply : Option Answer → List Reply
+farewell_reply None = []
+farewell_reply (Some answer) = record { answer = answer; close = true } ∷ []
+
+-- all replies of a connection
+abbrev pub replies_of : List Exchange → Option Answer → List Reply
+replies_of exchanges farewell = replies_within MAX_REQUESTS exchanges ++ farewell_reply farewell
+
+-- no reply says that the connection ends
+abbrev pub GoOn : List Reply → Type 0
+GoOn [] = ⊤
+GoOn (reply ∷ replies) = (reply.close ≡ false) × GoOn replies
+
+-- the last reply says that the connection ends, and no other does
+abbrev pub End : List Reply → Type 0
+End replies = (before : List Reply) × (last : Reply) × (replies ≡ before ++ (last ∷ [])) × GoOn before × (last.close ≡ true)
+
+-- the text of the replies, one after the other
+abbrev pub AreTexts : List Reply → List ℕ → Type 0
+AreTexts [] text = text ≡ []
+AreTexts (reply ∷ replies) text =
+    (first more : List ℕ) × IsAnswerText reply.answer reply.close first × AreTexts replies more × (text ≡ first ++ more)
+
+-- the replies were written whole
+abbrev pub WritesReplies : List Reply → Option (List ℕ) → Option (List ℕ) → Type 0
+WritesReplies replies before now = (text : List ℕ) × AreTexts replies text × (now ≡ written_with text before)
+
+-- the replies were written whole but for the last one, of which less than all was written
+abbrev pub CutsReplies : List Reply → Option (List ℕ) → Option (List ℕ) → Type 0
+CutsReplies replies before now =
+    (whole : List Reply) × (last : Reply) × (middle : Option (List ℕ)) × (text : List ℕ) × (replies ≡ whole ++ (last ∷ []))
+    × GoOn whole × WritesReplies whole before middle × IsAnswerText last.answer last.close text × WritesPart text middle now
+
+-- so a connection ends: by a reply that says so, or at the end of what the peer sends
+abbrev pub IsClosed : LinkView → LinkView → List ℕ → List Reply → Type 0
+IsClosed before now rest replies = WritesReplies replies before.written now.written
+    × (End replies ⊎ (GoOn replies × IsFirstFrame MAX_BODY rest More rest × IsAtEnd now.left))
+
+-- or a read failed, while more was wanted for the next request, or a write of a reply
+abbrev pub IsCut : LinkView → LinkView → List ℕ → List Reply → Type 0
+IsCut before now rest replies =
+    (Rose before.read_faults now.read_faults × GoOn replies × IsFirstFrame MAX_BODY rest More rest × WritesReplies replies before.written now.written)
+    ⊎ (Rose before.write_faults now.write_faults × CutsReplies replies before.written now.written)
+
+-- the connection ended so
+abbrev pub Ends : LinkEnd → LinkView → LinkView → List ℕ → List Exchange → Option Answer → Type 0
+Ends (Closed requests) before now rest exchanges farewell = IsClosed before now rest (replies_of exchanges farewell)
+Ends (LinkFault requests) before now rest exchanges farewell = IsCut before now rest (replies_of exchanges farewell)
+
+-- how many requests were answered, or begun to be
+abbrev pub requests_of : LinkEnd → ℕ
+requests_of (Closed requests) = requests
+requests_of (LinkFault requests) = requests
+
+-- one connection: the bytes that were taken from its link, the requests that they begin with, what was answered, and how it ended
+pub record Connection (config : Config) (before : State) (link_before link_now : LinkView) (exchanges : List Exchange) (end : LinkEnd) (after : State) : Type 0 where
+  pub taken : List ℕ
+  pub rest : List ℕ
+  pub farewell : Option Answer
+  pub takes : Takes taken link_before.left link_now.left
+  pub requests : BeginWith taken (map (λ e. e.request) exchanges) rest
+  pub served : HasServed config before exchanges after
+  pub count : requests_of end ≡ length exchanges
+  pub farewell_is : IsFarewell rest farewell
+  pub ends : Ends end link_before link_now rest exchanges farewell
+
+-- what requests ask of the clock and of the keeper: each takes the next moment; each fault of the keeper was counted, and where there was none
+-- the count stays
+pub record Pass (exchanges : List Exchange) (before now : Outside) : Type 0 where
+  pub moments : GivesMoments (map (λ e. e.moment) exchanges) before.moments now.moments
+  pub faults : RoseBy (keeper_faults exchanges) before.faults now.faults
+  pub quiet : keeper_faults exchanges ≡ 0 → now.faults ≡ before.faults

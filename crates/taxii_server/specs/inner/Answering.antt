@@ -1,0 +1,49 @@
+-- What one request gets, and what is said where there is none.
+use Rattle.std.specs.Prelude.{◌≡◌, ◌⊎◌, ℕ, List, [], ◌∷◌, Bool, true, ◌||◌, Option, Some, None, Result, MatchResult}
+use Rattle.flow_edges.specs.Flow.{written_with, WritesPart}
+use Rattle.http_frames.specs.declared.answer.Answer.{Answer}
+use Rattle.http_frames.specs.declared.request.Request.{Request}
+use Rattle.http_frames.specs.Answers.{IsAnswerText, answer_to, no_memory_answer}
+use Rattle.taxii_requests.specs.declared.config.Config.{Config}
+use Rattle.taxii_state.specs.declared.state.State.{State}
+use Rattle.taxii_histories.specs.Exchanges.{Exchange, IsExchange}
+use Rattle.taxii_server.specs.declared.pause.Pause.{Pause}
+use Rattle.taxii_server.specs.declared.pause.Pause.TheVariants.{AtEnd, Refused, NoMemory, Failed}
+use Rattle.taxii_server.specs.Outside.{Outside}
+use Rattle.taxii_server.specs.Connections.{is_out_of_memory, Pass}
+
+-- the request had one exchange, and its answer was written, or less than all of it
+pub record Answers {E : Type 0} (config : Config) (before : State) (request : Request) (is_last : Bool) (outside outside_now : Outside) (written written_now : Option (List ℕ))
+    (result : Result Bool E) (after : State) : Type 0 where
+  pub exchange : Exchange
+  pub its : IsExchange config exchange
+  pub request_is : exchange.request ≡ request
+  pub before_is : exchange.before ≡ before
+  pub after_is : exchange.after ≡ after
+  pub passes : Pass (exchange ∷ []) outside outside_now
+  pub close : Bool
+  pub close_is : close ≡ (request.close || is_out_of_memory exchange.course || is_last)
+  pub text : List ℕ
+  pub text_is : IsAnswerText exchange.answer close text
+  pub writes : MatchResult result
+      (λ closes. (closes ≡ close) × (written_now ≡ written_with text written))
+      (λ _. WritesPart text written written_now)
+
+-- what may be said at a pause
+abbrev pub IsLeave : Pause → Option Answer → Type 0
+IsLeave AtEnd farewell = farewell ≡ None
+IsLeave (Refused refusal) farewell = (answer : Answer) × (farewell ≡ Some answer) × ((answer ≡ answer_to refusal) ⊎ (answer ≡ no_memory_answer))
+IsLeave NoMemory farewell = farewell ≡ Some no_memory_answer
+IsLeave Failed farewell = farewell ≡ None
+
+-- where nothing is said, nothing was written, and the call failed where a read had; what is said was written, or less than all of it
+abbrev pub SaysFarewell : {T E : Type 0} → Pause → Option Answer → Option (List ℕ) → Option (List ℕ) → Result T E → Type 0
+SaysFarewell pause None written now result = (now ≡ written) × MatchResult result (λ _. pause ≡ AtEnd) (λ _. pause ≡ Failed)
+SaysFarewell pause (Some answer) written now result = (text : List ℕ) × IsAnswerText answer true text
+    × MatchResult result (λ _. now ≡ written_with text written) (λ _. WritesPart text written now)
+
+-- the farewell of a pause
+pub record TakesLeave {T E : Type 0} (pause : Pause) (written now : Option (List ℕ)) (result : Result T E) : Type 0 where
+  pub farewell : Option Answer
+  pub leave : IsLeave pause farewell
+  pub says : SaysFarewell pause farewell written now result

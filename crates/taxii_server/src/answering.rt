@@ -1,0 +1,48 @@
+ghost use Rattle.std.specs.Prelude.{◌≡◌, IsErr};
+ghost use Rattle.flow_edges.specs.Faults.{Counted};
+ghost use Rattle.taxii_store.specs.Agreement.{Agrees};
+ghost use Rattle.taxii_server.specs.inner.Answering.{Answers};
+
+use crate::Server;
+use flow_links::{Clock, Link};
+use flow_values::{Fault, NoMemory};
+use http_frames::{Request, write_answer, write_no_memory};
+use taxii_rows::Keeper;
+use taxii_step::laws::no_step_tells_a_store_fault;
+use taxii_step::respond;
+
+/// Answers a request at the clock's next moment, and whether the connection ends then. Where memory ran
+/// out it says so and ends.
+pub(crate) fn answer<K: Keeper, L: Link, C: Clock>(
+    server: &mut Server,
+    keeper: &mut K,
+    clock: &mut C,
+    request: &Request,
+    is_last: bool,
+    link: &mut L,
+) -> Result<bool, Fault>
+    requires agrees { Agrees (K.kept keeper.old) server.old.state.library }
+    ensures agrees { Agrees (K.kept keeper.new) server.new.state.library }
+    ensures name { (K.kept keeper.new).name ≡ (K.kept keeper.old).name }
+    ensures config { server.new.config ≡ server.old.config }
+    ensures answers { Answers server.old.config server.old.state request.now is_last
+        (record { moments = C.moments clock.old; faults = K.faults keeper.old }) (record { moments = C.moments clock.new; faults = K.faults keeper.new })
+        (L.written link.old) (L.written link.new) result server.new.state }
+    ensures causes { Counted (IsErr result) (L.Sink.faults link.old) (L.Sink.faults link.new) }
+    ensures unread { L.Sink.other link.new ≡ L.Sink.other link.old }
+{
+    no_step_tells_a_store_fault();
+    let moment = clock.now();
+    let answer = respond(&server.config, &mut server.state, keeper, moment, request);
+    match answer {
+        Ok(answer) => {
+            let close = request.close || is_last;
+            write_answer(&answer, close, link)?;
+            Ok(close)
+        }
+        Err(NoMemory) => {
+            write_no_memory(link)?;
+            Ok(true)
+        }
+    }
+}

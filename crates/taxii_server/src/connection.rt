@@ -1,0 +1,65 @@
+ghost use Rattle.std.specs.Prelude.{◌≡◌, ◌≤◌, List, ℕ};
+ghost use Rattle.taxii_store.specs.Agreement.{Agrees};
+ghost use Rattle.taxii_histories.specs.Exchanges.{Exchange};
+ghost use Rattle.taxii_server.specs.declared.link_end.LinkEnd.TheVariants as End;
+ghost use Rattle.taxii_server.specs.Connections.{Connection, Pass, requests_of};
+
+use crate::answering::answer;
+use crate::farewell::take_leave;
+use crate::pause::Pause;
+use crate::receiver::Receiver;
+use crate::{LinkEnd, Server};
+use flow_links::{Clock, Link};
+use flow_values::{Fault, NoMemory};
+use http_frames::laws::later_bytes_change_nothing;
+use taxii_rows::Keeper;
+
+/// The most bytes that the body of a request may have.
+pub const MAX_BODY: u64 = 8_388_608;
+
+/// The most requests that one connection may make.
+pub const MAX_REQUESTS: u64 = 1024;
+
+/// Serves one connection: answers the requests of its bytes in turn. It ends after an answer that says
+/// so and at the end of what the peer sends, or where the link fails; a request that the end cuts gets
+/// no answer.
+pub fn serve_link<K: Keeper, L: Link, C: Clock>(
+    server: &mut Server,
+    keeper: &mut K,
+    clock: &mut C,
+    link: &mut L,
+) -> LinkEnd
+    requires agrees { Agrees (K.kept keeper.old) server.old.state.library }
+    ensures agrees { Agrees (K.kept keeper.new) server.new.state.library }
+    ensures name { (K.kept keeper.new).name ≡ (K.kept keeper.old).name }
+    ensures config { server.new.config ≡ server.old.config }
+    ensures serves { (exchanges : List Exchange) × Connection server.old.config server.old.state
+        (record { left = L.left link.old; written = L.written link.old; read_faults = L.Source.faults link.old; write_faults = L.Sink.faults link.old })
+        (record { left = L.left link.new; written = L.written link.new; read_faults = L.Source.faults link.new; write_faults = L.Sink.faults link.new })
+        exchanges result server.new.state
+        × Pass exchanges (record { moments = C.moments clock.old; faults = K.faults keeper.old }) (record { moments = C.moments clock.new; faults = K.faults keeper.new }) }
+    ensures few { requests_of result ≤ MAX_REQUESTS }
+    ensures quiet { (requests : ℕ) → result ≡ End.Closed requests
+        → (L.Source.faults link.new ≡ L.Source.faults link.old) × (L.Sink.faults link.new ≡ L.Sink.faults link.old) }
+{
+    later_bytes_change_nothing();
+    let alloc = server.config.alloc;
+    let mut receiver = match Receiver::new(alloc) {
+        Ok(receiver) => receiver,
+        Err(NoMemory) => return LinkEnd::after(take_leave(alloc, Pause::NoMemory, link), 0),
+    };
+    let mut requests = 0;
+    loop {
+        let request = match receiver.receive(link) {
+            Ok(request) => request,
+            Err(pause) => return LinkEnd::after(take_leave(alloc, pause, link), requests),
+        };
+        requests += 1;
+        let is_last = requests == MAX_REQUESTS;
+        match answer(server, keeper, clock, &request, is_last, link) {
+            Ok(true) => return LinkEnd::Closed { requests },
+            Ok(false) => {}
+            Err(Fault) => return LinkEnd::LinkFault { requests },
+        }
+    }
+}

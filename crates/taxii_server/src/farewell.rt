@@ -1,0 +1,36 @@
+ghost use Rattle.std.specs.Prelude.{◌≡◌, ◌≢◌, IsErr};
+ghost use Rattle.flow_edges.specs.Faults.{Counted};
+ghost use Rattle.taxii_server.specs.inner.Answering.{TakesLeave};
+
+use crate::pause::Pause;
+use flow_links::Link;
+use flow_values::{Fault, NoMemory};
+use http_frames::{Refusal, refusal_answer, write_answer, write_no_memory};
+use std::alloc::Global;
+
+/// Says why the connection ends, where that is to be said. A read that failed is handed on.
+pub(crate) fn take_leave<L: Link>(alloc: Global, pause: Pause, link: &mut L) -> Result<(), Fault>
+    ensures leave { TakesLeave pause (L.written link.old) (L.written link.new) result }
+    ensures causes { pause ≢ Pause.Failed → Counted (IsErr result) (L.Sink.faults link.old) (L.Sink.faults link.new) }
+    ensures failed { pause ≡ Pause.Failed → IsErr result × (L.Sink.faults link.new ≡ L.Sink.faults link.old) }
+    ensures unread { L.Sink.other link.new ≡ L.Sink.other link.old }
+{
+    match pause {
+        Pause::AtEnd => Ok(()),
+        Pause::Refused(refusal) => refuse(alloc, refusal, link),
+        Pause::NoMemory => write_no_memory(link),
+        Pause::Failed => Err(Fault),
+    }
+}
+
+/// Writes the answer to a refusal, or that memory ran out for it.
+fn refuse<L: Link>(alloc: Global, refusal: Refusal, link: &mut L) -> Result<(), Fault>
+    ensures leave { TakesLeave (Pause.Refused refusal) (L.written link.old) (L.written link.new) result }
+    ensures causes { Counted (IsErr result) (L.Sink.faults link.old) (L.Sink.faults link.new) }
+    ensures unread { L.Sink.other link.new ≡ L.Sink.other link.old }
+{
+    match refusal_answer(alloc, refusal) {
+        Ok(answer) => write_answer(&answer, true, link),
+        Err(NoMemory) => write_no_memory(link),
+    }
+}

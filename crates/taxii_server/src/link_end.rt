@@ -1,0 +1,36 @@
+ghost use Rattle.std.specs.Prelude.{◌≡◌, MatchResult};
+ghost use Rattle.taxii_server.specs.declared.link_end.LinkEnd.TheVariants as End;
+ghost use Rattle.taxii_server.specs.Connections.{requests_of};
+
+use flow_values::Fault;
+
+/// How a connection ended, and how many requests were answered, or begun to be.
+#[derive(Clone, Copy, Debug, PartialEq, Eq, Hash)]
+pub enum LinkEnd {
+    /// By an answer that says so, or at the end of what the peer sends.
+    Closed { requests: u64 },
+    /// A read or a write failed, and was counted by the link.
+    LinkFault { requests: u64 },
+}
+
+impl LinkEnd {
+    /// How many requests were answered, or begun to be.
+    pub fn requests(self) -> u64
+        ensures { result ≡ requests_of self }
+    {
+        match self {
+            LinkEnd::Closed { requests } => requests,
+            LinkEnd::LinkFault { requests } => requests,
+        }
+    }
+
+    /// The end after the last call of the link.
+    pub(crate) fn after(last: Result<(), Fault>, requests: u64) -> LinkEnd
+        ensures { MatchResult last (λ _. result ≡ End.Closed requests) (λ _. result ≡ End.LinkFault requests) }
+    {
+        match last {
+            Ok(()) => LinkEnd::Closed { requests },
+            Err(Fault) => LinkEnd::LinkFault { requests },
+        }
+    }
+}

@@ -1,0 +1,73 @@
+ghost use Rattle.std.specs.Prelude.{◌≡◌, ◌≢◌, [], Err, IfOk};
+ghost use Rattle.taxii_server.specs.inner.Receiving.{Receives, TakesMore};
+
+use crate::connection::MAX_BODY;
+use crate::pause::Pause;
+use flow_edges::MAX_READ;
+use flow_links::Link;
+use flow_values::NoMemory;
+use http_frames::laws::few_bytes_want_more;
+use http_frames::{Frame, Request, Session};
+use std::alloc::Global;
+use std::marker::Model;
+
+/// The requests of a link. Contracts see the bytes that were taken and not given yet.
+#[derive(Drop)]
+pub(crate) struct Receiver {
+    session: Session,
+    buffer: Vec<u8>,
+}
+
+impl Model for Receiver {
+    ghost use Rattle.std.specs.Prelude.{◌≡◌, ℕ, List, vec_len};
+    ghost use Rattle.flow_edges.specs.declared.source.TheConstants.{MAX_READ};
+    ghost use Rattle.taxii_server.specs.declared.connection.TheConstants.{MAX_BODY};
+
+    ghost Value = { List ℕ };
+
+    ghost view = { λ receiver. receiver.session.fed };
+
+    ghost invariant = { λ receiver. (receiver.session.greatest_body ≡ MAX_BODY) × (vec_len receiver.buffer ≡ MAX_READ) };
+}
+
+impl Receiver {
+    /// A receiver that has taken nothing yet.
+    pub(crate) fn new(alloc: Global) -> Result<Receiver, NoMemory>
+        ensures { IfOk result (λ receiver. receiver ≡ []) }
+    {
+        Ok(Receiver {
+            session: Session::new(alloc, MAX_BODY)?,
+            buffer: vec![in alloc; 0; MAX_READ]?,
+        })
+    }
+
+    /// The next request, for which bytes are taken from the link as long as more are wanted.
+    pub(crate) fn receive<L: Link>(&mut self, link: &mut L) -> Result<Request, Pause>
+        ensures receives { Receives self.old self.new (L.left link.old) (L.left link.new) (L.Source.faults link.old) (L.Source.faults link.new) result }
+        ensures unwritten { L.Source.other link.new ≡ L.Source.other link.old }
+        ensures quiet { result ≢ Err Pause.Failed → L.Source.faults link.new ≡ L.Source.faults link.old }
+    {
+        few_bytes_want_more();
+        loop {
+            match self.session.next_request()? {
+                Frame::Request(request) => return Ok(request),
+                Frame::Refused(refusal) => return Err(Pause::Refused(refusal)),
+                Frame::More => self.take(link)?,
+            }
+        }
+    }
+
+    /// Takes the next bytes of the link, one at least.
+    fn take<L: Link>(&mut self, link: &mut L) -> Result<(), Pause>
+        ensures takes { TakesMore self.old self.new (L.left link.old) (L.left link.new) (L.Source.faults link.old) (L.Source.faults link.new) result }
+        ensures unwritten { L.Source.other link.new ≡ L.Source.other link.old }
+        ensures quiet { result ≢ Err Pause.Failed → L.Source.faults link.new ≡ L.Source.faults link.old }
+    {
+        let count = link.read(&mut self.buffer)?;
+        if count == 0 {
+            return Err(Pause::AtEnd);
+        }
+        self.session.feed(&self.buffer[..count])?;
+        Ok(())
+    }
+}
