@@ -39,8 +39,8 @@ pub(crate) fn put_field(
 }
 
 /// The fields as they are, in memory of their own size where more than a little would stay unused: values
-/// are kept, and fields take most of the memory of one. (To copy them costs a third of what it costs to
-/// shrink the memory where it lies.)
+/// are kept, and fields take most of the memory of one. Copying them costs less than shrinking the memory
+/// where it lies.
 pub(crate) fn fitted(alloc: Global, fields: Vec<Field>) -> Option<Items<Field>>
     ensures { IfSome result (λ copy. copy ≡ fields.items) }
 {
