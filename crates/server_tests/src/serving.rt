@@ -2,14 +2,14 @@
 
 use crate::lists::listed;
 use command_line::{CollectionRequest, ServeRequest};
+use command_serve::{ServeEnding, serve};
 use flow_edges::MemorySink;
 use flow_links::{ListClock, MemoryDoor, MemoryLink};
 use flow_values::{Items, NoMemory};
 use std::alloc::Global;
 use std::process::Abort;
 use std::test::Fail;
-use taxii_rows::MemoryKeeper;
-use command_serve::{ServeEnding, serve};
+use taxii_memory::MemoryKeeper;
 
 /// 2021-06-10T00:00:00Z.
 const MOMENT: u64 = 1_623_283_200_000_000;
