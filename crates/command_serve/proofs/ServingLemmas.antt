@@ -1,24 +1,25 @@
 -- What stands around a server when it ends, from what its parts say.
-use Rattle.std.proofs.Common.{◌≡◌, ℕ, List, Option, Some, None, option_map, IfSome, refl, sym, subst}
+use Rattle.std.proofs.Common.{◌≡◌, ℕ, List, Option, Some, None, option_map, IfSome, refl, sym, ap, subst, ◌∙◌}
 use Rattle.flow_edges.specs.Flow.{written_with}
 use Rattle.taxii_rows.specs.StoreState.{StoreState}
+use Rattle.taxii_rows.specs.Keeper.{Kept}
 use Rattle.taxii_rows.specs.SoundRow.{IsSoundState}
-use Rattle.taxii_requests.specs.declared.config.Config.{Config}
-use Rattle.taxii_statuses.specs.Statuses.{StatusesState, no_statuses}
-use Rattle.taxii_changes.specs.ServerState.{ServerState, server_of}
+use Rattle.taxii_statuses.specs.Statuses.{StatusesState}
+use Rattle.taxii_state.specs.declared.state.State.{State}
 use Rattle.taxii_store.specs.Loading.{IsBadAfter}
 use Rattle.taxii_store.specs.declared.load_refusal.LoadRefusal.{LoadRefusal}
 use Rattle.taxii_store.specs.declared.load_refusal.LoadRefusal.TheVariants as refused
 use Rattle.taxii_walks.specs.History.{IsDated}
 use Rattle.taxii_histories.specs.Visits.{WalksSkipNoRow}
-use Rattle.taxii_connections.specs.Outside.{LinkView}
-use Rattle.taxii_connections.specs.Connections.{Pass}
+use Rattle.taxii_server.specs.Outside.{LinkView}
+use Rattle.taxii_server.specs.Connections.{Pass}
+use Rattle.taxii_server.specs.declared.server.Server.{Server}
 use Rattle.taxii_server.specs.declared.served.Served.{Served}
 use Rattle.taxii_server.specs.Serving.{Caller, exchanges_of, HaveConnections}
 use Rattle.command_line.specs.CommandLines.{PlainService}
 use Rattle.command_serve.specs.declared.ending.ServeEnding.{ServeEnding}
 use Rattle.command_serve.specs.declared.ending.ServeEnding.TheVariants.{Done, NoMemory, WriteFault, DoorFault, StoreFault, BadRow}
-use Rattle.command_serve.specs.Services.{IsConfigOf, store_name, Places, Serves}
+use Rattle.command_serve.specs.Services.{store_name, Begins, Places, Serves}
 use Rattle.command_serve.specs.ServeEndings.{summary_text, ServesAll, IsUnserved, EndsServe, Concludes, load_ending}
 
 some_same : {A : Type 0} (told : Option A) (one : A) → IfSome told (λ kept. kept ≡ one) → IfSome told (λ kept. one ≡ kept)
@@ -33,7 +34,7 @@ dated : (store : StoreState) → IsSoundState store → IsDated store
 dated store sound = record { rise = sound.rise; marked = sound.marked }
 
 module _ {L : Type 0} (view : L → LinkView) (service : PlainService) (before after : Places L) where
-  pub refused-ends : (refusal : LoadRefusal) → IsUnserved before after → ((date : ℕ) → refusal ≡ refused.BadRow date → IfSome before.rows (λ state. IsBadAfter state date))
+  pub refused-ends : (refusal : LoadRefusal) → IsUnserved before after → ((date : ℕ) → refusal ≡ refused.BadRow date → IfSome before.kept.told (λ state. IsBadAfter state date))
       → EndsServe view service before after (load_ending refusal)
   refused-ends refused.KeeperFault same bad = same
   refused-ends (refused.BadRow date) same bad = (same, bad date refl)
@@ -48,22 +49,22 @@ module _ {L : Type 0} (view : L → LinkView) (service : PlainService) (before a
   concluded-ends served StoreFault all ends = absurd ends
   concluded-ends served (BadRow date) all ends = absurd ends
 
-  pub serves-of : (config : Config) (store : StoreState) (statuses : StatusesState) (last : ServerState) (callers : List (Caller L)) (told : Option StoreState)
-      → IsConfigOf service config → IfSome told (λ kept. kept ≡ store) → told ≡ before.rows → statuses ≡ no_statuses → IsSoundState store
-      → after.name ≡ option_map (λ _. store_name service.store) before.rows
-      → HaveConnections view config (server_of store statuses) callers last → IfSome after.rows (λ kept. kept ≡ last.store)
+  pub serves-of : (server : Server) (last : State) (callers : List (Caller L)) (kept : Kept) → Begins service kept server → kept.told ≡ before.kept.told
+      → after.kept.name ≡ kept.name → HaveConnections view server.config server.state callers last → IfSome after.kept.told (λ its. its ≡ last.library)
       → Pass (exchanges_of callers) before.around after.around
-      → (IsDated store → WalksSkipNoRow config (exchanges_of callers)) → Serves view service before after callers
-  serves-of config store statuses last callers told config_is agrees same none sound named connections kept pass walks = record {
-    config = config;
-    config_is = config_is;
-    store = store;
-    loaded = subst (λ (it : Option StoreState). IfSome it (λ rows. store ≡ rows)) same (some_same told store agrees);
-    sound = sound;
-    named = named_some before.rows after.name (store_name service.store) named;
-    last = last;
-    connections = subst (λ (it : StatusesState). HaveConnections view config (server_of store it) callers last) none connections;
-    kept = kept;
-    pass = pass;
-    walks = walks (dated store sound);
-  }
+      → (IsDated server.state.library → WalksSkipNoRow server.config (exchanges_of callers)) → Serves view service before after callers
+  serves-of server last callers kept begins same named connections held pass walks =
+      let store = server.state.library in record {
+        config = server.config;
+        config_is = begins.config_is;
+        store = store;
+        loaded = subst (λ (it : Option StoreState). IfSome it (λ rows. store ≡ rows)) same (some_same kept.told store begins.loaded.agrees.told_is);
+        sound = begins.loaded.sound;
+        named = named_some before.kept.told after.kept.name (store_name service.store)
+            (named ∙ begins.loaded.named ∙ ap (λ (told : Option StoreState). option_map (λ _. store_name service.store) told) same);
+        last = last;
+        connections = subst (λ (it : StatusesState). HaveConnections view server.config (record { library = store; statuses = it }) callers last) begins.statuses connections;
+        kept = held;
+        pass = pass;
+        walks = walks (dated store begins.loaded.sound);
+      }

@@ -5,7 +5,7 @@ use Rattle.flow_links.specs.Doors.{Stays}
 use Rattle.taxii_store.specs.Loading.{IsBadAfter}
 use Rattle.taxii_store.specs.declared.load_refusal.LoadRefusal.{LoadRefusal}
 use Rattle.taxii_store.specs.declared.load_refusal.LoadRefusal.TheVariants as refused
-use Rattle.taxii_connections.specs.Outside.{LinkView}
+use Rattle.taxii_server.specs.Outside.{LinkView}
 use Rattle.taxii_server.specs.declared.served.Served.{Served}
 use Rattle.taxii_server.specs.Serving.{Caller, PassThrough, IsWholeOf}
 use Rattle.command_line.specs.CommandLines.{PlainService}
@@ -30,7 +30,7 @@ ServesSome {L} view service before after = (callers : List (Caller L)) × Serves
 -- no caller was served, and nothing was written
 pub record IsUnserved {L : Type 0} (before after : Places L) : Type 0 where
   pub door : after.door ≡ before.door
-  pub rows : after.rows ≡ before.rows
+  pub rows : after.kept.told ≡ before.kept.told
   pub written : after.written ≡ before.written
 
 abbrev pub EndsServe : {L : Type 0} → (L → LinkView) → PlainService → Places L → Places L → ServeEnding → Type 0
@@ -41,7 +41,7 @@ EndsServe view service before after WriteFault =
 EndsServe view service before after DoorFault = ServesSome view service before after × (after.written ≡ before.written)
 EndsServe view service before after NoMemory = IsUnserved before after
 EndsServe view service before after StoreFault = IsUnserved before after
-EndsServe view service before after (BadRow date) = IsUnserved before after × IfSome before.rows (λ state. IsBadAfter state date)
+EndsServe view service before after (BadRow date) = IsUnserved before after × IfSome before.kept.told (λ state. IsBadAfter state date)
 
 -- the ending came before the door was opened
 abbrev pub IsEarly : ServeEnding → Type 0

@@ -2,14 +2,18 @@
 use Rattle.std.specs.Prelude.{◌≡◌, ℕ, List, [], map, Option, Some, None, IfSome}
 use Rattle.flow_links.specs.Doors.{DoorState}
 use Rattle.taxii_rows.specs.StoreState.{StoreState}
+use Rattle.taxii_rows.specs.Keeper.{Kept}
 use Rattle.taxii_rows.specs.SoundRow.{IsSoundState}
 use Rattle.taxii_bodies.specs.declared.collections.CollectionInfo.{CollectionInfo}
 use Rattle.taxii_requests.specs.declared.config.Config.{Config}
 use Rattle.taxii_statuses.specs.Statuses.{no_statuses}
-use Rattle.taxii_changes.specs.ServerState.{ServerState, server_of}
+use Rattle.taxii_store.specs.Loading.{IsLoaded}
+use Rattle.taxii_state.specs.declared.state.State.{State}
+use Rattle.taxii_state.specs.Starting.{starting_with}
 use Rattle.taxii_histories.specs.Visits.{WalksSkipNoRow}
-use Rattle.taxii_connections.specs.Outside.{LinkView, Outside}
-use Rattle.taxii_connections.specs.Connections.{Pass}
+use Rattle.taxii_server.specs.declared.server.Server.{Server}
+use Rattle.taxii_server.specs.Outside.{LinkView, Outside}
+use Rattle.taxii_server.specs.Connections.{Pass}
 use Rattle.taxii_server.specs.Serving.{Caller, exchanges_of, HaveConnections}
 use Rattle.command_line.specs.CommandLines.{PlainCollection, PlainService}
 
@@ -27,12 +31,17 @@ abbrev pub store_name : Option (List ℕ) → List ℕ
 store_name None = []
 store_name (Some file) = file
 
--- what stands around a server at one moment: its door, what the keeper tells of its rows and of its name, what is written on the output,
--- and the clock and the keeper's count of faults
+-- the server that is asked for, as it begins: with the rows that the keeper has under the name of its store, and no statuses
+pub record Begins (service : PlainService) (kept : Kept) (server : Server) : Type 0 where
+  pub config_is : IsConfigOf service server.config
+  pub loaded : IsLoaded (store_name service.store) kept server.state.library
+  pub statuses : server.state.statuses ≡ no_statuses
+
+-- what stands around a server at one moment: its door, what contracts see of the keeper, what is written on the output, and the clock and
+-- the keeper's count of faults
 pub record Places (L : Type 0) : Type 0 where
   pub door : Option (DoorState L)
-  pub rows : Option StoreState
-  pub name : Option (List ℕ)
+  pub kept : Kept
   pub written : Option (List ℕ)
   pub around : Outside
 
@@ -42,11 +51,11 @@ pub record Serves {L : Type 0} (view : L → LinkView) (service : PlainService) 
   pub config : Config
   pub config_is : IsConfigOf service config
   pub store : StoreState
-  pub loaded : IfSome before.rows (λ rows. store ≡ rows)
+  pub loaded : IfSome before.kept.told (λ rows. store ≡ rows)
   pub sound : IsSoundState store
-  pub named : IfSome before.rows (λ _. after.name ≡ Some (store_name service.store))
-  pub last : ServerState
-  pub connections : HaveConnections view config (server_of store no_statuses) callers last
-  pub kept : IfSome after.rows (λ rows. rows ≡ last.store)
+  pub named : IfSome before.kept.told (λ _. after.kept.name ≡ Some (store_name service.store))
+  pub last : State
+  pub connections : HaveConnections view config (starting_with store) callers last
+  pub kept : IfSome after.kept.told (λ rows. rows ≡ last.library)
   pub pass : Pass (exchanges_of callers) before.around after.around
   pub walks : WalksSkipNoRow config (exchanges_of callers)

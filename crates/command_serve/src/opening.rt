@@ -1,21 +1,19 @@
-ghost use Rattle.std.specs.Prelude.{◌≡◌, ◌≢◌, ℕ, Err, map, option_map, IfOk, IfErr, IfSome, OnOk};
+ghost use Rattle.std.specs.Prelude.{◌≡◌, ℕ, Err, map, IfOk, IfErr, IfSome};
 ghost use Rattle.flow_edges.specs.Faults.{Counted};
-ghost use Rattle.taxii_rows.specs.SoundRow.{IsSoundState};
-ghost use Rattle.taxii_statuses.specs.Statuses.{no_statuses};
-ghost use Rattle.taxii_store.specs.Agreement.{Agrees};
 ghost use Rattle.taxii_store.specs.Loading.{IsBadAfter};
 ghost use Rattle.taxii_store.specs.declared.load_refusal.LoadRefusal.TheVariants as Refused;
 ghost use Rattle.command_line.specs.Request.{plain_collection, plain_service};
-ghost use Rattle.command_serve.specs.Services.{info_of, IsConfigOf, store_name};
+ghost use Rattle.command_serve.specs.Services.{info_of, IsConfigOf, store_name, Begins};
 
 use command_line::{CollectionRequest, ServeRequest};
 use flow_values::{Items, NoMemory, Text};
 use std::alloc::Global;
 use taxii_bodies::CollectionInfo;
-use taxii_connections::Server;
 use taxii_requests::Config;
 use taxii_routes::Routes;
 use taxii_rows::Keeper;
+use taxii_server::Server;
+use taxii_state::State;
 use taxii_statuses::Statuses;
 use taxii_store::{Library, LoadRefusal};
 
@@ -25,23 +23,16 @@ pub(crate) fn open<K: Keeper>(
     request: &ServeRequest<'_>,
     keeper: &mut K,
 ) -> Result<Server, LoadRefusal>
-    ensures config { IfOk result (λ server. IsConfigOf (plain_service request.now) server.config) }
-    ensures statuses { IfOk result (λ server. server.statuses ≡ no_statuses) }
-    ensures agrees { IfOk result (λ server. Agrees (K.attached keeper.new) (K.told keeper.new) server.library) }
-    ensures sound { IfOk result (λ server. IsSoundState server.library) }
-    ensures name { OnOk result (K.name keeper.new ≡ option_map (λ _. store_name (plain_service request.now).store) (K.told keeper.old)) }
-    ensures bad { IfErr result (λ refusal. (after : ℕ) → refusal ≡ Refused.BadRow after → IfSome (K.told keeper.old) (λ state. IsBadAfter state after)) }
-    ensures told { K.told keeper.new ≡ K.told keeper.old }
+    ensures ok { IfOk result (Begins (plain_service request.now) (K.kept keeper.new)) }
+    ensures bad { IfErr result (λ refusal. (after : ℕ) → refusal ≡ Refused.BadRow after → IfSome (K.kept keeper.old).told (λ state. IsBadAfter state after)) }
+    ensures told { (K.kept keeper.new).told ≡ (K.kept keeper.old).told }
     ensures causes { Counted (result ≡ Err Refused.KeeperFault) (K.faults keeper.old) (K.faults keeper.new) }
 {
     let config = config_of(alloc, request)?;
     let statuses = Statuses::new(alloc)?;
     let library = Library::load(alloc, keeper, store_of(request))?;
-    Ok(Server {
-        config,
-        library,
-        statuses,
-    })
+    let state = State { library, statuses };
+    Ok(Server { config, state })
 }
 
 /// The name of the store: nothing, where it is in memory.

@@ -1,4 +1,4 @@
-ghost use Rattle.std.specs.Prelude.{◌≡◌, ◌≢◌, ℕ};
+ghost use Rattle.std.specs.Prelude.{◌≡◌};
 ghost use Rattle.flow_edges.specs.Faults.{Counted};
 ghost use Rattle.command_line.specs.Request.{plain_service};
 ghost use Rattle.command_serve.specs.ServeEndings.{EndsServe, IsEarly, Concludes};
@@ -27,8 +27,8 @@ pub fn serve<O: Sink, D: Door, K: Keeper, C: Clock>(
 ) -> ServeEnding
     ensures ends { EndsServe (λ link. record { left = D.Link.left link; written = D.Link.written link; read_faults = D.Link.Source.faults link; write_faults = D.Link.Sink.faults link })
         (plain_service request.now)
-        (record { door = D.told door.old; rows = K.told keeper.old; name = K.name keeper.old; written = O.written output.old; around = record { moments = C.moments clock.old; faults = K.faults keeper.old } })
-        (record { door = D.told door.new; rows = K.told keeper.new; name = K.name keeper.new; written = O.written output.new; around = record { moments = C.moments clock.new; faults = K.faults keeper.new } })
+        (record { door = D.told door.old; kept = K.kept keeper.old; written = O.written output.old; around = record { moments = C.moments clock.old; faults = K.faults keeper.old } })
+        (record { door = D.told door.new; kept = K.kept keeper.new; written = O.written output.new; around = record { moments = C.moments clock.new; faults = K.faults keeper.new } })
         result }
     ensures early { IsEarly result → (door.new ≡ door.old) × (clock.new ≡ clock.old) × (output.new ≡ output.old) }
     ensures door { Counted (result ≡ ServeEnding.DoorFault) (D.faults door.old) (D.faults door.new) }
