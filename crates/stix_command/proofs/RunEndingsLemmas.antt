@@ -431,12 +431,12 @@ counted-as same = counted-when (λ is. sym same ∙ is, λ is. same ∙ is)
 -- `match` and `check` read their input
 pub match_reads : OneRequest → (words : List (List ℕ)) (task : MatchTask) → IsMatchLine words task → ¬ AskForNoInput words
 match_reads one words task line (inl shows) = match_isn't_show one words task shows.0 line shows.1
-match_reads one words task line (inr (inl makes)) = match_isn't_make one words task makes.0 makes.1.0 line makes.1.1
+match_reads one words task line (inr (inl makes)) = match_isn't_make one words task makes.0 makes.1 line makes.2
 match_reads one words task line (inr (inr serves)) = match_isn't_serve one words task serves.0 line serves.1
 
 pub check_reads : OneRequest → (words : List (List ℕ)) → IsCheckLine words → ¬ AskForNoInput words
 check_reads one words line (inl shows) = show_isn't_check one words shows.0 shows.1 line
-check_reads one words line (inr (inl makes)) = check_isn't_make one words makes.0 makes.1.0 line makes.1.1
+check_reads one words line (inr (inl makes)) = check_isn't_make one words makes.0 makes.1 line makes.2
 check_reads one words line (inr (inr serves)) = check_isn't_serve one words serves.0 line serves.1
 
 -- where a `serve` ended before the door was opened, the rows are as they were

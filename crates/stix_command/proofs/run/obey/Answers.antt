@@ -3,6 +3,7 @@ use Rattle.command_line.specs.declared.request.Request.{Request}
 use Rattle.command_line.specs.CommandLines.{texts, IsCommandLine}
 use Rattle.command_line.specs.Request.{plain_request, plain_service}
 use Rattle.command_match.specs.Tasks.{request_of}
+use Rattle.stix_command.specs.Requests.{IsMatchLine}
 use Rattle.stix_command.proofs.RunEndingsLemmas.{match_isn't_usage, check_statuses, show_isn't_usage, make_statuses, serve_statuses, match-counts, check-counts, show-counts, make-counts, show-input, make-input, serve-input, serve-output, serve-door, serve-keeper, early, early-rows, match_reads, check_reads}
 use Rattle.stix_command.proofs.run.obey.Goals as goal
 
@@ -33,7 +34,7 @@ returns-in-Ok-Serve-clause-end g c = record {
 pub returns-in-Ok-Match-clause-unread : goal.returns-in-Ok-Match-clause-unread
 returns-in-Ok-Match-clause-unread g c =
     let line = subst (λ (r : Request). IsCommandLine (texts c.args.words.now) (plain_request r)) c.in-Ok-Match.field-0-is c.in-Ok-Match.ensures.ok in
-    let task = record { whole = c.in-Ok-Match.request.whole; mode_is = refl; line = line } in
+    let task : IsMatchLine (texts c.args.words.now) (request_of c.in-Ok-Match.request) = record { whole = c.in-Ok-Match.request.whole; mode_is = refl; line = line } in
     λ is. elim is [
       | inl two ↦ absurd (match_isn't_usage _ two)
       | inr more ↦ elim more [
@@ -97,7 +98,7 @@ returns-in-Ok-Serve-clause-unwritten g c = λ is. elim is [ inl two ↦ absurd (
 
 pub returns-in-Ok-Serve-clause-unserved : goal.returns-in-Ok-Serve-clause-unserved
 returns-in-Ok-Serve-clause-unserved g c = λ none.
-    let kept = c.serve.ensures.early (early _ none) in (kept.0, kept.1.0, early-rows _ _ _ _ _ (early _ none) c.serve.ensures.ends)
+    let kept = c.serve.ensures.early (early _ none) in (kept.0, kept.1, early-rows _ _ _ _ _ (early _ none) c.serve.ensures.ends)
 
 pub returns-in-Ok-Serve-clause-input : goal.returns-in-Ok-Serve-clause-input
 returns-in-Ok-Serve-clause-input g c = serve-input c.serve.result
