@@ -5,8 +5,9 @@
 //! attached, that it counts each fault and nothing else, and what its database was asked. Over a file
 //! that is which statements of `schema.rt` were run, in which order and with the columns of which rows,
 //! alone in a transaction that was committed, or what they answered (`specs/Statements.antt`); in memory
-//! it is the rows themselves. A call that adds or removes rows commits all that it does or changes
-//! nothing. What a statement does is the crate `sqlite`'s to say: that those of `schema.rt` keep a
+//! it is the rows themselves. A call that answers `Ok` has committed all that it did; after a refusal no
+//! clause says whether a commit took place. Of a file that was there before the clauses say nothing, since
+//! the kit doesn't. What a statement does is the crate `sqlite`'s to say: that those of `schema.rt` keep a
 //! store's rows is only tested.
 #![tactic(auto)]
 
