@@ -1,4 +1,4 @@
-ghost use Rattle.std.specs.Prelude.{◌≡◌, ℕ, ◌≤◌, ◌<◌, List, Option, Ok, length, take, IfOk, OnErr, IsErr};
+ghost use Rattle.std.specs.Prelude.{◌≡◌, ℕ, ◌≤◌, ◌<◌, List, Option, None, Some, Ok, length, take, IfOk, IfSome, OnErr, IsErr};
 ghost use Rattle.flow_edges.specs.declared.source.TheConstants.{MAX_READ};
 ghost use Rattle.flow_edges.specs.Faults.{Counted};
 ghost use Rattle.flow_edges.specs.Flow.{left_after, IsNextOf, IsAtEnd, OtherSide, no_other_side};
@@ -16,6 +16,10 @@ pub trait Source {
     /// How many calls failed.
     ghost faults: { Self → ℕ };
 
+    /// The bytes that were left when the last read began, where the source tells them. By these a contract sees how
+    /// much had been read when something else was done: a write, say.
+    ghost began: { Self → Option (List ℕ) } = { λ _. None };
+
     /// The bytes written and the count of failed writes, where it is a sink as well.
     ghost other: { Self → OtherSide } = { λ _. no_other_side };
 
@@ -31,6 +35,7 @@ pub trait Source {
         ensures rest { IfOk result (λ n. left self.new ≡ left_after n (left self.old)) }
         ensures end { result ≡ Ok 0 → IsAtEnd (left self.old) }
         ensures err { OnErr result (left self.new ≡ left self.old) }
+        ensures began { IfSome (began self.new) (λ bytes. left self.old ≡ Some bytes) }
         ensures causes { Counted (IsErr result) (faults self.old) (faults self.new) }
         ensures unwritten { other self.new ≡ other self.old };
 }

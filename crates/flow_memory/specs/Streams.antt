@@ -3,9 +3,10 @@ use Rattle.std.specs.Prelude.{ℕ, List, Bool, nat_eq}
 use Rattle.std.specs.List.{list_any}
 use Rattle.flow_edges.specs.Faults.{counted}
 
--- the bytes that are left, how many a read gives at most, which calls fail (counted from 1), and the counts of calls and faults
+-- the bytes that are left and those that were left when the last read began, how many a read gives at most, which calls fail (counted from 1), and the counts of calls and faults
 pub record SourceState : Type 0 where
   pub left : List ℕ
+  pub began : List ℕ
   pub piece : ℕ
   pub failing : List ℕ
   pub calls : ℕ

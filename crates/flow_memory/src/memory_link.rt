@@ -1,4 +1,4 @@
-ghost use Rattle.std.specs.Prelude.{◌≡◌, ◌≤◌, ◌<◌, ◌-◌, ◌↔◌, [], Ok, Some, refl, true, length, take, drop, min, IsErr, IfOk, OnErr, ◌||◌, nat_le};
+ghost use Rattle.std.specs.Prelude.{◌≡◌, ◌≤◌, ◌<◌, ◌-◌, ◌↔◌, [], Ok, Some, refl, true, length, take, drop, min, IsErr, IfOk, IfSome, OnErr, ◌||◌, nat_le};
 ghost use Rattle.flow_edges.specs.Faults.{counted, Counted};
 ghost use Rattle.flow_edges.specs.Flow.{left_after, IsNextOf, IsAtEnd, written_with};
 ghost use Rattle.flow_memory.specs.Streams.{is_failing};
@@ -38,7 +38,7 @@ impl MemoryLink {
     ) -> Result<MemoryLink, NoMemory>
         requires { 1 ≤ piece }
         ensures { IfOk result (λ link. link ≡ record {
-          source = record { left = bytes; piece = piece; failing = failing_reads; calls = 0; faults = 0 };
+          source = record { left = bytes; began = bytes; piece = piece; failing = failing_reads; calls = 0; faults = 0 };
           sink = record { written = []; room = room; failing = failing_writes; calls = 0; faults = 0 };
         }) }
     {
@@ -59,6 +59,8 @@ impl MemoryLink {
 impl Source for MemoryLink {
     ghost left = { λ link. Some link.source.left };
 
+    ghost began = { λ link. Some link.source.began };
+
     ghost faults = { λ link. link.source.faults };
 
     ghost other = { λ link. record { bytes = Some link.sink.written; faults = link.sink.faults } };
@@ -71,6 +73,7 @@ impl Source for MemoryLink {
         ensures rest { IfOk result (λ n. Some self.new.source.left ≡ left_after n (Some self.old.source.left)) }
         ensures end { result ≡ Ok 0 → IsAtEnd (Some self.old.source.left) }
         ensures err { OnErr result (Some self.new.source.left ≡ Some self.old.source.left) }
+        ensures began { IfSome (Some self.new.source.began) (λ bytes. Some self.old.source.left ≡ Some bytes) }
         ensures causes { Counted (IsErr result) self.old.source.faults self.new.source.faults }
 
         ensures fails { IsErr result ↔ (is_failing self.old.source.failing self.old.source.calls ≡ true) }

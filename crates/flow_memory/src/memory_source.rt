@@ -1,4 +1,4 @@
-ghost use Rattle.std.specs.Prelude.{◌≡◌, ◌≤◌, ◌<◌, ◌↔◌, Ok, Some, true, length, take, drop, min, IsErr, IfOk, OnErr};
+ghost use Rattle.std.specs.Prelude.{◌≡◌, ◌≤◌, ◌<◌, ◌↔◌, Ok, Some, true, length, take, drop, min, IsErr, IfOk, IfSome, OnErr};
 ghost use Rattle.flow_edges.specs.Faults.{counted, Counted};
 ghost use Rattle.flow_edges.specs.Flow.{left_after, IsNextOf, IsAtEnd};
 ghost use Rattle.flow_memory.specs.Streams.{is_failing};
@@ -12,6 +12,8 @@ use std::marker::Model;
 pub struct MemorySource {
     bytes: Items<u8>,
     at: usize,
+    /// Where the last read began; at the start before any.
+    began: usize,
     piece: usize,
     failing: Items<u64>,
     calls: u64,
@@ -26,13 +28,14 @@ impl Model for MemorySource {
 
     ghost view = { λ source. record {
       left = drop source.at source.bytes;
+      began = drop source.began source.bytes;
       piece = source.piece;
       failing = source.failing;
       calls = source.calls;
       faults = source.faults;
     } };
 
-    ghost invariant = { λ source. (source.at ≤ length source.bytes) × (1 ≤ source.piece) };
+    ghost invariant = { λ source. (source.at ≤ length source.bytes) × (source.began ≤ length source.bytes) × (1 ≤ source.piece) };
 }
 
 impl MemorySource {
@@ -40,11 +43,12 @@ impl MemorySource {
     /// from 1, are in `failing` fail.
     pub fn new(bytes: Items<u8>, piece: usize, failing: Items<u64>) -> MemorySource
         requires { 1 ≤ piece }
-        ensures { result ≡ record { left = bytes; piece = piece; failing = failing; calls = 0; faults = 0 } }
+        ensures { result ≡ record { left = bytes; began = bytes; piece = piece; failing = failing; calls = 0; faults = 0 } }
     {
         MemorySource {
             bytes,
             at: 0,
+            began: 0,
             piece,
             failing,
             calls: 0,
@@ -63,6 +67,8 @@ impl MemorySource {
 impl Source for MemorySource {
     ghost left = { λ source. Some source.left };
 
+    ghost began = { λ source. Some source.began };
+
     ghost faults = { λ source. source.faults };
 
     fn read(&mut self, buffer: &mut [u8]) -> Result<usize, Fault>
@@ -73,6 +79,7 @@ impl Source for MemorySource {
         ensures rest { IfOk result (λ n. Some self.new.left ≡ left_after n (Some self.old.left)) }
         ensures end { result ≡ Ok 0 → IsAtEnd (Some self.old.left) }
         ensures err { OnErr result (Some self.new.left ≡ Some self.old.left) }
+        ensures began { IfSome (Some self.new.began) (λ bytes. Some self.old.left ≡ Some bytes) }
         ensures causes { Counted (IsErr result) self.old.faults self.new.faults }
 
         ensures fails { IsErr result ↔ (is_failing self.old.failing self.old.calls ≡ true) }
@@ -83,6 +90,7 @@ impl Source for MemorySource {
         ensures unchanged { OnErr result (buffer.new ≡ buffer.old) }
         ensures stays { (self.new.piece ≡ self.old.piece) × (self.new.failing ≡ self.old.failing) }
     {
+        self.began = self.at;
         self.calls = self.calls.saturating_add(1);
         if self.failing.as_slice().contains(&self.calls) {
             return Err(counted_fault(&mut self.faults));
