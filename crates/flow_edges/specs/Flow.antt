@@ -3,14 +3,24 @@ use Rattle.std.specs.Prelude.{◌≡◌, ℕ, ◌≤◌, ◌<◌, List, [], ◌+
 use Rattle.std.specs.Borrow.{Bor}
 use Rattle.std.specs.List.{flat_map}
 
--- what an object tells of the side that a call doesn't touch: of a link, what reads are to its writes, and writes to its reads
-pub record OtherSide : Type 0 where
-  pub bytes : Option (List ℕ)
+-- what an object tells of itself as a source, which a write leaves as it is: the bytes that are left, those that were left when
+-- the last read began, and the count of failed reads
+pub record SourceSide : Type 0 where
+  pub left : Option (List ℕ)
+  pub began : Option (List ℕ)
   pub faults : ℕ
 
--- an object with one side alone
-abbrev pub no_other_side : OtherSide
-no_other_side = record { bytes = None; faults = 0 }
+-- what it tells of itself as a sink, which a read leaves as it is: the bytes that are written, and the count of failed writes
+pub record SinkSide : Type 0 where
+  pub written : Option (List ℕ)
+  pub faults : ℕ
+
+-- an object with the other side alone
+abbrev pub no_source : SourceSide
+no_source = record { left = None; began = None; faults = 0 }
+
+abbrev pub no_sink : SinkSide
+no_sink = record { written = None; faults = 0 }
 
 -- the bytes that are left after n of them were taken
 abbrev pub left_after : ℕ → Option (List ℕ) → Option (List ℕ)

@@ -1,6 +1,6 @@
 ghost use Rattle.std.specs.Prelude.{◌≡◌, ℕ, ◌≤◌, ◌<◌, List, Option, length, take, IfOk, OnErr, IsErr};
 ghost use Rattle.flow_edges.specs.Faults.{Counted};
-ghost use Rattle.flow_edges.specs.Flow.{written_with, WritesWhole, WritesPart, OtherSide, no_other_side};
+ghost use Rattle.flow_edges.specs.Flow.{written_with, WritesWhole, WritesPart, SourceSide, no_source};
 
 use flow_values::Fault;
 
@@ -12,8 +12,8 @@ pub trait Sink {
     /// How many calls failed.
     ghost faults: { Self → ℕ };
 
-    /// The bytes to read and the count of failed reads, where it is a source as well.
-    ghost other: { Self → OtherSide } = { λ _. no_other_side };
+    /// What it is as a source, where it is one as well.
+    ghost other: { Self → SourceSide } = { λ _. no_source };
 
     /// Writes the first bytes of the piece, and answers how many: of a piece that isn't empty one at
     /// least. A `Fault` has written none, and is counted; no other call is.

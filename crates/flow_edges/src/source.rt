@@ -1,7 +1,7 @@
 ghost use Rattle.std.specs.Prelude.{◌≡◌, ℕ, ◌≤◌, ◌<◌, List, Option, None, Some, Ok, length, take, IfOk, IfSome, OnErr, IsErr};
 ghost use Rattle.flow_edges.specs.declared.source.TheConstants.{MAX_READ};
 ghost use Rattle.flow_edges.specs.Faults.{Counted};
-ghost use Rattle.flow_edges.specs.Flow.{left_after, IsNextOf, IsAtEnd, OtherSide, no_other_side};
+ghost use Rattle.flow_edges.specs.Flow.{left_after, IsNextOf, IsAtEnd, SinkSide, no_sink};
 
 use flow_values::Fault;
 
@@ -20,8 +20,8 @@ pub trait Source {
     /// much had been read when something else was done: a write, say.
     ghost began: { Self → Option (List ℕ) } = { λ _. None };
 
-    /// The bytes written and the count of failed writes, where it is a sink as well.
-    ghost other: { Self → OtherSide } = { λ _. no_other_side };
+    /// What it is as a sink, where it is one as well.
+    ghost other: { Self → SinkSide } = { λ _. no_sink };
 
     /// Takes the next bytes into the front of the buffer, which isn't empty, and answers how many: 0
     /// only at the end of the bytes. A `Fault` has taken none, and is counted; no other call is.

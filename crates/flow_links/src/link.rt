@@ -1,5 +1,5 @@
 ghost use Rattle.std.specs.Prelude.{◌≡◌};
-ghost use Rattle.flow_edges.specs.Flow.{OtherSide};
+ghost use Rattle.flow_edges.specs.Flow.{SinkSide, SourceSide};
 
 use flow_edges::{Sink, Source};
 
@@ -7,8 +7,8 @@ use flow_edges::{Sink, Source};
 /// `Source` and `Sink`, and each of the two counts its own faults.
 pub trait Link: Source + Sink {
     /// What a read leaves as it is: what was written.
-    ghost unwritten: { (link : Self) → Self.Source.other link ≡ record { bytes = Self.written link; faults = Self.Sink.faults link } };
+    ghost unwritten: { (link : Self) → Self.Source.other link ≡ record { written = Self.written link; faults = Self.Sink.faults link } };
 
     /// What a write leaves as it is: what is there to be read.
-    ghost unread: { (link : Self) → Self.Sink.other link ≡ record { bytes = Self.left link; faults = Self.Source.faults link } };
+    ghost unread: { (link : Self) → Self.Sink.other link ≡ record { left = Self.left link; began = Self.began link; faults = Self.Source.faults link } };
 }

@@ -63,7 +63,7 @@ impl Source for MemoryLink {
 
     ghost faults = { λ link. link.source.faults };
 
-    ghost other = { λ link. record { bytes = Some link.sink.written; faults = link.sink.faults } };
+    ghost other = { λ link. record { written = Some link.sink.written; faults = link.sink.faults } };
 
     fn read(&mut self, buffer: &mut [u8]) -> Result<usize, Fault>
         requires room { 0 < length buffer.now }
@@ -94,7 +94,7 @@ impl Sink for MemoryLink {
 
     ghost faults = { λ link. link.sink.faults };
 
-    ghost other = { λ link. record { bytes = Some link.source.left; faults = link.source.faults } };
+    ghost other = { λ link. record { left = Some link.source.left; began = Some link.source.began; faults = link.source.faults } };
 
     fn write(&mut self, piece: &[u8]) -> Result<usize, Fault>
         ensures within { IfOk result (λ n. n ≤ length piece.now) }

@@ -49,7 +49,7 @@ impl<S: Read + Write> Source for TcpLink<S> {
 
     ghost faults = { λ link. link.read_faults };
 
-    ghost other = { λ link. record { bytes = None; faults = link.write_faults } };
+    ghost other = { λ link. record { written = None; faults = link.write_faults } };
 
     /// One read of the stream, whose answer is handed on; an error is a `Fault`.
     fn read(&mut self, buffer: &mut [u8]) -> Result<usize, Fault>
@@ -70,7 +70,7 @@ impl<S: Read + Write> Sink for TcpLink<S> {
 
     ghost faults = { λ link. link.write_faults };
 
-    ghost other = { λ link. record { bytes = None; faults = link.read_faults } };
+    ghost other = { λ link. record { left = None; began = None; faults = link.read_faults } };
 
     /// One write of the stream, whose answer is handed on; an error, and a write of nothing, is a `Fault`.
     fn write(&mut self, piece: &[u8]) -> Result<usize, Fault>
