@@ -116,9 +116,9 @@ accounts-none number place wide count given chunk [] chunk_new left left_new fal
 }
 
 -- the source failed in a line
-pub accounts-part : (count given : ℕ) (chunk line chunk_new : List ℕ) (left left_new : Option (List ℕ))
-    → ReadsPart (bytes_ahead [] chunk left) left_new line chunk_new → AccountsFor (lines_state [] chunk count given) (lines_state line chunk_new count given) left left_new
-accounts-part count given chunk line chunk_new left left_new reads = record {
+pub accounts-part : (number place count given : ℕ) (chunk line chunk_new : List ℕ) (left left_new : Option (List ℕ))
+    → ReadsPart number place (bytes_ahead [] chunk left) left_new line chunk_new → AccountsFor (lines_state [] chunk count given) (lines_state line chunk_new count given) left left_new
+accounts-part number place count given chunk line chunk_new left left_new reads = record {
   gone = [];
   bytes = reads.bytes ∙ option_map-same _ _ left_new (λ bytes. sym (append_assoc line [] bytes)) ∙ ap (λ chunk. option_map (λ bytes. (line ++ chunk) ++ bytes) left_new) (sym reads.drained);
   given = omega arith;
@@ -126,6 +126,11 @@ accounts-part count given chunk line chunk_new left left_new reads = record {
   plain = All-nil _;
   closed = inl (All-nil _);
 }
+
+-- some bytes were taken, which are a part of a line
+pub accounts-part-of : (chunk taken : List ℕ) (count given : ℕ) (left : Option (List ℕ)) (bytes : List ℕ) → bytes_ahead [] chunk left ≡ Some (taken ++ bytes)
+    → AccountsFor (lines_state [] chunk count given) (lines_state [] taken count given) left (Some bytes)
+accounts-part-of chunk taken count given left bytes is = record { gone = []; bytes = is; given = omega arith; count = omega arith; plain = All-nil _; closed = inl (All-nil _) }
 
 -- the same after a line is put away
 pub accounts-emptied : (before : LinesState) (line chunk : List ℕ) (count given : ℕ) (left left_new : Option (List ℕ)) → line ≡ []

@@ -82,7 +82,7 @@ ahead-refused chunk count given (Some bytes) refusal first =
 
 -- the source failed in a line
 pub ahead-part : (chunk line_new : List ℕ) (count given : ℕ) (left left_new : Option (List ℕ))
-    → ReadsPart (bytes_ahead [] chunk left) left_new line_new []
+    → ReadsPart (count + 1) given (bytes_ahead [] chunk left) left_new line_new []
     → lines_ahead (lines_state line_new [] count given) left_new ≡ lines_ahead (lines_state [] chunk count given) left
 ahead-part chunk line_new count given left left_new reads =
     lines_ahead-bytes line_new [] count given left_new ∙ ap (λ all. lines_of_bytes count given all) (sym reads.bytes) ∙ sym (lines_ahead-bytes [] chunk count given left)

@@ -140,6 +140,13 @@ pub record AccountsFor (before after : LinesState) (left left_after : Option (Li
 abbrev pub GoesOnAccounting : LinesState → LinesState → Option (List ℕ) → Option (List ℕ) → Type 0
 GoesOnAccounting before after left left_after = (start : LinesState) (all : Option (List ℕ)) → AccountsFor start before all left → AccountsFor start after all left_after
 
+-- when these bytes were left, the line of that number hadn't come whole: fewer lines had, and a part of the next
+pub record LacksLine (before : LinesState) (number : ℕ) (left : Option (List ℕ)) (bytes : List ℕ) : Type 0 where
+  pub at : LinesState
+  pub fewer : at.count < number
+  pub part : NoLineFeed at.held
+  pub accounts : GoesOnAccounting before at left (Some bytes)
+
 -- the first of the lines that came yet was given, and the others come yet
 pub record GivesLine (before after : LinesState) (left left_after : Option (List ℕ)) (number : ℕ) (bytes : List ℕ) : Type 0 where
   pub line : lines_ahead before left ≡ option_map (λ later. line_then number bytes later) (lines_ahead after left_after)
@@ -154,10 +161,11 @@ pub record GivesEnd (before after : LinesState) (left left_after : Option (List 
   pub drained : IsAtEnd left_after
   pub held : after.held ≡ []
 
--- the lines that come yet are the same, and none of them is whole among the bytes held
+-- the lines that come yet are the same, and the bytes held are a part of the first of them, which isn't refused by what came of it
 pub record KeepsLines (before after : LinesState) (left left_after : Option (List ℕ)) : Type 0 where
   pub lines : lines_ahead after left_after ≡ lines_ahead before left
   pub part : NoLineFeed after.held
+  pub fits : length_refusal (after.count + 1) after.given (length after.held) false ≡ None
 
 -- what a refusal says of the lines that came yet
 abbrev pub RefusesLine : LinesState → LinesState → Option (List ℕ) → Option (List ℕ) → LineRefusal → Type 0

@@ -1,4 +1,4 @@
-ghost use Rattle.std.specs.Prelude.{◌≡◌, ℕ, ◌≤◌, ◌++◌, [], Ok, length, IfOk, OnOk, OnErr, MatchOption, IsErr};
+ghost use Rattle.std.specs.Prelude.{◌≡◌, ℕ, ◌≤◌, ◌++◌, [], Ok, Some, length, IfOk, IfSome, OnOk, OnErr, MatchOption, IsErr};
 ghost use Rattle.flow_edges.specs.declared.source.TheConstants.{MAX_READ};
 ghost use Rattle.flow_edges.specs.Faults.{Counted};
 ghost use Rattle.flow_edges.specs.Flow.{left_after, IsNextOf, IsAtEnd};
@@ -57,6 +57,7 @@ impl Chunk {
         ensures end { result ≡ Ok 0 → IsAtEnd (S.left source.old) }
         ensures empty { OnErr result (self.new ≡ []) }
         ensures err { OnErr result (S.left source.new ≡ S.left source.old) }
+        ensures began { IfSome (S.began source.new) (λ bytes. S.left source.old ≡ Some bytes) }
         ensures room { length self.new ≤ MAX_READ }
         ensures causes { Counted (IsErr result) (S.faults source.old) (S.faults source.new) }
     {

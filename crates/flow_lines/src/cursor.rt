@@ -1,6 +1,6 @@
-ghost use Rattle.std.specs.Prelude.{◌≡◌, ◌≢◌, ℕ, ◌≤◌, ◌++◌, [], true, false, Ok, Err, IfOk, IfErr, OnOk, MatchBool};
+ghost use Rattle.std.specs.Prelude.{◌≡◌, ◌≢◌, ℕ, ◌≤◌, ◌+◌, ◌++◌, [], true, false, Ok, Err, IfOk, IfErr, IfSome, OnOk, MatchBool};
 ghost use Rattle.flow_edges.specs.Faults.{Counted};
-ghost use Rattle.flow_lines.specs.Lines.{AnswersLine, GivesEnd, RefusesLine, HoldsLine, AccountsFor, LosesNone, StopsInLine, is_blank};
+ghost use Rattle.flow_lines.specs.Lines.{AnswersLine, GivesEnd, RefusesLine, HoldsLine, AccountsFor, LosesNone, StopsInLine, LacksLine, NoLineFeed, is_blank};
 ghost use Rattle.flow_lines.specs.inner.Reading.{IsBetweenLines, ReadsNext, lines_state};
 
 use crate::chunk::Chunk;
@@ -56,8 +56,13 @@ impl Cursor {
             (lines_state self.old.line.items self.old.chunk self.old.count self.old.given)
             (S.left source.old) (S.left source.new)) }
         ensures unread { HoldsLine self.old.chunk → source.new ≡ source.old }
+        ensures in_time { NoLineFeed self.old.chunk → IfOk result (λ _. IfSome (S.began source.new)
+            (LacksLine (lines_state self.old.line.items self.old.chunk self.old.count self.old.given) (self.old.count + 1) (S.left source.old))) }
         ensures held { IfOk result (λ found. found ≡ true
             → HoldsLine self.old.chunk → is_blank self.new.line.items ≡ true → HoldsLine self.new.chunk) }
+        ensures there { ¬ (NoLineFeed self.old.chunk) → result ≡ Ok true → (source.new ≡ source.old)
+            × (HoldsLine self.new.chunk → HoldsLine self.old.chunk) × (is_blank self.new.line.items ≡ false → HoldsLine self.old.chunk) }
+        ensures counts { result ≡ Ok true → self.new.count ≡ self.old.count + 1 }
         ensures causes { Counted (result ≡ Err LineRefusal.Fault) (S.faults source.old) (S.faults source.new) }
     {
         let start = LineStart {
@@ -92,6 +97,9 @@ impl Cursor {
             (lines_state self.old.line.items self.old.chunk self.old.count self.old.given)
             (S.left source.old) (S.left source.new)) }
         ensures unread { HoldsLine (self.old.line.items ++ self.old.chunk) → source.new ≡ source.old }
+        ensures in_time { ¬ (HoldsLine (self.old.line.items ++ self.old.chunk)) → IfOk result (λ found. IfSome found (λ line.
+            IfSome (S.began source.new) (LacksLine (lines_state self.old.line.items self.old.chunk self.old.count self.old.given)
+            line.number (S.left source.old)))) }
         ensures causes { Counted (result ≡ Err LineRefusal.Fault) (S.faults source.old) (S.faults source.new) }
     {
         'lines: loop {

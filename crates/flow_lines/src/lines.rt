@@ -38,7 +38,7 @@ impl Model for Lines {
 }
 
 impl Lines {
-    ghost use Rattle.flow_lines.specs.Lines.{lines_start, AnswersLine, LosesNone, StopsInLine, HoldsLine};
+    ghost use Rattle.flow_lines.specs.Lines.{lines_start, AnswersLine, LosesNone, StopsInLine, HoldsLine, LacksLine};
 
     /// A reader at the start of an input.
     pub fn new(alloc: Global) -> Result<Lines, NoMemory>
@@ -58,8 +58,8 @@ impl Lines {
     }
 
     /// The next line that isn't blank, or none at the end of the input. Reads only where the bytes
-    /// taken hold no whole line, and at a refusal no more than the longest line and one read beyond the
-    /// lines that went by. A refusal is answered again by each later call, without reading.
+    /// taken hold no whole line, so that the last read of a line began before the line was whole, and at a
+    /// refusal no more than the longest line and one read beyond the lines that went by. A refusal is answered again by each later call, without reading.
     pub fn next_line<S: Source>(&mut self, source: &mut S) -> Result<Option<Line>, LineRefusal>
         ensures lines { self.old.refusal ≡ None
             → AnswersLine self.old self.new (S.left source.old) (S.left source.new) result }
@@ -68,6 +68,8 @@ impl Lines {
         ensures stops { self.old.refusal ≡ None
             → IfErr result (StopsInLine self.old (S.left source.old) (S.left source.new)) }
         ensures unread { HoldsLine self.old.held → source.new ≡ source.old }
+        ensures in_time { self.old.refusal ≡ None → ¬ (HoldsLine self.old.held) → IfOk result (λ found. IfSome found (λ line.
+            IfSome (S.began source.new) (LacksLine self.old line.number (S.left source.old)))) }
         ensures refusal { self.new.refusal ≡ result_err result }
         ensures repeated { IfSome self.old.refusal (λ refusal.
             (result ≡ Err refusal) × (self.new ≡ self.old) × (source.new ≡ source.old)) }

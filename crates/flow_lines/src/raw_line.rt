@@ -2,7 +2,7 @@ ghost use Rattle.std.specs.Prelude.{◌≡◌, ◌≢◌, ℕ, ◌≤◌, [], �
 ghost use Rattle.flow_edges.specs.declared.source.TheConstants.{MAX_READ};
 ghost use Rattle.flow_edges.specs.Faults.{Counted};
 ghost use Rattle.flow_lines.specs.Lines.{NoLineFeed, length_refusal, IsOfLine};
-ghost use Rattle.flow_lines.specs.inner.Reading.{bytes_ahead, ReadsToLineFeed, ReadsLast, ReadsPart, TakesPart, IsHeld, IsFirstRefused, IsForLength};
+ghost use Rattle.flow_lines.specs.inner.Reading.{bytes_ahead, ReadsToLineFeed, ReadsLast, ReadsPart, TakesPart, IsHeld, IsFirstRefused, IsForLength, IsWithinLine};
 
 use crate::chunk::Chunk;
 use crate::refusal::{LineRefusal, MAX_INPUT, MAX_LINE};
@@ -48,12 +48,13 @@ pub fn read_line<S: Source>(
     ensures refused { IfErr result (λ refusal. IsForLength refusal
         → IfSome (bytes_ahead [] chunk.old (S.left source.old)) (IsFirstRefused start.number start.place refusal)) }
     ensures fault { result ≡ Err LineRefusal.Fault
-        → ReadsPart (bytes_ahead [] chunk.old (S.left source.old)) (S.left source.new) line.new.items chunk.new }
+        → ReadsPart start.number start.place (bytes_ahead [] chunk.old (S.left source.old)) (S.left source.new) line.new.items chunk.new }
     ensures number { IfErr result (IsOfLine start.number) }
     ensures stops { OnErr result (TakesPart (bytes_ahead [] chunk.old (S.left source.old)) (S.left source.new)) }
     ensures causes { Counted (result ≡ Err LineRefusal.Fault) (S.faults source.old) (S.faults source.new) }
     ensures small { length chunk.new ≤ MAX_READ }
     ensures unread { ¬ (NoLineFeed chunk.old) → source.new ≡ source.old }
+    ensures in_time { NoLineFeed chunk.old → IfOk result (λ _. IfSome (S.began source.new) (IsWithinLine (bytes_ahead [] chunk.old (S.left source.old)))) }
     ensures held { IfOk result (λ closed. ¬ (NoLineFeed chunk.old) → IsHeld chunk.old chunk.new line.new.items closed) }
 {
     'reads: loop {

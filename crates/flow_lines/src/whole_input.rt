@@ -1,7 +1,7 @@
 ghost use Rattle.std.specs.Prelude.{◌≡◌, ◌≢◌, ◌≤◌, ◌+◌, Err, IfOk};
 ghost use Rattle.flow_edges.specs.declared.source.TheConstants.{MAX_READ};
 ghost use Rattle.flow_edges.specs.Faults.{Counted};
-ghost use Rattle.flow_edges.specs.Flow.{TakesAtMost};
+ghost use Rattle.flow_edges.specs.Flow.{TakesAtMost, IsAtEnd};
 ghost use Rattle.flow_lines.specs.WholeInput.{IsWhole, IsTooLong};
 
 use crate::chunk::Chunk;
@@ -47,10 +47,11 @@ impl From<NoMemory> for InputRefusal {
     }
 }
 
-/// All bytes of an input that has at most `MAX_WHOLE_INPUT` of them. However it answers, it takes no
-/// more than these and one read.
+/// All bytes of an input that has at most `MAX_WHOLE_INPUT` of them: the last read found nothing more.
+/// However it answers, it takes no more than these and one read.
 pub fn read_whole<S: Source>(alloc: Global, source: &mut S) -> Result<Items<u8>, InputRefusal>
     ensures whole { IfOk result (λ bytes. IsWhole bytes (S.left source.old) (S.left source.new)) }
+    ensures to_end { IfOk result (λ _. IsAtEnd (S.began source.new)) }
     ensures too_long { result ≡ Err InputRefusal.TooLong → IsTooLong (S.left source.old) }
     ensures taken { TakesAtMost (MAX_WHOLE_INPUT + MAX_READ) (S.left source.old) (S.left source.new) }
     ensures causes { Counted (result ≡ Err InputRefusal.Fault) (S.faults source.old) (S.faults source.new) }

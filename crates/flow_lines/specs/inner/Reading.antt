@@ -2,7 +2,7 @@
 use Rattle.std.specs.Prelude.{Bool, true, ◌≡◌, ◌<◌, ◌≤◌, ⊤, ℕ, ◌+◌, length, List, [], ◌∷◌, ◌++◌, true, false, Option, Some, None, option_map}
 use Rattle.flow_edges.specs.declared.source.TheConstants.{MAX_READ}
 use Rattle.flow_lines.specs.declared.refusal.TheConstants.{MAX_LINE, MAX_INPUT}
-use Rattle.flow_lines.specs.Lines.{NoLineFeed, RawLine, raw_lines, refusal_of, LinesState, unless_blank, lines_ahead}
+use Rattle.flow_lines.specs.Lines.{NoLineFeed, RawLine, raw_lines, length_refusal, refusal_of, LinesState, unless_blank, lines_ahead}
 use Rattle.flow_lines.specs.declared.refusal.LineRefusal.{LineRefusal}
 use Rattle.flow_lines.specs.declared.refusal.LineRefusal.TheVariants.{Fault, LineTooLong, InputTooLong, NoMemory}
 use Rattle.flow_edges.specs.Flow.{IsAtEnd}
@@ -43,9 +43,14 @@ pub record IsHeld (chunk_old chunk_new line : List ℕ) (closed : Bool) : Type 0
   pub whole : closed ≡ true
   pub cut : chunk_old ≡ line ++ 10 ∷ chunk_new
 
--- the source failed: no byte is lost, and there is no whole line among those taken
-pub record ReadsPart (all left : Option (List ℕ)) (line chunk : List ℕ) : Type 0 where
+-- of all bytes these were left when what was taken held no whole line
+abbrev pub IsWithinLine : Option (List ℕ) → List ℕ → Type 0
+IsWithinLine all bytes = (taken : List ℕ) × NoLineFeed taken × (all ≡ Some (taken ++ bytes))
+
+-- the source failed: no byte is lost, and there is no whole line among those taken, which aren't refused
+pub record ReadsPart (number place : ℕ) (all left : Option (List ℕ)) (line chunk : List ℕ) : Type 0 where
   pub plain : NoLineFeed line
+  pub fits : length_refusal number place (length line) false ≡ None
   pub bytes : all ≡ bytes_ahead line [] left
   pub drained : chunk ≡ []
 

@@ -1,6 +1,7 @@
-use Rattle.std.proofs.Common.{◌≡◌, ◌∙◌, refl, sym, ap, arith, length, rules}
+use Rattle.std.proofs.Common.{◌≡◌, inr, ◌∙◌, refl, sym, ap, arith, length, rules}
 use Rattle.flow_lines.specs.Lines.{length_refusal}
 use Rattle.flow_lines.proofs.RawLinesLemmas.{refused-step, taken-closed, length_refusal-short, length_refusal-number, bytes_ahead-all, bytes_ahead-filled, plain-all, takes-part, on_err}
+use Rattle.flow_lines.proofs.LastReadLemmas.{within_line}
 use Rattle.flow_lines.proofs.raw_line.read_line.Goals as goal
 
 pub returns-in-Some-clause-refused : goal.returns-in-Some-clause-refused
@@ -25,8 +26,14 @@ reads-preserved g c =
       within = grind arith;
       room = c.fill.ensures.room;
       held = search rules;
+      in_time = inr (within_line _ _ _ _ (plain-all _ _ _ _ c.reads.invariant.plain takes) (bytes_ahead-all _ _ _ _ _ _ c.reads.invariant.bytes takes) c.in-Ok.ensures.began);
       quiet = search rules;
     }
 
 pub returns-in-Some-clause-number : goal.returns-in-Some-clause-number
 returns-in-Some-clause-number g c = length_refusal-number c.args.start.number c.args.start.place c.len.result c.is_none-closed.result c.in-Some.refusal (sym c.in-Some.ensures)
+
+pub returns-in-Ok-eq0-clause-in_time : goal.returns-in-Ok-eq0-clause-in_time
+returns-in-Ok-eq0-clause-in_time g c plain =
+    let takes = rw c.in-Some-due.is at c.in_ok-due.ensures.taken in
+    within_line _ _ _ _ (plain-all _ _ _ _ c.reads.invariant.plain takes) (bytes_ahead-all _ _ _ _ _ _ c.reads.invariant.bytes takes) c.in-Ok-eq0.ensures.began

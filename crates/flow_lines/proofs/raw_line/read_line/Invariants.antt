@@ -1,7 +1,7 @@
-use Rattle.std.proofs.Common.{◌≡◌, ◌≤◌, ◌+◌, ◌-◌, [], length}
+use Rattle.std.proofs.Common.{◌≡◌, ◌⊎◌, IfSome, ◌≤◌, ◌+◌, ◌-◌, [], length}
 use Rattle.flow_edges.specs.declared.source.TheConstants.{MAX_READ}
 use Rattle.flow_lines.specs.declared.refusal.TheConstants.{MAX_LINE, MAX_INPUT}
-use Rattle.flow_lines.specs.inner.Reading.{bytes_ahead}
+use Rattle.flow_lines.specs.inner.Reading.{bytes_ahead, IsWithinLine}
 use Rattle.flow_lines.specs.Lines.{NoLineFeed}
 use Rattle.flow_lines.proofs.raw_line.read_line.Given as goal
 
@@ -13,6 +13,7 @@ invariant-reads g l = record {
   within : l.start.place + length l.line.items ≤ MAX_INPUT;
   room : length l.chunk ≤ MAX_READ;
   held : ¬ (NoLineFeed l.fn.chunk) → (l.source ≡ l.fn.source) × (l.chunk ≡ l.fn.chunk) × (l.line.items ≡ []);
+  in_time : ((l.source ≡ l.fn.source) × (l.chunk ≡ l.fn.chunk)) ⊎ IfSome (g.S.Source.began l.source) (IsWithinLine (bytes_ahead [] l.fn.chunk (g.S.Source.left l.fn.source)));
   quiet : g.S.Source.faults l.source ≡ g.S.Source.faults l.fn.source;
 }
 

@@ -1,7 +1,8 @@
-use Rattle.std.proofs.Common.{rules, ap, Ok, Err, IfErr, sym, ◌∙◌, arith}
+use Rattle.std.proofs.Common.{rules, ◌++◌, inl, refl, ap, Ok, Err, IfErr, sym, ◌∙◌, arith}
 use Rattle.flow_lines.specs.Lines.{is_blank, StopsInLine}
 use Rattle.flow_lines.specs.inner.Reading.{lines_state}
-use Rattle.flow_lines.proofs.AccountsForLemmas.{accounts-then, goes_on, accounts-emptied, loses-passed_on, passed_on, stops-then}
+use Rattle.flow_lines.proofs.AccountsForLemmas.{accounts-start, accounts-then, goes_on, accounts-emptied, loses-passed_on, passed_on, stops-then}
+use Rattle.flow_lines.proofs.LastReadLemmas.{still_in_time, given_in_time}
 use Rattle.flow_lines.proofs.cursor.Cursor.next_line.Goals as goal
 
 pub returns-in_err-read_next-clause-accounted : goal.returns-in_err-read_next-clause-accounted
@@ -21,6 +22,17 @@ pub returns-then-not-is_blank_line-clause-accounted : goal.returns-then-not-is_b
 returns-then-not-is_blank_line-clause-accounted g c =
     goes_on _ _ _ _ _ _ c.lines.invariant.accounted (accounts-emptied _ _ _ _ _ _ _ (ap (λ v. v.items) c.replace-bytes.ensures.after ∙ c.new.ensures.items) c.in_ok-read_next.ensures.accounted)
 
+pub lines-init : goal.lines-init
+lines-init g c = record {
+  between = c.requires;
+  ahead = refl;
+  accounted = accounts-start _ _;
+  held = λ holds. (refl, rw c.requires.empty at holds);
+  in_time = inl (refl, λ holds. rw c.requires.empty holds);
+  moved = omega arith;
+  quiet = refl;
+}
+
 pub lines-preserved : goal.lines-preserved
 lines-preserved g c =
     let next = rw c.if-not-branch.false at c.in_ok-read_next.ensures.next in
@@ -32,6 +44,10 @@ lines-preserved g c =
         c.read_next.ensures.unread (c.lines.invariant.held holds).1 ∙ (c.lines.invariant.held holds).0,
         c.in_ok-read_next.ensures.held c.if-not-branch.false (c.lines.invariant.held holds).1 (ap is_blank (sym c.deref.ensures.value) ∙ sym c.if-not-is_blank_line.ensures),
       );
+      in_time = still_in_time g.S.Source.began c.args.source.now c.lines.source c.read_next.new.source
+          (c.args.self.now.line.items ++ c.args.self.now.chunk) c.lines.self.line.items c.lines.self.chunk c.read_next.new.self.chunk c.read_next.new.self.line.items _ _ _ _ _ _
+          c.lines.invariant.in_time c.lines.invariant.accounted c.in_ok-read_next.ensures.in_time
+          (λ feed. c.in_ok-read_next.ensures.there feed (ap Ok c.if-not-branch.false)) (c.in_ok-read_next.ensures.counts (ap Ok c.if-not-branch.false));
       moved = omega (arith, next.moved);
       quiet = c.in_ok-read_next.ensures.causes.quiet (λ failed. cc failed) ∙ c.lines.invariant.quiet;
     }
@@ -44,3 +60,11 @@ returns-in_err-read_next-clause-stops g c =
     (stops-then _
     (lines_state c.lines.self.line.items c.lines.self.chunk c.lines.self.count c.lines.self.given)
     _ _ _ _ c.lines.invariant.accounted c.lines.invariant.ahead c.in_err-read_next.ensures.stops)
+
+pub returns-then-not-is_blank_line-clause-in_time : goal.returns-then-not-is_blank_line-clause-in_time
+returns-then-not-is_blank_line-clause-in_time g c unheld =
+    given_in_time g.S.Source.began c.args.source.now c.lines.source c.read_next.new.source
+    (c.args.self.now.line.items ++ c.args.self.now.chunk) c.lines.self.line.items c.lines.self.chunk c.read_next.new.self.chunk c.read_next.new.self.line.items _ _ _ _ _ _
+    c.lines.invariant.in_time c.lines.invariant.accounted c.in_ok-read_next.ensures.in_time
+    (λ feed. c.in_ok-read_next.ensures.there feed (ap Ok c.if-not-branch.false)) (c.in_ok-read_next.ensures.counts (ap Ok c.if-not-branch.false))
+    (ap is_blank (sym c.deref.ensures.value) ∙ sym c.if-not-is_blank_line.ensures) unheld

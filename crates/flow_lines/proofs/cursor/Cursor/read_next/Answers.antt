@@ -4,6 +4,7 @@ use Rattle.flow_lines.specs.inner.Reading.{lines_state}
 use Rattle.flow_lines.proofs.LinesAheadLemmas.{reads-next}
 use Rattle.flow_lines.proofs.AccountsForLemmas.{accounts-read, accounts-none, accounts-part, one_error, passed_on, stops-part}
 use Rattle.flow_lines.proofs.HoldsLineLemmas.{holds_line-feed, holds_line-later, reads-plain}
+use Rattle.flow_lines.proofs.LastReadLemmas.{lacks_next, holds_behind, holds_this}
 use Rattle.flow_lines.proofs.cursor.Cursor.read_next.Goals as goal
 
 pub returns-clause-next : goal.returns-clause-next
@@ -37,7 +38,7 @@ returns-clause-held g c found holds blank =
 
 pub returns-in_err-closed-clause-kept : goal.returns-in_err-closed-clause-kept
 returns-in_err-closed-clause-kept g c failed =
-    rw c.requires.empty (accounts-part _ _ _ _ _ _ _ (c.in_err-closed.ensures.fault (ap Err (one_error c.from_residual.result _ _ c.from_residual.ensures.1 failed))))
+    rw c.requires.empty (accounts-part _ _ _ _ _ _ _ _ _ (c.in_err-closed.ensures.fault (ap Err (one_error c.from_residual.result _ _ c.from_residual.ensures.1 failed))))
 
 pub returns-in_err-closed-clause-stops : goal.returns-in_err-closed-clause-stops
 returns-in_err-closed-clause-stops g c =
@@ -46,3 +47,18 @@ returns-in_err-closed-clause-stops g c =
     c.from_residual.result c.in_err-closed.field-0.0 c.from_residual.ensures.1
     (rw c.requires.empty (stops-part c.args.self.now.chunk c.args.self.now.count c.args.self.now.given
     (g.S.Source.left c.args.source.now) (g.S.Source.left c.read_line.new.source) c.in_err-closed.field-0.0 c.in_err-closed.ensures.stops c.in_err-closed.ensures.number))
+
+pub returns-clause-in_time : goal.returns-clause-in_time
+returns-clause-in_time g c plain = rw c.requires.empty (lacks_next _ _ _ _ _ (c.in_ok-closed.ensures.in_time plain))
+
+pub returns-then-width-eq0-clause-in_time : goal.returns-then-width-eq0-clause-in_time
+returns-then-width-eq0-clause-in_time g c plain = rw c.requires.empty (lacks_next _ _ _ _ _ (c.in_ok-closed.ensures.in_time plain))
+
+pub returns-clause-there : goal.returns-clause-there
+returns-clause-there g c feed read =
+    let line = reads-plain _ _ _ _ _ _ _ c.in_ok-closed.ensures.line in
+    let held = c.in_ok-closed.ensures.held feed in (
+      c.read_line.ensures.unread feed,
+      holds_behind _ _ _ _ line held,
+      holds_this _ _ _ _ _ line held c.strip_return.ensures,
+    )
