@@ -43,12 +43,16 @@ pub record IsVerdictOn (before after : Streams) (found : Verdict) : Type 0 where
   pub whole : IsWhole bytes before.left after.left
   pub judged : IsJudged bytes found
 
+-- no more is taken of the input than it may have, and one read
+abbrev pub TakesNoMore : Streams → Streams → Type 0
+TakesNoMore before after = TakesAtMost (MAX_WHOLE_INPUT + MAX_READ) before.left after.left
+
 abbrev pub EndsCheck : Streams → Streams → CheckEnding → Type 0
 EndsCheck before after (Judged found) = IsVerdictOn before after found × (after.written ≡ written_with (verdict_text found) before.written)
-EndsCheck before after TooLong = IsTooLong before.left × TakesAtMost (MAX_WHOLE_INPUT + MAX_READ) before.left after.left × (after.written ≡ before.written)
-EndsCheck before after ReadFault = after.written ≡ before.written
+EndsCheck before after TooLong = IsTooLong before.left × TakesNoMore before after × (after.written ≡ before.written)
+EndsCheck before after ReadFault = TakesNoMore before after × (after.written ≡ before.written)
 EndsCheck before after WriteFault = (found : Verdict) × IsVerdictOn before after found × WritesPrefix (verdict_text found) before.written after.written
-EndsCheck before after NoMemory = after.written ≡ before.written
+EndsCheck before after NoMemory = TakesNoMore before after × (after.written ≡ before.written)
 
 abbrev pub check_status : CheckEnding → ℕ
 check_status (Judged (verdict.Sound count)) = 0

@@ -67,7 +67,7 @@ impl CheckEnding {
 /// The command `check`: writes the breaks of a bundle's objects, else those of their versions and
 /// granular markings, else how many objects are sound.
 pub fn check<I: Source, O: Sink>(alloc: Global, input: &mut I, output: &mut O) -> CheckEnding
-    ensures end { EndsCheck (streams (I.left input.old) (O.written output.old)) (streams (I.left input.new) (O.written output.new)) result }
+    ensures end { EndsCheck (streams (I.left input.old) (I.began input.old) (O.written output.old)) (streams (I.left input.new) (I.began input.new) (O.written output.new)) result }
     ensures input { Counted (check_status result ≡ 5) (I.faults input.old) (I.faults input.new) }
     ensures output { Counted (check_status result ≡ 6) (O.faults output.old) (O.faults output.new) }
 {

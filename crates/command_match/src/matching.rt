@@ -81,8 +81,8 @@ fn match_pattern<I: Source, O: Sink>(
     output: &mut O,
 ) -> MatchEnding
     requires { IsReadAs request.pattern.now pattern.now }
-    ensures end { EndsMatch (request_of request.entry) (streams (I.left input.old) (O.written output.old))
-        (streams (I.left input.new) (O.written output.new)) result }
+    ensures end { EndsMatch (request_of request.entry) (streams (I.left input.old) (I.began input.old) (O.written output.old))
+        (streams (I.left input.new) (I.began input.new) (O.written output.new)) result }
     ensures read { match_status result ≢ 3 }
     ensures input { Counted (match_status result ≡ 5) (I.faults input.old) (I.faults input.new) }
     ensures output { Counted (match_status result ≡ 6) (O.faults output.old) (O.faults output.new) }
@@ -112,8 +112,8 @@ pub fn match_bindings<I: Source, O: Sink>(
     input: &mut I,
     output: &mut O,
 ) -> MatchEnding
-    ensures end { EndsMatch (request_of request.entry) (streams (I.left input.old) (O.written output.old))
-        (streams (I.left input.new) (O.written output.new)) result }
+    ensures end { EndsMatch (request_of request.entry) (streams (I.left input.old) (I.began input.old) (O.written output.old))
+        (streams (I.left input.new) (I.began input.new) (O.written output.new)) result }
     ensures untouched { match_status result ≡ 3 → (input.new ≡ input.old) × (output.new ≡ output.old) }
     ensures input { Counted (match_status result ≡ 5) (I.faults input.old) (I.faults input.new) }
     ensures output { Counted (match_status result ≡ 6) (O.faults output.old) (O.faults output.new) }

@@ -58,7 +58,8 @@ impl ShowEnding {
 
 /// The command `show`: writes the canonical text of a pattern and a line feed.
 pub fn show<O: Sink>(alloc: Global, pattern: &str, output: &mut O) -> ShowEnding
-    ensures end { (left : Option (List ℕ)) → EndsShow pattern.now (streams left (O.written output.old)) (streams left (O.written output.new)) result }
+    ensures end { (left began : Option (List ℕ)) → EndsShow pattern.now (streams left began (O.written output.old))
+        (streams left began (O.written output.new)) result }
     ensures untouched { show_status result ≡ 3 → output.new ≡ output.old }
     ensures output { Counted (show_status result ≡ 6) (O.faults output.old) (O.faults output.new) }
 {

@@ -1,8 +1,8 @@
 -- Where a reader of bundles stands, and what its answers say of the lines that come yet.
-use Rattle.std.specs.Prelude.{◌≡◌, ⊤, ℕ, ◌+◌, ◌<◌, ◌≤◌, ℤ, List, length, Result, Ok, Err, Option, Some, None, option_map, IfSome}
+use Rattle.std.specs.Prelude.{◌≡◌, ⊤, ℕ, ◌+◌, ◌<◌, ◌≤◌, ℤ, List, [], length, Result, Ok, Err, Option, Some, None, option_map, IfSome}
 use Rattle.flow_edges.specs.declared.source.TheConstants.{MAX_READ}
 use Rattle.flow_edges.specs.Flow.{IsAtEnd, TakesAtMost}
-use Rattle.flow_lines.specs.Lines.{Lined, ended, line_then, LinesState, lines_start, lines_ahead, GoesOnAccounting, KeepsLines, HoldsLine}
+use Rattle.flow_lines.specs.Lines.{Lined, ended, line_then, LinesState, lines_start, lines_ahead, GoesOnAccounting, KeepsLines, HoldsLine, LacksLine}
 use Rattle.flow_lines.specs.declared.refusal.TheConstants.{MAX_LINE, MAX_INPUT}
 use Rattle.flow_lines.specs.declared.whole_input.TheConstants.{MAX_WHOLE_INPUT}
 use Rattle.stix_bundles.specs.Objects.{data_in}
@@ -53,6 +53,12 @@ ahead Ended left = option_map (λ bytes. ended) left
 abbrev pub HoldsLines : Stage → Type 0
 HoldsLines (Lines lines) = HoldsLine lines.held
 HoldsLines _ = ⊥
+
+-- when these bytes were left, the line of that number hadn't come whole; of an input that is read whole, nothing was left any more
+abbrev pub LacksLineIn : Stage → ℕ → Option (List ℕ) → List ℕ → Type 0
+LacksLineIn (Lines before) number left bytes = LacksLine before number left bytes
+LacksLineIn Whole number left bytes = bytes ≡ []
+LacksLineIn _ number left bytes = ⊥
 
 -- the line of that number went by: no byte is lost, and few bytes are taken and not yet given; an input that is read whole
 -- is then at its end

@@ -1,7 +1,7 @@
-ghost use Rattle.std.specs.Prelude.{◌≡◌, ◌≢◌, ◌+◌, ◌≤◌, ◌<◌, ◌^◌, None, Ok, Err, OnOk, length};
+ghost use Rattle.std.specs.Prelude.{◌≡◌, ◌≢◌, ◌+◌, ◌≤◌, ◌<◌, ◌^◌, None, Ok, Err, IfOk, IfSome, OnOk, length};
 ghost use Rattle.flow_edges.specs.Faults.{Counted};
 ghost use Rattle.match_input.specs.Line.{last_after};
-ghost use Rattle.match_input.specs.Ahead.{IsOpen, HoldsLines, AnswersNext};
+ghost use Rattle.match_input.specs.Ahead.{IsOpen, HoldsLines, LacksLineIn, AnswersNext};
 ghost use Rattle.match_input.specs.inner.Turn.{state_of, AreFew};
 
 use crate::bundle_line::{BundleLine, last_time, read_line};
@@ -29,6 +29,8 @@ impl Progress {
             → AnswersNext (state_of self.old) (state_of self.new) (S.left source.old) (S.left source.new) result }
         ensures few { OnOk result (AreFew self.new.stage self.new.observations) }
         ensures unread { HoldsLines self.old.stage → source.new ≡ source.old }
+        ensures in_time { IsOpen self.old.stage → ¬ (HoldsLines self.old.stage) → IfOk result (λ found. IfSome found (λ batch.
+            IfSome (S.began source.new) (LacksLineIn self.old.stage batch.line (S.left source.old)))) }
         ensures at_end { self.old.stage ≡ Stage.AtEnd → (result ≡ Ok None) × (state_of self.new ≡ state_of self.old) × (source.new ≡ source.old) }
         ensures ended { self.old.stage ≡ Stage.Ended
             → (result ≡ Err ReadEnd.Ended) × (state_of self.new ≡ state_of self.old) × (source.new ≡ source.old) }

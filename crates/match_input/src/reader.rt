@@ -1,6 +1,6 @@
-ghost use Rattle.std.specs.Prelude.{◌≡◌, ◌≢◌, ◌≤◌, Err, Ok, None, IfOk, IfErr};
+ghost use Rattle.std.specs.Prelude.{◌≡◌, ◌≢◌, ◌≤◌, Err, Ok, None, IfOk, IfErr, IfSome};
 ghost use Rattle.flow_edges.specs.Faults.{Counted};
-ghost use Rattle.match_input.specs.Ahead.{reader_start, IsOpen, HoldsLines, AnswersNext};
+ghost use Rattle.match_input.specs.Ahead.{reader_start, IsOpen, HoldsLines, LacksLineIn, AnswersNext};
 
 use crate::progress::Progress;
 use crate::{Batch, Mode, ReadEnd, Stage};
@@ -48,12 +48,14 @@ impl Reader {
     }
 
     /// The next bundle, with its observations; none at the end of the input, and at each later call. Reads
-    /// only where the bytes taken hold no whole line. After a `ReadEnd` each later call answers `Ended`,
+    /// only where the bytes taken hold no whole line, so that the last read began before the bundle's line was whole. After a `ReadEnd` each later call answers `Ended`,
     /// without reading.
     pub fn next<S: Source>(&mut self, source: &mut S) -> Result<Option<Batch>, ReadEnd>
         ensures next { IsOpen self.old.stage
             → AnswersNext self.old self.new (S.left source.old) (S.left source.new) result }
         ensures unread { HoldsLines self.old.stage → source.new ≡ source.old }
+        ensures in_time { IsOpen self.old.stage → ¬ (HoldsLines self.old.stage) → IfOk result (λ found. IfSome found (λ batch.
+            IfSome (S.began source.new) (LacksLineIn self.old.stage batch.line (S.left source.old)))) }
         ensures at_end { self.old.stage ≡ Stage.AtEnd → (result ≡ Ok None) × (self.new ≡ self.old) × (source.new ≡ source.old) }
         ensures ended { self.old.stage ≡ Stage.Ended
             → (result ≡ Err ReadEnd.Ended) × (self.new ≡ self.old) × (source.new ≡ source.old) }

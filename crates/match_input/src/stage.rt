@@ -1,6 +1,7 @@
-ghost use Rattle.std.specs.Prelude.{◌≡◌, ◌≢◌, ◌≤◌, Err, Ok, None};
+ghost use Rattle.std.specs.Prelude.{◌≡◌, ◌≢◌, ◌≤◌, Err, Ok, None, IfOk, IfSome};
 ghost use Rattle.flow_edges.specs.Faults.{Counted};
-ghost use Rattle.match_input.specs.Ahead.{IsOpen, HoldsLines};
+ghost use Rattle.flow_edges.specs.Flow.{IsAtEnd};
+ghost use Rattle.match_input.specs.Ahead.{IsOpen, HoldsLines, LacksLineIn};
 ghost use Rattle.match_input.specs.inner.Turn.{AnswersTurn};
 
 use crate::{InputRule, ReadEnd};
@@ -31,6 +32,8 @@ impl Stage {
     ) -> Result<Option<Line>, ReadEnd>
         ensures lines { IsOpen self.old → AnswersTurn self.old self.new (S.left source.old) (S.left source.new) result }
         ensures unread { HoldsLines self.old → source.new ≡ source.old }
+        ensures in_time { IsOpen self.old → ¬ (HoldsLines self.old) → IfOk result (λ found. IfSome found (λ line.
+            IfSome (S.began source.new) (LacksLineIn self.old line.number (S.left source.old)))) }
         ensures at_end { self.old ≡ Stage.AtEnd → (result ≡ Ok None) × (self.new ≡ self.old) × (source.new ≡ source.old) }
         ensures ended { self.old ≡ Stage.Ended → (result ≡ Err ReadEnd.Ended) × (self.new ≡ self.old) × (source.new ≡ source.old) }
         ensures causes { Counted (IsOpen self.old × (result ≡ Err ReadEnd.ReadFault)) (S.faults source.old) (S.faults source.new) }
@@ -54,6 +57,7 @@ impl Stage {
 /// The whole input as line 1.
 fn whole_line<S: Source>(alloc: Global, source: &mut S) -> Result<Option<Line>, ReadEnd>
     ensures lines { AnswersTurn Stage.Whole Stage.AtEnd (S.left source.old) (S.left source.new) result }
+    ensures to_end { IfOk result (λ _. IsAtEnd (S.began source.new)) }
     ensures causes { Counted (result ≡ Err ReadEnd.ReadFault) (S.faults source.old) (S.faults source.new) }
 {
     let bytes = read_whole(alloc, source)?;

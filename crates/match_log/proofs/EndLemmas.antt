@@ -30,24 +30,22 @@ may_end (refusal.Stopped (ending.OutOfOrder before time)) state now runs order f
 may_end (refusal.Stopped ending.NoMemory) state now runs order fallen ended = tt
 may_end (refusal.Ended e) state now runs order fallen ended = let some = ended e refl in cc
 
-pub ends_row : (objects : List Data) (o : Observation) (log : List LogEntry) (state after : MatcherState) (text : List ℕ)
+pub ends_row : (objects : List Data) (o : Observation) (log : List LogEntry) (state after : MatcherState)
     (truths : List Bool) (why : MatchRefusal) → AreTruths objects o.roots (plain_pattern state.pattern) truths
     → ((number named : ℕ) → Answers why (refusal.Stopped (ending.Crowded number named)) → IsCrowdedAtRow state (log ++ row_of o truths ∷ []) number named)
     → ((e : Ending) → Answers why (refusal.Stopped e) → (state.ended ≡ None) × (after.ended ≡ Some e))
-    → EndsAtRow state.pattern state.cap objects o log after text text (end_of_match why)
-ends_row objects o log state after text truths (refusal.Stopped (ending.Crowded number named)) are crowded stopped =
+    → EndsAtRow state.pattern state.cap objects o log after (end_of_match why)
+ends_row objects o log state after truths (refusal.Stopped (ending.Crowded number named)) are crowded stopped =
     let is = crowded number named refl in
-    let end = stopped (ending.Crowded number named) refl in (
-      record {
-        truths = truths;
-        are = are;
-        numbered = omega (arith, is.numbered, length-append log (row_of o truths ∷ []));
-        cap_is = is.cap_is;
-        crowded = subst (λ (n : ℕ). IsCrowded (numbered_pattern state.pattern) (log ++ row_of o truths ∷ []) n) is.cap_is is.crowded;
-        ended = subst (λ (n : ℕ). after.ended ≡ Some (ending.Crowded number n)) is.cap_is end.1;
-      },
-      refl,
-    )
-ends_row objects o log state after text truths (refusal.Stopped (ending.OutOfOrder before time)) are crowded stopped = tt
-ends_row objects o log state after text truths (refusal.Stopped ending.NoMemory) are crowded stopped = tt
-ends_row objects o log state after text truths (refusal.Ended e) are crowded stopped = tt
+    let end = stopped (ending.Crowded number named) refl in
+    record {
+      truths = truths;
+      are = are;
+      numbered = omega (arith, is.numbered, length-append log (row_of o truths ∷ []));
+      cap_is = is.cap_is;
+      crowded = subst (λ (n : ℕ). IsCrowded (numbered_pattern state.pattern) (log ++ row_of o truths ∷ []) n) is.cap_is is.crowded;
+      ended = subst (λ (n : ℕ). after.ended ≡ Some (ending.Crowded number n)) is.cap_is end.1;
+    }
+ends_row objects o log state after truths (refusal.Stopped (ending.OutOfOrder before time)) are crowded stopped = tt
+ends_row objects o log state after truths (refusal.Stopped ending.NoMemory) are crowded stopped = tt
+ends_row objects o log state after truths (refusal.Ended e) are crowded stopped = tt

@@ -5,3 +5,5 @@ pub mod FollowLemmas
 pub mod StageLemmas
 pub mod ReadLemmas
 pub mod RunsLemmas
+pub mod PendingLemmas
+pub mod OneLogLemmas

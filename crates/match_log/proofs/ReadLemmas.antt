@@ -2,6 +2,9 @@
 use Rattle.std.proofs.Common.{◌≡◌, ℕ, ◌+◌, ℤ, List, [], ◌∷◌, ◌++◌, length, Option, None, Some, option_map, IfSome, refl, sym, ap, subst, ◌∙◌, append_assoc, arith}
 use Rattle.std.proofs.lemmas.List.{append-nil}
 use Rattle.serde_json.specs.Data.{Data}
+use Rattle.flow_edges.specs.declared.source.TheConstants.{MAX_READ}
+use Rattle.flow_edges.specs.Flow.{TakesAtMost}
+use Rattle.flow_lines.specs.declared.whole_input.TheConstants.{MAX_WHOLE_INPUT}
 use Rattle.flow_lines.specs.Lines.{Lined, ended, line_then, lines_start}
 use Rattle.stix_bundles.specs.Objects.{data_in}
 use Rattle.stix_bundles.specs.declared.observation.Observation.{Observation}
@@ -29,12 +32,12 @@ GoesOn = (last : Option ℤ) (next number : ℕ) (bytes : List ℕ) (later : Lin
 -- ---- the start
 
 pub read-start : (mode : Mode) (left : Option (List ℕ)) → HasRead mode left (reader_start mode) left []
-read-start Lines None = record { forward = λ more end h. tt; backward = λ all end h. tt; told = tt; stage = (refl, start_accounts None, omega arith) }
+read-start Lines None = record { forward = λ more end h. tt; backward = λ all end h. tt; told = tt; stage = (refl, start_accounts lines_start None, omega arith) }
 read-start Lines (Some bytes) = record {
   forward = λ more end h. h;
   backward = λ all end h. (all, refl, h);
   told = (bytes, refl);
-  stage = (refl, start_accounts (Some bytes), omega arith);
+  stage = (refl, start_accounts lines_start (Some bytes), omega arith);
 }
 read-start WholeInput None = record { forward = λ more end h. tt; backward = λ all end h. tt; told = tt; stage = (refl, refl) }
 read-start WholeInput (Some bytes) = record {
@@ -151,6 +154,7 @@ pub has_taken : (mode : Mode) (first left left_after : Option (List ℕ)) (st : 
 has_taken Lines first left left_after (stage.Lines lines) last next bundles forward s broken = record {
   at = broken.at;
   part = broken.keeps.part;
+  fits = broken.keeps.fits;
   accounts = broken.accounts lines_start first s.1;
   last = last;
   next = next;
@@ -160,6 +164,7 @@ has_taken Lines first left left_after stage.Whole last next bundles forward s br
 has_taken Lines first left left_after stage.AtEnd last next bundles forward s broken = absurd s
 has_taken Lines first left left_after stage.Ended last next bundles forward s broken = absurd s
 has_taken WholeInput first left left_after (stage.Lines lines) last next bundles forward s broken = absurd s
-has_taken WholeInput first left left_after stage.Whole last next bundles forward s broken = s.1
+has_taken WholeInput first left left_after stage.Whole last next bundles forward s broken =
+    (s.1, subst (λ (l : Option (List ℕ)). TakesAtMost (MAX_WHOLE_INPUT + MAX_READ) l left_after) s.0 broken)
 has_taken WholeInput first left left_after stage.AtEnd last next bundles forward s broken = absurd broken
 has_taken WholeInput first left left_after stage.Ended last next bundles forward s broken = absurd s

@@ -1,5 +1,5 @@
 -- What the observations of one bundle add.
-use Rattle.std.proofs.Common.{◌≡◌, ◌≢◌, ℕ, suc, ◌+◌, ◌^◌, ◌≤◌, ◌<◌, ℤ, Bool, List, [], ◌∷◌, ◌++◌, length, Option, Some, None, Result, Ok, Err, OnOk, IfErr, refl, sym, ap, subst, ◌∙◌, append_assoc, length-append, take, drop, get_or, drop-cons, arith}
+use Rattle.std.proofs.Common.{◌≡◌, inl, inr, ℕ, suc, ◌+◌, ◌^◌, ◌≤◌, ◌<◌, ℤ, Bool, List, [], ◌∷◌, ◌++◌, length, Option, Some, None, Result, Ok, Err, OnOk, IfErr, IsErrAnd, refl, sym, ap, subst, ◌∙◌, append_assoc, length-append, take, drop, get_or, drop-cons, arith}
 use Rattle.std.specs.Prelude.{slice_get, MatchOption, IsSomeAnd}
 use Rattle.std.proofs.lemmas.List.{append-nil, take_more, take-append-drop}
 use Rattle.std.proofs.lemmas.Option.{slice_get_read, slice_get_within}
@@ -17,11 +17,14 @@ use Rattle.match_live.specs.MatcherState.{MatcherState, StandsFor}
 use Rattle.match_live.specs.Answer.{IsAnswer, IsRoomy, joined_answers}
 use Rattle.match_input.specs.Reading.{BundleOf}
 use Rattle.match_log.specs.Listing.{listing_text, last_number}
-use Rattle.match_log.specs.inner.Rows.{counted, last_counted, IsBehind, Progress, so_far, IsAt, IsAtSome, MayFollow, row_of, AddsRow, EndsAtRow, AddsRows, ListsFirst, IsCrowdedAt, StopsAmong, EndsAmong, TakesRow, StopsAtRow, TakesRows, StopsAtOne}
+use Rattle.match_log.specs.inner.Rows.{counted, last_counted, IsBehind, Progress, so_far, IsAt, IsAtSome, MayFollow, row_of, AddsRow, EndsAtRow, AddsRows, IsOnItsWay, ListsFirst, BreaksOff, IsCrowdedAt, StopsAmong, EndsAmong, TakesRow, StopsAtRow, TakesRows, GoesThrough, StopsAtOne, WritesBundle, StopsInBundle}
+use Rattle.match_log.specs.inner.Ends.{CutsLines, HasCutLines}
+use Rattle.flow_edges.specs.Flow.{written_with, WritesPrefix}
 use Rattle.match_log.specs.declared.end.MatchEnd.{MatchEnd}
 use Rattle.match_log.specs.declared.end.MatchEnd.TheVariants.{Done, Input, ReadFault, WriteFault, Crowded, NoMemory}
 use Rattle.match_log.specs.declared.tally.Tally.{Tally}
 use Rattle.match_live.proofs.LogLemmas.{last_of_more}
+use Rattle.match_log.proofs.PendingLemmas.{way-start, way-written, way-cut, way-stopped}
 use Rattle.match_log.proofs.LogLemmas.{joined_answers-one, listing_text-append, answers-more, entries_of-more, never_crowded-more, ends_at, last_number-more}
 
 -- the matcher took a row, and its answer was counted
@@ -62,33 +65,33 @@ last-more p cap after later log more row c = c.stands.last ∙ last_of_more log 
 
 -- what may follow behind the row
 pub follow-more : (p : Pattern) (cap : ℕ) (objects : List Data) (o : Observation) (state after : MatcherState) (tally later : Tally) (log : List LogEntry)
-    (answers : List (List BindTree)) (text text_after : List ℕ) (observations : List Observation) → IsBehind p cap state tally log answers
-    → AddsRow p cap objects o log answers after later text text_after → MayFollow (Some o.last) ((state.rows + 1) + 1) observations
+    (answers : List (List BindTree)) (answer : List BindTree) (observations : List Observation) → IsBehind p cap state tally log answers
+    → AddsRow p cap objects o log answers after later answer → MayFollow (Some o.last) ((state.rows + 1) + 1) observations
     → MayFollow after.last (after.rows + 1) observations
-follow-more p cap objects o state after tally later log answers text text_after observations b adds follow =
+follow-more p cap objects o state after tally later log answers answer observations b adds follow =
     let row = row_of o adds.truths in
-    let last = last-more p cap after later log (answers ++ adds.answer ∷ []) row adds.behind in
-    let rows = rows-more p cap state after tally later log answers (answers ++ adds.answer ∷ []) row b adds.behind in
+    let last = last-more p cap after later log (answers ++ answer ∷ []) row adds.behind in
+    let rows = rows-more p cap state after tally later log answers (answers ++ answer ∷ []) row b adds.behind in
     subst (λ (l : Option ℤ). MayFollow l (after.rows + 1) observations) (sym last)
     (subst (λ (n : ℕ). MayFollow (Some o.last) (n + 1) observations) (sym rows) follow)
 
 -- one more observation
 pub adds-more : (p : Pattern) (cap : ℕ) (objects : List Data) (observations : List Observation) (o : Observation) (log : List LogEntry)
-    (answers : List (List BindTree)) (state after : MatcherState) (tally later : Tally) (text text_after : List ℕ)
+    (answers : List (List BindTree)) (state after : MatcherState) (tally later : Tally) (text : List ℕ) (answer : List BindTree)
     → (adds : AddsRows p cap objects observations log answers state tally text)
-    → AddsRow p cap objects o (log ++ adds.own) (answers ++ adds.own_answers) after later text text_after
-    → AddsRows p cap objects (observations ++ o ∷ []) log answers after later text_after
-adds-more p cap objects observations o log answers state after tally later text text_after adds one =
+    → AddsRow p cap objects o (log ++ adds.own) (answers ++ adds.own_answers) after later answer
+    → AddsRows p cap objects (observations ++ o ∷ []) log answers after later (text ++ listing_text answer)
+adds-more p cap objects observations o log answers state after tally later text answer adds one =
     let row = row_of o one.truths in
     record {
       own = adds.own ++ row ∷ [];
-      own_answers = adds.own_answers ++ one.answer ∷ [];
+      own_answers = adds.own_answers ++ answer ∷ [];
       entries = entries_of-more (plain_pattern p) objects observations adds.own o one.truths adds.entries one.are;
-      behind = subst (λ (l : List LogEntry). IsBehind p cap after later l (answers ++ (adds.own_answers ++ one.answer ∷ []))) (append_assoc log adds.own (row ∷ []))
-          (subst (λ (a : List (List BindTree)). IsBehind p cap after later ((log ++ adds.own) ++ row ∷ []) a) (append_assoc answers adds.own_answers (one.answer ∷ [])) one.behind);
-      text_is = one.text_is ∙ ap (λ (t : List ℕ). t ++ listing_text one.answer) adds.text_is
-          ∙ sym (listing_text-append (joined_answers adds.own_answers) one.answer)
-          ∙ sym (ap listing_text (joined_answers-one adds.own_answers one.answer));
+      behind = subst (λ (l : List LogEntry). IsBehind p cap after later l (answers ++ (adds.own_answers ++ answer ∷ []))) (append_assoc log adds.own (row ∷ []))
+          (subst (λ (a : List (List BindTree)). IsBehind p cap after later ((log ++ adds.own) ++ row ∷ []) a) (append_assoc answers adds.own_answers (answer ∷ [])) one.behind);
+      text_is = ap (λ (t : List ℕ). t ++ listing_text answer) adds.text_is
+          ∙ sym (listing_text-append (joined_answers adds.own_answers) answer)
+          ∙ sym (ap listing_text (joined_answers-one adds.own_answers answer));
     }
 
 -- all of some observations are the first of them
@@ -133,79 +136,171 @@ take_here xs i x within is = take_more xs i x within ∙ ap (λ (y : Observation
 pub all_here : (xs : List Observation) (i : ℕ) (x : Observation) → i < length xs → x ≡ get_or xs i x → xs ≡ take i xs ++ x ∷ drop (i + 1) xs
 all_here xs i x within is = sym (take-append-drop i xs) ∙ ap (λ (r : List Observation). take i xs ++ r) (drop_here xs i x within is)
 
+-- the lines of the observations that were seen are cut
+pub cut-rows : (objects : List Data) (seen rest : List Observation) (first now : Progress) (text : List ℕ) (begun written : Option (List ℕ))
+    → TakesRows objects seen first now text → WritesPrefix text begun written
+    → (log : List LogEntry) (answers : List (List BindTree)) → IsAt first log answers
+    → BreaksOff first.matcher.pattern first.matcher.cap objects (seen ++ rest) log answers begun written
+cut-rows objects seen rest first now text begun written rows prefix log answers b =
+    (text, first-all first.matcher.pattern first.matcher.cap objects seen rest log answers now.matcher now.tally text (rows log answers b), prefix)
+
 -- ---- one turn of the loop over the observations, at a pattern and a cap that stay the same
 
 module _ (objects : List Data) (seen : List Observation) (o : Observation) (first : Progress)
-    (state after : MatcherState) (tally later : Tally) (text text_after : List ℕ) (same_p : state.pattern ≡ first.matcher.pattern) (same_cap : state.cap ≡ first.matcher.cap)
+    (state after : MatcherState) (tally later : Tally) (text : List ℕ) (same_p : state.pattern ≡ first.matcher.pattern) (same_cap : state.cap ≡ first.matcher.cap)
     (rows : TakesRows objects seen first (so_far state tally) text) where
-  pub turn-rows : TakesRow objects o (so_far state tally) (so_far after later) text text_after → TakesRows objects (seen ++ o ∷ []) first (so_far after later) text_after
-  turn-rows row log answers b =
+  pub turn-rows : (answer : List BindTree) → TakesRow objects o (so_far state tally) (so_far after later) answer
+      → TakesRows objects (seen ++ o ∷ []) first (so_far after later) (text ++ listing_text answer)
+  turn-rows answer row log answers b =
       let adds = rows log answers b in
       let at_p = subst (λ (q : Pattern). (log : List LogEntry) (answers : List (List BindTree)) → IsBehind q state.cap state tally log answers
-      → AddsRow q state.cap objects o log answers after later text text_after) same_p row in
+      → AddsRow q state.cap objects o log answers after later answer) same_p row in
       let at_cap = subst (λ (c : ℕ). (log : List LogEntry) (answers : List (List BindTree)) → IsBehind first.matcher.pattern c state tally log answers
-      → AddsRow first.matcher.pattern c objects o log answers after later text text_after) same_cap at_p in
-      adds-more first.matcher.pattern first.matcher.cap objects seen o log answers state after tally later text text_after adds
+      → AddsRow first.matcher.pattern c objects o log answers after later answer) same_cap at_p in
+      adds-more first.matcher.pattern first.matcher.cap objects seen o log answers state after tally later text answer adds
       (at_cap (log ++ adds.own) (answers ++ adds.own_answers) adds.behind)
 
-  ends-turn : (rest : List Observation) (end : MatchEnd) (log : List LogEntry) (answers : List (List BindTree))
-      → (adds : AddsRows first.matcher.pattern first.matcher.cap objects seen log answers state tally text)
-      → EndsAtRow first.matcher.pattern first.matcher.cap objects o (log ++ adds.own) after text text_after end
-      → EndsAmong first.matcher.pattern first.matcher.cap objects (seen ++ o ∷ rest) log answers after text_after end
-  ends-turn rest (Done observations bindings last) log answers adds ends = absurd ends
-  ends-turn rest (Input line why) log answers adds ends = absurd ends
-  ends-turn rest ReadFault log answers adds ends = absurd ends
-  ends-turn rest WriteFault log answers adds ends = absurd ends
-  ends-turn rest (Crowded number named) log answers adds ends =
-      subst (λ (t : List ℕ). StopsAmong first.matcher.pattern first.matcher.cap objects (seen ++ o ∷ rest) log answers after t number named) (sym ends.1)
-      (stops-next first.matcher.pattern first.matcher.cap objects seen rest o log answers state after tally text number named adds ends.0)
-  ends-turn rest NoMemory log answers adds ends = tt
+  module _ (rest : List Observation) (pending : List ℕ) (begun written : Option (List ℕ)) (way : IsOnItsWay text pending begun written) where
+    ends-turn : (end : MatchEnd) (log : List LogEntry) (answers : List (List BindTree)) → IsAt first log answers
+        → (adds : AddsRows first.matcher.pattern first.matcher.cap objects seen log answers state tally text)
+        → EndsAtRow first.matcher.pattern first.matcher.cap objects o (log ++ adds.own) after end
+        → EndsAmong first.matcher.pattern first.matcher.cap objects (seen ++ o ∷ rest) log answers after pending begun written end
+    ends-turn (Done observations bindings last) log answers b adds ends = absurd ends
+    ends-turn (Input line why) log answers b adds ends = absurd ends
+    ends-turn ReadFault log answers b adds ends = absurd ends
+    ends-turn WriteFault log answers b adds ends = absurd ends
+    ends-turn (Crowded number named) log answers b adds ends =
+        (text, stops-next first.matcher.pattern first.matcher.cap objects seen rest o log answers state after tally text number named adds ends, way)
+    ends-turn NoMemory log answers b adds ends = cut-rows objects seen (o ∷ rest) first (so_far state tally) text begun written rows (way-stopped text pending begun written way) log answers b
 
-  pub turn-end : (rest : List Observation) (end : MatchEnd) → StopsAtRow objects o (so_far state tally) after text text_after end
-      → StopsAtOne objects (seen ++ o ∷ rest) first after text_after end
-  turn-end rest end row log answers b =
-      let adds = rows log answers b in
-      let at_p = subst (λ (q : Pattern). (log : List LogEntry) (answers : List (List BindTree)) → IsBehind q state.cap state tally log answers
-      → EndsAtRow q state.cap objects o log after text text_after end) same_p row in
-      let at_cap = subst (λ (c : ℕ). (log : List LogEntry) (answers : List (List BindTree)) → IsBehind first.matcher.pattern c state tally log answers
-      → EndsAtRow first.matcher.pattern c objects o log after text text_after end) same_cap at_p in
-      ends-turn rest end log answers adds (at_cap (log ++ adds.own) (answers ++ adds.own_answers) adds.behind)
+    pub turn-end : (end : MatchEnd) → StopsAtRow objects o (so_far state tally) after end → StopsAtOne objects (seen ++ o ∷ rest) first after pending begun written end
+    turn-end end ends log answers b =
+        let adds = rows log answers b in
+        let at_p = subst (λ (q : Pattern). (log : List LogEntry) (answers : List (List BindTree)) → IsBehind q state.cap state tally log answers
+        → EndsAtRow q state.cap objects o log after end) same_p ends in
+        let at_cap = subst (λ (c : ℕ). (log : List LogEntry) (answers : List (List BindTree)) → IsBehind first.matcher.pattern c state tally log answers
+        → EndsAtRow first.matcher.pattern c objects o log after end) same_cap at_p in
+        ends-turn end log answers b adds (at_cap (log ++ adds.own) (answers ++ adds.own_answers) adds.behind)
 
-pub turn-behind : (objects : List Data) (o : Observation) (state after : MatcherState) (tally later : Tally) (text text_after : List ℕ)
+-- an end in the middle of lines
+pub ends-cut : (p : Pattern) (cap : ℕ) (objects : List Data) (observations : List Observation) (log : List LogEntry) (answers : List (List BindTree))
+    (state : MatcherState) (pending : List ℕ) (first written : Option (List ℕ)) (end : MatchEnd) → CutsLines end
+    → BreaksOff p cap objects observations log answers first written → EndsAmong p cap objects observations log answers state pending first written end
+ends-cut p cap objects observations log answers state pending first written end (inl memory) cut =
+    subst (EndsAmong p cap objects observations log answers state pending first written) (sym memory) cut
+ends-cut p cap objects observations log answers state pending first written end (inr fault) cut =
+    subst (EndsAmong p cap objects observations log answers state pending first written) (sym fault) cut
+
+pub turn-behind : (objects : List Data) (o : Observation) (state after : MatcherState) (tally later : Tally) (answer : List BindTree)
     → after.pattern ≡ state.pattern → after.cap ≡ state.cap → IsAtSome (so_far state tally)
-    → TakesRow objects o (so_far state tally) (so_far after later) text text_after → IsAtSome (so_far after later)
-turn-behind objects o state after tally later text text_after same_p same_cap some row =
+    → TakesRow objects o (so_far state tally) (so_far after later) answer → IsAtSome (so_far after later)
+turn-behind objects o state after tally later answer same_p same_cap some row =
     let adds = row some.0 some.1 some.2 in
     let log = some.0 ++ row_of o adds.truths ∷ [] in
-    let answers = some.1 ++ adds.answer ∷ [] in (
+    let answers = some.1 ++ answer ∷ [] in (
       log,
       answers,
       subst (λ (p : Pattern). IsBehind p after.cap after later log answers) (sym same_p)
           (subst (λ (c : ℕ). IsBehind state.pattern c after later log answers) (sym same_cap) adds.behind),
     )
 
-pub turn-follow : (objects : List Data) (o : Observation) (state after : MatcherState) (tally later : Tally) (text text_after : List ℕ)
-    (rest : List Observation) → IsAtSome (so_far state tally) → TakesRow objects o (so_far state tally) (so_far after later) text text_after
+pub turn-follow : (objects : List Data) (o : Observation) (state after : MatcherState) (tally later : Tally) (answer : List BindTree)
+    (rest : List Observation) → IsAtSome (so_far state tally) → TakesRow objects o (so_far state tally) (so_far after later) answer
     → MayFollow state.last (state.rows + 1) (o ∷ rest) → MayFollow after.last (after.rows + 1) rest
-turn-follow objects o state after tally later text text_after rest some row follow =
-    follow-more state.pattern state.cap objects o state after tally later some.0 some.1 text text_after rest some.2 (row some.0 some.1 some.2) follow.3
+turn-follow objects o state after tally later answer rest some row follow =
+    follow-more state.pattern state.cap objects o state after tally later some.0 some.1 answer rest some.2 (row some.0 some.1 some.2) follow.3
 
 -- ---- a bundle
 
-module _ (bundle : BundleOf) (run after : Progress) (text : List ℕ) where
-  pub batch-first : (answer : Result (Unit {0}) MatchEnd) → OnOk answer (TakesRows bundle.objects bundle.observations run after text)
-      → IfErr answer (StopsAtOne bundle.objects bundle.observations run after.matcher text) → answer ≢ Err NoMemory
+-- no observation is seen yet
+pub none-seen : (objects : List Data) (run : Progress) → TakesRows objects [] run run []
+none-seen objects run log answers b = record {
+  own = [];
+  own_answers = [];
+  entries = refl;
+  behind = subst (λ (l : List LogEntry). IsBehind run.matcher.pattern run.matcher.cap run.matcher run.tally l (answers ++ [])) (sym (append-nil log))
+      (subst (λ (a : List (List BindTree)). IsBehind run.matcher.pattern run.matcher.cap run.matcher run.tally log a) (sym (append-nil answers)) b);
+  text_is = refl;
+}
+
+-- memory ran out before the first row
+pub ends-none : (objects : List Data) (run : Progress) (observations : List Observation) (state : MatcherState) (pending : List ℕ) (w : Option (List ℕ))
+    (answer : Result (Unit {0}) MatchEnd) → IsErrAnd answer (λ end. end ≡ NoMemory) → IfErr answer (StopsAtOne objects observations run state pending w w)
+ends-none objects run observations state pending w (Ok done) is = absurd is
+ends-none objects run observations state pending w (Err end) is = λ log answers b.
+    ends-cut run.matcher.pattern run.matcher.cap objects observations log answers state pending w w end (inl is)
+    (cut-rows objects [] observations run run [] w w (none-seen objects run) (way-stopped [] [] w w (way-start w)) log answers b)
+
+module _ (bundle : BundleOf) (run after : Progress) (pending : List ℕ) (first written : Option (List ℕ)) where
+  -- what was written of a bundle whose rows all were added, where what is pending is written
+  pub batch-rows : (written_after : Option (List ℕ)) → GoesThrough bundle.objects bundle.observations run after pending first written
+      → written_after ≡ written_with pending written → WritesBundle bundle run after first written_after
+  batch-rows written_after goes is log answers b =
+      (goes.0, goes.1 log answers b, way-written goes.0 pending first written written_after goes.2 is)
+
+  -- where writing it fails
+  pub batch-cut : (answer : Result (Unit {0}) MatchEnd) (written_after : Option (List ℕ))
+      → OnOk answer (GoesThrough bundle.objects bundle.observations run after pending first written)
+      → IfErr answer (StopsAtOne bundle.objects bundle.observations run after.matcher pending first written) → ¬ HasCutLines answer
+      → WritesPrefix pending written written_after
       → (log : List LogEntry) (answers : List (List BindTree)) → IsAt run log answers
-      → ListsFirst run.matcher.pattern run.matcher.cap bundle.objects bundle.observations log answers text
-  batch-first (Ok done) adds ends some log answers b =
-      subst (λ (os : List Observation). ListsFirst run.matcher.pattern run.matcher.cap bundle.objects os log answers text) (append-nil bundle.observations)
-      (first-all run.matcher.pattern run.matcher.cap bundle.objects bundle.observations [] log answers after.matcher after.tally text (adds log answers b))
-  batch-first (Err (Done seen bindings last)) adds ends some log answers b = absurd (ends log answers b)
-  batch-first (Err (Input line why)) adds ends some log answers b = absurd (ends log answers b)
-  batch-first (Err ReadFault) adds ends some log answers b = absurd (ends log answers b)
-  batch-first (Err WriteFault) adds ends some log answers b = absurd (ends log answers b)
-  batch-first (Err (Crowded number named)) adds ends some log answers b = (ends log answers b).first
-  batch-first (Err NoMemory) adds ends some log answers b = absurd (some refl)
+      → BreaksOff run.matcher.pattern run.matcher.cap bundle.objects bundle.observations log answers first written_after
+  batch-cut (Ok done) written_after goes ends uncut prefix log answers b = (
+    goes.0,
+    subst (λ (os : List Observation). ListsFirst run.matcher.pattern run.matcher.cap bundle.objects os log answers goes.0) (append-nil bundle.observations)
+        (first-all run.matcher.pattern run.matcher.cap bundle.objects bundle.observations [] log answers after.matcher after.tally goes.0 (goes.1 log answers b)),
+    way-cut goes.0 pending first written written_after goes.2 prefix,
+  )
+  batch-cut (Err (Done seen bindings last)) written_after goes ends uncut prefix log answers b = absurd (ends log answers b)
+  batch-cut (Err (Input line why)) written_after goes ends uncut prefix log answers b = absurd (ends log answers b)
+  batch-cut (Err ReadFault) written_after goes ends uncut prefix log answers b = absurd (ends log answers b)
+  batch-cut (Err WriteFault) written_after goes ends uncut prefix log answers b = absurd (uncut (inr refl))
+  batch-cut (Err (Crowded number named)) written_after goes ends uncut prefix log answers b =
+      let end = ends log answers b in (end.0, end.1.first, way-cut end.0 pending first written written_after end.2 prefix)
+  batch-cut (Err NoMemory) written_after goes ends uncut prefix log answers b = absurd (uncut (inl refl))
+
+  -- an end in the bundle, where what is pending is written
+  pub batch-end : (end : MatchEnd) (written_after : Option (List ℕ))
+      → StopsAtOne bundle.objects bundle.observations run after.matcher pending first written end → ¬ HasCutLines (Err end)
+      → written_after ≡ written_with pending written → StopsInBundle bundle run after.matcher first written_after end
+  batch-end (Done seen bindings last) written_after ends uncut is log answers b = absurd (ends log answers b)
+  batch-end (Input line why) written_after ends uncut is log answers b = absurd (ends log answers b)
+  batch-end ReadFault written_after ends uncut is log answers b = absurd (ends log answers b)
+  batch-end WriteFault written_after ends uncut is log answers b = absurd (uncut (inr refl))
+  batch-end (Crowded number named) written_after ends uncut is log answers b =
+      let end = ends log answers b in (end.0, end.1, way-written end.0 pending first written written_after end.2 is)
+  batch-end NoMemory written_after ends uncut is log answers b = absurd (uncut (inl refl))
+
+  -- and where nothing more is
+  pub batch-stopped : (end : MatchEnd) → StopsAtOne bundle.objects bundle.observations run after.matcher pending first written end → HasCutLines (Err end)
+      → StopsInBundle bundle run after.matcher first written end
+  batch-stopped (Done seen bindings last) ends cut log answers b = absurd (ends log answers b)
+  batch-stopped (Input line why) ends cut log answers b = absurd (ends log answers b)
+  batch-stopped ReadFault ends cut log answers b = absurd (ends log answers b)
+  batch-stopped WriteFault ends cut log answers b = ends log answers b
+  batch-stopped (Crowded number named) ends cut log answers b = absurd (none cut)
+    where
+      none : ¬ HasCutLines (Err (Crowded number named))
+      none (inl is) = cc
+      none (inr is) = cc
+  batch-stopped NoMemory ends cut log answers b = ends log answers b
+
+  -- the same of an answer
+  pub batch-ends : (answer : Result (Unit {0}) MatchEnd) (written_after : Option (List ℕ))
+      → IfErr answer (StopsAtOne bundle.objects bundle.observations run after.matcher pending first written) → ¬ HasCutLines answer
+      → written_after ≡ written_with pending written → IfErr answer (StopsInBundle bundle run after.matcher first written_after)
+  batch-ends (Ok done) written_after ends uncut is = tt
+  batch-ends (Err end) written_after ends uncut is = batch-end end written_after ends uncut is
+
+-- a write failed
+pub batch-fault : (bundle : BundleOf) (run : Progress) (state : MatcherState) (first written_after : Option (List ℕ)) (answer : Result (Unit {0}) MatchEnd) (end : MatchEnd)
+    → IsErrAnd answer (λ e. e ≡ end) → end ≡ WriteFault
+    → ((log : List LogEntry) (answers : List (List BindTree)) → IsAt run log answers
+    → BreaksOff run.matcher.pattern run.matcher.cap bundle.objects bundle.observations log answers first written_after)
+    → IfErr answer (StopsInBundle bundle run state first written_after)
+batch-fault bundle run state first written_after (Ok done) end is fault cut = absurd is
+batch-fault bundle run state first written_after (Err e) end is fault cut =
+    subst (λ (e : MatchEnd). StopsInBundle bundle run state first written_after e) (sym (is ∙ fault)) cut
 
 -- the truths that were found for the observation at a place
 module _ (objects : List Data) (p : PlainPattern) (observations : List Observation) (rows : List (List Bool)) (i : ℕ) (o : Observation)

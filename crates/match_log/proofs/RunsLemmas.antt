@@ -19,26 +19,28 @@ use Rattle.match_live.specs.Answer.{AreAnswers, joined_answers}
 use Rattle.match_input.specs.declared.batch.Batch.{Batch}
 use Rattle.match_input.specs.declared.rule.InputRule.{InputRule}
 use Rattle.match_input.specs.declared.mode.Mode.{Mode}
+use Rattle.match_input.specs.declared.mode.Mode.TheVariants as mode
 use Rattle.match_input.specs.declared.read_end.ReadEnd.{ReadEnd}
 use Rattle.match_input.specs.declared.read_end.ReadEnd.TheVariants as read
 use Rattle.match_input.specs.declared.stage.Stage.{Stage}
 use Rattle.match_input.specs.declared.stage.Stage.TheVariants as stage
 use Rattle.match_input.specs.Line.{last_after}
 use Rattle.match_input.specs.Reading.{BundleOf, IsRefusedAt}
-use Rattle.match_input.specs.Ahead.{ReaderState, reader_start, next_number, ahead, IsOpen, AnswersNext, ComesToEnd, GivesBatch, BreaksOff, TakesLittle}
+use Rattle.match_input.specs.Ahead.{ReaderState, reader_start, first_stage, next_number, ahead, IsOpen, HoldsLines, LacksLineIn, AnswersNext, ComesToEnd, GivesBatch, BreaksOff, TakesLittle}
 use Rattle.flow_edges.specs.Streams.{Streams, streams}
 use Rattle.match_log.specs.Entries.{AreEntriesOf}
 use Rattle.match_log.specs.Listing.{listing_text}
-use Rattle.match_log.specs.Matching.{IsNeverCrowded, ListsLog, ListsWhole, ListsBefore, ListsTaken, StopsCrowded, StopsWriting, StopsWithoutMemory, AnswersMatch}
+use Rattle.match_log.specs.Matching.{IsNeverCrowded, ListsLog, ListsWhole, ListsBefore, ListsTaken, BeganInTime, ReadsNoFurther, StopsCrowded, StopsWithin, StopsBetween, AnswersMatch}
 use Rattle.match_log.specs.inner.Rows.{no_tally, IsBehind, MayFollow, ListsFirst, StopsAmong, WritesRows, EndsInBundle, row_of, bundle_of}
 use Rattle.match_log.specs.inner.Ends.{end_of_read}
-use Rattle.match_log.specs.inner.Runs.{IsStageOf, RunsSo, HasRead}
+use Rattle.match_log.specs.inner.Runs.{IsStageOf, IsInTime, RunsSo, HasRead}
 use Rattle.match_log.specs.declared.tally.Tally.{Tally}
 use Rattle.match_log.specs.declared.end.MatchEnd.{MatchEnd}
 use Rattle.match_log.specs.declared.end.MatchEnd.TheVariants.{Done, Input, ReadFault, WriteFault, Crowded, NoMemory}
+use Rattle.match_log.proofs.PendingLemmas.{written_with-nil, written_with-both}
 use Rattle.match_log.proofs.LogLemmas.{joined_answers-append, listing_text-append, entries_of-more, entries-more, entries_of-length}
 use Rattle.match_log.proofs.FollowLemmas.{Spans, may_follow}
-use Rattle.match_log.proofs.StageLemmas.{open_or_end, moves_on, takes_little, to_end, at_end}
+use Rattle.match_log.proofs.StageLemmas.{open_or_end, moves_on, takes_little, to_end, at_end, gives_in_time, stays_in_time}
 use Rattle.match_log.proofs.ReadLemmas.{GoesOn, read-start, read-more, begins_so, reads-whole, reads-refused, none_left, has_taken}
 
 -- the answers to the rows of a log are its listing
@@ -47,14 +49,6 @@ AnswersList = (p : NumberedPattern) (log : List LogEntry) (answers : List (List 
     → IsListing (observed_in log) p (joined_answers answers)
 
 -- ---- what is written
-
-written_with-nil : (w : Option (List ℕ)) → w ≡ written_with [] w
-written_with-nil None = refl
-written_with-nil (Some bytes) = ap Some (sym (append-nil bytes))
-
-written_with-both : (a b : List ℕ) (w : Option (List ℕ)) → written_with b (written_with a w) ≡ written_with (a ++ b) w
-written_with-both a b None = refl
-written_with-both a b (Some bytes) = ap Some (append_assoc bytes a b)
 
 -- the lines of more answers, behind those of the answers so far
 lines-more : (answers own : List (List BindTree)) → listing_text (joined_answers answers) ++ listing_text (joined_answers own) ≡ listing_text (joined_answers (answers ++ own))
@@ -114,6 +108,10 @@ last_after-entries p objects (o ∷ observations) log own entries =
 
 -- ---- the start
 
+starts_in_time : (mode : Mode) (first began : Option (List ℕ)) → IsInTime mode (first_stage mode) first began
+starts_in_time mode.Lines first began = inl refl
+starts_in_time mode.Whole first began = tt
+
 never_crowded-none : (p : Pattern) (most : ℕ) → IsNeverCrowded p most []
 never_crowded-none p most [] more row e = absurd (cc)
 never_crowded-none p most (first ∷ rows) more row e = absurd (cc)
@@ -128,32 +126,32 @@ behind-none p most state stands = record {
   last_is = refl;
 }
 
-pub run-start : (mode : Mode) (p : Pattern) (most : ℕ) (first written : Option (List ℕ)) (reader : ReaderState) (state : MatcherState) (tally : Tally)
-    → StandsFor state [] → reader ≡ reader_start mode → tally ≡ no_tally
-    → RunsSo mode p most (streams first written) (streams first written) reader state tally
-run-start mode p most first written reader state tally stands reader_is tally_is =
-    subst (λ (r : ReaderState). RunsSo mode p most (streams first written) (streams first written) r state tally) (sym reader_is)
-    (subst (λ (t : Tally). RunsSo mode p most (streams first written) (streams first written) (reader_start mode) state t) (sym tally_is)
+pub run-start : (mode : Mode) (p : Pattern) (most : ℕ) (start : Streams) (reader : ReaderState) (state : MatcherState) (tally : Tally)
+    → StandsFor state [] → reader ≡ reader_start mode → tally ≡ no_tally → RunsSo mode p most start start reader state tally
+run-start mode p most start reader state tally stands reader_is tally_is =
+    subst (λ (r : ReaderState). RunsSo mode p most start start r state tally) (sym reader_is)
+    (subst (λ (t : Tally). RunsSo mode p most start start (reader_start mode) state t) (sym tally_is)
     (record {
       bundles = [];
-      read = read-start mode first;
+      read = read-start mode start.left;
       log = [];
       answers = [];
       entries = refl;
       behind = behind-none p most state stands;
-      text = written_with-nil written;
+      text = written_with-nil start.written;
       number = sym stands.rows;
       time = sym stands.last;
+      in_time = starts_in_time mode start.left start.began;
     }))
 
 -- ---- a bundle more
 
 pub run-more : GoesOn → (mode : Mode) (p : Pattern) (most : ℕ) (before now : Streams) (reader after : ReaderState) (state later : MatcherState) (tally tally_after : Tally)
-    (left_after written_after : Option (List ℕ)) (batch : Batch) → (far : RunsSo mode p most before now reader state tally)
-    → GivesBatch reader after now.left left_after batch
+    (left_after began_after written_after : Option (List ℕ)) (batch : Batch) → (far : RunsSo mode p most before now reader state tally)
+    → GivesBatch reader after now.left left_after batch → BeganInTime mode batch.line before.left began_after
     → WritesRows p most (data_in batch.bundle) batch.observations far.log far.answers later tally_after now.written written_after
-    → RunsSo mode p most before (streams left_after written_after) after later tally_after
-run-more goes_on mode p most before now reader after state later tally tally_after left_after written_after batch far gives writes =
+    → RunsSo mode p most before (streams left_after began_after written_after) after later tally_after
+run-more goes_on mode p most before now reader after state later tally tally_after left_after began_after written_after batch far gives began writes =
     let adds = writes.1 in
     let count = entries_of-length (plain_pattern p) (data_in batch.bundle) batch.observations adds.own adds.entries in
     let rows = length-append far.log adds.own in
@@ -169,6 +167,7 @@ run-more goes_on mode p most before now reader after state later tally tally_aft
       time = gives.last ∙ ap (λ (l : Option ℤ). last_after l batch.observations) (far.time ∙ far.behind.stands.last)
           ∙ sym (last_after-entries (plain_pattern p) (data_in batch.bundle) batch.observations far.log adds.own adds.entries)
           ∙ sym adds.behind.stands.last;
+      in_time = stays_in_time far.bundles batch.line before.left now.left left_after now.began began_after mode reader.stage after.stage far.read.stage gives.moves began;
     }
 
 -- ---- the ends
@@ -183,9 +182,9 @@ module _ (list : AnswersList) (mode : Mode) (p : Pattern) (most : ℕ) (before n
     text = far.text;
   }
 
-  pub run-whole : (left_after : Option (List ℕ)) → IfSome (ahead reader.stage now.left) (λ lines. lines ≡ ended) → IsAtEnd left_after
-      → ListsWhole mode p most before (streams left_after now.written) state tally.observations tally.bindings tally.last
-  run-whole left_after none drained = record {
+  pub run-whole : (left_after began_after : Option (List ℕ)) → IfSome (ahead reader.stage now.left) (λ lines. lines ≡ ended) → IsAtEnd left_after
+      → ListsWhole mode p most before (streams left_after began_after now.written) state tally.observations tally.bindings tally.last
+  run-whole left_after began_after none drained = record {
     bundles = far.bundles;
     reading = reads-whole mode before.left now.left reader far.bundles far.read none;
     log = far.log;
@@ -198,10 +197,10 @@ module _ (list : AnswersList) (mode : Mode) (p : Pattern) (most : ℕ) (before n
     last_is = far.behind.last_is;
   }
 
-  pub run-refused : (left_after : Option (List ℕ)) (line : ℕ) (why : InputRule)
+  pub run-refused : (left_after began_after : Option (List ℕ)) (line : ℕ) (why : InputRule)
       → IfSome (ahead reader.stage now.left) (λ lines. IsRefusedAt reader.last (next_number reader) lines line why)
-      → TakesLittle reader.stage line now.left left_after → ListsBefore mode p most before (streams left_after now.written) state line why
-  run-refused left_after line why refused little = record {
+      → TakesLittle reader.stage line now.left left_after → ListsBefore mode p most before (streams left_after began_after now.written) state line why
+  run-refused left_after began_after line why refused little = record {
     bundles = far.bundles;
     reading = reads-refused mode before.left now.left reader far.bundles far.read line why refused;
     log = far.log;
@@ -211,8 +210,9 @@ module _ (list : AnswersList) (mode : Mode) (p : Pattern) (most : ℕ) (before n
     little = takes_little far.bundles before.left now.left left_after mode reader.stage line far.read.stage little;
   }
 
-  pub run-broken : (left_after : Option (List ℕ)) → BreaksOff reader.stage now.left left_after → ListsTaken mode p most before (streams left_after now.written) state
-  run-broken left_after broken = record {
+  pub run-broken : (left_after began_after : Option (List ℕ)) → BreaksOff reader.stage now.left left_after
+      → ListsTaken mode p most before (streams left_after began_after now.written) state
+  run-broken left_after began_after broken = record {
     bundles = far.bundles;
     begins = begins_so mode before.left now.left reader far.bundles far.read;
     log = far.log;
@@ -222,25 +222,30 @@ module _ (list : AnswersList) (mode : Mode) (p : Pattern) (most : ℕ) (before n
     taken = has_taken mode before.left now.left left_after reader.stage reader.last (next_number reader) far.bundles far.read.forward far.read.stage broken;
   }
 
-  pub run-memory : (after : Streams) → after.written ≡ now.written → StopsWithoutMemory mode p before after
+  -- memory ran out between two bundles
+  pub run-memory : (after : Streams) → after.written ≡ now.written → StopsBetween mode p most before after
   run-memory after same = record {
     bundles = far.bundles;
     begins = begins_so mode before.left now.left reader far.bundles far.read;
     log = far.log;
-    entries = far.entries;
     trees = joined_answers far.answers;
-    bindings = list (numbered_pattern p) far.log far.answers far.behind.rows.answers_are;
-    text = same ∙ far.text;
+    lists = record { entries = lists-log.entries; roomy = lists-log.roomy; bindings = lists-log.bindings; text = same ∙ lists-log.text };
   }
 
-  module _ (goes_on : GoesOn) (after : ReaderState) (later : MatcherState) (left_after written_after : Option (List ℕ)) (batch : Batch)
-      (gives : GivesBatch reader after now.left left_after batch) where
+  module _ (goes_on : GoesOn) (after : ReaderState) (later : MatcherState) (left_after began_after written_after : Option (List ℕ)) (batch : Batch)
+      (gives : GivesBatch reader after now.left left_after batch) (began : BeganInTime mode batch.line before.left began_after) where
+    no-further : ReadsNoFurther mode batch.line before (streams left_after began_after written_after)
+    no-further = record {
+      few = (moves_on far.bundles far.bundles batch.line before.left now.left left_after mode reader.stage after.stage far.read.stage gives.moves).few;
+      in_time = began;
+    }
+
     next-read : HasRead mode before.left after left_after (far.bundles ++ bundle_of batch ∷ [])
     next-read = read-more goes_on mode before.left now.left left_after reader after batch far.bundles far.read gives
 
     pub run-crowded : (text : List ℕ) (number named : ℕ)
         → StopsAmong p most (data_in batch.bundle) batch.observations far.log far.answers later text number named
-        → written_after ≡ written_with text now.written → StopsCrowded mode p most before (streams left_after written_after) later number named
+        → written_after ≡ written_with text now.written → StopsCrowded mode p most before (streams left_after began_after written_after) later number named
     run-crowded text number named stops more =
         let own = stops.first in
         let row = row_of stops.o stops.crowded.truths in
@@ -263,6 +268,7 @@ module _ (list : AnswersList) (mode : Mode) (p : Pattern) (most : ℕ) (before n
             entries = far.entries;
             own_entries = entries_of-more (plain_pattern p) (data_in batch.bundle) own.seen own.own stops.o stops.crowded.truths own.entries stops.crowded.are;
           };
+          reads = no-further;
           numbered = stops.crowded.numbered;
           cap_is = stops.crowded.cap_is;
           crowded = stops.crowded.crowded;
@@ -273,9 +279,9 @@ module _ (list : AnswersList) (mode : Mode) (p : Pattern) (most : ℕ) (before n
           ended = stops.crowded.ended;
         }
 
-    pub run-writing : (text : List ℕ) → ListsFirst p most (data_in batch.bundle) batch.observations far.log far.answers text
-        → WritesPrefix text now.written written_after → StopsWriting mode p before (streams left_after written_after)
-    run-writing text own prefix = record {
+    pub run-within : (text : List ℕ) → ListsFirst p most (data_in batch.bundle) batch.observations far.log far.answers text
+        → WritesPrefix text now.written written_after → StopsWithin mode p most before (streams left_after began_after written_after)
+    run-within text own prefix = record {
       earlier = far.bundles;
       bundle = bundle_of batch;
       begins = begins_so mode before.left left_after after (far.bundles ++ bundle_of batch ∷ []) next-read;
@@ -286,6 +292,7 @@ module _ (list : AnswersList) (mode : Mode) (p : Pattern) (most : ℕ) (before n
       own = own.own;
       entries = far.entries;
       own_entries = own.entries;
+      roomy = own.rows.roomy;
       trees = joined_answers far.answers;
       more = joined_answers own.own_answers;
       bindings = list (numbered_pattern p) far.log far.answers far.behind.rows.answers_are;
@@ -293,43 +300,43 @@ module _ (list : AnswersList) (mode : Mode) (p : Pattern) (most : ℕ) (before n
           (list (numbered_pattern p) (far.log ++ own.own) (far.answers ++ own.own_answers) own.rows.answers_are);
       prefix = subst (λ (t : List ℕ). WritesPrefix t (written_with (listing_text (joined_answers far.answers)) before.written) written_after) own.text_is
           (subst (λ (w : Option (List ℕ)). WritesPrefix text w written_after) far.text prefix);
-      few = (moves_on far.bundles far.bundles batch.line before.left now.left left_after mode reader.stage after.stage far.read.stage gives.moves).few;
+      reads = no-further;
     }
 
     -- an end in the next bundle
     pub run-end : (end : MatchEnd) → EndsInBundle p most (data_in batch.bundle) batch.observations far.log far.answers later now.written written_after end
-        → AnswersMatch mode p most before (streams left_after written_after) later end
+        → AnswersMatch mode p most before (streams left_after began_after written_after) later end
     run-end (Done observations bindings last) ends = absurd ends
     run-end (Input line why) ends = absurd ends
     run-end ReadFault ends = absurd ends
-    run-end WriteFault ends = run-writing ends.0 ends.1 ends.2
+    run-end WriteFault ends = run-within ends.0 ends.1 ends.2
     run-end (Crowded number named) ends = run-crowded ends.0 number named ends.1 ends.2
-    run-end NoMemory ends = run-memory (streams left_after written_after) ends
+    run-end NoMemory ends = inr (run-within ends.0 ends.1 ends.2)
 
 pub must_be_open : (st : Stage) → IsOpen st ⊎ (st ≡ stage.AtEnd) → ¬ (st ≡ stage.AtEnd) → IsOpen st
 must_be_open st (inl opened) other = opened
 must_be_open st (inr is) other = absurd (other is)
 
 module _ (list : AnswersList) (mode : Mode) (p : Pattern) (most : ℕ) (before now : Streams) (reader after : ReaderState) (state : MatcherState) (tally : Tally)
-    (far : RunsSo mode p most before now reader state tally) (left_after : Option (List ℕ)) where
+    (far : RunsSo mode p most before now reader state tally) (left_after began_after : Option (List ℕ)) where
   -- the reader ended
   pub run-read_end : (end : ReadEnd) → AnswersNext reader after now.left left_after (Err end)
-      → AnswersMatch mode p most before (streams left_after now.written) state (end_of_read end)
-  run-read_end (read.Input line why) answers = run-refused list mode p most before now reader state tally far left_after line why answers.refused answers.little
-  run-read_end read.ReadFault answers = run-broken list mode p most before now reader state tally far left_after answers
+      → AnswersMatch mode p most before (streams left_after began_after now.written) state (end_of_read end)
+  run-read_end (read.Input line why) answers = run-refused list mode p most before now reader state tally far left_after began_after line why answers.refused answers.little
+  run-read_end read.ReadFault answers = run-broken list mode p most before now reader state tally far left_after began_after answers
   run-read_end read.Ended answers = absurd answers
-  run-read_end read.NoMemory answers = run-memory list mode p most before now reader state tally far (streams left_after now.written) refl
+  run-read_end read.NoMemory answers = inl (run-memory list mode p most before now reader state tally far (streams left_after began_after now.written) refl)
 
   -- no bundle is left
   pub run-none : (IsOpen reader.stage → ComesToEnd reader.stage after.stage now.left left_after) → (reader.stage ≡ stage.AtEnd → left_after ≡ now.left)
-      → ListsWhole mode p most before (streams left_after now.written) state tally.observations tally.bindings tally.last
+      → ListsWhole mode p most before (streams left_after began_after now.written) state tally.observations tally.bindings tally.last
   run-none comes same = go (open_or_end far.bundles before.left now.left mode reader.stage far.read.stage)
     where
-      go : IsOpen reader.stage ⊎ (reader.stage ≡ stage.AtEnd) → ListsWhole mode p most before (streams left_after now.written) state tally.observations tally.bindings tally.last
-      go (inl opened) = run-whole list mode p most before now reader state tally far left_after (comes opened).none
+      go : IsOpen reader.stage ⊎ (reader.stage ≡ stage.AtEnd) → ListsWhole mode p most before (streams left_after began_after now.written) state tally.observations tally.bindings tally.last
+      go (inl opened) = run-whole list mode p most before now reader state tally far left_after began_after (comes opened).none
           (to_end reader.stage after.stage now.left left_after (comes opened))
-      go (inr is) = subst (λ (l : Option (List ℕ)). ListsWhole mode p most before (streams l now.written) state tally.observations tally.bindings tally.last) (sym (same is))
-          (run-whole list mode p most before now reader state tally far now.left (none_left reader.stage now.left is)
+      go (inr is) = subst (λ (l : Option (List ℕ)). ListsWhole mode p most before (streams l began_after now.written) state tally.observations tally.bindings tally.last) (sym (same is))
+          (run-whole list mode p most before now reader state tally far now.left began_after (none_left reader.stage now.left is)
           (at_end far.bundles before.left now.left mode reader.stage far.read.stage is))
 
 -- ---- what the calls of a turn give
@@ -341,6 +348,19 @@ pub batch_given : (bundles : List BundleOf) (first left left_after : Option (Lis
 batch_given bundles first left left_after mode reader after given batch at answers at_once is =
     let opened = must_be_open reader.stage (open_or_end bundles first left mode reader.stage at) (λ end. let none = at_once end in cc) in
     subst (λ (o : Option Batch). AnswersNext reader after left left_after (Ok o)) is (answers opened)
+
+-- the last read began in time
+pub given_in_time : (bundles : List BundleOf) (first left left_after began began_after : Option (List ℕ)) (mode : Mode) (reader after : ReaderState)
+    (given : Option Batch) (batch : Batch) → IsStageOf mode reader.stage bundles first left → IsInTime mode reader.stage first began
+    → GivesBatch reader after left left_after batch → given ≡ Some batch
+    → (reader.stage ≡ stage.AtEnd → ◌≡◌ {A = Result (Option Batch) ReadEnd} (Ok given) (Ok None))
+    → (HoldsLines reader.stage → began_after ≡ began)
+    → (IsOpen reader.stage → ¬ (HoldsLines reader.stage) → IfSome given (λ batch. IfSome began_after (LacksLineIn reader.stage batch.line left)))
+    → BeganInTime mode batch.line first began_after
+given_in_time bundles first left left_after began began_after mode reader after given batch at so_far gives is at_once unread in_time =
+    let opened = must_be_open reader.stage (open_or_end bundles first left mode reader.stage at) (λ end. let none = at_once end in cc) in
+    gives_in_time bundles batch.line first left left_after began began_after mode reader.stage after.stage at gives.moves so_far unread
+    (λ unheld. subst (λ (o : Option Batch). IfSome o (λ batch. IfSome began_after (LacksLineIn reader.stage batch.line left))) is (in_time opened unheld))
 
 -- it ended, so it was open
 pub end_given : (bundles : List BundleOf) (first left left_after : Option (List ℕ)) (mode : Mode) (reader after : ReaderState) (end : ReadEnd)

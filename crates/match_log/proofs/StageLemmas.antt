@@ -1,18 +1,19 @@
 -- Where a reader stands in a run, and how it moves on.
-use Rattle.std.proofs.Common.{◌≡◌, ◌⊎◌, inl, inr, ℕ, ◌+◌, ◌<◌, true, List, [], Option, None, Some, refl, sym, subst, arith}
+use Rattle.std.proofs.Common.{◌≡◌, ◌⊎◌, inl, inr, ℕ, ◌+◌, ◌<◌, Bool, true, false, List, [], Option, None, Some, IfSome, refl, sym, ap, subst, ◌∙◌, arith}
 use Rattle.std.proofs.lemmas.List.Elements.{All-nil}
 use Rattle.flow_edges.specs.declared.source.TheConstants.{MAX_READ}
 use Rattle.flow_edges.specs.Flow.{IsAtEnd, TakesAtMost}
-use Rattle.flow_lines.specs.Lines.{Lined, LinesState, RawLine, NoLineFeed, lines_start, AccountsFor}
+use Rattle.std.specs.List.{list_any}
+use Rattle.flow_lines.specs.Lines.{Lined, LinesState, RawLine, NoLineFeed, lines_start, raw_lines, is_whole, HoldsLine, AccountsFor, LacksLine}
 use Rattle.flow_lines.specs.declared.whole_input.TheConstants.{MAX_WHOLE_INPUT}
 use Rattle.match_input.specs.declared.mode.Mode.{Mode}
 use Rattle.match_input.specs.declared.mode.Mode.TheVariants.{Lines, Whole as WholeInput}
 use Rattle.match_input.specs.declared.stage.Stage.{Stage}
 use Rattle.match_input.specs.declared.stage.Stage.TheVariants as stage
 use Rattle.match_input.specs.Reading.{BundleOf}
-use Rattle.match_input.specs.Ahead.{IsOpen, ahead, Moves, TakesLittle, ComesToEnd}
-use Rattle.match_log.specs.Matching.{TakesLittle as RunTakesLittle, TakesFew}
-use Rattle.match_log.specs.inner.Runs.{IsStageOf, turns_left}
+use Rattle.match_input.specs.Ahead.{IsOpen, ahead, HoldsLines, LacksLineIn, Moves, TakesLittle, ComesToEnd}
+use Rattle.match_log.specs.Matching.{TakesLittle as RunTakesLittle, TakesFew, BeganInTime}
+use Rattle.match_log.specs.inner.Runs.{IsStageOf, IsInTime, turns_left}
 
 pub ahead_none : (st : Stage) → ahead st None ≡ None
 ahead_none (stage.Lines lines) = refl
@@ -26,12 +27,12 @@ ahead_some stage.Whole bytes = (_, refl)
 ahead_some stage.AtEnd bytes = (_, refl)
 ahead_some stage.Ended bytes = (_, refl)
 
-pub start_accounts : (left : Option (List ℕ)) → AccountsFor lines_start lines_start left left
-start_accounts left = record {
+pub start_accounts : (state : LinesState) (left : Option (List ℕ)) → AccountsFor state state left left
+start_accounts state left = record {
   gone = [];
   bytes = refl;
-  given = refl;
-  count = refl;
+  given = omega arith;
+  count = omega arith;
   plain = All-nil (λ (line : RawLine). NoLineFeed line.bytes);
   closed = inl (All-nil (λ (line : RawLine). line.closed ≡ true));
 }
@@ -83,6 +84,66 @@ module _ (bundles more : List BundleOf) (line : ℕ) (first left left_after : Op
   moves_on WholeInput stage.Whole after s m = moves-whole after s m
   moves_on WholeInput stage.AtEnd after s m = absurd m
   moves_on WholeInput stage.Ended after s m = absurd s
+
+-- ---- when the last read began
+
+each_told : (began : Option (List ℕ)) {P Q : List ℕ → Type 0} → ((bytes : List ℕ) → P bytes → Q bytes) → IfSome began P → IfSome began Q
+each_told None each told = tt
+each_told (Some bytes) each told = each bytes told
+
+-- no whole line stands in no bytes
+none_held : (lines : LinesState) → lines ≡ lines_start → ¬ (HoldsLine lines.held)
+none_held lines is holds = let none : list_any is_whole (raw_lines []) ≡ false = refl in
+    let some : list_any is_whole (raw_lines []) ≡ true = ap (λ (l : LinesState). list_any is_whole (raw_lines l.held)) (sym is) ∙ holds in cc
+
+module _ (bundles : List BundleOf) (line : ℕ) (first left left_after began began_after : Option (List ℕ)) where
+  lines_in_time : (lines after : LinesState) → IsStageOf Lines (stage.Lines lines) bundles first left → Moves line (stage.Lines lines) (stage.Lines after) left left_after
+      → IsInTime Lines (stage.Lines lines) first began → (HoldsLine lines.held → began_after ≡ began)
+      → (¬ (HoldsLine lines.held) → IfSome began_after (LacksLine lines line left)) → BeganInTime Lines line first began_after
+  lines_in_time lines after s m so_far unread in_time = go (list_any is_whole (raw_lines lines.held)) refl so_far
+    where
+      counts : lines.count < line + 1
+      counts = let gone = m.5 lines left (start_accounts lines left) in omega (arith, m.1, gone.count)
+
+      go : (holds : Bool) → list_any is_whole (raw_lines lines.held) ≡ holds → IsInTime Lines (stage.Lines lines) first began → BeganInTime Lines line first began_after
+      go true holds (inl start) = absurd (none_held lines start holds)
+      go true holds (inr told) = subst (λ (b : Option (List ℕ)). BeganInTime Lines line first b) (sym (unread holds))
+          (each_told began (λ bytes lacks. record { at = lacks.at; fewer = omega (arith, lacks.fewer, counts); part = lacks.part; accounts = lacks.accounts }) told)
+      go false holds far = each_told began_after (λ bytes lacks. record { at = lacks.at; fewer = lacks.fewer; part = lacks.part; accounts = lacks.accounts lines_start first s.1 })
+          (in_time (λ is. cc))
+
+  -- a bundle was given
+  pub gives_in_time : (mode : Mode) (st after : Stage) → IsStageOf mode st bundles first left → Moves line st after left left_after → IsInTime mode st first began
+      → (HoldsLines st → began_after ≡ began) → (¬ (HoldsLines st) → IfSome began_after (LacksLineIn st line left)) → BeganInTime mode line first began_after
+  gives_in_time Lines (stage.Lines lines) (stage.Lines after) s m so_far unread in_time = lines_in_time lines after s m so_far unread in_time
+  gives_in_time Lines (stage.Lines lines) stage.Whole s m so_far unread in_time = absurd m
+  gives_in_time Lines (stage.Lines lines) stage.AtEnd s m so_far unread in_time = absurd m
+  gives_in_time Lines (stage.Lines lines) stage.Ended s m so_far unread in_time = absurd m
+  gives_in_time Lines stage.Whole after s m so_far unread in_time = absurd s
+  gives_in_time Lines stage.AtEnd after s m so_far unread in_time = absurd s
+  gives_in_time Lines stage.Ended after s m so_far unread in_time = absurd s
+  gives_in_time WholeInput (stage.Lines lines) after s m so_far unread in_time = absurd s
+  gives_in_time WholeInput stage.Whole after s m so_far unread in_time = in_time (λ holds. holds)
+  gives_in_time WholeInput stage.AtEnd after s m so_far unread in_time = absurd m
+  gives_in_time WholeInput stage.Ended after s m so_far unread in_time = absurd s
+
+  -- and the next one may come
+  pub stays_in_time : (mode : Mode) (st after : Stage) → IsStageOf mode st bundles first left → Moves line st after left left_after
+      → BeganInTime mode line first began_after → IsInTime mode after first began_after
+  stays_in_time Lines (stage.Lines lines) (stage.Lines after) s m told = inr (subst (λ (n : ℕ). BeganInTime Lines n first began_after) m.1 told)
+  stays_in_time Lines (stage.Lines lines) stage.Whole s m told = absurd m
+  stays_in_time Lines (stage.Lines lines) stage.AtEnd s m told = absurd m
+  stays_in_time Lines (stage.Lines lines) stage.Ended s m told = absurd m
+  stays_in_time Lines stage.Whole after s m told = absurd s
+  stays_in_time Lines stage.AtEnd after s m told = absurd s
+  stays_in_time Lines stage.Ended after s m told = absurd s
+  stays_in_time WholeInput (stage.Lines lines) after s m told = absurd s
+  stays_in_time WholeInput stage.Whole (stage.Lines lines) s m told = absurd m
+  stays_in_time WholeInput stage.Whole stage.Whole s m told = absurd m
+  stays_in_time WholeInput stage.Whole stage.AtEnd s m told = told
+  stays_in_time WholeInput stage.Whole stage.Ended s m told = absurd m
+  stays_in_time WholeInput stage.AtEnd after s m told = absurd m
+  stays_in_time WholeInput stage.Ended after s m told = absurd s
 
 module _ (bundles : List BundleOf) (first left left_after : Option (List ℕ)) where
   -- a line is refused

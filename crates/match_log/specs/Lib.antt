@@ -1,4 +1,5 @@
 pub mod Entries
 pub mod Listing
 pub mod Matching
+pub mod Output
 pub mod inner

@@ -1,8 +1,8 @@
 -- What a run over an input has done, by how it ended: what was read, what was written, and what the matcher stands for.
-use Rattle.std.specs.Prelude.{◌≡◌, ℕ, ℤ, ◌+◌, ◌≤◌, List, [], ◌∷◌, ◌++◌, length, Option, Some, IfSome}
+use Rattle.std.specs.Prelude.{◌≡◌, ◌⊎◌, ℕ, ℤ, ◌+◌, ◌≤◌, ◌<◌, false, List, [], ◌∷◌, ◌++◌, length, Option, None, Some, IfSome}
 use Rattle.flow_edges.specs.declared.source.TheConstants.{MAX_READ}
 use Rattle.flow_edges.specs.Flow.{IsAtEnd, TakesAtMost, WritesPrefix, written_with}
-use Rattle.flow_lines.specs.Lines.{LinesState, lines_start, lines_ahead, AccountsFor, NoLineFeed}
+use Rattle.flow_lines.specs.Lines.{LinesState, lines_start, lines_ahead, AccountsFor, NoLineFeed, length_refusal}
 use Rattle.flow_lines.specs.declared.refusal.TheConstants.{MAX_LINE}
 use Rattle.flow_lines.specs.declared.whole_input.TheConstants.{MAX_WHOLE_INPUT}
 use Rattle.pattern_types.specs.declared.pattern.Pattern.{Pattern}
@@ -81,11 +81,12 @@ pub record ListsBefore (mode : Mode) (p : Pattern) (cap : ℕ) (before after : S
   pub stands : StandsFor state log
   pub little : TakesLittle mode line before.left after.left
 
--- these bundles are what the whole lines in the bytes taken are read as: what comes yet is read behind them, and no whole line
--- is among the bytes held
+-- these bundles are what the whole lines in the bytes taken are read as: what comes yet is read behind them, and the bytes held
+-- are a part of a line, which isn't refused by what came of it
 pub record ReadsTaken (bundles : List BundleOf) (left left_after : Option (List ℕ)) : Type 0 where
   pub at : LinesState
   pub part : NoLineFeed at.held
+  pub fits : length_refusal (at.count + 1) at.given (length at.held) false ≡ None
   pub accounts : AccountsFor lines_start at left left_after
   pub last : Option ℤ
   pub next : ℕ
@@ -94,7 +95,7 @@ pub record ReadsTaken (bundles : List BundleOf) (left left_after : Option (List 
 
 abbrev pub HasTaken : Mode → List BundleOf → Option (List ℕ) → Option (List ℕ) → Type 0
 HasTaken Lines bundles left left_after = ReadsTaken bundles left left_after
-HasTaken WholeInput bundles left left_after = bundles ≡ []
+HasTaken WholeInput bundles left left_after = (bundles ≡ []) × TakesAtMost (MAX_WHOLE_INPUT + MAX_READ) left left_after
 
 -- a read failed: the bindings of the whole lines in the bytes taken were written, and the matcher stands for their log; where
 -- the input is read whole there are none
@@ -121,23 +122,6 @@ pub record AreFirstEntries (p : PlainPattern) (bundles : List BundleOf) (log : L
   pub entries : AreEntries p earlier before
   pub own_entries : AreEntriesOf p bundle.objects seen own
 
--- more was live at the row of that number than the cap allows, and at no row before it: the bindings of these were written,
--- and the matcher ended so
-pub record StopsCrowded (mode : Mode) (p : Pattern) (cap : ℕ) (before after : Streams) (state : MatcherState) (number named : ℕ) : Type 0 where
-  pub bundles : List BundleOf
-  pub begins : BeginsSo mode before.left bundles
-  pub log : List LogEntry
-  pub row : LogEntry
-  pub entries : AreFirstEntries (plain_pattern p) bundles (log ++ row ∷ [])
-  pub numbered : number ≡ length log + 1
-  pub cap_is : named ≡ cap
-  pub crowded : IsCrowded (numbered_pattern p) (log ++ row ∷ []) cap
-  pub roomy : IsNeverCrowded p cap log
-  pub trees : List BindTree
-  pub bindings : AreBindings p log trees
-  pub text : after.written ≡ written_with (listing_text trees) before.written
-  pub ended : state.ended ≡ Some (ending.Crowded number cap)
-
 -- the lines up to that one went by, and few bytes are taken behind it
 pub record HoldsFew (line : ℕ) (left left_after : Option (List ℕ)) : Type 0 where
   pub at : LinesState
@@ -149,10 +133,44 @@ abbrev pub TakesFew : Mode → ℕ → Option (List ℕ) → Option (List ℕ) �
 TakesFew Lines line left left_after = HoldsFew line left left_after
 TakesFew WholeInput line left left_after = TakesAtMost (MAX_WHOLE_INPUT + MAX_READ) left left_after
 
--- a write failed: the bindings of the earlier bundles were written, and of those that end at the first observations of the
--- next bundle a prefix; these are all of its observations, or those before one at which too much is live. Few bytes are
--- taken behind the line of that bundle
-pub record StopsWriting (mode : Mode) (p : Pattern) (before after : Streams) : Type 0 where
+-- when these bytes were left, that line was still to come whole: fewer lines had, and a part of the next
+pub record IsToCome (line : ℕ) (left : Option (List ℕ)) (bytes : List ℕ) : Type 0 where
+  pub at : LinesState
+  pub fewer : at.count < line
+  pub part : NoLineFeed at.held
+  pub accounts : AccountsFor lines_start at left (Some bytes)
+
+-- the last read began before that line had come whole; of an input that is read whole, when nothing was left
+abbrev pub BeganInTime : Mode → ℕ → Option (List ℕ) → Option (List ℕ) → Type 0
+BeganInTime Lines line left began = IfSome began (IsToCome line left)
+BeganInTime WholeInput line left began = IsAtEnd began
+
+-- no more was read than the bundle of that line asks for
+pub record ReadsNoFurther (mode : Mode) (line : ℕ) (before after : Streams) : Type 0 where
+  pub few : TakesFew mode line before.left after.left
+  pub in_time : BeganInTime mode line before.left after.began
+
+-- more was live at the row of that number than the cap allows, and at no row before it: the bindings of these were written,
+-- no more was read, and the matcher ended so
+pub record StopsCrowded (mode : Mode) (p : Pattern) (cap : ℕ) (before after : Streams) (state : MatcherState) (number named : ℕ) : Type 0 where
+  pub bundles : List BundleOf
+  pub begins : BeginsSo mode before.left bundles
+  pub log : List LogEntry
+  pub row : LogEntry
+  pub entries : AreFirstEntries (plain_pattern p) bundles (log ++ row ∷ [])
+  pub reads : ReadsNoFurther mode entries.bundle.line before after
+  pub numbered : number ≡ length log + 1
+  pub cap_is : named ≡ cap
+  pub crowded : IsCrowded (numbered_pattern p) (log ++ row ∷ []) cap
+  pub roomy : IsNeverCrowded p cap log
+  pub trees : List BindTree
+  pub bindings : AreBindings p log trees
+  pub text : after.written ≡ written_with (listing_text trees) before.written
+  pub ended : state.ended ≡ Some (ending.Crowded number cap)
+
+-- the run stopped within a bundle: the bindings of the bundles before it were written, and of those that end at its first
+-- observations a prefix; too much is live at none of these, and no more was read
+pub record StopsWithin (mode : Mode) (p : Pattern) (cap : ℕ) (before after : Streams) : Type 0 where
   pub earlier : List BundleOf
   pub bundle : BundleOf
   pub begins : BeginsSo mode before.left (earlier ++ bundle ∷ [])
@@ -163,28 +181,27 @@ pub record StopsWriting (mode : Mode) (p : Pattern) (before after : Streams) : T
   pub own : List LogEntry
   pub entries : AreEntries (plain_pattern p) earlier log
   pub own_entries : AreEntriesOf (plain_pattern p) bundle.objects seen own
+  pub roomy : IsNeverCrowded p cap (log ++ own)
   pub trees : List BindTree
   pub more : List BindTree
   pub bindings : AreBindings p log trees
   pub all_bindings : AreBindings p (log ++ own) (trees ++ more)
   pub prefix : WritesPrefix (listing_text more) (written_with (listing_text trees) before.written) after.written
-  pub few : TakesFew mode bundle.line before.left after.left
+  pub reads : ReadsNoFurther mode bundle.line before after
 
--- memory ran out: the bindings of the bundles before were written
-pub record StopsWithoutMemory (mode : Mode) (p : Pattern) (before after : Streams) : Type 0 where
+-- the run stopped between two bundles: the bindings of those before were written
+pub record StopsBetween (mode : Mode) (p : Pattern) (cap : ℕ) (before after : Streams) : Type 0 where
   pub bundles : List BundleOf
   pub begins : BeginsSo mode before.left bundles
   pub log : List LogEntry
-  pub entries : AreEntries (plain_pattern p) bundles log
   pub trees : List BindTree
-  pub bindings : AreBindings p log trees
-  pub text : after.written ≡ written_with (listing_text trees) before.written
+  pub lists : ListsLog p cap bundles log trees before.written after.written
 
 -- what an end says
 abbrev pub AnswersMatch : Mode → Pattern → ℕ → Streams → Streams → MatcherState → MatchEnd → Type 0
 AnswersMatch mode p cap before after state (Done observations bindings last) = ListsWhole mode p cap before after state observations bindings last
 AnswersMatch mode p cap before after state (Input line why) = ListsBefore mode p cap before after state line why
 AnswersMatch mode p cap before after state ReadFault = ListsTaken mode p cap before after state
-AnswersMatch mode p cap before after state WriteFault = StopsWriting mode p before after
+AnswersMatch mode p cap before after state WriteFault = StopsWithin mode p cap before after
 AnswersMatch mode p cap before after state (Crowded number named) = StopsCrowded mode p cap before after state number named
-AnswersMatch mode p cap before after state NoMemory = StopsWithoutMemory mode p before after
+AnswersMatch mode p cap before after state NoMemory = StopsBetween mode p cap before after ⊎ StopsWithin mode p cap before after

@@ -19,7 +19,7 @@ use std::alloc::Global;
 use stix_bundles::laws::observations_are_spans;
 
 /// Matches a pattern against an input, and writes the bindings in order of their last observation, those of
-/// a bundle before the next one is read. The first line that is refused ends it, or the first observation
+/// a bundle before more is read than its line. The first line that is refused ends it, or the first observation
 /// at which more is live than the matcher's cap allows, whichever comes first.
 pub fn match_stream<I: Source, O: Sink>(
     alloc: Global,
@@ -30,8 +30,9 @@ pub fn match_stream<I: Source, O: Sink>(
 ) -> MatchEnd
     requires start { StandsFor matcher.old [] }
     requires sound { IsSoundPattern (plain_pattern matcher.old.pattern) }
-    ensures end { AnswersMatch mode matcher.old.pattern matcher.old.cap (streams (I.left input.old) (O.written output.old))
-        (streams (I.left input.new) (O.written output.new)) matcher.new result }
+    ensures end { AnswersMatch mode matcher.old.pattern matcher.old.cap (streams (I.left input.old) (I.began input.old) (O.written output.old))
+        (streams (I.left input.new) (I.began input.new) (O.written output.new)) matcher.new result }
+    ensures kept { (matcher.new.pattern ≡ matcher.old.pattern) × (matcher.new.cap ≡ matcher.old.cap) }
     ensures input { Counted (result ≡ MatchEnd.ReadFault) (I.faults input.old) (I.faults input.new) }
     ensures output { Counted (result ≡ MatchEnd.WriteFault) (O.faults output.old) (O.faults output.new) }
 {

@@ -37,15 +37,18 @@ use Rattle.command_make.specs.MakeEndings.{IsTextOfLog, EndsMake, make_status, I
 abbrev pub IsNoCommand : List (List ℕ) → Type 0
 IsNoCommand words = (request : PlainRequest) → ¬ IsCommandLine words request
 
--- what stands outside at one moment of a run: what is left of the input, and the places around a server, among them the output
+-- what stands outside at one moment of a run: what is left of the input, and was when its last read began, and the places around
+-- a server, among them the output
 pub record Outside (L : Type 0) : Type 0 where
   pub left : Option (List ℕ)
+  pub began : Option (List ℕ)
   pub places : Places L
 
 -- the same, from what each object tells
-abbrev pub outside : {L : Type 0} → Option (List ℕ) → Option (List ℕ) → Option (DoorState L) → Kept → (ℕ → Option ℕ) → ℕ → Outside L
-outside left written door kept moments faults = record {
+abbrev pub outside : {L : Type 0} → Option (List ℕ) → Option (List ℕ) → Option (List ℕ) → Option (DoorState L) → Kept → (ℕ → Option ℕ) → ℕ → Outside L
+outside left began written door kept moments faults = record {
   left = left;
+  began = began;
   places = record { door = door; kept = kept; written = written; around = record { moments = moments; faults = faults } };
 }
 
@@ -56,7 +59,7 @@ links left written read_faults write_faults link =
 
 -- the input and the output alone
 abbrev pub streams_of : {L : Type 0} → Outside L → Streams
-streams_of around = streams around.left around.places.written
+streams_of around = streams around.left around.began around.places.written
 
 -- the words are `match` with that request, which ended so
 pub record RunsMatch (words : List (List ℕ)) (before after : Streams) (ending : MatchEnding) : Type 0 where

@@ -29,8 +29,8 @@ fn obey<I: Source, O: Sink, D: Door, K: Keeper, C: Clock>(
     clock: &mut C,
 ) -> Ending
     ensures end { EndsRun (links D.Link.left D.Link.written D.Link.Source.faults D.Link.Sink.faults) (texts words.now)
-        (outside (I.left input.old) (O.written output.old) (D.told door.old) (K.kept keeper.old) (C.moments clock.old) (K.faults keeper.old))
-        (outside (I.left input.new) (O.written output.new) (D.told door.new) (K.kept keeper.new) (C.moments clock.new) (K.faults keeper.new)) result }
+        (outside (I.left input.old) (I.began input.old) (O.written output.old) (D.told door.old) (K.kept keeper.old) (C.moments clock.old) (K.faults keeper.old))
+        (outside (I.left input.new) (I.began input.new) (O.written output.new) (D.told door.new) (K.kept keeper.new) (C.moments clock.new) (K.faults keeper.new)) result }
     ensures unread { (status_of result ≡ 2) ⊎ (status_of result ≡ 3) ⊎ AskForNoInput (texts words.now) → input.new ≡ input.old }
     ensures unwritten { (status_of result ≡ 2) ⊎ (status_of result ≡ 3) → output.new ≡ output.old }
     ensures unserved { ServesNone (status_of result) → (door.new ≡ door.old) × (clock.new ≡ clock.old) × ((K.kept keeper.new).told ≡ (K.kept keeper.old).told) }
@@ -83,10 +83,11 @@ pub fn run<I: Source, O: Sink, E: Sink, D: Door, K: Keeper, C: Clock>(
     clock: &mut C,
 ) -> u8
     ensures ends { Ends (links D.Link.left D.Link.written D.Link.Source.faults D.Link.Sink.faults) (texts words.now)
-        (outside (I.left input.old) (O.written output.old) (D.told door.old) (K.kept keeper.old) (C.moments clock.old) (K.faults keeper.old))
-        (outside (I.left input.new) (O.written output.new) (D.told door.new) (K.kept keeper.new) (C.moments clock.new) (K.faults keeper.new)) result
+        (outside (I.left input.old) (I.began input.old) (O.written output.old) (D.told door.old) (K.kept keeper.old) (C.moments clock.old) (K.faults keeper.old))
+        (outside (I.left input.new) (I.began input.new) (O.written output.new) (D.told door.new) (K.kept keeper.new) (C.moments clock.new) (K.faults keeper.new)) result
         (λ reason. WritesReason reason (E.written reasons.old) (E.written reasons.new) (E.faults reasons.old) (E.faults reasons.new)) }
-    ensures done { result ≡ 0 → IsDone (texts words.now) (streams (I.left input.old) (O.written output.old)) (streams (I.left input.new) (O.written output.new)) }
+    ensures done { result ≡ 0 → IsDone (texts words.now) (streams (I.left input.old) (I.began input.old) (O.written output.old))
+        (streams (I.left input.new) (I.began input.new) (O.written output.new)) }
     ensures untouched { (result ≡ 2) ⊎ (result ≡ 3) → (input.new ≡ input.old) × (output.new ≡ output.old) }
     ensures unread { AskForNoInput (texts words.now) → input.new ≡ input.old }
     ensures unserved { ServesNone result → (door.new ≡ door.old) × (clock.new ≡ clock.old) × ((K.kept keeper.new).told ≡ (K.kept keeper.old).told) }

@@ -1,12 +1,12 @@
 -- For private clauses: how a run ends where the reader does, and where the matcher does.
-use Rattle.std.specs.Prelude.{⊤}
+use Rattle.std.specs.Prelude.{◌≡◌, ◌⊎◌, ⊤, Result, Ok, Err}
 use Rattle.match_live.specs.declared.ending.Ending.TheVariants as ending
 use Rattle.match_live.specs.declared.ending.MatchRefusal.{MatchRefusal}
 use Rattle.match_live.specs.declared.ending.MatchRefusal.TheVariants as refusal
 use Rattle.match_input.specs.declared.read_end.ReadEnd.{ReadEnd}
 use Rattle.match_input.specs.declared.read_end.ReadEnd.TheVariants as read
 use Rattle.match_log.specs.declared.end.MatchEnd.{MatchEnd}
-use Rattle.match_log.specs.declared.end.MatchEnd.TheVariants.{Input, ReadFault, Crowded, NoMemory}
+use Rattle.match_log.specs.declared.end.MatchEnd.TheVariants.{Input, ReadFault, WriteFault, Crowded, NoMemory}
 
 abbrev pub end_of_read : ReadEnd → MatchEnd
 end_of_read (read.Input line why) = Input line why
@@ -26,3 +26,10 @@ end_of_match (refusal.Stopped (ending.Crowded number cap)) = Crowded number cap
 end_of_match (refusal.Stopped (ending.OutOfOrder last now)) = NoMemory
 end_of_match (refusal.Stopped ending.NoMemory) = NoMemory
 end_of_match (refusal.Ended before) = NoMemory
+
+-- memory ran out, or a write failed: such an end comes in the middle of lines
+abbrev pub CutsLines : MatchEnd → Type 0
+CutsLines end = (end ≡ NoMemory) ⊎ (end ≡ WriteFault)
+
+abbrev pub HasCutLines : Result (Unit {0}) MatchEnd → Type 0
+HasCutLines ended = (ended ≡ Err NoMemory) ⊎ (ended ≡ Err WriteFault)

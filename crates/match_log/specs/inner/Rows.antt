@@ -1,5 +1,5 @@
 -- For private clauses: what the observations of one bundle add to a log, to what was counted, and to the text.
-use Rattle.std.specs.Prelude.{◌≡◌, ⊤, ℕ, zero, suc, ◌+◌, ◌*◌, ◌^◌, ◌≤◌, ℤ, ◌≤ℤ◌, Bool, List, [], ◌∷◌, ◌++◌, length, Option, Some}
+use Rattle.std.specs.Prelude.{◌≡◌, ⊤, ℕ, zero, suc, ◌+◌, ◌*◌, ◌^◌, ◌≤◌, ℤ, ◌≤ℤ◌, Bool, List, [], ◌∷◌, ◌++◌, length, take, drop, Option, Some}
 use Rattle.serde_json.specs.Data.{Data}
 use Rattle.stix_bundles.specs.declared.observation.Observation.{Observation}
 use Rattle.stix_bundles.specs.Objects.{data_in}
@@ -84,16 +84,14 @@ MayFollow last next (o ∷ observations) = (o.first ≤ℤ o.last) × (o.number 
 abbrev pub row_of : Observation → List Bool → LogEntry
 row_of o truths = record { first = o.first; last = o.last; truths = truths }
 
--- an observation adds its row, and the lines of what ends there
+-- an observation adds its row, which is answered so
 pub record AddsRow (p : Pattern) (cap : ℕ) (objects : List Data) (o : Observation) (log : List LogEntry) (answers : List (List BindTree))
-    (state : MatcherState) (tally : Tally) (text text_after : List ℕ) : Type 0 where
+    (state : MatcherState) (tally : Tally) (answer : List BindTree) : Type 0 where
   pub truths : List Bool
   pub are : AreTruths objects o.roots (plain_pattern p) truths
-  pub answer : List BindTree
   pub behind : IsBehind p cap state tally (log ++ row_of o truths ∷ []) (answers ++ answer ∷ [])
-  pub text_is : text_after ≡ text ++ listing_text answer
 
--- too much is live at its row, and nothing is added
+-- too much is live at its row
 pub record IsCrowdedAt (p : Pattern) (cap : ℕ) (objects : List Data) (o : Observation) (log : List LogEntry) (state : MatcherState)
     (number named : ℕ) : Type 0 where
   pub truths : List Bool
@@ -104,13 +102,13 @@ pub record IsCrowdedAt (p : Pattern) (cap : ℕ) (objects : List Data) (o : Obse
   pub ended : state.ended ≡ Some (ending.Crowded number cap)
 
 -- what an end at an observation says
-abbrev pub EndsAtRow : Pattern → ℕ → List Data → Observation → List LogEntry → MatcherState → List ℕ → List ℕ → MatchEnd → Type 0
-EndsAtRow p cap objects o log state text text_after (Done observations bindings last) = ⊥
-EndsAtRow p cap objects o log state text text_after (Input line why) = ⊥
-EndsAtRow p cap objects o log state text text_after ReadFault = ⊥
-EndsAtRow p cap objects o log state text text_after WriteFault = ⊥
-EndsAtRow p cap objects o log state text text_after (Crowded number named) = IsCrowdedAt p cap objects o log state number named × (text_after ≡ text)
-EndsAtRow p cap objects o log state text text_after NoMemory = ⊤
+abbrev pub EndsAtRow : Pattern → ℕ → List Data → Observation → List LogEntry → MatcherState → MatchEnd → Type 0
+EndsAtRow p cap objects o log state (Done observations bindings last) = ⊥
+EndsAtRow p cap objects o log state (Input line why) = ⊥
+EndsAtRow p cap objects o log state ReadFault = ⊥
+EndsAtRow p cap objects o log state WriteFault = ⊥
+EndsAtRow p cap objects o log state (Crowded number named) = IsCrowdedAt p cap objects o log state number named
+EndsAtRow p cap objects o log state NoMemory = ⊤
 
 -- ---- the observations of a bundle
 
@@ -122,6 +120,13 @@ pub record AddsRows (p : Pattern) (cap : ℕ) (objects : List Data) (observation
   pub entries : AreEntriesOf (plain_pattern p) objects observations own
   pub behind : IsBehind p cap state tally (log ++ own) (answers ++ own_answers)
   pub text_is : text ≡ listing_text (joined_answers own_answers)
+
+-- of a text so much is written, and the rest is pending
+pub record IsOnItsWay (text pending : List ℕ) (first written : Option (List ℕ)) : Type 0 where
+  pub count : ℕ
+  pub within : count ≤ length text
+  pub written_is : written ≡ written_with (take count text) first
+  pub pending_is : pending ≡ drop count text
 
 -- the first of some observations add their rows, and the lines of what ends there
 pub record ListsFirst (p : Pattern) (cap : ℕ) (objects : List Data) (observations : List Observation) (log : List LogEntry)
@@ -135,6 +140,11 @@ pub record ListsFirst (p : Pattern) (cap : ℕ) (objects : List Data) (observati
   pub rows : HasAnswers p cap (log ++ own) (answers ++ own_answers)
   pub text_is : text ≡ listing_text (joined_answers own_answers)
 
+-- of the lines of the first of them a prefix was written
+abbrev pub BreaksOff : Pattern → ℕ → List Data → List Observation → List LogEntry → List (List BindTree) → Option (List ℕ) → Option (List ℕ) → Type 0
+BreaksOff p cap objects observations log answers first written =
+    (text : List ℕ) × ListsFirst p cap objects observations log answers text × WritesPrefix text first written
+
 -- too much is live at one of them
 pub record StopsAmong (p : Pattern) (cap : ℕ) (objects : List Data) (observations : List Observation) (log : List LogEntry)
     (answers : List (List BindTree)) (state : MatcherState) (text : List ℕ) (number named : ℕ) : Type 0 where
@@ -144,14 +154,16 @@ pub record StopsAmong (p : Pattern) (cap : ℕ) (objects : List Data) (observati
   pub later_are : first.later ≡ o ∷ rest
   pub crowded : IsCrowdedAt p cap objects o (log ++ first.own) state number named
 
--- what an end among the observations says
-abbrev pub EndsAmong : Pattern → ℕ → List Data → List Observation → List LogEntry → List (List BindTree) → MatcherState → List ℕ → MatchEnd → Type 0
-EndsAmong p cap objects observations log answers state text (Done seen bindings last) = ⊥
-EndsAmong p cap objects observations log answers state text (Input line why) = ⊥
-EndsAmong p cap objects observations log answers state text ReadFault = ⊥
-EndsAmong p cap objects observations log answers state text WriteFault = ⊥
-EndsAmong p cap objects observations log answers state text (Crowded number named) = StopsAmong p cap objects observations log answers state text number named
-EndsAmong p cap objects observations log answers state text NoMemory = ⊤
+-- what an end among the observations says: of their lines some may be on their way, where no call failed
+abbrev pub EndsAmong : Pattern → ℕ → List Data → List Observation → List LogEntry → List (List BindTree) → MatcherState
+    → List ℕ → Option (List ℕ) → Option (List ℕ) → MatchEnd → Type 0
+EndsAmong p cap objects observations log answers state pending first written (Done seen bindings last) = ⊥
+EndsAmong p cap objects observations log answers state pending first written (Input line why) = ⊥
+EndsAmong p cap objects observations log answers state pending first written ReadFault = ⊥
+EndsAmong p cap objects observations log answers state pending first written WriteFault = BreaksOff p cap objects observations log answers first written
+EndsAmong p cap objects observations log answers state pending first written (Crowded number named) =
+    (text : List ℕ) × StopsAmong p cap objects observations log answers state text number named × IsOnItsWay text pending first written
+EndsAmong p cap objects observations log answers state pending first written NoMemory = BreaksOff p cap objects observations log answers first written
 
 -- ---- a bundle, and what is written of it
 
@@ -167,11 +179,10 @@ abbrev pub EndsInBundle : Pattern → ℕ → List Data → List Observation →
 EndsInBundle p cap objects observations log answers state written written_after (Done seen bindings last) = ⊥
 EndsInBundle p cap objects observations log answers state written written_after (Input line why) = ⊥
 EndsInBundle p cap objects observations log answers state written written_after ReadFault = ⊥
-EndsInBundle p cap objects observations log answers state written written_after WriteFault =
-    (text : List ℕ) × ListsFirst p cap objects observations log answers text × WritesPrefix text written written_after
+EndsInBundle p cap objects observations log answers state written written_after WriteFault = BreaksOff p cap objects observations log answers written written_after
 EndsInBundle p cap objects observations log answers state written written_after (Crowded number named) =
     (text : List ℕ) × StopsAmong p cap objects observations log answers state text number named × (written_after ≡ written_with text written)
-EndsInBundle p cap objects observations log answers state written written_after NoMemory = written_after ≡ written
+EndsInBundle p cap objects observations log answers state written written_after NoMemory = BreaksOff p cap objects observations log answers written written_after
 
 -- the bundle that a batch is
 abbrev pub bundle_of : Batch → BundleOf
@@ -179,25 +190,30 @@ bundle_of batch = record { line = batch.line; objects = data_in batch.bundle; ob
 
 -- ---- the same from wherever a run is
 
--- an observation adds its row and its lines
-abbrev pub TakesRow : List Data → Observation → Progress → Progress → List ℕ → List ℕ → Type 0
-TakesRow objects o run after text text_after = (log : List LogEntry) (answers : List (List BindTree)) → IsAt run log answers
-    → AddsRow run.matcher.pattern run.matcher.cap objects o log answers after.matcher after.tally text text_after
+-- an observation adds its row
+abbrev pub TakesRow : List Data → Observation → Progress → Progress → List BindTree → Type 0
+TakesRow objects o run after answer = (log : List LogEntry) (answers : List (List BindTree)) → IsAt run log answers
+    → AddsRow run.matcher.pattern run.matcher.cap objects o log answers after.matcher after.tally answer
 
 -- or ends the run so
-abbrev pub StopsAtRow : List Data → Observation → Progress → MatcherState → List ℕ → List ℕ → MatchEnd → Type 0
-StopsAtRow objects o run after text text_after end = (log : List LogEntry) (answers : List (List BindTree)) → IsAt run log answers
-    → EndsAtRow run.matcher.pattern run.matcher.cap objects o log after text text_after end
+abbrev pub StopsAtRow : List Data → Observation → Progress → MatcherState → MatchEnd → Type 0
+StopsAtRow objects o run after end = (log : List LogEntry) (answers : List (List BindTree)) → IsAt run log answers
+    → EndsAtRow run.matcher.pattern run.matcher.cap objects o log after end
 
 -- some observations of a bundle add their rows and their lines
 abbrev pub TakesRows : List Data → List Observation → Progress → Progress → List ℕ → Type 0
 TakesRows objects observations run after text = (log : List LogEntry) (answers : List (List BindTree)) → IsAt run log answers
     → AddsRows run.matcher.pattern run.matcher.cap objects observations log answers after.matcher after.tally text
 
+-- and these lines are on their way
+abbrev pub GoesThrough : List Data → List Observation → Progress → Progress → List ℕ → Option (List ℕ) → Option (List ℕ) → Type 0
+GoesThrough objects observations run after pending first written =
+    (text : List ℕ) × TakesRows objects observations run after text × IsOnItsWay text pending first written
+
 -- or one of them ends the run so
-abbrev pub StopsAtOne : List Data → List Observation → Progress → MatcherState → List ℕ → MatchEnd → Type 0
-StopsAtOne objects observations run after text end = (log : List LogEntry) (answers : List (List BindTree)) → IsAt run log answers
-    → EndsAmong run.matcher.pattern run.matcher.cap objects observations log answers after text end
+abbrev pub StopsAtOne : List Data → List Observation → Progress → MatcherState → List ℕ → Option (List ℕ) → Option (List ℕ) → MatchEnd → Type 0
+StopsAtOne objects observations run after pending first written end = (log : List LogEntry) (answers : List (List BindTree)) → IsAt run log answers
+    → EndsAmong run.matcher.pattern run.matcher.cap objects observations log answers after pending first written end
 
 -- the lines of a bundle are written
 abbrev pub WritesBundle : BundleOf → Progress → Progress → Option (List ℕ) → Option (List ℕ) → Type 0

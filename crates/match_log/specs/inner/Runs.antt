@@ -1,5 +1,5 @@
 -- For private clauses: how far a run over an input is.
-use Rattle.std.specs.Prelude.{◌≡◌, ℕ, ◌+◌, ◌-◌, ◌≤◌, List, [], ◌++◌, Option, None, Some, IfSome}
+use Rattle.std.specs.Prelude.{◌≡◌, ◌⊎◌, ⊤, ℕ, ◌+◌, ◌-◌, ◌≤◌, List, [], ◌++◌, Option, None, Some, IfSome}
 use Rattle.flow_edges.specs.declared.source.TheConstants.{MAX_READ}
 use Rattle.flow_edges.specs.Flow.{IsAtEnd, TakesAtMost, written_with}
 use Rattle.flow_lines.specs.Lines.{lines_start, AccountsFor}
@@ -20,7 +20,7 @@ use Rattle.match_input.specs.Ahead.{ReaderState, next_number, ahead}
 use Rattle.flow_edges.specs.Streams.{Streams}
 use Rattle.match_log.specs.Entries.{AreEntries}
 use Rattle.match_log.specs.Listing.{listing_text}
-use Rattle.match_log.specs.Matching.{ReadsInput}
+use Rattle.match_log.specs.Matching.{ReadsInput, BeganInTime}
 use Rattle.match_log.specs.inner.Rows.{IsBehind}
 use Rattle.match_log.specs.declared.tally.Tally.{Tally}
 
@@ -30,6 +30,13 @@ IsStageOf Lines (stage.Lines lines) bundles first left = (lines.refusal ≡ None
 IsStageOf WholeInput stage.Whole bundles first left = (left ≡ first) × (bundles ≡ [])
 IsStageOf WholeInput stage.AtEnd bundles first left = IsAtEnd left × TakesAtMost (MAX_WHOLE_INPUT + MAX_READ) first left
 IsStageOf _ _ bundles first left = ⊥
+
+-- the last read began before the line of the last bundle had come whole; before the first bundle nothing was read
+abbrev pub IsInTime : Mode → Stage → Option (List ℕ) → Option (List ℕ) → Type 0
+IsInTime Lines (stage.Lines lines) first began = (lines ≡ lines_start) ⊎ BeganInTime Lines lines.count first began
+IsInTime WholeInput stage.Whole first began = ⊤
+IsInTime WholeInput stage.AtEnd first began = IsAtEnd began
+IsInTime _ _ first began = ⊥
 
 -- how many turns may come yet
 abbrev pub turns_left : Stage → ℕ
@@ -65,3 +72,4 @@ pub record RunsSo (mode : Mode) (p : Pattern) (cap : ℕ) (before now : Streams)
   pub text : now.written ≡ written_with (listing_text (joined_answers answers)) before.written
   pub number : reader.observations ≡ state.rows
   pub time : reader.last ≡ state.last
+  pub in_time : IsInTime mode reader.stage before.left now.began

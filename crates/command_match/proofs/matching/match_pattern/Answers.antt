@@ -11,8 +11,8 @@ use Rattle.command_match.proofs.matching.match_pattern.Goals as goal
 pub returns-clause-end : goal.returns-clause-end
 returns-clause-end g c =
     let mode = mode_of c.args.request.whole in
-    let before = streams (g.I.Source.left c.args.input.now) (g.O.Sink.written c.args.output.now) in
-    let after = streams (g.I.Source.left c.match_stream-end.new.input) (g.O.Sink.written c.match_stream-end.new.output) in
+    let before = streams (g.I.Source.left c.args.input.now) (g.I.Source.began c.args.input.now) (g.O.Sink.written c.args.output.now) in
+    let after = streams (g.I.Source.left c.match_stream-end.new.input) (g.I.Source.began c.match_stream-end.new.input) (g.O.Sink.written c.match_stream-end.new.output) in
     let state = c.match_stream-end.new.matcher in
     let of_mode = subst (λ (m : Mode). AnswersMatch m c.in-Ok.matcher.pattern c.in-Ok.matcher.cap before after state c.match_stream-end.result)
     c.mode_of.ensures c.match_stream-end.ensures.end in

@@ -1,8 +1,6 @@
 use Rattle.std.proofs.Common.{◌≡◌, List, [], ◌∷◌, ◌++◌, length, map, sym, ap, subst, ◌∙◌, arith}
 use Rattle.std.proofs.lemmas.List.{length-map}
-use Rattle.match_bindings.specs.declared.bind.Bind.{Bind}
 use Rattle.match_bindings.specs.BindTree.{tree_of}
-use Rattle.match_log.specs.Listing.{listing_text}
 use Rattle.match_log.specs.inner.Rows.{counted, IsBehind, row_of, EndsAtRow}
 use Rattle.match_log.specs.declared.tally.Tally.{Tally}
 use Rattle.match_log.specs.declared.end.MatchEnd.{MatchEnd}
@@ -17,8 +15,8 @@ end_of-requires c =
     (λ before time is. (c.in-Err.ensures.out_of_order before time).0 is)
     (λ e is. (c.in-Err.ensures.ended e).0 is)
 
-pub returns-in_ok-add_lines-in-Ok-clause-row : goal.returns-in_ok-add_lines-in-Ok-clause-row
-returns-in_ok-add_lines-in-Ok-clause-row c objects are log answers b =
+pub returns-in-Ok-clause-row : goal.returns-in-Ok-clause-row
+returns-in-Ok-clause-row c objects are log answers b =
     let m = c.args.matcher.now in
     let o = c.args.observation.now in
     let truths = c.args.truths.now in
@@ -29,20 +27,18 @@ returns-in_ok-add_lines-in-Ok-clause-row c objects are log answers b =
     record {
       truths = truths;
       are = are;
-      answer = binds;
       behind = subst (λ (t : Tally). IsBehind m.pattern m.cap c.take.new.self t (log ++ row_of o truths ∷ []) (answers ++ binds ∷ []))
           (sym (c.count.ensures ∙ ap (counted c.args.tally.now o.number) count))
           (behind-more m.pattern m.cap m c.take.new.self c.args.tally.now log answers o truths binds b
           c.requires.number (omega (arith, count)) answered.stands answered.order answered.answers answered.roomy);
-      text_is = c.in_ok-add_lines-in-Ok.ensures ∙ ap (λ (bs : List Bind). c.args.text.now ++ listing_text (map tree_of bs)) c.as_slice.ensures;
     }
 
 pub returns-in-Err-clause-end : goal.returns-in-Err-clause-end
 returns-in-Err-clause-end c objects are log answers b =
     let m = c.args.matcher.now in
     let o = c.args.observation.now in
-    subst (λ (e : MatchEnd). EndsAtRow m.pattern m.cap objects o log c.take.new.self c.args.text.now c.args.text.now e)
-    (sym c.end_of.ensures)
-    (ends_row objects o log m c.take.new.self c.args.text.now c.args.truths.now c.in-Err.refusal are
+    subst (λ (e : MatchEnd). EndsAtRow m.pattern m.cap objects o log c.take.new.self e)
+    (sym c.end_of.ensures.end)
+    (ends_row objects o log m c.take.new.self c.args.truths.now c.in-Err.refusal are
     (λ number named is. c.in-Err.ensures.crowded log b.stands b.rows.order number named is)
     (λ e is. c.in-Err.ensures.stopped e is))

@@ -1,20 +1,31 @@
-use Rattle.std.proofs.Common.{◌≡◌, ◌≢◌, Err, List, ℕ, sym, subst, ◌∙◌}
-use Rattle.match_log.specs.inner.Rows.{so_far, bundle_of, ListsFirst}
-use Rattle.match_log.specs.declared.end.MatchEnd.TheVariants.{NoMemory}
-use Rattle.match_log.proofs.RowsLemmas.{batch-first}
+use Rattle.match_log.specs.inner.Ends.{HasCutLines}
+use Rattle.match_log.specs.inner.Rows.{so_far, bundle_of}
+use Rattle.match_log.proofs.PendingLemmas.{on_ok}
+use Rattle.match_log.proofs.RowsLemmas.{batch-rows, batch-cut, batch-ends, batch-fault}
 use Rattle.match_log.proofs.batch.match_batch.Goals as goal
 
-pub returns-clause-end : goal.returns-clause-end
-returns-clause-end g c log answers b =
-    let m = c.args.matcher.now in
+pub returns-in_err-write_pending-clause-end : goal.returns-in_err-write_pending-clause-end
+returns-in_err-write_pending-clause-end g c =
     let bundle = bundle_of c.args.batch.now in
-    let ended = c.answer_all-ended.result in
-    let text = c.answer_all-ended.new.text in
-    let some : ended ≢ Err NoMemory = λ is. let yes = c.is_out_of_memory.ensures.1 is in let no = c.if-is_out_of_memory.false in cc in
-    let bytes : c.as_bytes.result.now ≡ text = c.as_bytes.ensures.value ∙ c.as_str.ensures in
-    let first = batch-first bundle (so_far m c.args.tally.now) (so_far c.answer_all-ended.new.matcher c.answer_all-ended.new.tally) text ended
-    c.answer_all-ended.ensures.rows c.answer_all-ended.ensures.end some log answers b in (
-      c.as_bytes.result.now,
-      subst (λ (t : List ℕ). ListsFirst m.pattern m.cap bundle.objects bundle.observations log answers t) (sym bytes) first,
-      c.in-Err.ensures.text,
-    )
+    let run = so_far c.args.matcher.now c.args.tally.now in
+    let after = so_far c.answer_all-ended.new.matcher c.answer_all-ended.new.tally in
+    let uncut : ¬ HasCutLines c.answer_all-ended.result = λ cut. let yes = c.has_cut_lines.ensures.1 cut in let no = c.if-has_cut_lines.false in cc in
+    batch-fault bundle run c.answer_all-ended.new.matcher _ _ c.from_residual.result c.in_err-write_pending.field-0.0 c.from_residual.ensures.1 c.in_err-write_pending.ensures.end
+    (batch-cut bundle run after c.answer_all-ended.new.pending.items _ _ c.answer_all-ended.result _ c.answer_all-ended.ensures.rows c.answer_all-ended.ensures.end uncut
+    c.in_err-write_pending.ensures.err)
+
+pub returns-clause-rows : goal.returns-clause-rows
+returns-clause-rows g c =
+    let bundle = bundle_of c.args.batch.now in
+    let run = so_far c.args.matcher.now c.args.tally.now in
+    let after = so_far c.answer_all-ended.new.matcher c.answer_all-ended.new.tally in
+    on_ok c.answer_all-ended.result
+    (λ goes. batch-rows bundle run after c.answer_all-ended.new.pending.items _ _ _ goes c.in_ok-write_pending.ensures.ok.1) c.answer_all-ended.ensures.rows
+
+pub returns-clause-end : goal.returns-clause-end
+returns-clause-end g c =
+    let bundle = bundle_of c.args.batch.now in
+    let run = so_far c.args.matcher.now c.args.tally.now in
+    let after = so_far c.answer_all-ended.new.matcher c.answer_all-ended.new.tally in
+    let uncut : ¬ HasCutLines c.answer_all-ended.result = λ cut. let yes = c.has_cut_lines.ensures.1 cut in let no = c.if-has_cut_lines.false in cc in
+    batch-ends bundle run after c.answer_all-ended.new.pending.items _ _ c.answer_all-ended.result _ c.answer_all-ended.ensures.end uncut c.in_ok-write_pending.ensures.ok.1

@@ -1,4 +1,4 @@
-use Rattle.std.proofs.Common.{Option, Ok, refl, sym, ap, subst, ◌∙◌}
+use Rattle.std.proofs.Common.{Option, Ok, inl, refl, sym, ap, subst, ◌∙◌}
 use Rattle.stix_bundles.specs.Objects.{data_in}
 use Rattle.match_input.specs.declared.batch.Batch.{Batch}
 use Rattle.match_input.specs.Ahead.{reader_start, AnswersNext}
@@ -6,17 +6,15 @@ use Rattle.flow_edges.specs.Streams.{streams}
 use Rattle.match_log.specs.Matching.{AnswersMatch}
 use Rattle.match_log.specs.inner.Rows.{no_tally}
 use Rattle.match_log.specs.declared.end.MatchEnd.{MatchEnd}
-use Rattle.match_log.proofs.RunsLemmas.{run-start, run-more, run-memory, run-end, run-read_end, run-none, batch_given, end_given, given_follow, rows-here, end-here}
+use Rattle.match_log.proofs.RunsLemmas.{run-start, run-more, run-memory, run-end, run-read_end, run-none, batch_given, end_given, given_in_time, given_follow, rows-here, end-here}
 use Rattle.match_log.proofs.stream.match_stream.Goals as goal
 
 pub returns-in-Err-clause-end : goal.returns-in-Err-clause-end
 returns-in-Err-clause-end g c =
     let m = c.args.matcher.now in
-    let first = g.I.Source.left c.args.input.now in
-    let written = g.O.Sink.written c.args.output.now in
-    run-memory c.answers_are_the_listing.ensures c.args.mode m.pattern m.cap (streams first written) (streams first written) (reader_start c.args.mode) m no_tally
-    (run-start c.args.mode m.pattern m.cap first written (reader_start c.args.mode) m no_tally c.requires.start refl refl)
-    (streams first written) refl
+    let start = streams (g.I.Source.left c.args.input.now) (g.I.Source.began c.args.input.now) (g.O.Sink.written c.args.output.now) in
+    inl (run-memory c.answers_are_the_listing.ensures c.args.mode m.pattern m.cap start start (reader_start c.args.mode) m no_tally
+    (run-start c.args.mode m.pattern m.cap start (reader_start c.args.mode) m no_tally c.requires.start refl refl) start refl)
 
 pub bundles-init : goal.bundles-init
 bundles-init g c =
@@ -24,7 +22,8 @@ bundles-init g c =
     record {
       pattern = refl;
       most = refl;
-      runs = run-start c.args.mode m.pattern m.cap (g.I.Source.left c.args.input.now) (g.O.Sink.written c.args.output.now) c.in-Ok.reader m
+      runs = run-start c.args.mode m.pattern m.cap
+          (streams (g.I.Source.left c.args.input.now) (g.I.Source.began c.args.input.now) (g.O.Sink.written c.args.output.now)) c.in-Ok.reader m
           c.new-tally.result c.requires.start c.in-Ok.ensures c.new-tally.ensures;
       read_quiet = refl;
       write_quiet = refl;
@@ -33,29 +32,31 @@ bundles-init g c =
 pub returns-in-Ok-None-clause-end : goal.returns-in-Ok-None-clause-end
 returns-in-Ok-None-clause-end g c =
     let m = c.args.matcher.now in
-    let before = streams (g.I.Source.left c.args.input.now) (g.O.Sink.written c.args.output.now) in
-    let now = streams (g.I.Source.left c.bundles.input) (g.O.Sink.written c.bundles.output) in
+    let before = streams (g.I.Source.left c.args.input.now) (g.I.Source.began c.args.input.now) (g.O.Sink.written c.args.output.now) in
+    let now = streams (g.I.Source.left c.bundles.input) (g.I.Source.began c.bundles.input) (g.O.Sink.written c.bundles.output) in
     let left_after = g.I.Source.left c.next.new.source in
+    let began_after = g.I.Source.began c.next.new.source in
     let state = c.bundles.matcher in
     let reader = c.bundles.reader in
     let after = c.next.new.self in
-    subst (λ (e : MatchEnd). AnswersMatch c.args.mode m.pattern m.cap before (streams left_after now.written) state e) (sym c.done.ensures)
-    (run-none c.answers_are_the_listing.ensures c.args.mode m.pattern m.cap before now reader after state c.bundles.tally c.bundles.invariant.runs left_after
+    subst (λ (e : MatchEnd). AnswersMatch c.args.mode m.pattern m.cap before (streams left_after began_after now.written) state e) (sym c.done.ensures)
+    (run-none c.answers_are_the_listing.ensures c.args.mode m.pattern m.cap before now reader after state c.bundles.tally c.bundles.invariant.runs left_after began_after
     (λ opened. subst (λ (o : Option Batch). AnswersNext reader after now.left left_after (Ok o)) c.in-Ok-None.field-0-is (c.in-Ok-None.ensures.next opened))
     (λ is. ap g.I.Source.left (c.in-Ok-None.ensures.at_end is).2))
 
 pub returns-in-Err-next-clause-end : goal.returns-in-Err-next-clause-end
 returns-in-Err-next-clause-end g c =
     let m = c.args.matcher.now in
-    let before = streams (g.I.Source.left c.args.input.now) (g.O.Sink.written c.args.output.now) in
-    let now = streams (g.I.Source.left c.bundles.input) (g.O.Sink.written c.bundles.output) in
+    let before = streams (g.I.Source.left c.args.input.now) (g.I.Source.began c.args.input.now) (g.O.Sink.written c.args.output.now) in
+    let now = streams (g.I.Source.left c.bundles.input) (g.I.Source.began c.bundles.input) (g.O.Sink.written c.bundles.output) in
     let left_after = g.I.Source.left c.next.new.source in
+    let began_after = g.I.Source.began c.next.new.source in
     let state = c.bundles.matcher in
     let reader = c.bundles.reader in
     let after = c.next.new.self in
     let far = c.bundles.invariant.runs in
-    subst (λ (e : MatchEnd). AnswersMatch c.args.mode m.pattern m.cap before (streams left_after now.written) state e) (sym c.from.ensures)
-    (run-read_end c.answers_are_the_listing.ensures c.args.mode m.pattern m.cap before now reader after state c.bundles.tally far left_after c.in-Err-next.end
+    subst (λ (e : MatchEnd). AnswersMatch c.args.mode m.pattern m.cap before (streams left_after began_after now.written) state e) (sym c.from.ensures)
+    (run-read_end c.answers_are_the_listing.ensures c.args.mode m.pattern m.cap before now reader after state c.bundles.tally far left_after began_after c.in-Err-next.end
     (end_given far.bundles before.left now.left left_after c.args.mode reader after c.in-Err-next.end far.read.stage c.in-Err-next.ensures.next
     (λ is. (c.in-Err-next.ensures.at_end is).0)))
 
@@ -64,6 +65,7 @@ match_batch-requires-clause-follow g c =
     let first = g.I.Source.left c.args.input.now in
     let left = g.I.Source.left c.bundles.input in
     let left_after = g.I.Source.left c.next.new.source in
+    let began_after = g.I.Source.began c.next.new.source in
     let reader = c.bundles.reader in
     let after = c.next.new.self in
     let far = c.bundles.invariant.runs in
@@ -76,9 +78,10 @@ returns-in-Err-match_batch-clause-end g c =
     let m = c.args.matcher.now in
     let old = c.bundles.matcher in
     let new = c.match_batch.new.matcher in
-    let before = streams (g.I.Source.left c.args.input.now) (g.O.Sink.written c.args.output.now) in
-    let now = streams (g.I.Source.left c.bundles.input) (g.O.Sink.written c.bundles.output) in
+    let before = streams (g.I.Source.left c.args.input.now) (g.I.Source.began c.args.input.now) (g.O.Sink.written c.args.output.now) in
+    let now = streams (g.I.Source.left c.bundles.input) (g.I.Source.began c.bundles.input) (g.O.Sink.written c.bundles.output) in
     let left_after = g.I.Source.left c.next.new.source in
+    let began_after = g.I.Source.began c.next.new.source in
     let written_after = g.O.Sink.written c.match_batch.new.output in
     let reader = c.bundles.reader in
     let after = c.next.new.self in
@@ -87,8 +90,10 @@ returns-in-Err-match_batch-clause-end g c =
     let far = invariant.runs in
     let gives = batch_given far.bundles before.left now.left left_after c.args.mode reader after c.in-Ok-Some.field-0 batch far.read.stage c.in-Ok-Some.ensures.next
     (λ is. (c.in-Ok-Some.ensures.at_end is).0) c.in-Ok-Some.field-0-is in
+    let began = given_in_time far.bundles before.left now.left left_after now.began began_after c.args.mode reader after c.in-Ok-Some.field-0 batch far.read.stage far.in_time gives
+    c.in-Ok-Some.field-0-is (λ is. (c.in-Ok-Some.ensures.at_end is).0) (λ holds. ap g.I.Source.began (c.in-Ok-Some.ensures.unread holds)) c.in-Ok-Some.ensures.in_time in
     run-end c.answers_are_the_listing.ensures c.args.mode m.pattern m.cap before now reader old c.bundles.tally far
-    c.goes_on.ensures after new left_after written_after batch gives c.in-Err-match_batch.end
+    c.goes_on.ensures after new left_after began_after written_after batch gives began c.in-Err-match_batch.end
     (end-here m.pattern old.pattern m.cap old.cap invariant.pattern invariant.most (data_in batch.bundle) batch.observations old new
     c.bundles.tally c.match_batch.new.tally now.written written_after c.in-Err-match_batch.end c.in-Err-match_batch.ensures.end far.log far.answers far.behind)
 
@@ -97,9 +102,10 @@ bundles-preserved g c =
     let m = c.args.matcher.now in
     let old = c.bundles.matcher in
     let new = c.match_batch.new.matcher in
-    let before = streams (g.I.Source.left c.args.input.now) (g.O.Sink.written c.args.output.now) in
-    let now = streams (g.I.Source.left c.bundles.input) (g.O.Sink.written c.bundles.output) in
+    let before = streams (g.I.Source.left c.args.input.now) (g.I.Source.began c.args.input.now) (g.O.Sink.written c.args.output.now) in
+    let now = streams (g.I.Source.left c.bundles.input) (g.I.Source.began c.bundles.input) (g.O.Sink.written c.bundles.output) in
     let left_after = g.I.Source.left c.next.new.source in
+    let began_after = g.I.Source.began c.next.new.source in
     let written_after = g.O.Sink.written c.match_batch.new.output in
     let reader = c.bundles.reader in
     let after = c.next.new.self in
@@ -108,11 +114,13 @@ bundles-preserved g c =
     let far = invariant.runs in
     let gives = batch_given far.bundles before.left now.left left_after c.args.mode reader after c.in-Ok-Some.field-0 batch far.read.stage c.in-Ok-Some.ensures.next
     (λ is. (c.in-Ok-Some.ensures.at_end is).0) c.in-Ok-Some.field-0-is in
+    let began = given_in_time far.bundles before.left now.left left_after now.began began_after c.args.mode reader after c.in-Ok-Some.field-0 batch far.read.stage far.in_time gives
+    c.in-Ok-Some.field-0-is (λ is. (c.in-Ok-Some.ensures.at_end is).0) (λ holds. ap g.I.Source.began (c.in-Ok-Some.ensures.unread holds)) c.in-Ok-Some.ensures.in_time in
     record {
       pattern = c.in-Ok-match_batch.ensures.kept.0 ∙ invariant.pattern;
       most = c.in-Ok-match_batch.ensures.kept.1 ∙ invariant.most;
       runs = run-more c.goes_on.ensures c.args.mode m.pattern m.cap before now reader after old new c.bundles.tally c.match_batch.new.tally
-          left_after written_after batch far gives
+          left_after began_after written_after batch far gives began
           (rows-here m.pattern old.pattern m.cap old.cap invariant.pattern invariant.most (data_in batch.bundle) batch.observations old
           new c.bundles.tally c.match_batch.new.tally now.written written_after c.in-Ok-match_batch.ensures.rows far.log far.answers far.behind);
       read_quiet = c.in-Ok-Some.ensures.causes.quiet (λ failed. cc failed.1) ∙ invariant.read_quiet;
