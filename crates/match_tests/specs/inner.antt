@@ -4,5 +4,4 @@ pub mod Search
 pub mod Positions
 pub mod Roots
 pub mod Splits
-pub mod Columns
 pub mod Rows

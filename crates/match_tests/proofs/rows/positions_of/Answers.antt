@@ -2,7 +2,7 @@ use Rattle.std.proofs.Common.{List, ℕ, take, get_or, sym, subst}
 use Rattle.std.proofs.lemmas.List.{take_more}
 use Rattle.match_tests.specs.inner.Positions.{AreOf}
 use Rattle.match_tests.proofs.RootsLemmas.{new_same}
-use Rattle.match_tests.proofs.columns.positions_of.Goals as goal
+use Rattle.match_tests.proofs.rows.positions_of.Goals as goal
 
 pub loop-at-preserved : goal.loop-at-preserved
 loop-at-preserved c =

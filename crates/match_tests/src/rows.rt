@@ -1,11 +1,11 @@
-ghost use Rattle.std.specs.Prelude.{◌≡◌, ◌++◌, ◌↔◌, ℕ, [], List, Bool, Contains, IsTrue, IfOk, OnOk, IfSome};
+ghost use Rattle.std.specs.Prelude.{◌≡◌, ◌↔◌, ℕ, length, Contains, IsTrue, IfOk, OnOk};
 ghost use Rattle.stix_bundles.specs.Objects.{data_in};
 ghost use Rattle.pattern_types.specs.PlainLeaf.{plain_leaf};
-ghost use Rattle.pattern_types.specs.PlainPattern.{plain_pattern};
+ghost use Rattle.pattern_types.specs.PlainPattern.{plain_pattern, a_leaf};
 ghost use Rattle.pattern_types.specs.Soundness.{IsSoundLeaf, IsSoundPattern};
-ghost use Rattle.match_tests.specs.inner.Columns.{IsColumn, AddsColumns};
 ghost use Rattle.match_tests.specs.inner.Positions.{IsIn, AreOf};
 ghost use Rattle.match_tests.specs.inner.Roots.{IsSomeRoot};
+ghost use Rattle.match_tests.specs.inner.Rows.{AddsTruths};
 
 use crate::positions::Positions;
 use crate::split::split_by;
@@ -22,45 +22,48 @@ pub(crate) struct Seen<'a> {
     pub(crate) roots: &'a [u32],
 }
 
-/// Adds a column for each bracket of a pattern, from left to right: for each observation whether it holds.
-pub(crate) fn add_columns(
+/// Adds the truths of a pattern's brackets, from left to right, to the row of each observation.
+pub(crate) fn add_truths(
     alloc: Global,
     pattern: &Pattern,
     seen: &Seen<'_>,
-    out: &mut Items<Items<bool>>,
+    rows: &mut [Items<bool>],
 ) -> Result<(), NoMemory>
     requires sound { IsSoundPattern (plain_pattern pattern.now) }
     requires roots { (at : ℕ) → Contains seen.now.roots.now at ↔ IsSomeRoot seen.now.observations.now at }
-    ensures { OnOk result (AddsColumns (data_in seen.now.bundle.now) seen.now.observations.now (plain_pattern pattern.now) out.old out.new) }
+    requires rows { length rows.old ≡ length seen.now.observations.now }
+    ensures { OnOk result (AddsTruths (data_in seen.now.bundle.now) (plain_pattern pattern.now) seen.now.observations.now rows.old rows.new) }
 {
     match pattern {
-        Pattern::Leaf(leaf) => {
-            let column = column(alloc, leaf, seen)?;
-            out.push(column)
-        }
+        Pattern::Leaf(leaf) => add_leaf(alloc, leaf, seen, rows),
         Pattern::Both(left, right) | Pattern::Either(left, right) | Pattern::Then(left, right) => {
-            add_columns(alloc, left, seen, out)?;
-            add_columns(alloc, right, seen, out)
+            add_truths(alloc, left, seen, rows)?;
+            add_truths(alloc, right, seen, rows)
         }
         Pattern::Within(part, _) | Pattern::Between(part, _, _) | Pattern::Repeats(part, _) => {
-            add_columns(alloc, part, seen, out)
+            add_truths(alloc, part, seen, rows)
         }
     }
 }
 
-/// For each observation whether a bracket holds.
-fn column(alloc: Global, leaf: &Leaf, seen: &Seen<'_>) -> Result<Items<bool>, NoMemory>
+/// Adds those of one bracket.
+fn add_leaf(
+    alloc: Global,
+    leaf: &Leaf,
+    seen: &Seen<'_>,
+    rows: &mut [Items<bool>],
+) -> Result<(), NoMemory>
     requires sound { IsSoundLeaf (plain_leaf leaf.now) }
     requires roots { (at : ℕ) → Contains seen.now.roots.now at ↔ IsSomeRoot seen.now.observations.now at }
-    ensures { IfOk result (IsColumn (data_in seen.now.bundle.now) seen.now.observations.now (plain_leaf leaf.now)) }
+    requires rows { length rows.old ≡ length seen.now.observations.now }
+    ensures { OnOk result (AddsTruths (data_in seen.now.bundle.now) (a_leaf (plain_leaf leaf.now)) seen.now.observations.now rows.old rows.new) }
 {
     let split = split_by(alloc, seen.bundle, leaf, seen.roots)?;
     let held = positions_of(alloc, split.held.as_slice())?;
-    let mut column = Items::with_capacity(alloc, seen.observations.len())?;
-    for observation in seen.observations {
-        column.push(has_some(&held, observation.roots.as_slice()))?;
+    for (at, row) in rows.iter_mut().enumerate() {
+        row.push(has_some(&held, seen.observations[at].roots.as_slice()))?;
     }
-    Ok(column)
+    Ok(())
 }
 
 /// Positions as a set.
