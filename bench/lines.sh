@@ -1,5 +1,6 @@
 #!/usr/bin/env bash
-# Times `match` on the dearest lines that there may be, of nearly 8,388,608 bytes, with a stack of 1 MB.
+# Times `match` on lines of 2 to 8 MB that cost much: roots and references that many share, tests and lists by the thousand,
+# LIKE and IN with long constants. The stack has 1 MB.
 #
 #   bench/lines.sh [PROGRAM]    by default the program that ./stix_command runs
 set -eu
@@ -48,6 +49,18 @@ timed "1,000 tests on an object of 500,000 properties" "[$(awk 'BEGIN { for (n =
   'observed(1, ref(1)); for (m = 0; m < 500; m++) { part = ""; for (n = 1; n <= 1000; n++) part = part ",\"p" (m * 1000 + n) "\":1"; more = more part }; thing(1, more)'
 timed "1,000 tests on a list of 3,000,000 numbers" "[$(awk 'BEGIN { for (n = 1; n <= 1000; n++) printf "%sx-thing:list[%d] = -1", (n == 1 ? "" : " OR "), n }')]" \
   'observed(1, ref(1)); thing(1, ",\"list\":[1" repeated(",1", 2999999) "]")'
+timed "6,000 objects that refer to one, a text of 1 MB, LIKE" "[x-thing:a_ref.text LIKE '%b']" \
+  'refs = ref(2); for (n = 3; n <= 6001; n++) refs = refs "," ref(n); observed(1, refs); thing(1, ",\"text\":\"" repeated("a", 1000000) "\""); for (n = 2; n <= 6001; n++) thing(n, ",\"a_ref\":" ref(1))'
+timed "the same, each observed" "[x-thing:a_ref.text LIKE '%b']" \
+  'thing(1, ",\"text\":\"" repeated("a", 1000000) "\""); for (n = 2; n <= 6001; n++) { observed(n, ref(n)); thing(n, ",\"a_ref\":" ref(1)) }'
+timed "the same of 6.8 MB in hex, IN with 8,000 constants" "[x-thing:a_ref.text_hex IN ($(awk 'BEGIN { for (n = 0; n < 8000; n++) printf "%sh'\''%04x'\''", (n ? "," : ""), n }'))]" \
+  'refs = ref(2); for (n = 3; n <= 6001; n++) refs = refs "," ref(n); observed(1, refs); thing(1, ",\"text_hex\":\"" repeated("ab", 3400000) "\""); for (n = 2; n <= 6001; n++) thing(n, ",\"a_ref\":" ref(1))'
+timed "a text of 8 MB, LIKE with 60,000 characters between %" "[x-thing:text LIKE '%$(printf 'a%.0s' {1..30000})b%$(printf 'a%.0s' {1..30000})%']" \
+  'observed(1, ref(1)); thing(1, ",\"text\":\"" repeated("a", 8388000) "\"")'
+timed "the same, 30,000 times %a, and b" "[x-thing:text LIKE '$(printf '%%a%.0s' {1..30000})%b']" \
+  'observed(1, ref(1)); thing(1, ",\"text\":\"" repeated("a", 8388000) "\"")'
+timed "2,000,000 texts of one character, LIKE with 60,000" "[x-thing:list[*] LIKE '%$(printf 'b%.0s' {1..60000})%']" \
+  'observed(1, ref(1)); thing(1, ",\"list\":[\"b\"" repeated(",\"b\"", 1999999) "]")'
 timed "60,000 objects, one observed" "[x-thing:n = 1]" \
   'observed(1, ref(1)); for (n = 1; n <= 60000; n++) thing(n, ",\"n\":" n)'
 timed "14,000 observations, each of its own object" "[x-thing:n = 1]" \

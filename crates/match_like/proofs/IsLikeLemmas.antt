@@ -1,9 +1,10 @@
--- Laws of `IsLike`, one for each way in which a text and a pattern begin. Stated over lists of
+-- Laws of `IsLike`: how it is for a character, for `%`, and for a pattern that is cut in two. Stated over lists of
 -- characters; nothing here knows of the code.
-use Rattle.std.proofs.Common.{◌≡◌, ◌≢◌, ℕ, ◌⊎◌, ◌↔◌, inl, inr, List, [], ◌∷◌, ◌++◌, refl, sym, ap, ◌∙◌, arith, append_assoc}
+use Rattle.std.proofs.Common.{◌≡◌, ◌≢◌, ℕ, inl, inr, List, [], ◌∷◌, ◌++◌, refl, sym, ap, ◌∙◌, arith, append_assoc}
 use Rattle.std.specs.List.{concat}
 use Rattle.std.proofs.lemmas.Bool.Decides.{eqb_tells}
 use Rattle.match_like.specs.Like.{any_run, any_one, Fits, AllFit, IsLike}
+use Rattle.match_like.specs.inner.Pieces.{Leaves}
 
 -- the character is no `%`, and it is `_` or x itself
 pub record Meets (character x : ℕ) : Type 0 where
@@ -73,91 +74,76 @@ pub like_first : (character : ℕ) (text pattern : List ℕ) → character ≢ a
 unfolding IsLike
 like_first character text pattern no_run like = first_of like.pieces character text pattern no_run like.whole like.fit
 
--- a `%` may take nothing
-pub run_takes_none : (text pattern : List ℕ) → IsLike text pattern → IsLike text (any_run ∷ pattern)
+-- a `%` takes any run before what the rest of the pattern fits
+pub run_takes : (before text pattern : List ℕ) → IsLike text pattern → IsLike (before ++ text) (any_run ∷ pattern)
 unfolding IsLike
-run_takes_none text pattern like = record {
-  pieces = [] ∷ like.pieces;
-  whole = like.whole;
-  fit = (fits_run [], like.fit);
+run_takes before text pattern like = record {
+  pieces = before ∷ like.pieces;
+  whole = ap (λ rest. before ++ rest) like.whole;
+  fit = (fits_run before, like.fit);
 }
 
--- or one character more
-run_longer : (pieces : List (List ℕ)) (x : ℕ) (text pattern : List ℕ) → text ≡ concat pieces → AllFit pieces (any_run ∷ pattern) → IsLike (x ∷ text) (any_run ∷ pattern)
+-- and nothing else
+run_of : (pieces : List (List ℕ)) (text pattern : List ℕ) → text ≡ concat pieces → AllFit pieces (any_run ∷ pattern) → (before rest : List ℕ) × (text ≡ before ++ rest) × IsLike rest pattern
 unfolding IsLike
-run_longer [] x text pattern whole fit = absurd fit
-run_longer (piece ∷ pieces) x text pattern whole fit = record {
-  pieces = (x ∷ piece) ∷ pieces;
-  whole = ap (λ rest. x ∷ rest) whole;
-  fit = (fits_run (x ∷ piece), fit.1);
+run_of [] text pattern whole fit = absurd fit
+run_of (piece ∷ pieces) text pattern whole fit =
+    (piece, concat pieces, whole, record { pieces = pieces; whole = refl; fit = fit.1 })
+
+pub run_splits : (text pattern : List ℕ) → IsLike text (any_run ∷ pattern) → (before rest : List ℕ) × (text ≡ before ++ rest) × IsLike rest pattern
+unfolding IsLike
+run_splits text pattern like = run_of like.pieces text pattern like.whole like.fit
+
+-- so it takes more where there is more
+pub run_takes_more : (before text pattern : List ℕ) → IsLike text (any_run ∷ pattern) → IsLike (before ++ text) (any_run ∷ pattern)
+run_takes_more before text pattern like =
+    let cut = run_splits text pattern like in
+    rw (cut.2, ← append_assoc) (run_takes (before ++ cut.0) cut.1 pattern cut.3)
+
+-- a pattern of two parts is for a text of two parts
+concat-append : (left right : List (List ℕ)) → concat (left ++ right) ≡ concat left ++ concat right
+concat-append [] right = refl
+concat-append (piece ∷ left) right =
+    ap (λ rest. piece ++ rest) (concat-append left right) ∙ sym (append_assoc piece (concat left) (concat right))
+
+fit_joined : (left right : List (List ℕ)) (front back : List ℕ) → AllFit left front → AllFit right back → AllFit (left ++ right) (front ++ back)
+fit_joined [] right [] back fit_front fit_back = fit_back
+fit_joined [] right (character ∷ front) back fit_front fit_back = absurd fit_front
+fit_joined (piece ∷ left) right [] back fit_front fit_back = absurd fit_front
+fit_joined (piece ∷ left) right (character ∷ front) back fit_front fit_back =
+    (fit_front.0, fit_joined left right front back fit_front.1 fit_back)
+
+pub like_joined : (text left pattern back : List ℕ) → Leaves text pattern left → IsLike left back → IsLike text (pattern ++ back)
+unfolding IsLike
+like_joined text left pattern back leaves like = record {
+  pieces = leaves.2.pieces ++ like.pieces;
+  whole = rw (concat-append, ← leaves.2.whole, ← like.whole) leaves.1;
+  fit = fit_joined leaves.2.pieces like.pieces pattern back leaves.2.fit like.fit;
 }
 
-pub run_takes_more : (x : ℕ) (text pattern : List ℕ) → IsLike text (any_run ∷ pattern) → IsLike (x ∷ text) (any_run ∷ pattern)
+cut_of : (pieces : List (List ℕ)) (pattern back : List ℕ) → AllFit pieces (pattern ++ back) → (left : List ℕ) × Leaves (concat pieces) pattern left × IsLike left back
 unfolding IsLike
-run_takes_more x text pattern like = run_longer like.pieces x text pattern like.whole like.fit
+cut_of pieces [] back fit =
+    (concat pieces, ([], refl, empty_pattern), record { pieces = pieces; whole = refl; fit = fit })
+cut_of [] (character ∷ pattern) back fit = absurd fit
+cut_of (piece ∷ pieces) (character ∷ pattern) back fit =
+    let cut = cut_of pieces pattern back fit.1 in
+    let leaves = cut.1 in (
+      cut.0,
+      (
+        piece ++ leaves.0,
+        ap (λ rest. piece ++ rest) leaves.1 ∙ sym (append_assoc piece leaves.0 cut.0),
+        record {
+          pieces = piece ∷ leaves.2.pieces;
+          whole = ap (λ rest. piece ++ rest) leaves.2.whole;
+          fit = (fit.0, leaves.2.fit);
+        },
+      ),
+      cut.2,
+    )
 
--- and nothing else: it takes nothing, or it takes the first character
-run_shorter : (pieces : List (List ℕ)) (text pattern : List ℕ) → text ≡ concat pieces → AllFit pieces (any_run ∷ pattern) → IsLike text pattern ⊎ ((x : ℕ) × (rest : List ℕ) × (text ≡ x ∷ rest) × IsLike rest (any_run ∷ pattern))
+pub like_splits : (text pattern back : List ℕ) → IsLike text (pattern ++ back) → (left : List ℕ) × Leaves text pattern left × IsLike left back
 unfolding IsLike
-run_shorter [] text pattern whole fit = absurd fit
-run_shorter ([] ∷ pieces) text pattern whole fit =
-    inl (record { pieces = pieces; whole = whole; fit = fit.1 })
-run_shorter ((x ∷ piece) ∷ pieces) text pattern whole fit =
-    inr (x, concat (piece ∷ pieces), whole, record { pieces = piece ∷ pieces; whole = refl; fit = (fits_run piece, fit.1) })
-
-pub run_cases : (text pattern : List ℕ) → IsLike text (any_run ∷ pattern) → IsLike text pattern ⊎ ((x : ℕ) × (rest : List ℕ) × (text ≡ x ∷ rest) × IsLike rest (any_run ∷ pattern))
-unfolding IsLike
-run_cases text pattern like = run_shorter like.pieces text pattern like.whole like.fit
-
--- where the text is not like the rest of the pattern, the `%` takes the first character
-pub run_takes_first : (x : ℕ) (text rest pattern : List ℕ) → text ≡ x ∷ rest → ¬ (IsLike text pattern) → IsLike text (any_run ∷ pattern) ↔ IsLike rest (any_run ∷ pattern)
-run_takes_first x text rest pattern split differs = (
-  λ like. elim (run_cases text pattern like) [
-    | inl here ↦ absurd (differs here)
-    | inr later ↦ let same : later.1 ≡ rest = cc (split, later.2) in rw same at later.3
-  ],
-  λ like. rw split (run_takes_more x rest pattern like),
-)
-
--- and there is none to take in the empty text
-pub run_at_end : (text pattern : List ℕ) → text ≡ [] → ¬ (IsLike text pattern) → ¬ (IsLike text (any_run ∷ pattern))
-run_at_end text pattern ends differs like =
-    elim (run_cases text pattern like) [
-      | inl here ↦ differs here
-      | inr later ↦ cc (ends, later.2)
-    ]
-
--- Why the last `%` is enough: behind a `%`, a pattern's character may be dropped with the text's first
--- one, since what the `%` took and the character after it are a run again.
-run_swallows : (pieces : List (List ℕ)) (x character : ℕ) (text pattern : List ℕ) → character ≢ any_run → x ∷ text ≡ concat pieces → AllFit pieces (any_run ∷ character ∷ pattern) → IsLike text (any_run ∷ pattern)
-unfolding IsLike
-run_swallows [] x character text pattern no_run whole fit = absurd fit
-run_swallows (piece ∷ []) x character text pattern no_run whole fit = absurd fit.1
-run_swallows ([] ∷ one ∷ pieces) x character text pattern no_run whole fit =
-    let single = single_of one character no_run fit.1.0 in
-    let cut : x ∷ text ≡ single.0 ∷ concat pieces = whole ∙ ap (λ front. front ++ concat pieces) single.1 in
-    run_takes_none text pattern (record { pieces = pieces; whole = cc; fit = fit.1.1 })
-run_swallows ((y ∷ piece) ∷ one ∷ pieces) x character text pattern no_run whole fit = record {
-  pieces = (piece ++ one) ∷ pieces;
-  whole = let rest : text ≡ piece ++ (one ++ concat pieces) = cc in rest ∙ sym (append_assoc piece one (concat pieces));
-  fit = (fits_run (piece ++ one), fit.1.1);
-}
-
-pub run_drops : (x character : ℕ) (text pattern : List ℕ) → character ≢ any_run → IsLike (x ∷ text) (any_run ∷ character ∷ pattern) → IsLike text (any_run ∷ pattern)
-unfolding IsLike
-run_drops x character text pattern no_run like = run_swallows like.pieces x character text pattern no_run like.whole like.fit
-
--- two `%` in a row are one
-runs_joined : (pieces : List (List ℕ)) (text pattern : List ℕ) → text ≡ concat pieces → AllFit pieces (any_run ∷ any_run ∷ pattern) → IsLike text (any_run ∷ pattern)
-unfolding IsLike
-runs_joined [] text pattern whole fit = absurd fit
-runs_joined (first ∷ []) text pattern whole fit = absurd fit.1
-runs_joined (first ∷ second ∷ pieces) text pattern whole fit = record {
-  pieces = (first ++ second) ∷ pieces;
-  whole = whole ∙ sym (append_assoc first second (concat pieces));
-  fit = (fits_run (first ++ second), fit.1.1);
-}
-
-pub two_runs : (text pattern : List ℕ) → IsLike text (any_run ∷ any_run ∷ pattern) → IsLike text (any_run ∷ pattern)
-unfolding IsLike
-two_runs text pattern like = runs_joined like.pieces text pattern like.whole like.fit
+like_splits text pattern back like =
+    let cut = cut_of like.pieces pattern back like.fit in
+    (cut.0, rw like.whole cut.1, cut.2)

@@ -1,3 +1,5 @@
 pub mod CharactersLemmas
 pub mod IsLikeLemmas
-pub mod AttemptLemmas
+pub mod PiecesLemmas
+pub mod PlainPieceLemmas
+pub mod RunsLemmas

@@ -1,2 +1,2 @@
-pub mod Attempt
 pub mod Like
+pub mod inner

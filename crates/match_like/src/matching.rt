@@ -3,46 +3,39 @@ ghost use Rattle.std.specs.Prelude.{◌↔◌, ◌∷◌, IsTrue};
 ghost use Rattle.std.specs.Str.{chars};
 ghost use Rattle.match_like.specs.Like.{any_run, IsLike};
 
-use crate::attempt::Attempt;
-use crate::characters::split_first;
+use crate::piece::{behind_first, behind_front, has_end, is_like_piece};
+use crate::wildcards::split_at_run;
 
 /// Whether the whole text is like the pattern: `%` stands for any run of characters, also an empty
 /// one, `_` for any one character, and any other character for itself.
-///
-/// After a difference, the walk goes back to the last `%` that it passed, and to no earlier one: that
-/// `%` takes one character more. This is enough. What stands before the last `%` fits already, and
-/// the earliest place at which it fits leaves the most text to the last `%`: whatever an earlier `%`
-/// could take besides, the last one can take instead.
 pub fn like(text: &str, pattern: &str) -> bool
     ensures { IsTrue result ↔ IsLike (chars text.now) (chars pattern.now) }
 {
-    match Attempt::from_front(text, pattern) {
-        Attempt::Fits => true,
-        Attempt::Fails => false,
-        Attempt::Reaches { text, pattern } => has_like_end(text, pattern),
+    match split_at_run(pattern, text.len()) {
+        Some((piece, rest)) => match behind_front(text, piece) {
+            Some(left) => has_like_end(left, rest),
+            None => false,
+        },
+        None => pattern.len() <= text.len() && is_like_piece(text, pattern),
     }
 }
 
 /// Whether some end of the text is like the pattern, as behind a `%`.
+///
+/// A piece between two `%` is taken where it fits first, and no other place is tried. This is enough:
+/// the first place leaves the most text, and whatever the `%` before the piece could take besides, the
+/// `%` behind it can take instead.
 fn has_like_end(whole_text: &str, whole_pattern: &str) -> bool
     ensures { IsTrue result ↔ IsLike (chars whole_text.now) (any_run ∷ chars whole_pattern.now) }
 {
     let mut text = whole_text;
     let mut pattern = whole_pattern;
-    loop {
-        match Attempt::from_front(text, pattern) {
-            Attempt::Fits => return true,
-            Attempt::Fails => match split_first(text) {
-                Some((_, rest)) => text = rest,
-                None => return false,
-            },
-            Attempt::Reaches {
-                text: text_rest,
-                pattern: pattern_rest,
-            } => {
-                text = text_rest;
-                pattern = pattern_rest;
-            }
-        }
+    while let Some((piece, rest)) = split_at_run(pattern, text.len()) {
+        let Some(left) = behind_first(text, piece) else {
+            return false;
+        };
+        text = left;
+        pattern = rest;
     }
+    pattern.len() <= text.len() && has_end(text, pattern)
 }

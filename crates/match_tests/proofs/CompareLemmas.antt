@@ -1,13 +1,16 @@
 -- How the bytes and the instant of a text compare, where the text stands for one value at most.
-use Rattle.std.proofs.Common.{arith, ◌≡◌, ◌↔◌, inl, inr, ℕ, ◌-◌, ◌+◌, ℤ, List, length, drop, Option, Some, None, Result, Ok, Err, IfOk, slice_get, codes, nat_eq, sym, ap, subst, ◌∙◌, Ordering}
+use Rattle.std.proofs.Common.{arith, ◌≡◌, ◌↔◌, inl, inr, ℕ, ◌-◌, ◌+◌, ℤ, List, length, drop, Option, Some, None, Result, Ok, Err, IfOk, slice_get, codes, nat_eq, nat_cmp, option_map, refl, sym, ap, subst, ◌∙◌, Ordering}
 use Rattle.std.specs.Ordering.{int_cmp}
+use Rattle.std.specs.Cmp.Lexicographic.{slice_cmp}
+use Rattle.serde_json.specs.Data.{Data}
 use Rattle.std.proofs.lemmas.List.{length-append, drop_at}
 use Rattle.std.proofs.lemmas.Bool.{false≢true}
 use Rattle.std.proofs.lemmas.Option.{none-some, same_Some}
 use Rattle.hex.specs.Hex.{decode_of}
 use Rattle.stix_times.specs.Reading.{IsTextOf}
 use Rattle.match_paths.specs.Selection.{EndsIn}
-use Rattle.match_tests.specs.Tests.{IsBytesOf}
+use Rattle.match_tests.specs.Tests.{IsBytesOf, BytesCompare}
+use Rattle.match_tests.specs.inner.Bytes.{StandsFor}
 
 -- how the instants that a text names compare with another
 abbrev pub TimeCompares : List ℕ → ℤ → Ordering → Type 0
@@ -32,6 +35,22 @@ text_compares value text instant answer is exact order = (
       let same : h.0 ≡ text = same_Some h.0 text (sym h.2 ∙ sym is) in
       (exact order).0 (h.1, subst (λ (t : List ℕ). IsTextOf t h.1) same h.3, h.4),
   λ e. let g = (exact order).1 e in (text, g.0, sym is, g.1, g.2),
+)
+
+-- how the bytes that a value stands for compare with others
+pub bytes_compare : (last : Option (List ℕ)) (value : Data) (own : Option (List ℕ)) (bytes : List ℕ) (answer : Option Ordering) → StandsFor last value own
+    → answer ≡ option_map (λ (decoded : List ℕ). slice_cmp nat_cmp decoded bytes) own → (order : Ordering) → BytesCompare last value bytes order ↔ (answer ≡ Some order)
+bytes_compare last value None bytes answer stands is order = (
+  λ h. let never = (stands h.1).0 (h.0, h.2, h.3) in absurd (none-some h.1 never),
+  λ e. absurd (none-some order (sym is ∙ e)),
+)
+bytes_compare last value (Some own) bytes answer stands is order = (
+  λ h.
+      let same : own ≡ h.1 = same_Some own h.1 ((stands h.1).0 (h.0, h.2, h.3)) in
+      is ∙ ap Some (ap (λ (decoded : List ℕ). slice_cmp nat_cmp decoded bytes) same ∙ sym h.4),
+  λ e.
+      let text = (stands own).1 refl in
+      (text.0, own, text.1, text.2, sym (same_Some (slice_cmp nat_cmp own bytes) order (sym is ∙ e))),
 )
 
 last_part : (suffix name : List ℕ) → EndsIn suffix name → suffix ≡ drop (length name - length suffix) name

@@ -7,5 +7,5 @@ pub mod SearchLemmas
 pub mod PlacesLemmas
 pub mod ContainsLemmas
 pub mod SplitsLemmas
-pub mod ColumnsLemmas
+pub mod RowsLemmas
 pub mod RootsLemmas

@@ -1,7 +1,7 @@
+pub mod Bytes
 pub mod Places
 pub mod Search
 pub mod Positions
 pub mod Roots
 pub mod Splits
-pub mod Columns
 pub mod Rows

@@ -2,7 +2,9 @@ ghost use Rattle.std.specs.Prelude.{◌≡◌, ◌↔◌, List, ℕ, Some, Ok, I
 ghost use Rattle.hex.specs.Hex.{decode_of};
 ghost use Rattle.base64.specs.Engines.{standard};
 ghost use Rattle.base64.specs.GeneralPurpose.{encode_of, IsBytes};
+ghost use Rattle.stix_json.specs.DataOf.{data_of};
 ghost use Rattle.match_tests.specs.Tests.{IsBytesOf};
+ghost use Rattle.match_tests.specs.inner.Bytes.{StandsFor};
 
 use base64::DecodeAllocError;
 use base64::engine::general_purpose::STANDARD;
@@ -10,13 +12,24 @@ use flow_values::{Items, NoMemory};
 use hex::FromHexError;
 use match_paths::ends_in;
 use std::alloc::Global;
+use stix_json::{Json, text_of};
 
-/// The bytes that a text stands for, by the name of its property.
-pub(crate) fn bytes_of(
+/// The bytes that a value stands for, by the name of its property.
+pub(crate) fn bytes_in(
     alloc: Global,
     last: Option<&str>,
-    text: &str,
+    value: &Json,
 ) -> Result<Option<Items<u8>>, NoMemory>
+    ensures { IfOk result (StandsFor (option_map (λ name. name.now) last.entry) (data_of value.now)) }
+{
+    match text_of(value) {
+        Some(text) => bytes_of(alloc, last, text),
+        None => Ok(None),
+    }
+}
+
+/// Those that a text stands for.
+fn bytes_of(alloc: Global, last: Option<&str>, text: &str) -> Result<Option<Items<u8>>, NoMemory>
     ensures { IfOk result (λ found. (bytes : List ℕ) → IsBytesOf (option_map (λ name. name.now) last.entry) text.now bytes ↔ (found ≡ Some bytes)) }
 {
     let Some(name) = last else {

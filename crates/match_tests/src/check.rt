@@ -4,10 +4,12 @@ ghost use Rattle.stix_json.specs.DataOf.{data_of};
 ghost use Rattle.pattern_types.specs.declared.check.Check.TheVariants.{Among, Like};
 ghost use Rattle.pattern_types.specs.Soundness.{IsSoundCheck};
 ghost use Rattle.match_tests.specs.Tests.{Compares, Meets, Turned};
+ghost use Rattle.match_tests.specs.inner.Bytes.{StandsFor};
 
 use crate::block::{holds_block, lies_in};
+use crate::bytes::bytes_in;
 use crate::compare::compared;
-use flow_values::NoMemory;
+use flow_values::{Items, NoMemory};
 use match_like::like;
 use pattern_types::{Check, Constant};
 use std::alloc::Global;
@@ -59,8 +61,16 @@ fn compares(
 ) -> Result<bool, NoMemory>
     ensures { IfOk result (λ so. IsTrue so ↔ Compares (option_map (λ name. name.now) last.entry) (data_of value.now) constant.now wanted) }
 {
-    let found = compared(alloc, last, value, constant)?;
-    Ok(found == Some(wanted))
+    let own = bytes_in(alloc, last, value)?;
+    Ok(compares_so(value, &own, constant, wanted))
+}
+
+/// The same, where the value stands for those bytes.
+fn compares_so(value: &Json, own: &Option<Items<u8>>, constant: &Constant, wanted: Ordering) -> bool
+    ensures { (last : Option (List ℕ)) → StandsFor last (data_of value.now) own.now
+        → IsTrue result ↔ Compares last (data_of value.now) constant.now wanted }
+{
+    compared(value, own, constant) == Some(wanted)
 }
 
 /// Whether a value compares so with the constant, or equals it.
@@ -74,11 +84,12 @@ fn reaches(
     ensures { IfOk result (λ so. IsTrue so ↔ Compares (option_map (λ name. name.now) last.entry) (data_of value.now) constant.now wanted
         ⊎ Compares (option_map (λ name. name.now) last.entry) (data_of value.now) constant.now Equal) }
 {
-    let found = compared(alloc, last, value, constant)?;
+    let own = bytes_in(alloc, last, value)?;
+    let found = compared(value, &own, constant);
     Ok(found == Some(wanted) || found == Some(Ordering::Equal))
 }
 
-/// Whether a value equals one of the constants.
+/// Whether a value equals one of the constants. Its bytes are decoded once for all of them.
 fn equals_some(
     alloc: Global,
     last: Option<&str>,
@@ -87,12 +98,21 @@ fn equals_some(
 ) -> Result<bool, NoMemory>
     ensures { IfOk result (λ met. IsTrue met ↔ Meets (option_map (λ name. name.now) last.entry) (data_of value.now) (Among constants.now)) }
 {
+    let own = bytes_in(alloc, last, value)?;
+    Ok(is_among(value, &own, constants))
+}
+
+/// The same, where the value stands for those bytes.
+fn is_among(value: &Json, own: &Option<Items<u8>>, constants: &[Constant]) -> bool
+    ensures { (last : Option (List ℕ)) → StandsFor last (data_of value.now) own.now
+        → IsTrue result ↔ Meets last (data_of value.now) (Among constants.now) }
+{
     for constant in constants {
-        if compares(alloc, last, value, constant, Ordering::Equal)? {
-            return Ok(true);
+        if compares_so(value, own, constant, Ordering::Equal) {
+            return true;
         }
     }
-    Ok(false)
+    false
 }
 
 /// Whether a value is a text that is like the pattern.

@@ -1,37 +1,36 @@
-ghost use Rattle.std.specs.Prelude.{◌≡◌, ◌↔◌, ℕ, ℤ, List, Option, Some, IfOk, option_map};
-ghost use Rattle.std.specs.Ordering.{int_cmp};
+ghost use Rattle.std.specs.Prelude.{◌≡◌, ◌↔◌, ℕ, ℤ, List, Option, Some, option_map};
+ghost use Rattle.std.specs.Cmp.Lexicographic.{slice_cmp};
+ghost use Rattle.std.specs.Ordering.{int_cmp, nat_cmp};
 ghost use Rattle.std.specs.declared.cmp.Ordering.{Ordering};
 ghost use Rattle.stix_times.specs.Reading.{IsTextOf};
 ghost use Rattle.stix_json.specs.DataOf.{data_of};
 ghost use Rattle.pattern_types.specs.declared.constant.Constant.TheVariants.{Integer, String, Boolean, Timestamp};
-ghost use Rattle.match_tests.specs.Tests.{Compares, BytesCompare};
+ghost use Rattle.match_tests.specs.Tests.{Compares};
+ghost use Rattle.match_tests.specs.inner.Bytes.{StandsFor};
 
-use crate::bytes::bytes_of;
-use flow_values::NoMemory;
+use flow_values::Items;
 use pattern_types::Constant;
-use std::alloc::Global;
 use std::cmp::Ordering;
 use stix_json::{Json, text_of};
 use stix_times::{Instant, nanos, read};
 
-/// How a value of the constant's kind compares with it, behind that last name. None where the value
-/// is of another kind.
+/// How a value of the constant's kind compares with it, where the value stands for those bytes. None where
+/// it is of another kind.
 pub(crate) fn compared(
-    alloc: Global,
-    last: Option<&str>,
     value: &Json,
+    own: &Option<Items<u8>>,
     constant: &Constant,
-) -> Result<Option<Ordering>, NoMemory>
-    ensures { IfOk result (λ found. (order : Ordering) → Compares (option_map (λ name. name.now) last.entry) (data_of value.now) constant.now order
-        ↔ (found ≡ Some order)) }
+) -> Option<Ordering>
+    ensures { (last : Option (List ℕ)) → StandsFor last (data_of value.now) own.now
+        → (order : Ordering) → Compares last (data_of value.now) constant.now order ↔ (result ≡ Some order) }
 {
     match constant {
-        Constant::Integer(whole) => Ok(compared_whole(value, *whole)),
-        Constant::String(words) => Ok(compared_words(value, words.as_str())),
-        Constant::Boolean(truth) => Ok(compared_truth(value, *truth)),
-        Constant::Timestamp(instant) => Ok(compared_instant(value, *instant)),
-        Constant::Hex(bytes) => compared_bytes(alloc, last, value, bytes.as_slice()),
-        Constant::Binary(bytes) => compared_bytes(alloc, last, value, bytes.as_slice()),
+        Constant::Integer(whole) => compared_whole(value, *whole),
+        Constant::String(words) => compared_words(value, words.as_str()),
+        Constant::Boolean(truth) => compared_truth(value, *truth),
+        Constant::Timestamp(instant) => compared_instant(value, *instant),
+        Constant::Hex(bytes) => compared_bytes(own, bytes.as_slice()),
+        Constant::Binary(bytes) => compared_bytes(own, bytes.as_slice()),
     }
 }
 
@@ -85,21 +84,12 @@ fn compared_time(text: &str, instant: Instant) -> Option<Ordering>
     }
 }
 
-/// The same with bytes.
-fn compared_bytes(
-    alloc: Global,
-    last: Option<&str>,
-    value: &Json,
-    bytes: &[u8],
-) -> Result<Option<Ordering>, NoMemory>
-    ensures { IfOk result (λ found. (order : Ordering) → BytesCompare (option_map (λ name. name.now) last.entry) (data_of value.now) bytes.now order
-        ↔ (found ≡ Some order)) }
+/// How bytes compare with others.
+fn compared_bytes(own: &Option<Items<u8>>, bytes: &[u8]) -> Option<Ordering>
+    ensures { result ≡ option_map (λ decoded. slice_cmp nat_cmp decoded bytes.now) own.now }
 {
-    let Some(text) = text_of(value) else {
-        return Ok(None);
-    };
-    match bytes_of(alloc, last, text)? {
-        Some(decoded) => Ok(Some(decoded.as_slice().cmp(bytes))),
-        None => Ok(None),
+    match own {
+        Some(decoded) => Some(decoded.as_slice().cmp(bytes)),
+        None => None,
     }
 }

@@ -9,7 +9,6 @@
 mod block;
 mod bytes;
 mod check;
-mod columns;
 mod compare;
 mod findings;
 mod last;
@@ -18,6 +17,7 @@ mod met;
 mod places;
 mod positions;
 mod roots;
+mod rows;
 mod search;
 mod split;
 mod truths;

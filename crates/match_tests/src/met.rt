@@ -20,12 +20,13 @@ use stix_json::Json;
 /// Whether the object at a position has the type of a test's path, and what the path selects from it
 /// meets the test. The search stops at the first value that does, and goes to no object by a reference
 /// twice for one step: so it costs at most the number of steps times the size of the bundle, however
-/// many ways there are. It takes memory where bytes are compared, and where the path has a `[*]`.
+/// many ways there are. It takes memory where a text that stands for bytes is compared, and where the path
+/// has a `[*]`.
 pub fn holds(alloc: Global, test: &Test, bundle: &Bundle, root: u32) -> Result<bool, NoMemory>
     requires { IsSoundTest test.now }
     ensures { IfOk result (λ holds. IsTrue holds ↔ TestHolds (data_in bundle.now) root test.now) }
 {
-    let search = Search::new(alloc, bundle, test);
+    let search = Search::new(alloc, bundle, test, 1);
     let mut findings = Findings::new(alloc);
     meets_test(&search, &mut findings, test, root)
 }

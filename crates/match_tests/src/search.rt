@@ -28,13 +28,14 @@ pub(crate) struct Search<'a> {
     pub(crate) last: Option<&'a str>,
     pub(crate) check: &'a Check,
     pub(crate) negated: bool,
-    /// Whether the path has a `[*]`: else there is one way at most, and what was found out is of no use.
-    pub(crate) branches: bool,
+    /// Whether it may come to an object again, so that what is found out of it is kept.
+    pub(crate) revisits: bool,
 }
 
 impl<'a> Search<'a> {
-    /// The search that a test asks for.
-    pub(crate) fn new(alloc: Global, bundle: &'a Bundle, test: &'a Test) -> Search<'a>
+    /// The search that a test asks for, from so many roots. From one root and by a path with no `[*]` there is
+    /// one way at most, and it comes to no object again.
+    pub(crate) fn new(alloc: Global, bundle: &'a Bundle, test: &'a Test, roots: usize) -> Search<'a>
         ensures is { IsSearchOf test.entry.now result }
         ensures bundle { result.bundle ≡ bundle.entry }
     {
@@ -46,7 +47,7 @@ impl<'a> Search<'a> {
             last: last_name(&test.path),
             check: &test.check,
             negated: test.negated && !is_absence(test),
-            branches: steps.iter().any(|step| matches!(step, Step::Each)),
+            revisits: roots > 1 || steps.iter().any(|step| matches!(step, Step::Each)),
         }
     }
 }
@@ -144,7 +145,7 @@ fn finds_at(
     };
     let values = selected(search.bundle, None, step, object);
     let found = some_finds(search, findings, name_behind(None, step), rest, values)?;
-    if search.branches {
+    if search.revisits {
         findings.add(rest.len(), at, found)?;
     }
     Ok(found)

@@ -74,7 +74,7 @@ fn split_by_test(
     requires { IsSoundTest test.now }
     ensures { IfOk result (Splits (λ (at : ℕ). TestHolds (data_in bundle.now) at test.now) asked.now) }
 {
-    let search = Search::new(alloc, bundle, test);
+    let search = Search::new(alloc, bundle, test, asked.len());
     let mut findings = Findings::new(alloc);
     let mut split = Split::new(alloc);
     for at in asked {

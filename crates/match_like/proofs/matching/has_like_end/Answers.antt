@@ -1,21 +1,33 @@
-use Rattle.std.proofs.Common.{refl, rules}
+use Rattle.std.proofs.Common.{◌∷◌, length, leb-true, arith, rules}
 use Rattle.std.specs.Str.{chars}
-use Rattle.match_like.proofs.IsLikeLemmas.{run_takes_none, run_takes_first, run_at_end}
+use Rattle.match_like.specs.Like.{any_run}
+use Rattle.match_like.proofs.CharactersLemmas.{lacks_within, too_long}
+use Rattle.match_like.proofs.PiecesLemmas.{piece_between, no_piece_between}
 use Rattle.match_like.proofs.matching.has_like_end.Goals as goal
 
-pub returns-in-Fits : goal.returns-in-Fits
-returns-in-Fits c =
-    let likes = c.loop-rest.invariant.2 in
-    (λ _. likes.1 (run_takes_none (chars c.loop-rest.text.now) (chars c.loop-rest.pattern.now) c.in-Fits.ensures), λ _. refl)
+pub returns-in_default-behind_first : goal.returns-in_default-behind_first
+returns-in_default-behind_first c =
+    let same = c.loop-piece.invariant.2 in
+    let split = c.in-Some.ensures.0 in
+    let none = no_piece_between (chars c.loop-piece.text.now) (chars c.in-Some.piece.now) (any_run ∷ chars c.in-Some.rest.now) c.in_default-behind_first.ensures in
+    (λ yes. absurd (cc yes), λ like. absurd (none (rw split at (same.0 like))))
 
-pub loop-rest-preserved-in-Some : goal.loop-rest-preserved-in-Some
-loop-rest-preserved-in-Some c =
-    let likes = c.loop-rest.invariant.2 in
-    let on = run_takes_first _ (chars c.loop-rest.text.now) _ (chars c.loop-rest.pattern.now) c.in-Some.ensures c.in-Fails.ensures in
-    (search rules, search rules, (λ like. on.0 (likes.0 like), λ like. likes.1 (on.1 like)))
+pub loop-piece-preserved : goal.loop-piece-preserved
+loop-piece-preserved c =
+    let same = c.loop-piece.invariant.2 in
+    let split = c.in-Some.ensures.0 in
+    let on = piece_between (chars c.loop-piece.text.now) (chars c.in-Some.piece.now) (chars c.in-Some.rest.now) (chars c.in-Some-behind_first.left.now) c.in-Some-behind_first.ensures in (
+      search rules,
+      search rules,
+      (λ like. on.0 (rw split at (same.0 like)), λ like. same.1 (rw split (on.1 like))),
+    )
 
-pub returns-in-None : goal.returns-in-None
-returns-in-None c =
-    let likes = c.loop-rest.invariant.2 in
-    let none = run_at_end (chars c.loop-rest.text.now) (chars c.loop-rest.pattern.now) c.in-None.ensures c.in-Fails.ensures in
-    (λ yes. absurd (cc yes), λ like. absurd (none (likes.0 like)))
+pub has_end-requires : goal.has_end-requires
+has_end-requires c =
+    lacks_within c.loop-piece.pattern.now (length c.loop-piece.text.now) c.loop-piece.invariant.1 c.in_default.ensures c.if-pattern-text.true
+
+pub returns-else-pattern-text : goal.returns-else-pattern-text
+returns-else-pattern-text c =
+    let same = c.loop-piece.invariant.2 in
+    let none = too_long c.loop-piece.text.now c.loop-piece.pattern.now c.loop-piece.invariant.0 c.loop-piece.invariant.1 c.in_default.ensures c.if-pattern-text.false in
+    (λ yes. absurd (omega (arith, leb-true _ _ yes, c.if-pattern-text.false)), λ like. absurd (none (same.0 like)))

@@ -4,7 +4,7 @@ use Rattle.stix_bundles.specs.Objects.{data_in}
 use Rattle.pattern_types.specs.PlainLeaf.{plain_leaf}
 use Rattle.match_tests.specs.Tests.{HoldsAt}
 use Rattle.match_tests.specs.inner.Splits.{Splits}
-use Rattle.match_tests.proofs.ColumnsLemmas.{some_held}
+use Rattle.match_tests.proofs.RowsLemmas.{some_held}
 use Rattle.match_tests.proofs.leaf.leaf_holds.Goals as goal
 
 pub returns : goal.returns

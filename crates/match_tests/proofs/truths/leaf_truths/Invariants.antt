@@ -1,8 +1,7 @@
-use Rattle.std.proofs.Common.{take}
-use Rattle.stix_bundles.specs.Objects.{data_in}
-use Rattle.pattern_types.specs.PlainPattern.{plain_pattern}
-use Rattle.match_tests.specs.Truths.{AreTruthsOfEach}
+use Rattle.std.proofs.Common.{◌≡◌, [], map, take}
+use Rattle.stix_bundles.specs.declared.observation.Observation.{Observation}
 use Rattle.match_tests.proofs.truths.leaf_truths.Given as goal
 
-abbrev pub invariant-loop-at : goal.invariant-loop-at
-invariant-loop-at l = AreTruthsOfEach (data_in l.bundle) (take l.at l.observations) (plain_pattern l.pattern) l.truths
+-- a row of none for each observation
+abbrev pub invariant-loop : goal.invariant-loop
+invariant-loop l = l.rows.items ≡ map (λ (_ : Observation). []) (take l.index l.observations)
