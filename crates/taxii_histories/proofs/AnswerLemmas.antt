@@ -20,10 +20,11 @@ use Rattle.taxii_bodies.specs.Envelope.{envelope_text}
 use Rattle.taxii_requests.specs.declared.config.Config.{Config}
 use Rattle.taxii_requests.specs.declared.refusal.Refusal.{Refusal}
 use Rattle.taxii_requests.specs.declared.refusal.Refusal.TheVariants.{NotAllowed, Problem, NoMemory}
-use Rattle.taxii_requests.specs.Answers.{status_of, bare_answer, page_answer, problem_answer}
+use Rattle.taxii_requests.specs.Answers.{status_of, bare_answer, page_answer, answer_to_problem}
 use Rattle.taxii_resources.specs.Finding.{Names}
 use Rattle.taxii_resources.specs.Reading.{IsPageOf, IsEnvelope, IsReading, object_query}
 use Rattle.taxii_state.specs.declared.state.State.{State}
+use Rattle.taxii_requests.proofs.AnswerLemmas.{told_status}
 use Rattle.taxii_step.specs.Step.{Does, IsAnswerTo, IsDone, RouteStep, Step}
 use Rattle.taxii_walks.specs.Page.{IsPage}
 use Rattle.taxii_walks.specs.Walk.{Stop, Wanted}
@@ -115,13 +116,14 @@ problem_not_okay DatesUsedUp same = absurd (cc)
 okay_too : (answer other : Answer) → answer ≡ other → answer.status ≡ Okay → other.status ≡ Okay
 okay_too answer other is okay = sym (ap (λ (its : Answer). its.status) is) ∙ okay
 
-problem_answered : (problem : AnyProblem) (answer : Answer) → answer ≡ problem_answer problem → answer.status ≢ Okay
-problem_answered problem answer is okay = problem_not_okay problem (okay_too answer (problem_answer problem) is okay)
+problem_answered : (method : Method) (problem : AnyProblem) (answer : Answer) → answer ≡ answer_to_problem method problem → answer.status ≢ Okay
+problem_answered method problem answer is okay =
+    problem_not_okay problem (sym (told_status method problem) ∙ okay_too answer (answer_to_problem method problem) is okay)
 
-refusal_answered : (refusal : Refusal) (answer : Answer) → IsAnswerTo refusal answer → answer.status ≢ Okay
-refusal_answered (NotAllowed its) answer is okay = let same = okay_too answer (bare_answer MethodNotAllowed (Some its)) is okay in absurd (cc)
-refusal_answered (Problem problem) answer is okay = problem_answered problem answer is okay
-refusal_answered NoMemory answer none okay = none
+refusal_answered : (method : Method) (refusal : Refusal) (answer : Answer) → IsAnswerTo method refusal answer → answer.status ≢ Okay
+refusal_answered method (NotAllowed its) answer is okay = let same = okay_too answer (bare_answer MethodNotAllowed (Some its)) is okay in absurd (cc)
+refusal_answered method (Problem problem) answer is okay = problem_answered method problem answer is okay
+refusal_answered method NoMemory answer none okay = none
 
 -- ---- the exchange
 
@@ -142,7 +144,7 @@ route_answered : Laws → (config : Config) (wanted : Wanted) (next : Option ℕ
     (route : Route) (text : List ℕ) → route ≡ visit.asks.route → text ≡ unwrap_or visit.asks.text [] → RouteStep config e.before e.moment e.request route text e.answer e.after
     → e.answer ≡ answer_at stop
 route_answered laws config wanted next e stop visit route text route_is text_is (inl refused) =
-    absurd (refusal_answered refused.0 e.answer refused.2 visit.okay)
+    absurd (refusal_answered e.request.method refused.0 e.answer refused.2 visit.okay)
 route_answered laws config wanted next e stop visit route text route_is text_is (inr done) =
     let page : IsPage e.before.library.rows wanted.collection wanted.only stop.query stop.page stop.more =
     subst (λ (rows : List StoredRow). IsPage rows wanted.collection wanted.only stop.query stop.page stop.more) (ap (λ state. state.rows) visit.state) visit.page in
@@ -152,7 +154,7 @@ route_answered laws config wanted next e stop visit route text route_is text_is 
 step_answered : Laws → (config : Config) (wanted : Wanted) (next : Option ℕ) (e : Exchange) (stop : Stop) → IsVisit config wanted next e stop
     → Step config e.before e.moment e.request e.answer e.after → e.answer ≡ answer_at stop
 step_answered laws config wanted next e stop visit step = elim step.outcome [
-  | inl lost ↦ absurd (problem_answered NotFound e.answer lost.1 visit.okay)
+  | inl lost ↦ absurd (problem_answered e.request.method NotFound e.answer lost.1 visit.okay)
   | inr found ↦
       let path_is : step.path ≡ visit.asks.path = laws.path e.request.target step.path visit.asks.path step.query visit.asks.text step.target_is visit.asks.target_is in
       let text_is : step.query ≡ visit.asks.text = laws.text e.request.target step.path visit.asks.path step.query visit.asks.text step.target_is visit.asks.target_is in
@@ -164,7 +166,7 @@ step_answered laws config wanted next e stop visit step = elim step.outcome [
 runs_answered : Laws → (config : Config) (wanted : Wanted) (next : Option ℕ) (e : Exchange) (stop : Stop) → IsVisit config wanted next e stop
     → (course : Course) → Runs course config e → e.answer ≡ answer_at stop
 runs_answered laws config wanted next e stop visit Stepped step = step_answered laws config wanted next e stop visit step
-runs_answered laws config wanted next e stop visit KeeperFailed fails = absurd (problem_answered StoreFault e.answer fails.answer_is visit.okay)
+runs_answered laws config wanted next e stop visit KeeperFailed fails = absurd (problem_answered e.request.method StoreFault e.answer fails.answer_is visit.okay)
 runs_answered laws config wanted next e stop visit OutOfMemory wants =
     let same = okay_too e.answer no_memory_answer wants.0 visit.okay in absurd (cc)
 

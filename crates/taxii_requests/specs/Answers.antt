@@ -5,6 +5,8 @@ use Rattle.std.specs.List.{last_or}
 use Rattle.serde_json.specs.Written.{compact_text}
 use Rattle.http_frames.specs.declared.answer.Allow.{Allow}
 use Rattle.http_frames.specs.declared.answer.Answer.{Answer}
+use Rattle.http_frames.specs.declared.method.Method.{Method}
+use Rattle.http_frames.specs.declared.method.Method.TheVariants.{Get, Head, Post, Delete, Other}
 use Rattle.http_frames.specs.declared.status.Status.{Status}
 use Rattle.http_frames.specs.declared.status.Status.TheVariants as status
 use Rattle.taxii_rows.specs.declared.stored_row.StoredRow.{StoredRow}
@@ -43,6 +45,14 @@ problem_answer problem = body_answer (status_of problem) (compact_text (title_da
 abbrev pub first_of : List ℕ → Option ℕ
 first_of [] = None
 first_of (date ∷ dates) = Some date
+
+-- the answer to a problem of a request: to a HEAD it has no body (RFC 9110, section 9.3.2)
+abbrev pub answer_to_problem : Method → Problem → Answer
+answer_to_problem Head problem = bare_answer (status_of problem) None
+answer_to_problem Get problem = problem_answer problem
+answer_to_problem Post problem = problem_answer problem
+answer_to_problem Delete problem = problem_answer problem
+answer_to_problem Other problem = problem_answer problem
 
 -- the answer with a page of rows, of that body
 abbrev pub page_answer : List StoredRow → List ℕ → Answer

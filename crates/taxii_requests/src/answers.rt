@@ -5,7 +5,7 @@ ghost use Rattle.taxii_requests.specs.Answers as spec;
 
 use crate::refusal::status_of_problem;
 use flow_values::{NoMemory, Text};
-use http_frames::{Allow, Answer, Status};
+use http_frames::{Allow, Answer, Method, Status};
 use std::alloc::Global;
 use taxii_bodies::{Problem, last_date, problem_body};
 use taxii_rows::StoredRow;
@@ -42,6 +42,22 @@ pub fn problem_answer(alloc: Global, problem: Problem) -> Result<Answer, NoMemor
 {
     let body = problem_body(alloc, problem)?;
     Ok(body_answer(status_of_problem(problem), body))
+}
+
+/// The answer to a problem of a request of that method: to a HEAD it has no body (RFC 9110, section 9.3.2).
+pub fn answer_to_problem(
+    alloc: Global,
+    method: Method,
+    problem: Problem,
+) -> Result<Answer, NoMemory>
+    ensures { IfOk result (λ answer. answer ≡ spec.answer_to_problem method problem) }
+{
+    match method {
+        Method::Head => Ok(bare_answer(status_of_problem(problem), None)),
+        Method::Get | Method::Post | Method::Delete | Method::Other => {
+            problem_answer(alloc, problem)
+        }
+    }
 }
 
 /// The answer with a page of rows, of that body.

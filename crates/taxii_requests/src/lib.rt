@@ -11,7 +11,7 @@ mod config;
 mod refusal;
 mod rights;
 
-pub use answers::{bare_answer, body_answer, page_answer, problem_answer};
+pub use answers::{answer_to_problem, bare_answer, body_answer, page_answer, problem_answer};
 pub use checking::check;
 pub use config::Config;
 pub use refusal::Refusal;

@@ -2,17 +2,26 @@
 use Rattle.std.proofs.Common.{◌≡◌, ℕ, zero, suc, ◌+◌, List, [], ◌∷◌, ◌++◌, length, Option, Some, IfSome, refl, sym, ap, ◌∙◌, subst, add-zero, arith, length-append}
 use Rattle.std.proofs.lemmas.List.{map-append}
 use Rattle.std.specs.Prelude.{slice_get}
-use Rattle.flow_edges.specs.Flow.{OtherSide}
+use Rattle.flow_edges.specs.Flow.{SinkSide, SourceSide}
 use Rattle.taxii_histories.specs.Exchanges.{Exchange}
 use Rattle.taxii_server.specs.Outside.{Outside, GivesMoments, RoseBy}
 use Rattle.taxii_server.specs.Connections.{Pass, keeper_faults}
 
--- a call of a link leaves its other side as it is
-pub other_side : {before now : OtherSide} {bytes bytes_now : Option (List ℕ)} {faults faults_now : ℕ} → before ≡ record { bytes = bytes; faults = faults } → now ≡ record { bytes = bytes_now; faults = faults_now } → now ≡ before
+-- a read of a link leaves what was written as it is
+pub sink_side : {before now : SinkSide} {bytes bytes_now : Option (List ℕ)} {faults faults_now : ℕ} → before ≡ record { written = bytes; faults = faults }
+    → now ≡ record { written = bytes_now; faults = faults_now } → now ≡ before → (bytes_now ≡ bytes) × (faults_now ≡ faults)
+sink_side {bytes = bytes} {bytes_now = bytes_now} {faults = faults} {faults_now = faults_now} is is_now same =
+    let sides : ◌≡◌ {A = SinkSide} (record { written = bytes_now; faults = faults_now }) (record { written = bytes; faults = faults }) = sym is_now ∙ same ∙ is in
+    (ap (λ (side : SinkSide). side.written) sides, ap (λ (side : SinkSide). side.faults) sides)
+
+-- and a write what is left, and when the last read began
+pub source_side : {before now : SourceSide} {bytes bytes_now began began_now : Option (List ℕ)} {faults faults_now : ℕ}
+    → before ≡ record { left = bytes; began = began; faults = faults } → now ≡ record { left = bytes_now; began = began_now; faults = faults_now } → now ≡ before
     → (bytes_now ≡ bytes) × (faults_now ≡ faults)
-other_side {bytes = bytes} {bytes_now = bytes_now} {faults = faults} {faults_now = faults_now} is is_now same =
-    let sides : ◌≡◌ {A = OtherSide} (record { bytes = bytes_now; faults = faults_now }) (record { bytes = bytes; faults = faults }) = sym is_now ∙ same ∙ is in
-    (ap (λ (side : OtherSide). side.bytes) sides, ap (λ (side : OtherSide). side.faults) sides)
+source_side {bytes = bytes} {bytes_now = bytes_now} {began = began} {began_now = began_now} {faults = faults} {faults_now = faults_now} is is_now same =
+    let sides : ◌≡◌ {A = SourceSide} (record { left = bytes_now; began = began_now; faults = faults_now }) (record { left = bytes; began = began; faults = faults })
+    = sym is_now ∙ same ∙ is in
+    (ap (λ (side : SourceSide). side.left) sides, ap (λ (side : SourceSide). side.faults) sides)
 
 -- ---- moments
 

@@ -1,5 +1,5 @@
 -- What every answer of a step is: a status with a body, a status alone, or a page of the store's rows; and never a fault of the keeper.
-use Rattle.std.proofs.Common.{◌≡◌, ◌≢◌, inl, inr, ℕ, List, Option, sym, subst}
+use Rattle.std.proofs.Common.{◌≡◌, ◌≢◌, ◌∙◌, inl, inr, ℕ, List, Option, ap, sym, subst}
 use Rattle.std.specs.Prelude.{Bool}
 use Rattle.stix_ids.specs.declared.id.Id.{Id}
 use Rattle.http_frames.specs.declared.answer.Allow.{Allow}
@@ -10,7 +10,7 @@ use Rattle.http_frames.specs.declared.request.Request.{Request}
 use Rattle.http_frames.specs.declared.status.Status.{Status as Code}
 use Rattle.http_frames.specs.declared.status.Status.TheVariants.{InternalServerError}
 use Rattle.taxii_bodies.specs.declared.problem.Problem.{Problem as Trouble}
-use Rattle.taxii_bodies.specs.declared.problem.Problem.TheVariants.{StoreFault}
+use Rattle.taxii_bodies.specs.declared.problem.Problem.TheVariants.{NotFound, StoreFault}
 use Rattle.taxii_routes.specs.declared.query.Query.{Query}
 use Rattle.taxii_routes.specs.declared.route.Route.{Route}
 use Rattle.taxii_routes.specs.declared.route.Route.TheVariants.{Discovery, Root, Status, Collections, Collection, Manifest, Objects, Object, Versions, None as NoRoute}
@@ -20,7 +20,8 @@ use Rattle.taxii_requests.specs.declared.config.Config.{Config}
 use Rattle.taxii_requests.specs.declared.refusal.Refusal.{Refusal}
 use Rattle.taxii_requests.specs.declared.refusal.Refusal.TheVariants.{NotAllowed, Problem, NoMemory}
 use Rattle.taxii_requests.specs.declared.rights.Rights.{Rights}
-use Rattle.taxii_requests.specs.Answers.{body_answer, bare_answer, page_answer, status_of}
+use Rattle.taxii_requests.specs.Answers.{body_answer, bare_answer, answer_to_problem, page_answer, status_of}
+use Rattle.taxii_requests.proofs.AnswerLemmas.{told_status}
 use Rattle.taxii_requests.specs.Checking.{IsRefusedFor}
 use Rattle.taxii_resources.specs.Finding.{allowed_of}
 use Rattle.taxii_resources.specs.Reading.{IsPageOf, IsReading}
@@ -137,7 +138,7 @@ is_other : (config : Config) (before : State) (moment : ℕ) (request : Request)
     → IsRefused config before moment request route text refusal → IsOther refusal
 is_other config before moment request route text refusal (inl nothing) = λ is. absurd (cc (is, nothing.1))
 is_other config before moment request route text refusal (inr (rights, found, inl refused)) = refused_other (allowed_of route) rights request text refusal refused
-is_other config before moment request route text refusal (inr (rights, found, inr cannot)) = do_other config before moment request route request.method refusal cannot.1
+is_other config before moment request route text refusal (inr (rights, found, inr cannot)) = do_other config before moment request route request.method refusal cannot.3
 
 -- ---- a step
 
@@ -155,15 +156,18 @@ problem_no_fault : (problem : Trouble) → Problem problem ≢ Problem StoreFaul
 problem_no_fault StoreFault other = absurd (other (cc))
 problem_no_fault problem other = λ is. absurd (cc is)
 
-answer_no_fault : (refusal : Refusal) (answer : Answer) → IsOther refusal → IsAnswerTo refusal answer → IsNoFault answer
-answer_no_fault (NotAllowed its) answer other is = subst IsNoFault (sym is) (λ same. absurd (cc same))
-answer_no_fault (Problem problem) answer other is = subst IsNoFault (sym is) (problem_no_fault problem other)
-answer_no_fault NoMemory answer other is = absurd is
+told_no_fault : (method : Method) (problem : Trouble) (answer : Answer) → answer ≡ answer_to_problem method problem → status_of problem ≢ InternalServerError → IsNoFault answer
+told_no_fault method problem answer is other failed = other (sym (told_status method problem) ∙ sym (ap (λ (one : Answer). one.status) is) ∙ failed)
+
+answer_no_fault : (method : Method) (refusal : Refusal) (answer : Answer) → IsOther refusal → IsAnswerTo method refusal answer → IsNoFault answer
+answer_no_fault method (NotAllowed its) answer other is = subst IsNoFault (sym is) (λ same. absurd (cc same))
+answer_no_fault method (Problem problem) answer other is = told_no_fault method problem answer is (problem_no_fault problem other)
+answer_no_fault method NoMemory answer other is = absurd is
 
 pub route_step_no_fault : (config : Config) (before : State) (moment : ℕ) (request : Request) (route : Route) (text : List ℕ) (answer : Answer) (after : State)
     → RouteStep config before moment request route text answer after → IsNoFault answer
 route_step_no_fault config before moment request route text answer after (inl (refusal, refused, is, same)) =
-    answer_no_fault refusal answer (is_other config before moment request route text refusal refused) is
+    answer_no_fault request.method refusal answer (is_other config before moment request route text refusal refused) is
 route_step_no_fault config before moment request route text answer after (inr done) =
     done_holds IsNoFault config before (no_fault before.library.rows) moment request route text answer after done
 
@@ -171,6 +175,6 @@ route_step_no_fault config before moment request route text answer after (inr do
 pub step_no_fault : (config : Config) (before : State) (moment : ℕ) (request : Request) (answer : Answer) (after : State)
     → Step config before moment request answer after → IsNoFault answer
 step_no_fault config before moment request answer after step = elim step.outcome [
-  | inl nowhere ↦ subst IsNoFault (sym nowhere.1) (λ same. absurd (cc same))
+  | inl nowhere ↦ told_no_fault request.method NotFound answer nowhere.1 (λ same. absurd (cc same))
   | inr somewhere ↦ route_step_no_fault config before moment request somewhere.0 _ answer after somewhere.2
 ]

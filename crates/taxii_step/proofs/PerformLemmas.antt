@@ -21,6 +21,8 @@ use Rattle.http_frames.specs.declared.answer.Answer.{Answer}
 use Rattle.taxii_requests.specs.Answers.{status_of}
 use Rattle.taxii_requests.specs.declared.refusal.Refusal.{Refusal}
 use Rattle.taxii_requests.specs.declared.refusal.Refusal.TheVariants.{NotAllowed, Problem, NoMemory}
+use Rattle.http_frames.specs.declared.method.Method.{Method}
+use Rattle.taxii_requests.proofs.AnswerLemmas.{told_status}
 use Rattle.taxii_step.specs.Step.{IsAnswerTo}
 use Rattle.taxii_changes.specs.Deleting.{AreDeleted}
 
@@ -86,25 +88,26 @@ is_fault NotList is = absurd (cc)
 is_fault StoreFault is = refl
 is_fault DatesUsedUp is = absurd (cc)
 
-fault_answered : (refusal : Refusal) (answer : Answer) → IsAnswerTo refusal answer → answer.status ≡ InternalServerError → refusal ≡ Problem StoreFault
-fault_answered (NotAllowed its) answer is failed = absurd (let e = sym (ap (λ (one : Answer). one.status) is) ∙ failed in cc e)
-fault_answered (Problem problem) answer is failed = ap Problem (is_fault problem (sym (ap (λ (one : Answer). one.status) is) ∙ failed))
-fault_answered NoMemory answer is failed = absurd is
+fault_answered : (method : Method) (refusal : Refusal) (answer : Answer) → IsAnswerTo method refusal answer → answer.status ≡ InternalServerError → refusal ≡ Problem StoreFault
+fault_answered method (NotAllowed its) answer is failed = absurd (let e = sym (ap (λ (one : Answer). one.status) is) ∙ failed in cc e)
+fault_answered method (Problem problem) answer is failed =
+    ap Problem (is_fault problem (sym (told_status method problem) ∙ sym (ap (λ (one : Answer). one.status) is) ∙ failed))
+fault_answered method NoMemory answer is failed = absurd is
 
-other_answered : (refusal : Refusal) (answer : Answer) → IsAnswerTo refusal answer → answer.status ≢ InternalServerError → refusal ≢ Problem StoreFault
-other_answered refusal answer is other fault =
-    let told = subst (λ (one : Refusal). IsAnswerTo one answer) fault is in other (ap (λ (one : Answer). one.status) told)
+other_answered : (method : Method) (refusal : Refusal) (answer : Answer) → IsAnswerTo method refusal answer → answer.status ≢ InternalServerError → refusal ≢ Problem StoreFault
+other_answered method refusal answer is other fault =
+    let told = subst (λ (one : Refusal). IsAnswerTo method one answer) fault is in other (ap (λ (one : Answer). one.status) told ∙ told_status method StoreFault)
 
 -- the keeper's count where a refusal was answered: a fault of the store has an answer, which is an error of the server
-pub refusal_counted : {E : Type 0} (refusal : Refusal) (answer : Result Answer E) (before now : ℕ) → IfOk answer (IsAnswerTo refusal)
+pub refusal_counted : {E : Type 0} (method : Method) (refusal : Refusal) (answer : Result Answer E) (before now : ℕ) → IfOk answer (IsAnswerTo method refusal)
     → (refusal ≡ Problem StoreFault → IsOk answer) → Counted (◌≡◌ {A = Result Answer Refusal} (Err refusal) (Err (Problem StoreFault))) before now
     → Counted (IsOkAnd answer (λ one. one.status ≡ InternalServerError)) before now
-refusal_counted refusal (Ok answer) before now its there counted = record {
+refusal_counted method refusal (Ok answer) before now its there counted = record {
   later = counted.later;
-  failed = λ failed. counted.failed (ap Err (fault_answered refusal answer its failed));
-  quiet = λ other. counted.quiet (λ same. other_answered refusal answer its other (let is : refusal ≡ Problem StoreFault = cc same in is));
+  failed = λ failed. counted.failed (ap Err (fault_answered method refusal answer its failed));
+  quiet = λ other. counted.quiet (λ same. other_answered method refusal answer its other (let is : refusal ≡ Problem StoreFault = cc same in is));
 }
-refusal_counted refusal (Err error) before now its there counted = record {
+refusal_counted method refusal (Err error) before now its there counted = record {
   later = counted.later;
   failed = λ failed. absurd failed;
   quiet = λ other. counted.quiet (λ same. let is : refusal ≡ Problem StoreFault = cc same in absurd (cc (there is)));

@@ -20,7 +20,7 @@ use Rattle.taxii_requests.specs.declared.config.Config.{Config}
 use Rattle.taxii_requests.specs.declared.refusal.Refusal.{Refusal}
 use Rattle.taxii_requests.specs.declared.refusal.Refusal.TheVariants.{NotAllowed, Problem, NoMemory}
 use Rattle.taxii_requests.specs.declared.rights.Rights.{Rights}
-use Rattle.taxii_requests.specs.Answers.{body_answer, bare_answer, problem_answer}
+use Rattle.taxii_requests.specs.Answers.{body_answer, bare_answer, answer_to_problem}
 use Rattle.taxii_requests.specs.Checking.{IsFit, IsRefusedFor}
 use Rattle.taxii_resources.specs.Finding.{Names, IsFound, allowed_of}
 use Rattle.taxii_resources.specs.Reading.{IsReading, IsNoResource}
@@ -94,7 +94,8 @@ IsRefused config before moment request route text refusal =
     (IsNoResource config before route × (refusal ≡ Problem NotFound))
     ⊎ ((rights : Rights) × IsFound config.collections before route rights
     × (IsRefusedFor (allowed_of route) rights request text refusal
-    ⊎ (IsFit (allowed_of route) rights request × CannotDo config before moment request route request.method refusal)))
+    ⊎ ((query : Query) × IsFit (allowed_of route) rights request × IsQueryOf (pairs_of text) query
+    × CannotDo config before moment request route request.method refusal)))
 
 -- the request is done
 pub record IsDone (config : Config) (before : State) (moment : ℕ) (request : Request) (route : Route) (text : List ℕ) (answer : Answer) (after : State) : Type 0 where
@@ -106,15 +107,15 @@ pub record IsDone (config : Config) (before : State) (moment : ℕ) (request : R
   pub does : Does config before moment request route query request.method answer after
 
 -- the answer to a refusal; want of memory has one of its own
-abbrev pub IsAnswerTo : Refusal → Answer → Type 0
-IsAnswerTo (NotAllowed its) answer = answer ≡ bare_answer MethodNotAllowed (Some its)
-IsAnswerTo (Problem problem) answer = answer ≡ problem_answer problem
-IsAnswerTo NoMemory answer = ⊥
+abbrev pub IsAnswerTo : Method → Refusal → Answer → Type 0
+IsAnswerTo method (NotAllowed its) answer = answer ≡ bare_answer MethodNotAllowed (Some its)
+IsAnswerTo method (Problem problem) answer = answer ≡ answer_to_problem method problem
+IsAnswerTo method NoMemory answer = ⊥
 
 -- a request to the resource of a route is refused or done
 abbrev pub RouteStep : Config → State → ℕ → Request → Route → List ℕ → Answer → State → Type 0
 RouteStep config before moment request route text answer after =
-    ((refusal : Refusal) × IsRefused config before moment request route text refusal × IsAnswerTo refusal answer × (after ≡ before))
+    ((refusal : Refusal) × IsRefused config before moment request route text refusal × IsAnswerTo request.method refusal answer × (after ≡ before))
     ⊎ IsDone config before moment request route text answer after
 
 -- one step: a path without a route isn't found
@@ -123,12 +124,12 @@ pub record Step (config : Config) (before : State) (moment : ℕ) (request : Req
   pub query : Option (List ℕ)
   pub target_is : IsTargetOf request.target path query
   pub outcome :
-      (((route : Route) → ¬ IsPathOf path route) × (answer ≡ problem_answer NotFound) × (after ≡ before))
+      (((route : Route) → ¬ IsPathOf path route) × (answer ≡ answer_to_problem request.method NotFound) × (after ≡ before))
       ⊎ ((route : Route) × IsPathOf path route × RouteStep config before moment request route (unwrap_or query []) answer after)
 
 -- the keeper failed in a request whose step changes rows; nothing has changed
 pub record FailsToKeep (config : Config) (before : State) (moment : ℕ) (request : Request) (answer : Answer) (after : State) : Type 0 where
-  pub answer_is : answer ≡ problem_answer StoreFault
+  pub answer_is : answer ≡ answer_to_problem request.method StoreFault
   pub unchanged : after ≡ before
   pub wanted : Answer
   pub changed : State

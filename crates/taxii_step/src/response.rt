@@ -11,11 +11,11 @@ ghost use Rattle.taxii_step.specs.inner.Performing.{RouteChanges};
 
 use crate::outcome::outcome;
 use flow_values::NoMemory;
-use http_frames::{Answer, Request, Status};
+use http_frames::{Answer, Method, Request, Status};
 use std::alloc::Global;
 use taxii_bodies::Problem;
 use taxii_pages::laws::rows_of_pages;
-use taxii_requests::{Config, Refusal, bare_answer, problem_answer};
+use taxii_requests::{Config, Refusal, answer_to_problem, bare_answer};
 use taxii_routes::{Route, split_target};
 use taxii_rows::Keeper;
 use taxii_state::State;
@@ -42,7 +42,7 @@ pub fn respond<K: Keeper>(
 {
     let (path, query) = split_target(request.target.as_str());
     match config.routes.route(path)? {
-        Route::None => problem_answer(config.alloc, Problem::NotFound),
+        Route::None => answer_to_problem(config.alloc, request.method, Problem::NotFound),
         route => {
             let query = query_text(query);
             respond_at(config, state, keeper, moment, request, &route, query)
@@ -75,7 +75,7 @@ fn respond_at<K: Keeper>(
     ensures name { (K.kept keeper.new).name ≡ (K.kept keeper.old).name }
     ensures ok { IfOk result (λ answer. RouteStep config.now state.old moment request.now route.now query.now
         answer state.new
-        ⊎ ((answer ≡ spec.problem_answer Trouble.StoreFault) × (state.new ≡ state.old)
+        ⊎ ((answer ≡ spec.answer_to_problem request.now.method Trouble.StoreFault) × (state.new ≡ state.old)
         × RouteChanges config.now state.old moment request.now route.now query.now)) }
     ensures err { OnErr result (state.new ≡ state.old) }
     ensures causes { Counted (IsOkAnd result (λ answer. answer.status ≡ Code.InternalServerError)) (K.faults keeper.old) (K.faults keeper.new) }
@@ -85,23 +85,28 @@ fn respond_at<K: Keeper>(
     state.library.rows();
     // The text of the keeper's fault is there before the keeper is called, so that a change that the
     // keeper refused is never told as want of memory.
-    let store_fault = problem_answer(config.alloc, Problem::StoreFault)?;
+    let store_fault = answer_to_problem(config.alloc, request.method, Problem::StoreFault)?;
     match outcome(config, state, keeper, moment, request, route, query) {
         Ok(answer) => Ok(answer),
-        Err(refusal) => answer_to(config.alloc, refusal, store_fault),
+        Err(refusal) => answer_to(config.alloc, request.method, refusal, store_fault),
     }
 }
 
-/// The answer to a refusal. That to the keeper's fault is there already.
-fn answer_to(alloc: Global, refusal: Refusal, store_fault: Answer) -> Result<Answer, NoMemory>
-    requires { store_fault ≡ spec.problem_answer Trouble.StoreFault }
-    ensures ok { IfOk result (IsAnswerTo refusal) }
+/// The answer to a refusal of a request of that method. That to the keeper's fault is there already.
+fn answer_to(
+    alloc: Global,
+    method: Method,
+    refusal: Refusal,
+    store_fault: Answer,
+) -> Result<Answer, NoMemory>
+    requires { store_fault ≡ spec.answer_to_problem method Trouble.StoreFault }
+    ensures ok { IfOk result (IsAnswerTo method refusal) }
     ensures there { refusal ≡ Refused.Problem Trouble.StoreFault → IsOk result }
 {
     match refusal {
         Refusal::NotAllowed(allow) => Ok(bare_answer(Status::MethodNotAllowed, Some(allow))),
         Refusal::Problem(Problem::StoreFault) => Ok(store_fault),
-        Refusal::Problem(problem) => problem_answer(alloc, problem),
+        Refusal::Problem(problem) => answer_to_problem(alloc, method, problem),
         Refusal::NoMemory => Err(NoMemory),
     }
 }

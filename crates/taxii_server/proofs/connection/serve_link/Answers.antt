@@ -1,7 +1,7 @@
 use Rattle.std.proofs.Common.{◌∙◌, refl, arith}
 use Rattle.taxii_server.specs.Outside.{LinkView}
 use Rattle.taxii_server.proofs.EndsLemmas.{finishes-leave, quiet-leave, finishes-answered, finishes-cut}
-use Rattle.taxii_server.proofs.OutsideLemmas.{other_side}
+use Rattle.taxii_server.proofs.OutsideLemmas.{sink_side, source_side}
 use Rattle.taxii_server.proofs.SoFarLemmas.{IsNextAnswer, so_far-start, so_far-received, so_far-next, few-next}
 use Rattle.taxii_server.proofs.connection.serve_link.Goals as goal
 
@@ -18,8 +18,8 @@ loop-request-init g c = record {
 
 pub returns-in-Err-receive-clause-serves : goal.returns-in-Err-receive-clause-serves
 returns-in-Err-receive-clause-serves g c =
-    let read = other_side (g.met.L.Link.unwritten c.loop-request.link) (g.met.L.Link.unwritten c.receive.new.link) c.in-Err-receive.ensures.unwritten in
-    let wrote = other_side (g.met.L.Link.unread c.receive.new.link) (g.met.L.Link.unread c.take_leave-in-Err-receive.new.link) c.take_leave-in-Err-receive.ensures.unread in
+    let read = sink_side (g.met.L.Link.unwritten c.loop-request.link) (g.met.L.Link.unwritten c.receive.new.link) c.in-Err-receive.ensures.unwritten in
+    let wrote = source_side (g.met.L.Link.unread c.receive.new.link) (g.met.L.Link.unread c.take_leave-in-Err-receive.new.link) c.take_leave-in-Err-receive.ensures.unread in
     let link : LinkView = record { left = g.L.Source.left c.args.link.now; written = g.L.Sink.written c.args.link.now; read_faults = g.L.Source.faults c.args.link.now; write_faults = g.L.Sink.faults c.args.link.now } in
     let so_far = so_far-received {link = link} c.later_bytes_change_nothing.ensures c.loop-request.invariant.so_far c.in-Err-receive.ensures.receives read.0 in
     finishes-leave {link = link} _ c.in-Err-receive.pause c.take_leave-in-Err-receive.result c.after-in-Err-receive.result so_far wrote.0
@@ -28,8 +28,8 @@ returns-in-Err-receive-clause-serves g c =
 
 pub returns-in-Ok-true-clause-serves : goal.returns-in-Ok-true-clause-serves
 returns-in-Ok-true-clause-serves g c =
-    let read = other_side (g.met.L.Link.unwritten c.loop-request.link) (g.met.L.Link.unwritten c.receive.new.link) c.in-Ok-receive.ensures.unwritten in
-    let wrote = other_side (g.met.L.Link.unread c.receive.new.link) (g.met.L.Link.unread c.answer.new.link) c.in-Ok-true.ensures.unread in
+    let read = sink_side (g.met.L.Link.unwritten c.loop-request.link) (g.met.L.Link.unwritten c.receive.new.link) c.in-Ok-receive.ensures.unwritten in
+    let wrote = source_side (g.met.L.Link.unread c.receive.new.link) (g.met.L.Link.unread c.answer.new.link) c.in-Ok-true.ensures.unread in
     let link : LinkView = record { left = g.L.Source.left c.args.link.now; written = g.L.Sink.written c.args.link.now; read_faults = g.L.Source.faults c.args.link.now; write_faults = g.L.Sink.faults c.args.link.now } in
     let so_far = so_far-received {link = link} c.later_bytes_change_nothing.ensures c.loop-request.invariant.so_far c.in-Ok-receive.ensures.receives read.0 in
     let answers = rw c.loop-request.invariant.config at c.in-Ok-true.ensures.answers in
@@ -37,16 +37,16 @@ returns-in-Ok-true-clause-serves g c =
 
 pub returns-in-Ok-true-clause-quiet : goal.returns-in-Ok-true-clause-quiet
 returns-in-Ok-true-clause-quiet g c requests is =
-    let read = other_side (g.met.L.Link.unwritten c.loop-request.link) (g.met.L.Link.unwritten c.receive.new.link) c.in-Ok-receive.ensures.unwritten in
-    let wrote = other_side (g.met.L.Link.unread c.receive.new.link) (g.met.L.Link.unread c.answer.new.link) c.in-Ok-true.ensures.unread in (
+    let read = sink_side (g.met.L.Link.unwritten c.loop-request.link) (g.met.L.Link.unwritten c.receive.new.link) c.in-Ok-receive.ensures.unwritten in
+    let wrote = source_side (g.met.L.Link.unread c.receive.new.link) (g.met.L.Link.unread c.answer.new.link) c.in-Ok-true.ensures.unread in (
       wrote.1 ∙ c.in-Ok-receive.ensures.quiet (λ failed. absurd (cc failed)) ∙ c.loop-request.invariant.read_faults,
       c.in-Ok-true.ensures.causes.quiet (λ failed. absurd (cc failed)) ∙ read.1 ∙ c.loop-request.invariant.write_faults,
     )
 
 pub returns-in-Err-answer-clause-serves : goal.returns-in-Err-answer-clause-serves
 returns-in-Err-answer-clause-serves g c =
-    let read = other_side (g.met.L.Link.unwritten c.loop-request.link) (g.met.L.Link.unwritten c.receive.new.link) c.in-Ok-receive.ensures.unwritten in
-    let wrote = other_side (g.met.L.Link.unread c.receive.new.link) (g.met.L.Link.unread c.answer.new.link) c.in-Err-answer.ensures.unread in
+    let read = sink_side (g.met.L.Link.unwritten c.loop-request.link) (g.met.L.Link.unwritten c.receive.new.link) c.in-Ok-receive.ensures.unwritten in
+    let wrote = source_side (g.met.L.Link.unread c.receive.new.link) (g.met.L.Link.unread c.answer.new.link) c.in-Err-answer.ensures.unread in
     let link : LinkView = record { left = g.L.Source.left c.args.link.now; written = g.L.Sink.written c.args.link.now; read_faults = g.L.Source.faults c.args.link.now; write_faults = g.L.Sink.faults c.args.link.now } in
     let so_far = so_far-received {link = link} c.later_bytes_change_nothing.ensures c.loop-request.invariant.so_far c.in-Ok-receive.ensures.receives read.0 in
     let answers = rw c.loop-request.invariant.config at c.in-Err-answer.ensures.answers in
@@ -55,8 +55,8 @@ returns-in-Err-answer-clause-serves g c =
 
 pub loop-request-preserved : goal.loop-request-preserved
 loop-request-preserved g c =
-    let read = other_side (g.met.L.Link.unwritten c.loop-request.link) (g.met.L.Link.unwritten c.receive.new.link) c.in-Ok-receive.ensures.unwritten in
-    let wrote = other_side (g.met.L.Link.unread c.receive.new.link) (g.met.L.Link.unread c.answer.new.link) c.in-Ok-false.ensures.unread in
+    let read = sink_side (g.met.L.Link.unwritten c.loop-request.link) (g.met.L.Link.unwritten c.receive.new.link) c.in-Ok-receive.ensures.unwritten in
+    let wrote = source_side (g.met.L.Link.unread c.receive.new.link) (g.met.L.Link.unread c.answer.new.link) c.in-Ok-false.ensures.unread in
     let link : LinkView = record { left = g.L.Source.left c.args.link.now; written = g.L.Sink.written c.args.link.now; read_faults = g.L.Source.faults c.args.link.now; write_faults = g.L.Sink.faults c.args.link.now } in
     let so_far = so_far-received {link = link} c.later_bytes_change_nothing.ensures c.loop-request.invariant.so_far c.in-Ok-receive.ensures.receives read.0 in
     let answers = rw c.loop-request.invariant.config at c.in-Ok-false.ensures.answers in
@@ -74,14 +74,14 @@ loop-request-preserved g c =
 
 pub returns-in-Err-clause-serves : goal.returns-in-Err-clause-serves
 returns-in-Err-clause-serves g c =
-    let wrote = other_side (g.met.L.Link.unread c.args.link.now) (g.met.L.Link.unread c.take_leave.new.link) c.take_leave.ensures.unread in
+    let wrote = source_side (g.met.L.Link.unread c.args.link.now) (g.met.L.Link.unread c.take_leave.new.link) c.take_leave.ensures.unread in
     finishes-leave _ _ c.take_leave.result c.after.result (so_far-start _ _ _ _) wrote.0 tt c.take_leave.ensures.leave
     (λ fine. (c.take_leave.ensures.causes fine).failed) c.after.ensures
 
 pub returns-in-Err-receive-clause-quiet : goal.returns-in-Err-receive-clause-quiet
 returns-in-Err-receive-clause-quiet g c requests closed =
-    let read = other_side (g.met.L.Link.unwritten c.loop-request.link) (g.met.L.Link.unwritten c.receive.new.link) c.in-Err-receive.ensures.unwritten in
-    let wrote = other_side (g.met.L.Link.unread c.receive.new.link) (g.met.L.Link.unread c.take_leave-in-Err-receive.new.link) c.take_leave-in-Err-receive.ensures.unread in
+    let read = sink_side (g.met.L.Link.unwritten c.loop-request.link) (g.met.L.Link.unwritten c.receive.new.link) c.in-Err-receive.ensures.unwritten in
+    let wrote = source_side (g.met.L.Link.unread c.receive.new.link) (g.met.L.Link.unread c.take_leave-in-Err-receive.new.link) c.take_leave-in-Err-receive.ensures.unread in
     let quiet = quiet-leave c.in-Err-receive.pause c.take_leave-in-Err-receive.result c.after-in-Err-receive.result _ requests c.after-in-Err-receive.ensures closed
     (λ failed. (c.take_leave-in-Err-receive.ensures.failed failed).0) (λ fine. c.in-Err-receive.ensures.quiet (λ failed. fine (cc failed)))
     (λ fine. (c.take_leave-in-Err-receive.ensures.causes fine).quiet) in

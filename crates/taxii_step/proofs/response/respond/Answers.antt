@@ -1,7 +1,7 @@
 use Rattle.std.proofs.Common.{◌≡◌, ◌⊎◌, inl, inr, ℕ, List, [], unwrap_or, option_map, subst}
 use Rattle.http_frames.specs.declared.answer.Answer.{Answer}
 use Rattle.taxii_bodies.specs.declared.problem.Problem.TheVariants.{StoreFault}
-use Rattle.taxii_requests.specs.Answers.{problem_answer}
+use Rattle.taxii_requests.specs.Answers.{answer_to_problem}
 use Rattle.taxii_routes.specs.Route.{IsPathOf}
 use Rattle.taxii_routes.specs.Target.{IsTargetOf}
 use Rattle.taxii_state.specs.declared.state.State.{State}
@@ -33,7 +33,7 @@ returns-in_default g c =
       name = ensures.name;
       ok = if_ok c.respond_at.result
           (λ answer. RouteStep config before moment request route c.query_text-query.result.now answer after
-          ⊎ ((answer ≡ problem_answer StoreFault) × (after ≡ before) × RouteChanges config before moment request route c.query_text-query.result.now))
+          ⊎ ((answer ≡ answer_to_problem request.method StoreFault) × (after ≡ before) × RouteChanges config before moment request route c.query_text-query.result.now))
           (λ answer. Step config before moment request answer after ⊎ FailsToKeep config before moment request answer after)
           (λ answer came. elim came [
             | inl step ↦ inl (steps answer after step)

@@ -16,4 +16,4 @@ returns-in-Ok-clause-causes g c =
     }
 
 pub returns-in-Err-clause-causes : goal.returns-in-Err-clause-causes
-returns-in-Err-clause-causes g c = refusal_counted c.in-Err.refusal c.answer_to.result _ _ c.answer_to.ensures.ok c.answer_to.ensures.there c.in-Err.ensures.causes
+returns-in-Err-clause-causes g c = refusal_counted c.args.request.now.method c.in-Err.refusal c.answer_to.result _ _ c.answer_to.ensures.ok c.answer_to.ensures.there c.in-Err.ensures.causes
