@@ -7,9 +7,11 @@ ghost use Rattle.taxii_rows.specs.Identity.{is_row_of as is_of};
 ghost use Rattle.taxii_rows.specs.Picking.{IsPicked, IsPickedBy};
 ghost use Rattle.taxii_index.specs.Presence.{is_same as is_present, row_of_same as first_of_same};
 ghost use Rattle.taxii_index.specs.Index.{has_row, key_dates};
+ghost use Rattle.taxii_index.specs.Marks.{ComesBefore, IsLaterAt};
 
 use crate::dates::is_among;
 use crate::keys::Key;
+use crate::order::is_later;
 use crate::presence::is_same;
 use crate::row_index::RowIndex;
 use flow_values::NoMemory;
@@ -183,6 +185,32 @@ impl IndexedRows {
             Pick::First => self.is_first(row),
             Pick::All => true,
             Pick::At(version) => row.version == version,
+        }
+    }
+
+    /// The dates of the rows that may stand beside the row among the versions of its object, and 0 where
+    /// there is none. They only hint: a caller asks `comes_before`.
+    pub(crate) fn neighbours(&self, row: &StoredRow) -> (u64, u64) {
+        self.index.neighbours(row)
+    }
+
+    /// Whether the row of the second date is a later version of an object than the row of the first.
+    pub(crate) fn comes_before(&self, first: u64, second: u64) -> bool
+        ensures { IsTrue result → ComesBefore self.now first second }
+    {
+        match row_at(&self.rows, first) {
+            Some(row) => self.is_later_at(row, second),
+            None => false,
+        }
+    }
+
+    /// Whether the row of that date is a later version of the row's object.
+    fn is_later_at(&self, row: &StoredRow, date: u64) -> bool
+        ensures { IsTrue result → IsLaterAt self.now row.now date }
+    {
+        match row_at(&self.rows, date) {
+            Some(other) => is_later(row, other),
+            None => false,
         }
     }
 

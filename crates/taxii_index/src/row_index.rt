@@ -90,6 +90,23 @@ impl RowIndex {
     {
         self.by_version.before(version_key(row))
     }
+
+    /// The dates of the rows beside the row among the versions of its name, and 0 where there is none.
+    /// Whether they are of its object is asked of the rows.
+    pub(crate) fn neighbours(&self, row: &StoredRow) -> (u64, u64) {
+        let key = version_key(row);
+        let mut before = self.by_version.before(key);
+        let mut after = self.by_version.after(key);
+        (key_date(before.next_back()), key_date(after.next()))
+    }
+}
+
+/// The date of a key, or 0 where there is none.
+fn key_date(key: Option<&Key>) -> u64 {
+    match key {
+        Some(key) => key.2,
+        None => 0,
+    }
 }
 
 /// The key of a row among the versions of its object.
