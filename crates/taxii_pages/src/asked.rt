@@ -49,8 +49,17 @@ impl<'a> Asked<'a> {
         })
     }
 
-    /// Whether a row of the library meets the query, where it can by when it was added.
-    pub(crate) fn meets(&self, library: &Library, row: &'a StoredRow) -> bool
+    /// Whether a row of the library, at that place among its rows, meets the query, where it can by when
+    /// it was added. What costs no look-up is asked first.
+    pub(crate) fn meets(&self, library: &Library, place: usize, row: &'a StoredRow) -> bool
+        requires there { Contains library.now.rows row.now }
+        ensures { (collection : ℕ) (only : Option Identifier) (query : Wanted) → Asks collection only query self.now
+            → CanMeet query row.now → IsTrue result ↔ Meets library.now.rows collection only query row.now }
+    {
+        self.picks.may_select(library, place, row) && self.is_met(library, row)
+    }
+
+    fn is_met(&self, library: &Library, row: &'a StoredRow) -> bool
         requires there { Contains library.now.rows row.now }
         ensures { (collection : ℕ) (only : Option Identifier) (query : Wanted) → Asks collection only query self.now
             → CanMeet query row.now → IsTrue result ↔ Meets library.now.rows collection only query row.now }

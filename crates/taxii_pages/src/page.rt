@@ -35,14 +35,17 @@ pub fn page_of<'a>(
 {
     let size = page_size(query);
     let asked = Asked::of(alloc, collection, only, query)?;
+    let later = candidates(library, query);
+    let mut place = library.rows().len().saturating_sub(later.len());
     let mut rows = Vec::new(alloc);
-    for row in candidates(library, query) {
-        if asked.meets(library, row) {
+    for row in later {
+        if asked.meets(library, place, row) {
             if rows.len() == size {
                 return Ok(Page { rows, more: true });
             }
             rows.push(row)?;
         }
+        place = place.saturating_add(1);
     }
     Ok(Page { rows, more: false })
 }

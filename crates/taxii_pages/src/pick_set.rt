@@ -74,6 +74,23 @@ impl PickSet {
         self.all || self.versions.contains(&row.version) || self.selects_end(library, row)
     }
 
+    /// Whether a pick may select the row that stands at a place of the library, without a look-up: each
+    /// that is selected may be.
+    pub(crate) fn may_select(&self, library: &Library, place: usize, row: &StoredRow) -> bool
+        requires { Contains library.now.rows row.now }
+        ensures { Selects self.now library.now.rows row.now → IsTrue result }
+    {
+        self.all || self.versions.contains(&row.version) || self.may_select_end(library, place, row)
+    }
+
+    fn may_select_end(&self, library: &Library, place: usize, row: &StoredRow) -> bool
+        requires { Contains library.now.rows row.now }
+        ensures { SelectsEnd self.now library.now.rows row.now → IsTrue result }
+    {
+        self.last && library.may_be_last(place, row)
+            || self.first && library.may_be_first(place, row)
+    }
+
     fn selects_end(&self, library: &Library, row: &StoredRow) -> bool
         requires { Contains library.now.rows row.now }
         ensures { IsTrue result ↔ SelectsEnd self.now library.now.rows row.now }

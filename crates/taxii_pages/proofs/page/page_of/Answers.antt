@@ -16,14 +16,14 @@ loop-row-init c = (
 
 pub meets-requires : goal.meets-requires
 meets-requires c = record {
-  there = candidate_there c.args.library.now.rows c.args.query.now c.candidates-row-items.result.now c.loop-row.row-index c.row-item.result c.candidates-row-items.ensures.candidates c.loop-row-test.true c.row-item.is;
+  there = candidate_there c.args.library.now.rows c.args.query.now c.candidates-later.result.now c.loop-row.row-index c.row-item.result c.candidates-later.ensures.candidates c.loop-row-test.true c.row-item.is;
 }
 
 pub returns-then-len-size : goal.returns-then-len-size
 returns-then-len-size c =
-    page_full c.args.library.now.rows c.args.collection (option_map (λ (id : Bor Id). id.now) c.args.only) c.args.query.now c.candidates-row-items.result.now
+    page_full c.args.library.now.rows c.args.collection (option_map (λ (id : Bor Id). id.now) c.args.only) c.args.query.now c.candidates-later.result.now
     (map (λ (row : Bor StoredRow). row.now) c.loop-row.rows.items) c.loop-row.row-index c.row-item.result
-    c.candidates-row-items.ensures.rise c.candidates-row-items.ensures.candidates c.loop-row-test.true c.row-item.is ((c.meets.ensures c.args.collection (option_map (λ (id : Bor Id). id.now) c.args.only) c.args.query.now c.in_ok-asked.ensures (candidate_can c.args.library.now.rows c.args.query.now c.candidates-row-items.result.now c.loop-row.row-index c.row-item.result c.candidates-row-items.ensures.candidates c.loop-row-test.true c.row-item.is)).0 c.if-meets.true) c.loop-row.invariant.0
+    c.candidates-later.ensures.rise c.candidates-later.ensures.candidates c.loop-row-test.true c.row-item.is ((c.meets.ensures c.args.collection (option_map (λ (id : Bor Id). id.now) c.args.only) c.args.query.now c.in_ok-asked.ensures (candidate_can c.args.library.now.rows c.args.query.now c.candidates-later.result.now c.loop-row.row-index c.row-item.result c.candidates-later.ensures.candidates c.loop-row-test.true c.row-item.is)).0 c.if-meets.true) c.loop-row.invariant.0
     (length-map c.loop-row.rows.items (λ (row : Bor StoredRow). row.now) ∙ sym c.loop-row.rows.ok.0 ∙ sym c.len.ensures ∙ c.if-len-size.true ∙ c.page_size-size.ensures)
 
 pub loop-row-preserved : goal.loop-row-preserved
@@ -31,10 +31,10 @@ loop-row-preserved c =
     let rows = c.args.library.now.rows in
     let only = option_map (λ (id : Bor Id). id.now) c.args.only in
     let query = c.args.query.now in
-    let later = c.candidates-row-items.result.now in
+    let later = c.candidates-later.result.now in
     let i = c.loop-row.row-index in
     let row = c.row-item.result in
-    let tells = c.meets.ensures c.args.collection only query c.in_ok-asked.ensures (candidate_can rows query later i row c.candidates-row-items.ensures.candidates c.loop-row-test.true c.row-item.is) in
+    let tells = c.meets.ensures c.args.collection only query c.in_ok-asked.ensures (candidate_can rows query later i row c.candidates-later.ensures.candidates c.loop-row-test.true c.row-item.is) in
     let now = λ (row : Bor StoredRow). row.now in
     elim c.if-meets.branch [
       | then-meets+else-len-size+in_ok-push w ↦
@@ -55,9 +55,9 @@ loop-row-preserved c =
 
 pub returns : goal.returns
 returns c =
-    page_whole c.args.library.now.rows c.args.collection (option_map (λ (id : Bor Id). id.now) c.args.only) c.args.query.now c.candidates-row-items.result.now
+    page_whole c.args.library.now.rows c.args.collection (option_map (λ (id : Bor Id). id.now) c.args.only) c.args.query.now c.candidates-later.result.now
     (map (λ (row : Bor StoredRow). row.now) c.loop-row.rows.items)
-    c.candidates-row-items.ensures.rise c.candidates-row-items.ensures.candidates
+    c.candidates-later.ensures.rise c.candidates-later.ensures.candidates
     (c.loop-row.invariant.0 ∙ ap (meeting c.args.library.now.rows c.args.collection (option_map (λ (id : Bor Id). id.now) c.args.only) c.args.query.now)
-    (take_all c.loop-row.row-index c.candidates-row-items.result.now c.loop-row-test.false))
+    (take_all c.loop-row.row-index c.candidates-later.result.now c.loop-row-test.false))
     (omega (arith, length-map c.loop-row.rows.items (λ (row : Bor StoredRow). row.now), c.loop-row.invariant.1, c.page_size-size.ensures))
