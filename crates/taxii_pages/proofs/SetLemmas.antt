@@ -1,24 +1,18 @@
--- Sets of what a query names: what they have after one more, and which rows a set of picks selects.
-use Rattle.std.proofs.Common.{◌≡◌, inl, inr, ℕ, ℤ, List, [], ◌∷◌, ◌++◌, Bool, true, false, cond, IsTrue, ◌↔◌, refl, sym, ap, subst, ◌∙◌, nat_cmp, arith, Bor, ◌+◌, ◌<◌, length, take, get_or}
+-- Sets of what a query names: what they have after one more.
+use Rattle.std.proofs.Common.{◌≡◌, inl, inr, ℕ, List, [], ◌∷◌, ◌++◌, Bool, true, false, cond, IsTrue, ◌↔◌, refl, sym, ap, subst, ◌∙◌, nat_cmp, arith, Bor, ◌+◌, ◌<◌, length, take, get_or}
 use Rattle.std.specs.List.{Contains}
-use Rattle.std.specs.Ordering.{ordering_then, int_cmp, is_eq}
+use Rattle.std.specs.Ordering.{ordering_then, is_eq}
 use Rattle.std.specs.declared.cmp.Ordering.{Ordering}
 use Rattle.std.specs.declared.cmp.Ordering.TheVariants.{Less, Equal, Greater}
 use Rattle.std.specs.Cmp.Lexicographic.{slice_cmp}
 use Rattle.std.specs.BTreeSet.{BTreeSet, contains}
 use Rattle.std.proofs.lemmas.Bool.{false≢true}
-use Rattle.std.proofs.lemmas.Cmp.{nat_cmp_total, int_cmp_total, nat_list_cmp_total, tied_itself}
-use Rattle.std.proofs.lemmas.Map.Lookups.{exact_unsigned, exact_signed, exact_bytes}
+use Rattle.std.proofs.lemmas.Cmp.{nat_cmp_total, nat_list_cmp_total, tied_itself}
+use Rattle.std.proofs.lemmas.Map.Lookups.{exact_unsigned, exact_bytes}
 use Rattle.std.proofs.lemmas.List.{take_more}
 use Rattle.std.proofs.lemmas.List.Elements.{Contains-push, Contains-push_cases, Contains-append_left}
 use Rattle.stix_ids.specs.declared.id.Id.{Id}
-use Rattle.stix_ids.specs.declared.pick.Pick.{Pick}
-use Rattle.stix_ids.specs.declared.pick.Pick.TheVariants.{Last, First, All, At}
-use Rattle.taxii_rows.specs.declared.stored_row.StoredRow.{StoredRow}
-use Rattle.taxii_rows.specs.Picking.{IsPicked, IsPickedBy}
-use Rattle.taxii_pages.specs.declared.pick_set.PickSet.{PickSet}
-use Rattle.taxii_pages.specs.inner.Sets.{text_cmp, HasTexts, IdKey, id_cmp, id_of, HasIds, HasPicks, Selects}
-use Rattle.taxii_pages.proofs.SettledLemmas.{cons_cases}
+use Rattle.taxii_pages.specs.inner.Sets.{text_cmp, HasTexts, IdKey, id_cmp, id_of, HasIds}
 
 equal : (order : Ordering) → is_eq order ≡ true → order ≡ Equal
 equal Less holds = absurd (false≢true holds)
@@ -102,91 +96,3 @@ ids_none = none_yet id_cmp id_of id_exact id_tied
 pub ids_more : (ids : List Id) (key : IdKey) (old new : BTreeSet IdKey) → HasIds ids old
     → ((k : IdKey) → contains id_cmp new k ≡ cond (is_eq (id_cmp key k)) true (contains id_cmp old k)) → HasIds (ids ++ id_of key ∷ []) new
 ids_more = one_more id_cmp id_of id_exact id_tied
-
--- ---- picks
-
-version_exact : (x y : ℤ) → is_eq (int_cmp x y) ≡ true → At x ≡ At y
-version_exact x y holds = ap At (exact_signed x y (equal (int_cmp x y) holds))
-
-abbrev version_of : Pick → ℤ → ℤ
-version_of (At version) other = version
-version_of Last other = other
-version_of First other = other
-version_of All other = other
-
-version_tied : (x y : ℤ) → At x ≡ At y → is_eq (int_cmp x y) ≡ true
-version_tied x y same = subst (λ (v : ℤ). is_eq (int_cmp x v) ≡ true) (ap (λ (p : Pick). version_of p x) same) (ap is_eq (tied_itself int_cmp_total x))
-
-pub versions_none : (set : BTreeSet ℤ) → set.keys ≡ [] → (version : ℤ) → IsTrue (contains int_cmp set version) ↔ Contains [] (At version)
-versions_none = none_yet int_cmp At version_exact version_tied
-
--- a pick that is another stays in or out
-stays : (picks : List Pick) (pick other : Pick) (has : Bool) → ¬ (pick ≡ other) → IsTrue has ↔ Contains picks other → IsTrue has ↔ Contains (picks ++ pick ∷ []) other
-stays picks pick other has apart is = (
-  λ holds. Contains-append_left picks (pick ∷ []) other (is.0 holds),
-  λ here. elim (Contains-push_cases picks pick other here) [ inl before ↦ is.1 before | inr same ↦ absurd (apart same) ],
-)
-
-pub with_all : (picks : List Pick) (set : PickSet) → HasPicks picks set → HasPicks (picks ++ All ∷ []) (record { all = true; last = set.last; first = set.first; versions = set.versions })
-with_all picks set has = record {
-  all = (λ _. Contains-push picks All, λ _. refl);
-  last = stays picks All Last set.last (λ is. absurd (cc is)) has.last;
-  first = stays picks All First set.first (λ is. absurd (cc is)) has.first;
-  versions = λ version. stays picks All (At version) (contains int_cmp set.versions version) (λ is. absurd (cc is)) (has.versions version);
-}
-
-pub with_last : (picks : List Pick) (set : PickSet) → HasPicks picks set → HasPicks (picks ++ Last ∷ []) (record { all = set.all; last = true; first = set.first; versions = set.versions })
-with_last picks set has = record {
-  all = stays picks Last All set.all (λ is. absurd (cc is)) has.all;
-  last = (λ _. Contains-push picks Last, λ _. refl);
-  first = stays picks Last First set.first (λ is. absurd (cc is)) has.first;
-  versions = λ version. stays picks Last (At version) (contains int_cmp set.versions version) (λ is. absurd (cc is)) (has.versions version);
-}
-
-pub with_first : (picks : List Pick) (set : PickSet) → HasPicks picks set → HasPicks (picks ++ First ∷ []) (record { all = set.all; last = set.last; first = true; versions = set.versions })
-with_first picks set has = record {
-  all = stays picks First All set.all (λ is. absurd (cc is)) has.all;
-  last = stays picks First Last set.last (λ is. absurd (cc is)) has.last;
-  first = (λ _. Contains-push picks First, λ _. refl);
-  versions = λ version. stays picks First (At version) (contains int_cmp set.versions version) (λ is. absurd (cc is)) (has.versions version);
-}
-
-pub with_version : (picks : List Pick) (version : ℤ) (set : PickSet) (versions : BTreeSet ℤ) → HasPicks picks set
-    → ((v : ℤ) → contains int_cmp versions v ≡ cond (is_eq (int_cmp version v)) true (contains int_cmp set.versions v))
-    → HasPicks (picks ++ At version ∷ []) (record { all = set.all; last = set.last; first = set.first; versions = versions })
-with_version picks version set versions has updates = record {
-  all = stays picks (At version) All set.all (λ is. absurd (cc is)) has.all;
-  last = stays picks (At version) Last set.last (λ is. absurd (cc is)) has.last;
-  first = stays picks (At version) First set.first (λ is. absurd (cc is)) has.first;
-  versions = one_more int_cmp At version_exact version_tied picks version set.versions versions has.versions updates;
-}
-
--- ---- which rows they select
-
-pub by_pick : (picks : List Pick) (pick : Pick) (rows : List StoredRow) (row : StoredRow) → Contains picks pick → IsPickedBy pick rows row → IsPicked picks rows row
-by_pick picks pick rows row here picked = (here.0, pick, here.1, here.2, picked)
-
--- one pick alone
-pub by_one : (pick : Pick) (rows : List StoredRow) (row : StoredRow) → IsPicked (pick ∷ []) rows row → IsPickedBy pick rows row
-by_one pick rows row picked = elim (cons_cases pick [] picked.1 (picked.0, picked.2, picked.3)) [
-  | inl same ↦ subst (λ (p : Pick). IsPickedBy p rows row) (sym same) picked.4
-  | inr none ↦ absurd (omega (arith, none.1))
-]
-
-case_of : (picks : List Pick) (set : PickSet) (rows : List StoredRow) (row : StoredRow) (pick : Pick) → HasPicks picks set → Contains picks pick → IsPickedBy pick rows row → Selects set rows row
-case_of picks set rows row All has here picked = inl (has.all.1 here)
-case_of picks set rows row (At version) has here picked = inr (inl ((has.versions row.version).1 (subst (λ (v : ℤ). Contains picks (At v)) (sym picked) here)))
-case_of picks set rows row Last has here picked = inr (inr (inl (has.last.1 here, picked)))
-case_of picks set rows row First has here picked = inr (inr (inr (has.first.1 here, picked)))
-
--- a set selects the rows that its picks do
-pub selected : (picks : List Pick) (set : PickSet) (rows : List StoredRow) (row : StoredRow) → HasPicks picks set → Selects set rows row ↔ IsPicked picks rows row
-selected picks set rows row has = (
-  λ selects. elim selects [
-    | inl all ↦ by_pick picks All rows row (has.all.0 all) tt
-    | inr (inl version) ↦ by_pick picks (At row.version) rows row ((has.versions row.version).0 version) refl
-    | inr (inr (inl last)) ↦ by_pick picks Last rows row (has.last.0 last.0) last.1
-    | inr (inr (inr first)) ↦ by_pick picks First rows row (has.first.0 first.0) first.1
-  ],
-  λ picked. case_of picks set rows row picked.1 has (picked.0, picked.2, picked.3) picked.4,
-)

@@ -4,18 +4,17 @@ ghost use Rattle.stix_ids.specs.declared.id.Id.{Id as Identifier};
 ghost use Rattle.taxii_routes.specs.declared.query.Query.{Query as Wanted};
 ghost use Rattle.taxii_walks.specs.Meeting.{Meets, IsAskedFor, picks_of};
 ghost use Rattle.taxii_pages.specs.inner.Candidates.{CanMeet};
-ghost use Rattle.taxii_pages.specs.inner.Sets.{HasPicks};
+ghost use Rattle.taxii_store.specs.Picks.{HasPicks};
 ghost use Rattle.taxii_pages.specs.inner.Asking.{HasTextsWhere, HasIdsWhere, Asks};
 
 use crate::id_set::IdSet;
-use crate::pick_set::PickSet;
 use crate::text_set::TextSet;
 use flow_values::{Items, NoMemory, Text};
 use std::alloc::Global;
 use stix_ids::{Id, Pick};
 use taxii_routes::Query;
 use taxii_rows::StoredRow;
-use taxii_store::Library;
+use taxii_store::{Library, PickSet};
 
 /// What a request asks of a row, prepared once: lists are sets.
 #[derive(Drop)]

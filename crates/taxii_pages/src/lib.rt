@@ -9,7 +9,6 @@ mod cursor;
 mod id_set;
 pub mod laws;
 mod page;
-mod pick_set;
 mod text_set;
 
 pub use page::{Page, page_of};

@@ -2,11 +2,12 @@
 use Rattle.std.specs.Prelude.{◌≡◌, ⊤, ℕ, List, Option, Some, None, option_map}
 use Rattle.stix_ids.specs.declared.id.Id.{Id}
 use Rattle.taxii_routes.specs.declared.query.Query.{Query}
+use Rattle.taxii_store.specs.Picks.{HasPicks}
 use Rattle.taxii_walks.specs.Meeting.{picks_of}
 use Rattle.taxii_pages.specs.declared.text_set.TextSet.{TextSet}
 use Rattle.taxii_pages.specs.declared.id_set.IdSet.{IdSet}
 use Rattle.taxii_pages.specs.declared.asked.Asked.{Asked}
-use Rattle.taxii_pages.specs.inner.Sets.{HasTexts, HasIds, HasPicks}
+use Rattle.taxii_pages.specs.inner.Sets.{HasTexts, HasIds}
 
 -- where texts are named, a set of them, and else none
 abbrev pub HasTextsWhere : Option (List (List ℕ)) → Option TextSet → Type 0

@@ -1,8 +1,8 @@
 use Rattle.std.proofs.Common.{List, take, sym, subst}
 use Rattle.std.proofs.lemmas.List.{take_more}
 use Rattle.stix_ids.specs.declared.pick.Pick.{Pick}
-use Rattle.taxii_pages.specs.inner.Sets.{HasPicks}
-use Rattle.taxii_pages.proofs.pick_set.PickSet.of.Goals as goal
+use Rattle.taxii_store.specs.Picks.{HasPicks}
+use Rattle.taxii_store.proofs.pick_set.PickSet.of.Goals as goal
 
 pub loop-pick-preserved : goal.loop-pick-preserved
 loop-pick-preserved c =

@@ -2,19 +2,19 @@ ghost use Rattle.std.specs.Prelude.{List, [], ◌∷◌, ◌++◌, ◌↔◌, Is
 ghost use Rattle.std.specs.List.{Contains};
 ghost use Rattle.stix_ids.specs.declared.pick.Pick.{Pick as Picked};
 ghost use Rattle.stix_ids.specs.declared.pick.Pick.TheVariants.{At, Last as LastOne, First as FirstOne};
-ghost use Rattle.taxii_rows.specs.Picking.{IsPickedBy};
-ghost use Rattle.taxii_pages.specs.inner.Sets.{HasPicks, Selects, SelectsEnd};
+ghost use Rattle.taxii_rows.specs.Picking.{IsPicked, IsPickedBy};
+ghost use Rattle.taxii_store.specs.Picks.{HasPicks, Selects, SelectsEnd};
 
+use crate::Library;
 use flow_values::NoMemory;
 use std::alloc::Global;
 use std::collections::BTreeSet;
 use stix_ids::Pick;
 use taxii_rows::StoredRow;
-use taxii_store::Library;
 
 /// Which versions of an object are asked for, each once.
 #[derive(Drop)]
-pub(crate) struct PickSet {
+pub struct PickSet {
     all: bool,
     last: bool,
     first: bool,
@@ -23,7 +23,7 @@ pub(crate) struct PickSet {
 
 impl PickSet {
     /// The picks of a list.
-    pub(crate) fn of(alloc: Global, picks: &[Pick]) -> Result<PickSet, NoMemory>
+    pub fn of(alloc: Global, picks: &[Pick]) -> Result<PickSet, NoMemory>
         ensures { IfOk result (HasPicks picks.now) }
     {
         let mut set = PickSet::empty(alloc);
@@ -67,16 +67,30 @@ impl PickSet {
 
     /// Whether one of the picks selects a row of the library, among the rows of its object. Takes no
     /// memory, as all below.
-    pub(crate) fn selects(&self, library: &Library, row: &StoredRow) -> bool
+    pub fn selects(&self, library: &Library, row: &StoredRow) -> bool
+        requires { Contains library.now.rows row.now }
+        ensures { (picks : List Picked) → HasPicks picks self.now → IsTrue result ↔ IsPicked picks library.now.rows row.now }
+    {
+        self.selects_one(library, row)
+    }
+
+    /// Whether one of the picks may select the row that stands at a place of the library: each that is
+    /// selected may be. Costs no look-up among the rows.
+    pub fn may_select(&self, library: &Library, place: usize, row: &StoredRow) -> bool
+        requires { Contains library.now.rows row.now }
+        ensures { (picks : List Picked) → HasPicks picks self.now → IsPicked picks library.now.rows row.now → IsTrue result }
+    {
+        self.may_select_one(library, place, row)
+    }
+
+    fn selects_one(&self, library: &Library, row: &StoredRow) -> bool
         requires { Contains library.now.rows row.now }
         ensures { IsTrue result ↔ Selects self.now library.now.rows row.now }
     {
         self.all || self.versions.contains(&row.version) || self.selects_end(library, row)
     }
 
-    /// Whether a pick may select the row that stands at a place of the library, without a look-up: each
-    /// that is selected may be.
-    pub(crate) fn may_select(&self, library: &Library, place: usize, row: &StoredRow) -> bool
+    fn may_select_one(&self, library: &Library, place: usize, row: &StoredRow) -> bool
         requires { Contains library.now.rows row.now }
         ensures { Selects self.now library.now.rows row.now → IsTrue result }
     {

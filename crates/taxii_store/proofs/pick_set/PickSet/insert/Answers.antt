@@ -2,8 +2,8 @@ use Rattle.std.proofs.Common.{◌≡◌, ◌++◌, [], ◌∷◌, ℤ, w64, to_z
 use Rattle.std.proofs.lemmas.Int.{to_z-of_z}
 use Rattle.stix_ids.specs.declared.pick.Pick.{Pick}
 use Rattle.stix_ids.specs.declared.pick.Pick.TheVariants.{At}
-use Rattle.taxii_pages.specs.inner.Sets.{HasPicks}
-use Rattle.taxii_pages.proofs.pick_set.PickSet.insert.Goals as goal
+use Rattle.taxii_store.specs.Picks.{HasPicks}
+use Rattle.taxii_store.proofs.pick_set.PickSet.insert.Goals as goal
 
 pub returns-in_ok-insert_version-in-At : goal.returns-in_ok-insert_version-in-At
 returns-in_ok-insert_version-in-At c = λ picks has.

@@ -2,8 +2,8 @@ use Rattle.std.proofs.Common.{◌≡◌, ℤ, true, cond, w64, to_z, of_z, subst
 use Rattle.std.specs.Ordering.{int_cmp, is_eq}
 use Rattle.std.specs.BTreeSet.{contains}
 use Rattle.std.proofs.lemmas.Int.{to_z-of_z}
-use Rattle.taxii_pages.proofs.SetLemmas.{with_version}
-use Rattle.taxii_pages.proofs.pick_set.PickSet.insert_version.Goals as goal
+use Rattle.taxii_store.proofs.PickLemmas.{with_version}
+use Rattle.taxii_store.proofs.pick_set.PickSet.insert_version.Goals as goal
 
 pub returns : goal.returns
 returns c = λ picks has.
