@@ -6,7 +6,8 @@ ghost use Rattle.taxii_rows.specs.Keeper.{is_date_in};
 ghost use Rattle.taxii_rows.specs.Identity.{is_row_of as is_of};
 ghost use Rattle.taxii_rows.specs.Picking.{IsPicked, IsPickedBy};
 ghost use Rattle.taxii_index.specs.Presence.{is_same as is_present, row_of_same as first_of_same};
-ghost use Rattle.taxii_index.specs.Index.{has_row, key_dates};
+ghost use Rattle.taxii_index.specs.Index.{has_row, key_dates, HasRowOf};
+ghost use Rattle.taxii_index.specs.Names.{id_of};
 ghost use Rattle.taxii_index.specs.Marks.{ComesBefore, IsLaterAt};
 
 use crate::dates::is_among;
@@ -170,6 +171,38 @@ impl IndexedRows {
         }
     }
 
+    /// Whether one of the rows is of the object that has that number and kind, in the collection.
+    pub fn has_object(&self, collection: u128, number: u128, kind: &str) -> bool
+        ensures { IsTrue result ↔ HasRowOf self.now collection (id_of number kind.now) }
+    {
+        let keys = self.index.of_object(collection, number, kind);
+        self.has_object_among(keys, collection, number, kind)
+    }
+
+    /// Whether one of these keys is that of a row of the object in the collection.
+    fn has_object_among(
+        &self,
+        keys: Range<'_, Key>,
+        collection: u128,
+        number: u128,
+        kind: &str,
+    ) -> bool
+        ensures { result ≡ list_any (has_row (is_of collection (id_of number kind.now)) self.now) (key_dates keys.entry) }
+    {
+        keys.map(|key| key.2)
+            .any(|date| self.is_object_at(date, collection, number, kind))
+    }
+
+    /// Whether the row of that date is of the object in the collection.
+    fn is_object_at(&self, date: u64, collection: u128, number: u128, kind: &str) -> bool
+        ensures { result ≡ has_row (is_of collection (id_of number kind.now)) self.now date }
+    {
+        match row_at(&self.rows, date) {
+            Some(row) => is_of_parts(row, collection, number, kind),
+            None => false,
+        }
+    }
+
     /// Whether one of the picks selects the row among the rows of its object.
     pub fn is_picked(&self, row: &StoredRow, picks: &[Pick]) -> bool
         ensures { IsTrue result ↔ IsPicked picks.now self.now row.now }
@@ -245,4 +278,11 @@ impl IndexedRows {
             None => false,
         }
     }
+}
+
+/// Whether the row is of the object that has that number and kind, in the collection.
+fn is_of_parts(row: &StoredRow, collection: u128, number: u128, kind: &str) -> bool
+    ensures { result ≡ is_of collection (id_of number kind.now) row.now }
+{
+    row.collection == collection && row.id.number == number && row.id.kind.as_str() == kind
 }

@@ -4,6 +4,8 @@ ghost use Rattle.stix_ids.specs.declared.pick.Pick.TheVariants.{Last as LastOne,
 ghost use Rattle.taxii_rows.specs.StoreState.{dates_of, RiseFrom};
 ghost use Rattle.taxii_rows.specs.Keeper.{is_date_in};
 ghost use Rattle.taxii_rows.specs.Picking.{IsPicked, IsPickedBy};
+ghost use Rattle.taxii_index.specs.Names.{id_of};
+ghost use Rattle.taxii_index.specs.Index.{HasRowOf};
 ghost use Rattle.taxii_index.specs.Presence.{row_of_same as first_of_same};
 
 use crate::IndexedRows;
@@ -141,6 +143,13 @@ impl MarkedRows {
         ensures { option_map (λ row. row.now) result ≡ first_of_same collection object.now self.now }
     {
         self.rows.row_of_same(collection, object)
+    }
+
+    /// Whether one of the rows is of the object that has that number and kind, in the collection.
+    pub fn has_object(&self, collection: u128, number: u128, kind: &str) -> bool
+        ensures { IsTrue result ↔ HasRowOf self.now collection (id_of number kind.now) }
+    {
+        self.rows.has_object(collection, number, kind)
     }
 
     /// Whether one of the picks selects the row among the rows of its object.

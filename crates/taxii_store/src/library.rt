@@ -5,6 +5,8 @@ ghost use Rattle.flow_edges.specs.Faults.{Counted};
 ghost use Rattle.taxii_rows.specs.Picking.{IsPicked, IsPickedBy};
 ghost use Rattle.stix_ids.specs.declared.pick.Pick.TheVariants.{Last as LastOne, First as FirstOne};
 ghost use Rattle.taxii_rows.specs.SoundRow.{IsSoundState};
+ghost use Rattle.taxii_index.specs.Names.{id_of};
+ghost use Rattle.taxii_index.specs.Index.{HasRowOf};
 ghost use Rattle.taxii_store.specs.Addition.{mark_after};
 ghost use Rattle.taxii_store.specs.Agreement.{Agrees};
 
@@ -56,6 +58,13 @@ impl Library {
         ensures { option_map (λ row. row.now) result ≡ first_later date self.now.rows }
     {
         row_after(self.rows.as_slice(), date)
+    }
+
+    /// Whether one of the rows is of the object that has that number and kind, in the collection.
+    pub fn has_object(&self, collection: u128, number: u128, kind: &str) -> bool
+        ensures { IsTrue result ↔ HasRowOf self.now.rows collection (id_of number kind.now) }
+    {
+        self.rows.has_object(collection, number, kind)
     }
 
     /// Whether one of the picks selects a row of the library, among the rows of its object.
