@@ -5,4 +5,5 @@ pub mod RowLemmas
 pub mod NameLemmas
 pub mod IndexLemmas
 pub mod LookUpLemmas
+mod MarkLemmas
 pub mod GrowthLemmas

@@ -1,5 +1,5 @@
 -- What the look-ups of an index lead to, and what follows for the rows.
-use Rattle.std.proofs.Common.{◌≡◌, ◌⊎◌, ◌↔◌, ℕ, ◌≤◌, ℤ, ◌<ℤ◌, ◌≤ℤ◌, List, Bool, true, not, ◌&&◌, Option, Some, None, IsTrue, inl, inr, refl, sym, ap, ◌∙◌, subst, arith, map, find, nat_cmp, bytes_eq}
+use Rattle.std.proofs.Common.{◌≡◌, ◌⊎◌, ◌↔◌, ℕ, ◌≤◌, ◌<◌, ℤ, ◌<ℤ◌, ◌≤ℤ◌, List, Bool, true, not, ◌&&◌, Option, Some, None, IsTrue, inl, inr, refl, sym, ap, ◌∙◌, subst, arith, map, find, nat_cmp, bytes_eq}
 use Rattle.std.specs.List.{Contains, list_any}
 use Rattle.std.specs.declared.cmp.Ordering.{Ordering}
 use Rattle.std.specs.declared.cmp.Ordering.TheVariants.{Less, Equal, Greater}
@@ -14,20 +14,21 @@ use Rattle.std.proofs.lemmas.Int.{ints}
 use Rattle.std.proofs.lemmas.List.Folds.{Any-from_list_any, list_any_at}
 use Rattle.std.proofs.lemmas.List.Kept.{IsStrictlySortedBy-filter}
 use Rattle.std.proofs.lemmas.Map.Lookups.{exact_unsigned, exact_signed}
+use Rattle.stix_ids.specs.declared.id.Id.{Id}
 use Rattle.taxii_rows.specs.declared.stored_row.StoredRow.{StoredRow}
 use Rattle.taxii_rows.specs.declared.described.Described.{Described}
 use Rattle.taxii_rows.specs.StoreState.{dates_of, RiseFrom}
 use Rattle.taxii_rows.specs.Keeper.{row_at}
 use Rattle.taxii_rows.specs.Identity.{is_row_of}
 use Rattle.taxii_rows.specs.Picking.{IsNotBefore, ForItsRows}
-use Rattle.taxii_index.specs.Keys.{Key, key_cmp, HasKeys}
+use Rattle.taxii_index.specs.Keys.{Key, IsIn64Bits, key_cmp, HasKeys}
 use Rattle.taxii_index.specs.Names.{name_of, text_name_of}
 use Rattle.taxii_index.specs.Presence.{agrees, is_same}
-use Rattle.taxii_index.specs.Index.{version_key, has_row, key_dates, LeadsToSame, IsBefore, LeadsToThose}
+use Rattle.taxii_index.specs.Index.{version_key, has_row, key_dates, LeadsToSame, IsBefore, LeadsToThose, LeadsToObject, HasRowOf, front_of}
 use Rattle.taxii_index.proofs.ListLemmas.{Contains-filter, Contains-from_filter, Contains-map, Contains-from_map}
 use Rattle.taxii_index.proofs.KeyLemmas.{equal, contained, contains_listed}
 use Rattle.taxii_index.proofs.OrderLemmas.{Precedes, never, never_of_one, precedes_from_less, less_from_precedes, not_less, le_from_less, between_ends, dates_rise}
-use Rattle.taxii_index.proofs.RowLemmas.{find_passes, find_nothing, find_none, first_date, first_row, one_row, has_row_its, PassesAt, passes_at}
+use Rattle.taxii_index.proofs.RowLemmas.{least_row, find_passes, find_nothing, find_none, first_date, first_row, one_row, has_row_its, PassesAt, passes_at}
 use Rattle.taxii_index.proofs.NameLemmas.{one_name, one_text_name}
 
 in_range : (low high : Bound Key) (set : BTreeSet Key) (key : Key) → Contains (keys_between key_cmp low high set) key
@@ -200,3 +201,30 @@ never_both_ways row other later before = elim later [
   | inl back ↦ never row.version other.version row.date other.date back before
   | inr same ↦ never_of_one row.version other.version row.date other.date (sym same.0) same.1 before
 ]
+
+-- ---- the rows of an object
+
+-- each row comes behind the front of its object
+behind_front : (collection : ℕ) (id : Id) (row : StoredRow) → IsIn64Bits (version_key row) → 0 < row.date → IsBefore (front_of collection id) row
+behind_front collection id row bits dated = elim (either_way (front_of collection id) row) [
+  | inr before ↦ before
+  | inl back ↦ elim back [
+    | inl less ↦ absurd (omega (arith, ints, bits.number, less))
+    | inr same ↦ absurd (omega (arith, same.1, dated))
+  ]
+]
+
+-- a row of an object is found exactly where there is one
+pub object_found : (collection : ℕ) (id : Id) (rows : List StoredRow) (keys : List Key) (found : Bool) → RiseFrom 1 (dates_of rows)
+    → ((row : StoredRow) → Contains rows row → IsIn64Bits (version_key row)) → LeadsToObject collection id rows keys
+    → found ≡ list_any (has_row (is_row_of collection id) rows) (key_dates keys) → IsTrue found ↔ HasRowOf rows collection id
+object_found collection id rows keys found rise bits leads is =
+    let front = front_of collection id in (
+      λ holds.
+          let one : Keeps (IsBefore front) front rows = any_of_those (IsBefore front) front rows keys rise leads (sym is ∙ holds) in
+          (one.here.0, one.other, one.here.1, one.here.2, one.its),
+      λ any.
+          let here : Contains rows any.1 = (any.0, any.2, any.3) in
+          is ∙ those_any (IsBefore front) front rows keys rise leads any.1 here any.4
+          (behind_front collection id any.1 (bits any.1 here) (least_row 1 rows any.1 rise here)),
+    )

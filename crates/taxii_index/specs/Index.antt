@@ -1,6 +1,7 @@
 -- The index of some rows: under which keys it has them, and what its look-ups lead to.
-use Rattle.std.specs.Prelude.{◌≡◌, ◌⊎◌, ◌↔◌, ℕ, ◌<◌, pos, ◌<ℤ◌, Bool, true, false, List, map, All, option_map, unwrap_or}
+use Rattle.std.specs.Prelude.{◌≡◌, ◌⊎◌, ◌↔◌, ℕ, ◌<◌, pos, negsuc, ◌<ℤ◌, Bool, true, false, List, [], map, All, Any, option_map, unwrap_or}
 use Rattle.std.specs.List.{Contains}
+use Rattle.stix_ids.specs.declared.id.Id.{Id}
 use Rattle.taxii_rows.specs.declared.stored_row.StoredRow.{StoredRow}
 use Rattle.taxii_rows.specs.declared.described.Described.{Described}
 use Rattle.taxii_rows.specs.StoreState.{RiseFrom}
@@ -50,3 +51,22 @@ IsBefore row other = (row.version <ℤ other.version) ⊎ ((row.version ≡ othe
 pub record LeadsToThose (Rule : StoredRow → Type 0) (row : StoredRow) (rows : List StoredRow) (keys : List Key) : Type 0 where
   pub own : (key : Key) → Contains keys key → Contains (map version_key rows) key
   pub those : (other : StoredRow) → Contains rows other → is_row_of row.collection row.id other ≡ true → Contains keys (version_key other) ↔ Rule other
+
+-- what stands before all rows of an object: no row is of the date 0
+abbrev pub front_of : ℕ → Id → StoredRow
+front_of collection id = record {
+  date = 0;
+  collection = collection;
+  id = id;
+  version = negsuc 9223372036854775807;
+  dated = true;
+  body = [];
+}
+
+-- the keys lead to each row of the object in the collection, and to no other
+abbrev pub LeadsToObject : ℕ → Id → List StoredRow → List Key → Type 0
+LeadsToObject collection id rows keys = LeadsToThose (IsBefore (front_of collection id)) (front_of collection id) rows keys
+
+-- one of the rows is of the object
+abbrev pub HasRowOf : List StoredRow → ℕ → Id → Type 0
+HasRowOf rows collection id = Any (λ row. is_row_of collection id row ≡ true) rows

@@ -9,6 +9,10 @@ use Rattle.stix_ids.specs.declared.id.Id.{Id}
 abbrev pub half_of : List ℕ → ℕ
 half_of digest = from_be_bytes w128 (take 16 digest)
 
+-- the identifier of a number and a kind
+abbrev pub id_of : ℕ → List ℕ → Id
+id_of number kind = record { kind = kind; number = number }
+
 -- what tells an object of a collection: the two numbers, and the kind
 unfoldable pub object_bytes : ℕ → Id → List ℕ
 object_bytes collection id = (to_be_bytes w128 collection ++ to_be_bytes w128 id.number) ++ id.kind

@@ -6,10 +6,13 @@ ghost use Rattle.taxii_rows.specs.Keeper.{is_date_in};
 ghost use Rattle.taxii_rows.specs.Identity.{is_row_of as is_of};
 ghost use Rattle.taxii_rows.specs.Picking.{IsPicked, IsPickedBy};
 ghost use Rattle.taxii_index.specs.Presence.{is_same as is_present, row_of_same as first_of_same};
-ghost use Rattle.taxii_index.specs.Index.{has_row, key_dates};
+ghost use Rattle.taxii_index.specs.Index.{has_row, key_dates, HasRowOf};
+ghost use Rattle.taxii_index.specs.Names.{id_of};
+ghost use Rattle.taxii_index.specs.Marks.{ComesBefore, IsLaterAt};
 
 use crate::dates::is_among;
 use crate::keys::Key;
+use crate::order::is_later;
 use crate::presence::is_same;
 use crate::row_index::RowIndex;
 use flow_values::NoMemory;
@@ -168,6 +171,38 @@ impl IndexedRows {
         }
     }
 
+    /// Whether one of the rows is of the object that has that number and kind, in the collection.
+    pub fn has_object(&self, collection: u128, number: u128, kind: &str) -> bool
+        ensures { IsTrue result ↔ HasRowOf self.now collection (id_of number kind.now) }
+    {
+        let keys = self.index.of_object(collection, number, kind);
+        self.has_object_among(keys, collection, number, kind)
+    }
+
+    /// Whether one of these keys is that of a row of the object in the collection.
+    fn has_object_among(
+        &self,
+        keys: Range<'_, Key>,
+        collection: u128,
+        number: u128,
+        kind: &str,
+    ) -> bool
+        ensures { result ≡ list_any (has_row (is_of collection (id_of number kind.now)) self.now) (key_dates keys.entry) }
+    {
+        keys.map(|key| key.2)
+            .any(|date| self.is_object_at(date, collection, number, kind))
+    }
+
+    /// Whether the row of that date is of the object in the collection.
+    fn is_object_at(&self, date: u64, collection: u128, number: u128, kind: &str) -> bool
+        ensures { result ≡ has_row (is_of collection (id_of number kind.now)) self.now date }
+    {
+        match row_at(&self.rows, date) {
+            Some(row) => is_of_parts(row, collection, number, kind),
+            None => false,
+        }
+    }
+
     /// Whether one of the picks selects the row among the rows of its object.
     pub fn is_picked(&self, row: &StoredRow, picks: &[Pick]) -> bool
         ensures { IsTrue result ↔ IsPicked picks.now self.now row.now }
@@ -183,6 +218,32 @@ impl IndexedRows {
             Pick::First => self.is_first(row),
             Pick::All => true,
             Pick::At(version) => row.version == version,
+        }
+    }
+
+    /// The dates of the rows that may stand beside the row among the versions of its object, and 0 where
+    /// there is none. They only hint: a caller asks `comes_before`.
+    pub(crate) fn neighbours(&self, row: &StoredRow) -> (u64, u64) {
+        self.index.neighbours(row)
+    }
+
+    /// Whether the row of the second date is a later version of an object than the row of the first.
+    pub(crate) fn comes_before(&self, first: u64, second: u64) -> bool
+        ensures { IsTrue result → ComesBefore self.now first second }
+    {
+        match row_at(&self.rows, first) {
+            Some(row) => self.is_later_at(row, second),
+            None => false,
+        }
+    }
+
+    /// Whether the row of that date is a later version of the row's object.
+    fn is_later_at(&self, row: &StoredRow, date: u64) -> bool
+        ensures { IsTrue result → IsLaterAt self.now row.now date }
+    {
+        match row_at(&self.rows, date) {
+            Some(other) => is_later(row, other),
+            None => false,
         }
     }
 
@@ -217,4 +278,11 @@ impl IndexedRows {
             None => false,
         }
     }
+}
+
+/// Whether the row is of the object that has that number and kind, in the collection.
+fn is_of_parts(row: &StoredRow, collection: u128, number: u128, kind: &str) -> bool
+    ensures { result ≡ is_of collection (id_of number kind.now) row.now }
+{
+    row.collection == collection && row.id.number == number && row.id.kind.as_str() == kind
 }

@@ -8,8 +8,12 @@
 mod dates;
 mod indexed_rows;
 mod keys;
+mod marked_rows;
+mod marks;
 mod names;
+mod order;
 mod presence;
 mod row_index;
 
 pub use indexed_rows::IndexedRows;
+pub use marked_rows::MarkedRows;

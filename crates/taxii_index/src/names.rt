@@ -1,6 +1,6 @@
 ghost use Rattle.std.specs.Prelude.{◌≡◌};
 ghost use Rattle.sha2.specs.Hashers.{Holds256};
-ghost use Rattle.taxii_index.specs.Names.{half_of, object_bytes, name_of, text_name_of};
+ghost use Rattle.taxii_index.specs.Names.{half_of, id_of, object_bytes, name_of, text_name_of};
 
 use sha2::{Digest, Sha256};
 use stix_ids::Id;
@@ -10,6 +10,13 @@ pub(crate) fn object_name(collection: u128, id: &Id) -> u128
     ensures { result ≡ name_of collection id.now }
 {
     half(object_hasher(collection, id).finalize())
+}
+
+/// The name of the object of a collection that has that number and kind.
+pub(crate) fn parts_name(collection: u128, number: u128, kind: &str) -> u128
+    ensures { result ≡ name_of collection (id_of number kind.now) }
+{
+    half(parts_hasher(collection, number, kind).finalize())
 }
 
 /// The name of a text of the object.
@@ -26,10 +33,16 @@ pub(crate) fn text_name(collection: u128, id: &Id, body: &str) -> u128
 fn object_hasher(collection: u128, id: &Id) -> Sha256
     ensures { Holds256 result (object_bytes collection id.now) }
 {
+    parts_hasher(collection, id.number, id.kind.as_str())
+}
+
+fn parts_hasher(collection: u128, number: u128, kind: &str) -> Sha256
+    ensures { Holds256 result (object_bytes collection (id_of number kind.now)) }
+{
     let mut hasher = Sha256::new();
     hasher.update(collection.to_be_bytes());
-    hasher.update(id.number.to_be_bytes());
-    hasher.update(id.kind.as_str());
+    hasher.update(number.to_be_bytes());
+    hasher.update(kind);
     hasher
 }
 

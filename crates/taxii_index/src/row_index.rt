@@ -2,10 +2,11 @@ ghost use Rattle.std.specs.Prelude.{◌≡◌, [], ◌∷◌, ◌++◌, List, no
 ghost use Rattle.taxii_rows.specs.declared.stored_row.StoredRow.{StoredRow as Row};
 ghost use Rattle.taxii_rows.specs.StoreState.{RiseFrom};
 ghost use Rattle.taxii_rows.specs.Keeper.{is_date_in};
-ghost use Rattle.taxii_index.specs.Index.{version_key as version_key_of, text_key as text_key_of, IsIndexOf, IsAbsent, IsBefore, LeadsToSame, LeadsToThose};
+ghost use Rattle.taxii_index.specs.Index.{version_key as version_key_of, text_key as text_key_of, IsIndexOf, IsAbsent, IsBefore, LeadsToSame, LeadsToThose, LeadsToObject};
+ghost use Rattle.taxii_index.specs.Names.{id_of};
 
 use crate::keys::{Key, Keys};
-use crate::names::{object_name, text_name};
+use crate::names::{object_name, parts_name, text_name};
 use flow_values::NoMemory;
 use std::alloc::Global;
 use std::collections::btree_set::Range;
@@ -89,6 +90,31 @@ impl RowIndex {
         ensures { (rows : List Row) → IsIndexOf rows self.now → LeadsToThose (λ other. IsBefore other row.now) row.now rows result }
     {
         self.by_version.before(version_key(row))
+    }
+
+    /// The keys of the rows of the object that has that number and kind.
+    pub(crate) fn of_object(&self, collection: u128, number: u128, kind: &str) -> Range<'_, Key>
+        ensures { (rows : List Row) → IsIndexOf rows self.now → LeadsToObject collection (id_of number kind.now) rows result }
+    {
+        self.by_version
+            .after((parts_name(collection, number, kind), i64::MIN, 0))
+    }
+
+    /// The dates of the rows beside the row among the versions of its name, and 0 where there is none.
+    /// Whether they are of its object is asked of the rows.
+    pub(crate) fn neighbours(&self, row: &StoredRow) -> (u64, u64) {
+        let key = version_key(row);
+        let mut before = self.by_version.before(key);
+        let mut after = self.by_version.after(key);
+        (key_date(before.next_back()), key_date(after.next()))
+    }
+}
+
+/// The date of a key, or 0 where there is none.
+fn key_date(key: Option<&Key>) -> u64 {
+    match key {
+        Some(key) => key.2,
+        None => 0,
     }
 }
 

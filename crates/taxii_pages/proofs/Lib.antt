@@ -1,3 +1,4 @@
 mod SettledLemmas
 mod CutLemmas
 mod PageLemmas
+mod SetLemmas

@@ -103,6 +103,11 @@ pub candidate_there : (rows : List StoredRow) (query : Query) (later : List Stor
 candidate_there rows query later i row are within is =
     subst (λ (rs : List StoredRow). Contains rs row) (sym are.all) (Contains-append_right are.passed later row (i, within, sym is))
 
+-- and it can meet the query
+pub candidate_can : (rows : List StoredRow) (query : Query) (later : List StoredRow) (i : ℕ) (row : StoredRow) → AreCandidates query rows later
+    → i < length later → row ≡ get_or later i row → CanMeet query row
+candidate_can rows query later i row are within is = All-contains (CanMeet query) later row are.each (i, within, sym is)
+
 -- where there is room, one more fits
 pub fits : (old size new : ℕ) → old ≤ size → ¬ (old ≡ size) → new ≡ old + 1 → new ≤ size
 fits old size new few room grown = elim (cases_lt old size) [

@@ -1,8 +1,10 @@
+ghost use Rattle.std.specs.Prelude.{◌↔◌, IsTrue, IfSome};
+ghost use Rattle.std.specs.List.{Contains};
 ghost use Rattle.taxii_rows.specs.StoreState.{dates_of, RiseFrom};
 ghost use Rattle.taxii_pages.specs.inner.Candidates.{AreCandidates, IsCutAt};
 
 use crate::cursor::cursor;
-use crate::meeting::names_text;
+use flow_values::{Items, Text};
 use taxii_routes::Query;
 use taxii_rows::StoredRow;
 use taxii_store::Library;
@@ -28,4 +30,14 @@ fn rows_behind(rows: &[StoredRow], date: u64) -> &[StoredRow]
 {
     let first = rows.partition_point(|row| row.date <= date);
     &rows[first..]
+}
+
+/// Whether the text is among those asked for, where some are.
+fn names_text(texts: &Option<Items<Text>>, text: &str) -> bool
+    ensures { IsTrue result ↔ IfSome texts.now (λ texts. Contains texts text.now) }
+{
+    match texts {
+        Some(texts) => texts.as_slice().iter().any(|one| one.as_str() == text),
+        None => true,
+    }
 }

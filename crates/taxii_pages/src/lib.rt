@@ -3,10 +3,12 @@
 //! is copied.
 #![tactic(auto)]
 
+mod asked;
 mod candidates;
 mod cursor;
+mod id_set;
 pub mod laws;
-mod meeting;
 mod page;
+mod text_set;
 
 pub use page::{Page, page_of};

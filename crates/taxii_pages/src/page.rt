@@ -1,8 +1,8 @@
 ghost use Rattle.std.specs.Prelude.{◌≡◌, map, IfOk, option_map};
 ghost use Rattle.taxii_walks.specs.Page.{page_size as size_of, IsPage};
 
+use crate::asked::Asked;
 use crate::candidates::candidates;
-use crate::meeting::meets;
 use flow_values::NoMemory;
 use std::alloc::Global;
 use stix_ids::Id;
@@ -28,20 +28,24 @@ pub fn page_of<'a>(
     alloc: Global,
     library: &'a Library,
     collection: u128,
-    only: Option<&Id>,
-    query: &Query,
+    only: Option<&'a Id>,
+    query: &'a Query,
 ) -> Result<Page<'a>, NoMemory>
     ensures { IfOk result (λ page. IsPage library.now.rows collection (option_map (λ id. id.now) only.entry) query.now (map (λ row. row.now) page.rows.items) page.more) }
 {
     let size = page_size(query);
+    let asked = Asked::of(alloc, collection, only, query)?;
+    let later = candidates(library, query);
+    let mut place = library.rows().len().saturating_sub(later.len());
     let mut rows = Vec::new(alloc);
-    for row in candidates(library, query) {
-        if meets(library, row, collection, only, query) {
+    for row in later {
+        if asked.meets(library, place, row) {
             if rows.len() == size {
                 return Ok(Page { rows, more: true });
             }
             rows.push(row)?;
         }
+        place = place.saturating_add(1);
     }
     Ok(Page { rows, more: false })
 }

@@ -5,3 +5,4 @@ mod DraftLemmas
 mod CommitLemmas
 mod LoadLemmas
 mod DeleteLemmas
+mod PickLemmas

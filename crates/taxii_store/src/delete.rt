@@ -1,12 +1,15 @@
-ghost use Rattle.std.specs.Prelude.{◌≡◌, ◌↔◌, [], IsTrue, IsOk, IfOk, OnOk, OnErr, Err};
+ghost use Rattle.std.specs.Prelude.{◌≡◌, ◌↔◌, List, [], IsTrue, IsOk, IfOk, OnOk, OnErr, Err};
 ghost use Rattle.std.specs.List.{Contains};
 ghost use Rattle.taxii_rows.specs.Keeper.{without};
 ghost use Rattle.flow_edges.specs.Faults.{Counted};
 ghost use Rattle.taxii_rows.specs.StoreState.{RiseFrom};
 ghost use Rattle.taxii_store.specs.Agreement.{Agrees};
+ghost use Rattle.stix_ids.specs.declared.pick.Pick.{Pick as Picked};
+ghost use Rattle.taxii_rows.specs.Picking.{IsPicked};
+ghost use Rattle.taxii_store.specs.Picks.{HasPicks};
 ghost use Rattle.taxii_store.specs.Deleting.{IsTaken, AreDatesTaken};
 
-use crate::Library;
+use crate::{Library, PickSet};
 use flow_values::{Items, NoMemory};
 use stix_ids::{Id, Pick};
 use taxii_rows::laws::sound_states;
@@ -22,21 +25,39 @@ impl Library {
     ) -> Result<Items<u64>, NoMemory>
         ensures { IfOk result (AreDatesTaken self.now.rows collection id.now picks.now) }
     {
+        let set = PickSet::of(self.alloc, picks)?;
         let mut dates = Items::new(self.alloc);
+        let mut place = 0usize;
         for row in self.rows.as_slice() {
-            if self.is_taken(row, collection, id, picks) {
+            if self.is_taken(place, row, collection, id, &set) {
                 dates.push(row.date)?;
             }
+            place = place.saturating_add(1);
         }
         Ok(dates)
     }
 
-    /// Whether a row of the library is of the object, and one of the picks selects it.
-    fn is_taken(&self, row: &StoredRow, collection: u128, id: &Id, picks: &[Pick]) -> bool
+    /// Whether a row of the library, at that place among its rows, is of the object, and one of the picks
+    /// selects it. What costs no look-up is asked first.
+    fn is_taken(
+        &self,
+        place: usize,
+        row: &StoredRow,
+        collection: u128,
+        id: &Id,
+        set: &PickSet,
+    ) -> bool
         requires { Contains self.now.rows row.now }
-        ensures { IsTrue result ↔ IsTaken self.now.rows collection id.now picks.now row.now }
+        ensures { (picks : List Picked) → HasPicks picks set.now → IsTrue result ↔ IsTaken self.now.rows collection id.now picks row.now }
     {
-        row.is_of(collection, id) && self.rows.is_picked(row, picks)
+        row.is_of(collection, id) && self.is_selected(place, row, set)
+    }
+
+    fn is_selected(&self, place: usize, row: &StoredRow, set: &PickSet) -> bool
+        requires { Contains self.now.rows row.now }
+        ensures { (picks : List Picked) → HasPicks picks set.now → IsTrue result ↔ IsPicked picks self.now.rows row.now }
+    {
+        set.may_select(self, place, row) && set.selects(self, row)
     }
 
     /// Removes the rows of these dates, which rise, from the keeper and then from the library. Where there

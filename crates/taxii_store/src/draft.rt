@@ -11,7 +11,7 @@ use crate::moved::{first_date, last_of, move_outcomes, move_rows};
 use crate::{AddOutcome, Library, PlanRefusal, Planned};
 use flow_values::{Items, NoMemory};
 use std::alloc::Global;
-use taxii_index::IndexedRows;
+use taxii_index::{IndexedRows, MarkedRows};
 use taxii_rows::{Described, LAST_DATE};
 
 /// An addition whose new rows have the dates behind the mark, while it isn't known how many they are.
@@ -99,10 +99,10 @@ impl Draft {
         ensures date { result ≡ option_map (λ row. row.date) (row_of_same collection object.now (library.now.rows ++ self.now.added)) }
         ensures known { IfSome result (λ date. date ≤ last_date) }
     {
-        let held = date_in_rows(&library.rows, collection, object);
+        let held = date_held(&library.rows, collection, object);
         match held {
             Some(_) => held,
-            None => date_in_rows(&self.added, collection, object),
+            None => date_added(&self.added, collection, object),
         }
     }
 
@@ -131,8 +131,16 @@ impl Draft {
     }
 }
 
-/// The date of the first of some rows that makes the object present.
-fn date_in_rows(rows: &IndexedRows, collection: u128, object: &Described) -> Option<u64>
+/// The date of the first of the rows of a library that makes the object present.
+fn date_held(rows: &MarkedRows, collection: u128, object: &Described) -> Option<u64>
+    ensures { result ≡ option_map (λ row. row.date) (row_of_same collection object.now rows.now) }
+{
+    let row = rows.row_of_same(collection, object)?;
+    Some(row.date)
+}
+
+/// The date of the first of the new rows that makes the object present.
+fn date_added(rows: &IndexedRows, collection: u128, object: &Described) -> Option<u64>
     ensures { result ≡ option_map (λ row. row.date) (row_of_same collection object.now rows.now) }
 {
     let row = rows.row_of_same(collection, object)?;

@@ -1,9 +1,12 @@
-ghost use Rattle.std.specs.Prelude.{◌≡◌, ◌↔◌, IsTrue, option_map, IsOk, OnOk, OnErr, [], Err};
+ghost use Rattle.std.specs.Prelude.{◌≡◌, ◌↔◌, IsTrue, true, option_map, IsOk, OnOk, OnErr, [], Err};
 ghost use Rattle.std.specs.List.{Contains};
 ghost use Rattle.taxii_rows.specs.Keeper.{row_after as first_later, row_at as first_then, with_rows};
 ghost use Rattle.flow_edges.specs.Faults.{Counted};
-ghost use Rattle.taxii_rows.specs.Picking.{IsPicked};
+ghost use Rattle.taxii_rows.specs.Picking.{IsPicked, IsPickedBy};
+ghost use Rattle.stix_ids.specs.declared.pick.Pick.TheVariants.{Last as LastOne, First as FirstOne};
 ghost use Rattle.taxii_rows.specs.SoundRow.{IsSoundState};
+ghost use Rattle.taxii_index.specs.Names.{id_of};
+ghost use Rattle.taxii_index.specs.Index.{HasRowOf};
 ghost use Rattle.taxii_store.specs.Addition.{mark_after};
 ghost use Rattle.taxii_store.specs.Agreement.{Agrees};
 
@@ -11,7 +14,7 @@ use crate::Planned;
 use std::alloc::Global;
 use std::marker::Model;
 use stix_ids::Pick;
-use taxii_index::IndexedRows;
+use taxii_index::MarkedRows;
 use taxii_rows::laws::{later_rows, sound_states};
 use taxii_rows::{Keeper, KeeperRefusal, StoredRow, row_after, row_at};
 
@@ -19,7 +22,7 @@ use taxii_rows::{Keeper, KeeperRefusal, StoredRow, row_after, row_at};
 #[derive(Drop)]
 pub struct Library {
     pub(crate) alloc: Global,
-    pub(crate) rows: IndexedRows,
+    pub(crate) rows: MarkedRows,
     pub(crate) mark: u64,
 }
 
@@ -57,12 +60,36 @@ impl Library {
         row_after(self.rows.as_slice(), date)
     }
 
+    /// Whether one of the rows is of the object that has that number and kind, in the collection.
+    pub fn has_object(&self, collection: u128, number: u128, kind: &str) -> bool
+        ensures { IsTrue result ↔ HasRowOf self.now.rows collection (id_of number kind.now) }
+    {
+        self.rows.has_object(collection, number, kind)
+    }
+
     /// Whether one of the picks selects a row of the library, among the rows of its object.
     pub fn is_picked(&self, row: &StoredRow, picks: &[Pick]) -> bool
         requires { Contains self.now.rows row.now }
         ensures { IsTrue result ↔ IsPicked picks.now self.now.rows row.now }
     {
         self.rows.is_picked(row, picks)
+    }
+
+    /// Whether a row of the library may be the last version of its object, where it stands at that place
+    /// among the rows: each that is the last may be. Costs no look-up, as the call below.
+    pub fn may_be_last(&self, place: usize, row: &StoredRow) -> bool
+        requires { Contains self.now.rows row.now }
+        ensures { IsPickedBy LastOne self.now.rows row.now → result ≡ true }
+    {
+        self.rows.may_be_last(place, row)
+    }
+
+    /// Whether a row of the library may be the first version of its object, as above.
+    pub fn may_be_first(&self, place: usize, row: &StoredRow) -> bool
+        requires { Contains self.now.rows row.now }
+        ensures { IsPickedBy FirstOne self.now.rows row.now → result ≡ true }
+    {
+        self.rows.may_be_first(place, row)
     }
 
     /// Adds the rows of a plan to the keeper and to the library. Where there is none the keeper isn't

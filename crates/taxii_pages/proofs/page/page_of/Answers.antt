@@ -3,7 +3,7 @@ use Rattle.std.proofs.lemmas.List.{length-map, map-append, take_all}
 use Rattle.std.specs.declared.alloc.Global.{Global}
 use Rattle.stix_ids.specs.declared.id.Id.{Id}
 use Rattle.taxii_rows.specs.declared.stored_row.StoredRow.{StoredRow}
-use Rattle.taxii_pages.proofs.PageLemmas.{meeting, meeting_none, meeting_more, meeting_same, fits, page_whole, page_full, candidate_there}
+use Rattle.taxii_pages.proofs.PageLemmas.{meeting, meeting_none, meeting_more, meeting_same, fits, page_whole, page_full, candidate_there, candidate_can}
 use Rattle.taxii_pages.proofs.page.page_of.Goals.{then-meets+else-len-size+in_ok-push, else-meets}
 use Rattle.taxii_pages.proofs.page.page_of.Goals as goal
 
@@ -14,15 +14,16 @@ loop-row-init c = (
   omega (arith, c.new-rows.ensures.len),
 )
 
-pub meets-requires-clause-there : goal.meets-requires-clause-there
-meets-requires-clause-there c =
-    candidate_there c.args.library.now.rows c.args.query.now c.candidates-row-items.result.now c.loop-row.row-index c.row-item.result c.candidates-row-items.ensures.candidates c.loop-row-test.true c.row-item.is
+pub meets-requires : goal.meets-requires
+meets-requires c = record {
+  there = candidate_there c.args.library.now.rows c.args.query.now c.candidates-later.result.now c.loop-row.row-index c.row-item.result c.candidates-later.ensures.candidates c.loop-row-test.true c.row-item.is;
+}
 
 pub returns-then-len-size : goal.returns-then-len-size
 returns-then-len-size c =
-    page_full c.args.library.now.rows c.args.collection (option_map (λ (id : Bor Id). id.now) c.args.only) c.args.query.now c.candidates-row-items.result.now
+    page_full c.args.library.now.rows c.args.collection (option_map (λ (id : Bor Id). id.now) c.args.only) c.args.query.now c.candidates-later.result.now
     (map (λ (row : Bor StoredRow). row.now) c.loop-row.rows.items) c.loop-row.row-index c.row-item.result
-    c.candidates-row-items.ensures.rise c.candidates-row-items.ensures.candidates c.loop-row-test.true c.row-item.is (c.meets.ensures.0 c.if-meets.true) c.loop-row.invariant.0
+    c.candidates-later.ensures.rise c.candidates-later.ensures.candidates c.loop-row-test.true c.row-item.is ((c.meets.ensures c.args.collection (option_map (λ (id : Bor Id). id.now) c.args.only) c.args.query.now c.in_ok-asked.ensures (candidate_can c.args.library.now.rows c.args.query.now c.candidates-later.result.now c.loop-row.row-index c.row-item.result c.candidates-later.ensures.candidates c.loop-row-test.true c.row-item.is)).0 c.if-meets.true) c.loop-row.invariant.0
     (length-map c.loop-row.rows.items (λ (row : Bor StoredRow). row.now) ∙ sym c.loop-row.rows.ok.0 ∙ sym c.len.ensures ∙ c.if-len-size.true ∙ c.page_size-size.ensures)
 
 pub loop-row-preserved : goal.loop-row-preserved
@@ -30,32 +31,33 @@ loop-row-preserved c =
     let rows = c.args.library.now.rows in
     let only = option_map (λ (id : Bor Id). id.now) c.args.only in
     let query = c.args.query.now in
-    let later = c.candidates-row-items.result.now in
+    let later = c.candidates-later.result.now in
     let i = c.loop-row.row-index in
     let row = c.row-item.result in
+    let tells = c.meets.ensures c.args.collection only query c.in_ok-asked.ensures (candidate_can rows query later i row c.candidates-later.ensures.candidates c.loop-row-test.true c.row-item.is) in
     let now = λ (row : Bor StoredRow). row.now in
     elim c.if-meets.branch [
       | then-meets+else-len-size+in_ok-push w ↦
           let pushed = ap (λ (v : Vec (Bor StoredRow) Global). v.items) w.rows-is ∙ w.in_ok-push.ensures.items in
           let grown = ap length pushed ∙ length-append c.loop-row.rows.items (_ ∷ []) in (
             ap (map now) pushed ∙ map-append now c.loop-row.rows.items (_ ∷ []) ∙ ap (λ (xs : List StoredRow). xs ++ row ∷ []) c.loop-row.invariant.0
-                ∙ sym (meeting_more rows c.args.collection only query later i row c.loop-row-test.true c.row-item.is (c.meets.ensures.0 w.if-meets.true)),
+                ∙ sym (meeting_more rows c.args.collection only query later i row c.loop-row-test.true c.row-item.is (tells.0 w.if-meets.true)),
             fits _ _ _ c.loop-row.invariant.1 (λ same. w.if-len-size.false (w.len.ensures ∙ c.loop-row.rows.ok.0 ∙ same)) grown,
           )
       | else-meets w ↦
           let kept = ap (λ (v : Vec (Bor StoredRow) Global). v.items) w.rows-is in (
             ap (map now) kept ∙ c.loop-row.invariant.0
                 ∙ sym (meeting_same rows c.args.collection only query later i row c.loop-row-test.true c.row-item.is
-                (λ meets. let wrong = subst IsTrue w.if-meets.false (c.meets.ensures.1 meets) in absurd (cc wrong))),
+                (λ meets. let wrong = subst IsTrue w.if-meets.false (tells.1 meets) in absurd (cc wrong))),
             omega (arith, ap length kept, c.loop-row.invariant.1),
           )
     ]
 
 pub returns : goal.returns
 returns c =
-    page_whole c.args.library.now.rows c.args.collection (option_map (λ (id : Bor Id). id.now) c.args.only) c.args.query.now c.candidates-row-items.result.now
+    page_whole c.args.library.now.rows c.args.collection (option_map (λ (id : Bor Id). id.now) c.args.only) c.args.query.now c.candidates-later.result.now
     (map (λ (row : Bor StoredRow). row.now) c.loop-row.rows.items)
-    c.candidates-row-items.ensures.rise c.candidates-row-items.ensures.candidates
+    c.candidates-later.ensures.rise c.candidates-later.ensures.candidates
     (c.loop-row.invariant.0 ∙ ap (meeting c.args.library.now.rows c.args.collection (option_map (λ (id : Bor Id). id.now) c.args.only) c.args.query.now)
-    (take_all c.loop-row.row-index c.candidates-row-items.result.now c.loop-row-test.false))
+    (take_all c.loop-row.row-index c.candidates-later.result.now c.loop-row-test.false))
     (omega (arith, length-map c.loop-row.rows.items (λ (row : Bor StoredRow). row.now), c.loop-row.invariant.1, c.page_size-size.ensures))

@@ -4,5 +4,5 @@ use Rattle.taxii_pages.proofs.page.page_of.Given as goal
 
 abbrev pub invariant-loop-row : goal.invariant-loop-row
 invariant-loop-row l =
-    (map (λ row. row.now) l.rows.items ≡ meeting l.library.rows l.collection (option_map (λ id. id.now) l.only) l.query (take l.row-index l.row-items))
+    (map (λ row. row.now) l.rows.items ≡ meeting l.library.rows l.collection (option_map (λ id. id.now) l.only) l.query (take l.row-index l.later))
     × (length l.rows.items ≤ l.size)

@@ -8,26 +8,26 @@ use Rattle.taxii_store.proofs.draft.Draft.date_of_same.Goals as goal
 
 pub returns-in-Some-clause-date : goal.returns-in-Some-clause-date
 returns-in-Some-clause-date c =
-    let found = c.date_in_rows-held.ensures ∙ ap (λ (state : StoreState). option_map (λ (row : StoredRow). row.date) (row_of_same c.args.collection c.args.object.now state.rows)) c.library.view_is in
-    date_held c.args.collection c.args.object.now c.args.library.now.rows c.args.self.now.added c.date_in_rows-held.result _ found c.in-Some.is
+    let found = c.date_held-held.ensures ∙ ap (λ (state : StoreState). option_map (λ (row : StoredRow). row.date) (row_of_same c.args.collection c.args.object.now state.rows)) c.library.view_is in
+    date_held c.args.collection c.args.object.now c.args.library.now.rows c.args.self.now.added c.date_held-held.result _ found c.in-Some.is
 
 pub returns-in-Some-clause-known : goal.returns-in-Some-clause-known
 returns-in-Some-clause-known c =
     let sound = subst IsSoundState c.library.view_is c.library.invariant in
-    let found = c.date_in_rows-held.ensures ∙ ap (λ (state : StoreState). option_map (λ (row : StoredRow). row.date) (row_of_same c.args.collection c.args.object.now state.rows)) c.library.view_is in
-    date_known c.args.library.now c.args.collection c.args.object.now c.args.self.now.outcomes c.args.self.now.added c.date_in_rows-held.result
+    let found = c.date_held-held.ensures ∙ ap (λ (state : StoreState). option_map (λ (row : StoredRow). row.date) (row_of_same c.args.collection c.args.object.now state.rows)) c.library.view_is in
+    date_known c.args.library.now c.args.collection c.args.object.now c.args.self.now.outcomes c.args.self.now.added c.date_held-held.result
     sound.marked sound.last c.requires
-    (date_held c.args.collection c.args.object.now c.args.library.now.rows c.args.self.now.added c.date_in_rows-held.result _ found c.in-Some.is)
+    (date_held c.args.collection c.args.object.now c.args.library.now.rows c.args.self.now.added c.date_held-held.result _ found c.in-Some.is)
 
 pub returns-in-None-clause-date : goal.returns-in-None-clause-date
 returns-in-None-clause-date c =
-    let found = c.date_in_rows-held.ensures ∙ ap (λ (state : StoreState). option_map (λ (row : StoredRow). row.date) (row_of_same c.args.collection c.args.object.now state.rows)) c.library.view_is in
-    date_added c.args.collection c.args.object.now c.args.library.now.rows c.args.self.now.added c.date_in_rows-held.result c.date_in_rows.result found c.date_in_rows.ensures c.in-None.is
+    let found = c.date_held-held.ensures ∙ ap (λ (state : StoreState). option_map (λ (row : StoredRow). row.date) (row_of_same c.args.collection c.args.object.now state.rows)) c.library.view_is in
+    date_added c.args.collection c.args.object.now c.args.library.now.rows c.args.self.now.added c.date_held-held.result c.date_added.result found c.date_added.ensures c.in-None.is
 
 pub returns-in-None-clause-known : goal.returns-in-None-clause-known
 returns-in-None-clause-known c =
     let sound = subst IsSoundState c.library.view_is c.library.invariant in
-    let found = c.date_in_rows-held.ensures ∙ ap (λ (state : StoreState). option_map (λ (row : StoredRow). row.date) (row_of_same c.args.collection c.args.object.now state.rows)) c.library.view_is in
-    date_known c.args.library.now c.args.collection c.args.object.now c.args.self.now.outcomes c.args.self.now.added c.date_in_rows.result
+    let found = c.date_held-held.ensures ∙ ap (λ (state : StoreState). option_map (λ (row : StoredRow). row.date) (row_of_same c.args.collection c.args.object.now state.rows)) c.library.view_is in
+    date_known c.args.library.now c.args.collection c.args.object.now c.args.self.now.outcomes c.args.self.now.added c.date_added.result
     sound.marked sound.last c.requires
-    (date_added c.args.collection c.args.object.now c.args.library.now.rows c.args.self.now.added c.date_in_rows-held.result c.date_in_rows.result found c.date_in_rows.ensures c.in-None.is)
+    (date_added c.args.collection c.args.object.now c.args.library.now.rows c.args.self.now.added c.date_held-held.result c.date_added.result found c.date_added.ensures c.in-None.is)

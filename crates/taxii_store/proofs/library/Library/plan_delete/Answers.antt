@@ -16,17 +16,18 @@ loop-row-preserved c =
     let within : index < length rows = subst (λ (rs : List StoredRow). index < length rs) slice c.loop-row-test.true in
     let its : row ≡ get_or rows index row = c.row-item.is ∙ ap (λ (rs : List StoredRow). get_or rs index row) slice in
     let sound = subst IsSoundState c.self.view_is c.self.invariant in
+    let taken = c.is_taken.ensures c.args.picks.now c.in_ok-set.ensures in
     let next : suc index ≡ index + 1 = omega arith in
     subst (λ (n : ℕ). AreTakenFrom rows c.args.collection c.args.id.now c.args.picks.now (take n rows) c.if-is_taken.dates) next
     (elim c.if-is_taken.branch [
       | then-is_taken+in_ok-push w ↦
           subst (AreTakenFrom rows c.args.collection c.args.id.now c.args.picks.now (take (suc index) rows)) (sym (w.dates-is ∙ w.in_ok-push.ensures.ok))
           (taken_more rows c.args.collection c.args.id.now c.args.picks.now index row c.loop-row.dates sound.rise within its c.loop-row.invariant
-          (c.is_taken.ensures.0 w.if-is_taken.true))
+          (taken.0 w.if-is_taken.true))
       | else-is_taken w ↦
           subst (AreTakenFrom rows c.args.collection c.args.id.now c.args.picks.now (take (suc index) rows)) (sym w.dates-is)
           (taken_same rows c.args.collection c.args.id.now c.args.picks.now index row c.loop-row.dates within its c.loop-row.invariant
-          (λ taken. let wrong = subst IsTrue w.if-is_taken.false (c.is_taken.ensures.1 taken) in absurd (cc wrong)))
+          (λ its_taken. let wrong = subst IsTrue w.if-is_taken.false (taken.1 its_taken) in absurd (cc wrong)))
     ])
 
 pub returns : goal.returns
