@@ -17,3 +17,4 @@ pub mod ListingLemmas
 pub mod PrefixLemmas
 pub mod WithinLemmas
 pub mod OldestLemmas
+pub mod WantedLemmas

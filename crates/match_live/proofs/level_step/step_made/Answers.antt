@@ -4,7 +4,7 @@ use Rattle.match_live.specs.inner.Steps.{levels_new, levels_after}
 use Rattle.match_live.specs.inner.Nodes.{store_list, store_lists}
 use Rattle.match_bindings.proofs.ListLemmas.{map_append}
 use Rattle.match_live.proofs.LevelLemmas.{after_more, new_more}
-use Rattle.match_live.proofs.levels.step_made.Goals as goal
+use Rattle.match_live.proofs.level_step.step_made.Goals as goal
 
 pub loop-store-preserved : goal.loop-store-preserved
 loop-store-preserved c =
