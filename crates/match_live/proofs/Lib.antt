@@ -18,3 +18,4 @@ pub mod PrefixLemmas
 pub mod WithinLemmas
 pub mod OldestLemmas
 pub mod WantedLemmas
+pub mod TotalLemmas

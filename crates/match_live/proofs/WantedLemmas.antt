@@ -189,3 +189,9 @@ none_joined now ahead j out xs [] h = sym (none out) ∙ ap (λ z. out ++ wanted
   no_joins [] = refl
   no_joins (x ∷ xs) = no_joins xs
 none_joined now ahead j out xs (y ∷ ys) h = absurd (omega arith)
+
+-- ---- where all is wanted
+
+pub wanted_all : (now : ℤ) (xs : List PieceTree) → wanted now [] xs ≡ xs
+wanted_all now [] = refl
+wanted_all now (x ∷ xs) = ap (λ z. x ∷ z) (wanted_all now xs)

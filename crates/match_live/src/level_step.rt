@@ -1,6 +1,6 @@
 //! One row at the levels of a `REPEATS`.
 
-ghost use Rattle.std.specs.Prelude.{◌≡◌, ◌∷◌, ◌++◌, ◌+◌, ◌-◌, ◌<◌, ◌≤◌, [], map, length, IfOk, OnOk, Err};
+ghost use Rattle.std.specs.Prelude.{◌≡◌, ◌∷◌, ◌++◌, ◌+◌, ◌-◌, ◌<◌, ◌≤◌, [], map, length, IfOk, OnOk, Err, IfSome, IfNone};
 ghost use Rattle.match_bindings.specs.BindTree.{Single};
 ghost use Rattle.match_live.specs.declared.join.Join.TheVariants as join;
 ghost use Rattle.match_live.specs.declared.stop.Stop.TheVariants as stop;
@@ -57,17 +57,19 @@ impl Levels {
             (all_levels self.old.count (store_lists self.old.stores.items)))) }
     {
         let mut stores = mem::replace(&mut self.stores, Vec::new(alloc));
-        let last = if self.count >= 2 && stores.len() >= (self.count - 1) as usize {
-            stores.pop()
-        } else {
-            None
-        };
+        let last = last_made(&mut stores, self.count);
         let first = singles(alloc, new)?;
         let (made, sets) = step_made(alloc, stores, &self.window, now, first, new, room)?;
         self.stores = made;
         match last {
-            Some(store) => self.step_last(alloc, store, now, sets, new, leads, room),
-            None => self.raise(alloc, sets, now, room),
+            Some(store) => {
+                let answer = self.step_last(alloc, store, now, sets, new, leads, room)?;
+                Ok(answer)
+            }
+            None => {
+                let answer = self.raise(alloc, sets, now, room)?;
+                Ok(answer)
+            }
         }
     }
 
@@ -126,13 +128,27 @@ impl Levels {
         if self.stores.len() >= (self.count - 1) as usize {
             return Ok(sets);
         }
-        if !sets.is_empty() {
-            room.take_admitted(&sets, &self.window, now)?;
-            let mut store = Store::new(alloc);
-            store.admit(sets, &self.window, now)?;
-            self.stores.push(store)?;
+        if sets.is_empty() {
+            return Ok(sets);
         }
+        room.take_admitted(&sets, &self.window, now)?;
+        let mut store = Store::new(alloc);
+        store.admit(sets, &self.window, now)?;
+        self.stores.push(store)?;
         Ok(Vec::new(alloc))
+    }
+}
+
+/// The last level, taken out, where all are made.
+fn last_made(stores: &mut Vec<Store>, count: u32) -> Option<Store>
+    requires { length stores.old.items ≤ count - 1 }
+    ensures last { IfSome result (λ last. (stores.old.items ≡ stores.new.items ++ last ∷ []) × (length stores.new.items + 2 ≡ count)) }
+    ensures none { IfNone result ((stores.new.items ≡ stores.old.items) × (2 ≤ count → length stores.old.items + 1 < count)) }
+{
+    if count >= 2 && stores.len() >= (count - 1) as usize {
+        stores.pop()
+    } else {
+        None
     }
 }
 
@@ -156,6 +172,7 @@ fn step_made(
         → AdmitLevels window.now now (piece_trees first.items) (piece_trees new.now) (store_lists stores.items)
         → room.old.left < held_count (levels_after window.now now (piece_trees first.items) (piece_trees new.now) (store_lists stores.items))
         + length (levels_new window.now now (piece_trees first.items) (piece_trees new.now) (store_lists stores.items)) }
+    ensures some { result ≡ Err stop.Crowded → 0 < length stores.items }
 {
     let mut made = Vec::new(alloc);
     let mut sets = first;

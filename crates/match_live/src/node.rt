@@ -155,10 +155,21 @@ pub(crate) fn step(
             room.take_admitted(&new_left, &sides.left_window, row.last)?;
             let new_right = step_right(alloc, *join, right, sides, row, truths, leads, room)?;
             room.take_admitted(&new_right, &sides.right_window, row.last)?;
-            sides.join(alloc, *join, row.last, new_left, new_right, leads, room.left)
+            let new = sides.join(
+                alloc,
+                *join,
+                row.last,
+                new_left,
+                new_right,
+                leads,
+                room.left,
+            )?;
+            Ok(new)
         }
         Node::Either(left, right) => {
             let new_left = step(alloc, left, row, truths, leads, room)?;
+            // Read, so that it is known to fit.
+            let _left = room.left;
             room.take(new_left.len())?;
             let new_right = step(alloc, right, row, truths, leads, room)?;
             room.give_back(new_left.len());
@@ -168,7 +179,8 @@ pub(crate) fn step(
         Node::Under(part) => step(alloc, part, row, truths, leads, room),
         Node::Repeats(part, levels) => {
             let new = step_part(alloc, part, levels, row, truths, leads, room)?;
-            levels.step(alloc, row.last, &new, leads, room)
+            let answer = levels.step(alloc, row.last, &new, leads, room)?;
+            Ok(answer)
         }
     }
 }
