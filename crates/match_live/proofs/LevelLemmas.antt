@@ -1,7 +1,6 @@
 -- Levels one after another, and those that aren't made.
 use Rattle.std.proofs.Common.{◌≡◌, subst, ℕ, zero, suc, ◌+◌, ◌-◌, ◌≤◌, ◌<◌, List, [], ◌∷◌, ◌++◌, length, refl, sym, ◌∙◌, ap, arith, ℤ, append-nil, length-append}
 use Rattle.match_windows.specs.declared.window.Window.{Window}
-use Rattle.match_live.specs.declared.join.Join.{Join}
 use Rattle.match_live.specs.declared.join.Join.TheVariants as join
 use Rattle.match_live.specs.declared.piece.Piece.{Piece}
 use Rattle.match_live.specs.PieceTree.{PieceTree}

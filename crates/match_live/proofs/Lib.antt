@@ -8,7 +8,6 @@ pub mod StepLemmas
 pub mod LastingLemmas
 pub mod LogLemmas
 pub mod ShapeLemmas
-pub mod RoomLemmas
 pub mod AnswerLemmas
 pub mod TakeLemmas
 pub mod RowNumbersLemmas
@@ -19,3 +18,5 @@ pub mod WithinLemmas
 pub mod OldestLemmas
 pub mod WantedLemmas
 pub mod TotalLemmas
+pub mod AdmitLemmas
+pub mod OverLemmas

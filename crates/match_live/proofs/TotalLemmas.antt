@@ -1,12 +1,11 @@
 -- How much is live at a node, and what of its parts is wanted.
 use Rattle.std.proofs.Common.{◌≡◌, ℕ, zero, suc, ◌+◌, ◌-◌, ◌≤◌, ◌<◌, ℤ, List, [], ◌∷◌, ◌++◌, length, refl, sym, ◌∙◌, ap, subst, arith, length-append}
-use Rattle.std.specs.Prelude.{Bool, true, false, ◌&&◌, ◌||◌, not, map, filter, cond, Some, int_lt, int_le}
+use Rattle.std.specs.Prelude.{Bool, true, false, ◌&&◌, ◌||◌, not, map, filter, cond, int_lt, int_le}
 use Rattle.std.specs.Int.{int_min, int_max}
-use Rattle.std.specs.List.{list_any, flat_map}
+use Rattle.std.specs.List.{list_any}
 use Rattle.std.proofs.lemmas.Int.{ints}
 use Rattle.std.proofs.lemmas.List.{length-map}
 use Rattle.std.proofs.lemmas.List.Elements.{filter-append}
-use Rattle.match_bindings.proofs.ListLemmas.{map_append, filter_map, map_agree}
 use Rattle.match_bindings.specs.BindTree.{BindTree, One, Pair, First, Second, Empty, Single, More, has, disjoint}
 use Rattle.match_windows.specs.declared.window.Window.{Window}
 use Rattle.match_live.specs.declared.join.Join.{Join}
@@ -14,11 +13,11 @@ use Rattle.match_live.specs.declared.join.Join.TheVariants as join
 use Rattle.match_live.specs.declared.row.Row.{Row}
 use Rattle.match_live.specs.PieceTree.{PieceTree}
 use Rattle.match_live.specs.LivePart.{held_count}
-use Rattle.match_live.specs.inner.Lives.{lives, is_ahead, in_seconds, from_start, before_stop}
-use Rattle.match_live.specs.inner.Steps.{held_with, joined, may_join, join_row, joins, kept, stored, SideStores, State, a_leaf, a_join, a_choice, a_limit, a_chain, sides_kept, sides_count, sides_stored, joins_both, joins_new, sides_after, levels_new, levels_after, all_levels, no_levels, levels_above, counted, step_new, step_state, contents_of}
+use Rattle.match_live.specs.inner.Lives.{lives, is_ahead, in_seconds, from_start}
+use Rattle.match_live.specs.inner.Steps.{held_with, joined, may_join, join_row, joins, kept, SideStores, State, a_join, a_choice, a_chain, sides_kept, sides_count, sides_stored, joins_both, levels_new, levels_after, all_levels, no_levels, levels_above, counted, step_new, step_state, contents_of}
 use Rattle.match_live.specs.inner.Wanted.{Ahead, is_wanted, wanted, closed, leads_right, leads_part, chosen}
 use Rattle.match_live.specs.inner.Totals.{held_after, live_at, AdmitsRight, AdmitLevels, Admits}
-use Rattle.match_live.proofs.WantedLemmas.{row_append, wanted_all, joins_append}
+use Rattle.match_live.proofs.WantedLemmas.{wanted_all}
 
 -- ---- lists
 

@@ -156,13 +156,7 @@ pub(crate) fn step(
             let new_right = step_right(alloc, *join, right, sides, row, truths, leads, room)?;
             room.take_admitted(&new_right, &sides.right_window, row.last)?;
             let new = sides.join(
-                alloc,
-                *join,
-                row.last,
-                new_left,
-                new_right,
-                leads,
-                room.left,
+                alloc, *join, row.last, new_left, new_right, leads, room.left,
             )?;
             Ok(new)
         }

@@ -81,7 +81,14 @@ impl Run {
     {
         let mut room = Room { left: self.cap };
         let mut leads = Vec::new(self.alloc);
-        let new = step(self.alloc, &mut self.node, row, truths, &mut leads, &mut room)?;
+        let new = step(
+            self.alloc,
+            &mut self.node,
+            row,
+            truths,
+            &mut leads,
+            &mut room,
+        )?;
         room.take(new.len())?;
         let binds = binds_of(self.alloc, new)?;
         let sorted = in_order(self.alloc, binds)?;

@@ -74,8 +74,24 @@ impl Sides {
             < length (wanted now (leads_of leads.now) (joins_both join (side_stores self.old) (piece_trees new_left.items) (piece_trees new_right.items))) }
     {
         let mut new = Vec::new(alloc);
-        join.join(alloc, &new_left, &self.right.held, now, leads, room, &mut new)?;
-        join.join(alloc, &self.left.held, &new_right, now, leads, room, &mut new)?;
+        join.join(
+            alloc,
+            &new_left,
+            &self.right.held,
+            now,
+            leads,
+            room,
+            &mut new,
+        )?;
+        join.join(
+            alloc,
+            &self.left.held,
+            &new_right,
+            now,
+            leads,
+            room,
+            &mut new,
+        )?;
         self.left.admit(new_left, &self.left_window, now)?;
         self.right.admit(new_right, &self.right_window, now)?;
         Ok(new)

@@ -1,5 +1,5 @@
 -- One row, node by node.
-use Rattle.std.proofs.Common.{refl, ◌-◌, ◌≡◌, ◌+◌, ◌<◌, ◌≤◌, [], ◌∷◌, ◌++◌, List, length, Err, rules, arith, ap, sym, ◌∙◌, subst}
+use Rattle.std.proofs.Common.{refl, ◌-◌, ◌≡◌, ◌+◌, ◌<◌, ◌≤◌, [], ◌∷◌, List, length, Err, rules, arith, ap, sym, ◌∙◌, subst}
 use Rattle.std.specs.Prelude.{ℕ, Bool, map}
 use Rattle.match_bindings.specs.BindTree.{Single}
 use Rattle.match_live.specs.LivePart.{held_count}
@@ -8,11 +8,10 @@ use Rattle.match_live.specs.declared.stop.Stop.TheVariants as stop
 use Rattle.match_live.specs.declared.lead.Lead.{Lead}
 use Rattle.match_live.specs.declared.store.Store.{Store}
 use Rattle.match_live.specs.declared.piece.Piece.{Piece}
-use Rattle.match_windows.specs.declared.window.Window.{Window}
 use Rattle.match_live.specs.declared.row.Row.{Row}
 use Rattle.match_live.specs.PieceTree.{PieceTree}
 use Rattle.match_live.specs.inner.Pieces.{piece_tree, piece_trees}
-use Rattle.match_live.specs.inner.Steps.{State, a_leaf, a_join, a_choice, a_chain, all_levels, held_with, levels_new, levels_after, kept, joins_both, step_new, step_state}
+use Rattle.match_live.specs.inner.Steps.{State, a_leaf, all_levels, held_with, levels_new, levels_after, kept, joins_both, step_new, step_state}
 use Rattle.match_live.specs.inner.Wanted.{Ahead, wanted, leads_right, leads_part, chosen}
 use Rattle.match_live.specs.inner.Leads.{ahead_of, leads_of}
 use Rattle.match_live.specs.inner.Totals.{held_after, live_at, AdmitLevels, Admits}
@@ -131,7 +130,7 @@ step-returns-in_err-new-in-Sides-clause-crowded t c = λ e a.
     omega (arith, over, counted, new)
 
 pub step-returns-in_ok-new-in-Sides-clause-new : goal.step-returns-in_ok-new-in-Sides-clause-new
-step-returns-in_ok-new-in-Sides-clause-new t c = 
+step-returns-in_ok-new-in-Sides-clause-new t c =
     let row = c.args.row.now in let truths = c.args.truths.now in let ahead = leads_of c.args.leads.now.items in
     let l = state_of c.in-Sides.left.value in let r = state_of c.in-Sides.right.value in let z = state_of c.args.node.now in
     let s = side_stores c.in-Sides.sides in let k = side_stores c.expire.new.self in
@@ -156,7 +155,7 @@ step-returns-in_ok-new-in-Sides-clause-new t c =
     c.in_ok-new-in-Sides.ensures.new ∙ ap (λ y. wanted row.last y (joins_both c.in-Sides.join m nl nr)) leads ∙ join_is row truths ahead c.in-Sides.join l r z s k m is kept_is same nl nr f g
 
 pub step-returns-in_ok-new-in-Sides-clause-kept : goal.step-returns-in_ok-new-in-Sides-clause-kept
-step-returns-in_ok-new-in-Sides-clause-kept t c = 
+step-returns-in_ok-new-in-Sides-clause-kept t c =
     let row = c.args.row.now in let truths = c.args.truths.now in let ahead = leads_of c.args.leads.now.items in
     let l = state_of c.in-Sides.left.value in let r = state_of c.in-Sides.right.value in let z = state_of c.args.node.now in
     let s = side_stores c.in-Sides.sides in let k = side_stores c.expire.new.self in
@@ -179,7 +178,7 @@ step-returns-in_ok-new-in-Sides-clause-kept t c =
     (c.in_ok-new_left-in-Sides.ensures.kept ∙ ap (step_state row truths) el) (c.in_ok-new_right-in-Sides.ensures.kept ∙ ap (step_state row truths) er) c.in_ok-new-in-Sides.ensures.kept
 
 pub step-returns-in_ok-new-in-Sides-clause-counted : goal.step-returns-in_ok-new-in-Sides-clause-counted
-step-returns-in_ok-new-in-Sides-clause-counted t c = 
+step-returns-in_ok-new-in-Sides-clause-counted t c =
     let row = c.args.row.now in let truths = c.args.truths.now in let ahead = leads_of c.args.leads.now.items in
     let l = state_of c.in-Sides.left.value in let r = state_of c.in-Sides.right.value in let z = state_of c.args.node.now in
     let s = side_stores c.in-Sides.sides in let k = side_stores c.expire.new.self in
@@ -244,12 +243,12 @@ step-returns-in_err-new_right-in-Either-clause-crowded t c = λ e a.
     (over_at row truths room2 (state_of c.deref_mut-in-Either-2.result.now) r (leads_of c.step-in-Either.new.leads.items) ahead er leads (c.step-in-Either-2.ensures.crowded failed))
 
 pub step-give_back-requires : goal.step-give_back-requires
-step-give_back-requires t c = 
+step-give_back-requires t c =
     let taken = c.in_ok-take-in-Either.ensures.taken in
     omega (arith, taken, c.len.ensures, c.len-in-Either.ensures, c.in_ok-new_right-in-Either.ensures.counted)
 
 pub step-returns-in_ok-new-in-Either-clause-new : goal.step-returns-in_ok-new-in-Either-clause-new
-step-returns-in_ok-new-in-Either-clause-new t c = 
+step-returns-in_ok-new-in-Either-clause-new t c =
     let row = c.args.row.now in let truths = c.args.truths.now in let ahead = leads_of c.args.leads.now.items in
     let l = state_of c.in-Either.left.value in let r = state_of c.in-Either.right.value in let z = state_of c.args.node.now in
     let is = ap state_of c.in-Either.is in let el = ap state_of c.deref_mut-in-Either.ensures.value in
@@ -268,7 +267,7 @@ step-returns-in_ok-new-in-Either-clause-new t c =
     c.in_ok-new-in-Either.ensures ∙ choice_is row truths ahead l r z is nl nr f g
 
 pub step-returns-in_ok-new-in-Either-clause-counted : goal.step-returns-in_ok-new-in-Either-clause-counted
-step-returns-in_ok-new-in-Either-clause-counted t c = 
+step-returns-in_ok-new-in-Either-clause-counted t c =
     let row = c.args.row.now in let truths = c.args.truths.now in let ahead = leads_of c.args.leads.now.items in
     let l = state_of c.in-Either.left.value in let r = state_of c.in-Either.right.value in let z = state_of c.args.node.now in
     let is = ap state_of c.in-Either.is in let el = ap state_of c.deref_mut-in-Either.ensures.value in
@@ -318,7 +317,7 @@ step-returns-in_err-answer-in-Repeats-clause-crowded t c = λ e a.
     + length (chosen count row.last y (levels_new w row.last (map (held_with Single) new) new (all_levels count xs)))) leads (c.step-in-Repeats.ensures.crowded failed))
 
 pub step-returns-in_ok-answer-in-Repeats-clause-new : goal.step-returns-in_ok-answer-in-Repeats-clause-new
-step-returns-in_ok-answer-in-Repeats-clause-new t c = 
+step-returns-in_ok-answer-in-Repeats-clause-new t c =
     let row = c.args.row.now in let truths = c.args.truths.now in let ahead = leads_of c.args.leads.now.items in
     let levels = c.in-Repeats.levels in let xs = store_lists levels.stores.items in let count = levels.count in let w = levels.window in
     let part = state_of c.in-Repeats.part.value in let z = state_of c.args.node.now in
@@ -335,7 +334,7 @@ step-returns-in_ok-answer-in-Repeats-clause-new t c =
     ∙ chain_is row truths ahead part z count w xs is few new f
 
 pub step-returns-in_ok-answer-in-Repeats-clause-kept : goal.step-returns-in_ok-answer-in-Repeats-clause-kept
-step-returns-in_ok-answer-in-Repeats-clause-kept t c = 
+step-returns-in_ok-answer-in-Repeats-clause-kept t c =
     let row = c.args.row.now in let truths = c.args.truths.now in let ahead = leads_of c.args.leads.now.items in
     let levels = c.in-Repeats.levels in let xs = store_lists levels.stores.items in let count = levels.count in let w = levels.window in
     let part = state_of c.in-Repeats.part.value in let z = state_of c.args.node.now in
@@ -352,7 +351,7 @@ step-returns-in_ok-answer-in-Repeats-clause-kept t c =
     (c.in_ok-new-in-Repeats.ensures.kept ∙ ap (step_state row truths) ep) c.in_ok-answer-in-Repeats.ensures.count c.in_ok-answer-in-Repeats.ensures.window c.in_ok-answer-in-Repeats.ensures.kept
 
 pub step-returns-in_ok-answer-in-Repeats-clause-counted : goal.step-returns-in_ok-answer-in-Repeats-clause-counted
-step-returns-in_ok-answer-in-Repeats-clause-counted t c = 
+step-returns-in_ok-answer-in-Repeats-clause-counted t c =
     let row = c.args.row.now in let truths = c.args.truths.now in let ahead = leads_of c.args.leads.now.items in
     let levels = c.in-Repeats.levels in let xs = store_lists levels.stores.items in let count = levels.count in let w = levels.window in
     let part = state_of c.in-Repeats.part.value in let z = state_of c.args.node.now in
@@ -367,7 +366,7 @@ step-returns-in_ok-answer-in-Repeats-clause-counted t c =
     chain_counted row truths ahead part z count w xs is few new f room room1 c.step-in-Repeats.new.room.left first c.in_ok-answer-in-Repeats.ensures.counted
 
 pub step-returns-in_ok-new-in-Leaf-clause-new : goal.step-returns-in_ok-new-in-Leaf-clause-new
-step-returns-in_ok-new-in-Leaf-clause-new t c = 
+step-returns-in_ok-new-in-Leaf-clause-new t c =
     c.in_ok-new-in-Leaf.ensures ∙ ap (λ (y : List Lead). wanted c.args.row.now.last (leads_of y) (step_new c.args.row.now c.args.truths.now (a_leaf c.in-Leaf.leaf c.in-Leaf.window))) c.deref.ensures.value
     ∙ sym (ap (λ y. wanted c.args.row.now.last (leads_of c.args.leads.now.items) (step_new c.args.row.now c.args.truths.now y)) (ap state_of c.in-Leaf.is))
 
@@ -383,7 +382,7 @@ step_part-returns-in_err-new-in-0-clause-crowded t c = λ e a.
     (c.step.ensures.crowded failed) a
 
 pub step_part-returns-in_ok-new-in-0-clause-new : goal.step_part-returns-in_ok-new-in-0-clause-new
-step_part-returns-in_ok-new-in-0-clause-new t c = 
+step_part-returns-in_ok-new-in-0-clause-new t c =
     let row = c.args.row.now in let truths = c.args.truths.now in let ahead = leads_of c.args.leads.now.items in
     let levels = c.args.levels.now in
     let is : leads_of c.push.new.self.items ≡ leads_part levels.count levels.window row.last ahead
@@ -405,7 +404,7 @@ step_right-returns-in_err-new-in-Then-clause-crowded t c = λ e a.
     (c.step.ensures.crowded failed) a
 
 pub step_right-returns-after-pop-clause-new : goal.step_right-returns-after-pop-clause-new
-step_right-returns-after-pop-clause-new t c = 
+step_right-returns-after-pop-clause-new t c =
     let row = c.args.row.now in let truths = c.args.truths.now in let ahead = leads_of c.args.leads.now.items in
     let sides = c.args.sides.now in
     let is : leads_of c.push.new.self.items ≡ leads_right c.args.join (side_stores sides) ahead
@@ -414,4 +413,3 @@ step_right-returns-after-pop-clause-new t c =
     ∙ sym (ap (λ j. leads_right j (side_stores sides) ahead) c.in-Then.is) in
     new_at row truths (piece_trees c.in_ok-new-in-Then.new.items) (state_of c.args.right.now) (state_of c.args.right.now) (leads_of c.push.new.self.items)
     (leads_right c.args.join (side_stores sides) ahead) refl is c.in_ok-new-in-Then.ensures.new
-

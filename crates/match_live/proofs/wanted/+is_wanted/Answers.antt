@@ -1,5 +1,5 @@
 -- A lead alone, and the things of its left side one after another.
-use Rattle.std.proofs.Common.{◌≡◌, ◌<◌, length, get_or, List, take, sym, ◌∙◌, ap, subst, arith, refl}
+use Rattle.std.proofs.Common.{◌≡◌, get_or, take, sym, ◌∙◌, ap, refl}
 use Rattle.std.specs.Prelude.{Bool, true, false, ◌&&◌, ◌||◌}
 use Rattle.std.specs.List.{list_any}
 use Rattle.std.proofs.lemmas.Bool.{and_from}

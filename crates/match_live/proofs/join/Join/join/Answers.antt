@@ -1,4 +1,4 @@
-use Rattle.std.proofs.Common.{◌≡◌, ◌<◌, ◌+◌, length, Err, rules, sym, ◌∙◌, ap, subst}
+use Rattle.std.proofs.Common.{◌≡◌, ◌<◌, ◌+◌, length, Err, rules, subst}
 use Rattle.match_live.specs.declared.stop.Stop.TheVariants as stop
 use Rattle.match_live.specs.declared.piece.Piece.{Piece}
 use Rattle.match_live.specs.inner.Pieces.{piece_tree, piece_trees}

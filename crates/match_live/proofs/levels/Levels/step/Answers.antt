@@ -2,7 +2,7 @@
 use Rattle.std.proofs.Common.{◌≡◌, ◌+◌, ◌-◌, ◌<◌, ◌≤◌, ◌∷◌, [], ◌++◌, List, length, Vec, Global, Err, rules, sym, ◌∙◌, ap, subst, arith}
 use Rattle.std.specs.Prelude.{map, ℕ, ℤ, Option, Some, None, IfSome, IfNone}
 use Rattle.match_windows.specs.declared.window.Window.{Window}
-use Rattle.std.proofs.lemmas.List.{length-map, length-append}
+use Rattle.std.proofs.lemmas.List.{length-map}
 use Rattle.match_bindings.specs.BindTree.{Single}
 use Rattle.match_bindings.proofs.ListLemmas.{map_append}
 use Rattle.match_live.specs.declared.stop.Stop.TheVariants as stop
@@ -10,7 +10,7 @@ use Rattle.match_live.specs.declared.store.Store.{Store}
 use Rattle.match_live.specs.PieceTree.{PieceTree}
 use Rattle.match_live.specs.LivePart.{held_count}
 use Rattle.match_live.specs.inner.Pieces.{piece_trees}
-use Rattle.match_live.specs.inner.Steps.{held_with, levels_new, levels_after, all_levels, levels_above, counted, risen}
+use Rattle.match_live.specs.inner.Steps.{held_with, levels_new, levels_after, all_levels, counted, risen}
 use Rattle.match_live.specs.inner.Wanted.{chosen}
 use Rattle.match_live.specs.inner.Leads.{leads_of}
 use Rattle.match_live.specs.inner.Totals.{AdmitLevels}
@@ -65,13 +65,13 @@ returns-in_err-made-clause-crowded c = λ e a.
 pub invariant_of-self-2 : goal.invariant_of-self-2
 invariant_of-self-2 c = record {
   few = (let long = sym (length-map c.in_ok-made.made.items store_list) ∙ ap length c.in_ok-made.ensures.kept
-  ∙ length_after c.args.self.now.window c.args.now (piece_trees c.in_ok-first.first.items) (piece_trees c.args.new.now) (store_lists c.last_made-last.new.stores.items)
-  ∙ length-map c.last_made-last.new.stores.items store_list in
-  let few = c.args.self.now.few in
-  let least : length c.last_made-last.new.stores.items ≤ c.args.self.now.count - 1 = either c.last_made-last.result c.last_made-last.ensures.last c.last_made-last.ensures.none
-  (λ last k. omega (arith, k.1))
-  (λ k. let len = ap length k.0 in let all = ap (λ (v : Vec Store Global). length v.items) c.replace-stores.ensures.value in omega (arith, len, all, few)) in
-  omega (arith, long, least));
+      ∙ length_after c.args.self.now.window c.args.now (piece_trees c.in_ok-first.first.items) (piece_trees c.args.new.now) (store_lists c.last_made-last.new.stores.items)
+      ∙ length-map c.last_made-last.new.stores.items store_list in
+      let few = c.args.self.now.few in
+      let least : length c.last_made-last.new.stores.items ≤ c.args.self.now.count - 1 = either c.last_made-last.result c.last_made-last.ensures.last c.last_made-last.ensures.none
+      (λ last k. omega (arith, k.1))
+      (λ k. let len = ap length k.0 in let all = ap (λ (v : Vec Store Global). length v.items) c.replace-stores.ensures.value in omega (arith, len, all, few)) in
+      omega (arith, long, least));
 }
 
 pub step_last-requires : goal.step_last-requires
