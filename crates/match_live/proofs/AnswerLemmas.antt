@@ -41,7 +41,7 @@ ends_at o n counted p x = by_test (is_binding o p x) (has n x) refl refl where
       let it_isnt : nat_eq (greatest x) n ≡ false = ne_eqb (greatest x) n (λ e. omega arith) in
       rw (hb, hu, it_isnt) refl
 
-and_true : (b h : Bool) → ((b && true) && h) ≡ (b && h)
+pub and_true : (b h : Bool) → ((b && true) && h) ≡ (b && h)
 and_true true h = refl
 and_true false h = refl
 

@@ -8,7 +8,6 @@ pub mod StepLemmas
 pub mod LastingLemmas
 pub mod LogLemmas
 pub mod ShapeLemmas
-pub mod RoomLemmas
 pub mod AnswerLemmas
 pub mod TakeLemmas
 pub mod RowNumbersLemmas
@@ -17,3 +16,7 @@ pub mod ListingLemmas
 pub mod PrefixLemmas
 pub mod WithinLemmas
 pub mod OldestLemmas
+pub mod WantedLemmas
+pub mod TotalLemmas
+pub mod AdmitLemmas
+pub mod OverLemmas

@@ -82,7 +82,7 @@ some_left : (b n m : ℕ) → n ≡ b * m → 0 < n → 0 < m
 some_left b n zero e h = absurd (omega (arith, e, h))
 some_left b n (suc m) e h = omega arith
 
-rises_filter : Ordered → (g : BindTree → Bool) (xs : List BindTree) → Rises xs → Rises (filter g xs)
+pub rises_filter : Ordered → (g : BindTree → Bool) (xs : List BindTree) → Rises xs → Rises (filter g xs)
 rises_filter ordered g [] rises = tt
 rises_filter ordered g (x ∷ xs) rises = by (g x) (rises_filter ordered g xs (tail_rises x xs rises)) where
   by : (b : Bool) → Rises (filter g xs) → Rises (cond b (x ∷ filter g xs) (filter g xs))

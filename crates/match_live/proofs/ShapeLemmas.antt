@@ -131,7 +131,7 @@ time_self : (a : Option ℤ) → same_time a a ≡ true
 time_self None = refl
 time_self (Some n) = let e = true_le n n (le_self n) in and_from _ _ e e
 
-same_window_is : (a b : Window) → same_window a b ≡ true → a ≡ b
+pub same_window_is : (a b : Window) → same_window a b ≡ true → a ≡ b
 same_window_is a b h =
     let parts = and_parts (same_count a.seconds b.seconds && same_time a.start b.start) (same_time a.stop b.stop && same_bool a.behind b.behind) h in
     let one = and_parts (same_count a.seconds b.seconds) (same_time a.start b.start) parts.0 in

@@ -43,7 +43,7 @@ pub record Goes (p : NumberedPattern) (z : State) (rows : ℕ) (before : Option 
 next_is : (rows : ℕ) (log : List LogEntry) (first last : ℤ) (truths : List Bool) → rows ≡ length log → next_row rows first last ≡ row_after log (entry first last truths)
 next_is rows log first last truths e = ap (λ n. record { number = n; first = first; last = last }) (let f : rows + 1 ≡ suc (length log) = omega (arith, e) in f)
 
-both_laws : Rule → (p : NumberedPattern) (z : State) (rows : ℕ) (before : Option ℤ) (log : List LogEntry) (first last : ℤ) (truths : List Bool) → Goes p z rows before log last →
+pub both_laws : Rule → (p : NumberedPattern) (z : State) (rows : ℕ) (before : Option ℤ) (log : List LogEntry) (first last : ℤ) (truths : List Bool) → Goes p z rows before log last →
     AreHeld (observed_in (with_row log first last truths)) (ends (observed_in (with_row log first last truths)) (suc (length log)) last no_bounds p) (step_new (next_row rows first last) truths z)
     × Stands (observed_in (with_row log first last truths)) (all_of (observed_in (with_row log first last truths))) (time_of (with_row log first last truths)) no_bounds p (step_state (next_row rows first last) truths z)
 both_laws rule p z rows before log first last truths g =

@@ -2,6 +2,9 @@ pub mod Lives
 pub mod Pieces
 pub mod Nodes
 pub mod Steps
+pub mod Wanted
+pub mod Totals
+pub mod Leads
 pub mod Shape
 pub mod Runs
 pub mod Numbers

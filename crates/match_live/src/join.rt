@@ -1,10 +1,16 @@
-ghost use Rattle.std.specs.Prelude.{◌≡◌, ◌++◌, IfOk, OnOk};
+ghost use Rattle.std.specs.Prelude.{◌≡◌, ◌++◌, ◌+◌, ◌<◌, length, IfOk, OnOk, Err};
 ghost use Rattle.std.specs.Int.{int_min, int_max};
 ghost use Rattle.match_bindings.specs.BindTree.{tree_of};
 ghost use Rattle.match_live.specs.inner.Pieces.{piece_tree, piece_trees};
 ghost use Rattle.match_live.specs.inner.Steps.{joined_tree, joined, may_join, join_row, joins};
+ghost use Rattle.match_live.specs.inner.Wanted.{wanted};
+ghost use Rattle.match_live.specs.inner.Leads.{leads_of};
+ghost use Rattle.match_live.specs.declared.stop.Stop.TheVariants as stop;
 
+use crate::lead::Lead;
 use crate::piece::Piece;
+use crate::stop::Stop;
+use crate::wanted::is_wanted;
 use flow_values::NoMemory;
 use match_bindings::{Bind, are_disjoint, copy_bind, with_part};
 use std::alloc::Global;
@@ -37,7 +43,7 @@ impl Join {
     }
 
     /// Whether two things are joined.
-    fn may_join(self, first: &Piece, second: &Piece) -> bool
+    pub fn may_join(self, first: &Piece, second: &Piece) -> bool
         ensures { result ≡ may_join self (piece_tree first.now) (piece_tree second.now) }
     {
         match self {
@@ -49,7 +55,7 @@ impl Join {
     }
 
     /// Two things as one.
-    fn joined(self, alloc: Global, first: &Piece, second: &Piece) -> Result<Piece, NoMemory>
+    pub fn joined(self, alloc: Global, first: &Piece, second: &Piece) -> Result<Piece, NoMemory>
         ensures { IfOk result (λ held. piece_tree held ≡ joined self (piece_tree first.now) (piece_tree second.now)) }
     {
         let bind = self.bind(alloc, &first.bind, &second.bind)?;
@@ -60,40 +66,59 @@ impl Join {
         })
     }
 
-    /// Joins a thing with each of the others that it is joined with.
+    /// Joins a thing with each of the others that it is joined with, as far as what comes of it is wanted,
+    /// up to the thing that there is no room for.
     fn join_row(
         self,
         alloc: Global,
         first: &Piece,
         seconds: &[Piece],
+        now: Instant,
+        leads: &[Lead],
+        room: u64,
         out: &mut Vec<Piece>,
-    ) -> Result<(), NoMemory>
-        ensures { OnOk result (piece_trees out.new.items ≡ piece_trees out.old.items ++ join_row self (piece_tree first.now) (piece_trees seconds.now)) }
+    ) -> Result<(), Stop>
+        ensures joined { OnOk result (piece_trees out.new.items ≡ piece_trees out.old.items
+            ++ wanted now (leads_of leads.now) (join_row self (piece_tree first.now) (piece_trees seconds.now))) }
+        ensures crowded { result ≡ Err stop.Crowded → room < length out.old.items
+            + length (wanted now (leads_of leads.now) (join_row self (piece_tree first.now) (piece_trees seconds.now))) }
     {
         for second in seconds {
             if self.may_join(first, second) {
                 let held = self.joined(alloc, first, second)?;
-                out.push(held)?;
+                if is_wanted(alloc, &held, now, leads)? {
+                    if out.len() as u64 >= room {
+                        return Err(Stop::Crowded);
+                    }
+                    out.push(held)?;
+                }
             }
         }
         Ok(())
     }
 
-    /// Adds each of the first things joined with each of the second ones that it is joined with.
+    /// Adds each of the first things joined with each of the second ones that it is joined with, as far as
+    /// what comes of it is wanted, up to the thing that there is no room for.
     pub fn join(
         self,
         alloc: Global,
         firsts: &[Piece],
         seconds: &[Piece],
+        now: Instant,
+        leads: &[Lead],
+        room: u64,
         out: &mut Vec<Piece>,
-    ) -> Result<(), NoMemory>
-        ensures { OnOk result (piece_trees out.new.items ≡ piece_trees out.old.items ++ joins self (piece_trees firsts.now) (piece_trees seconds.now)) }
+    ) -> Result<(), Stop>
+        ensures joined { OnOk result (piece_trees out.new.items ≡ piece_trees out.old.items
+            ++ wanted now (leads_of leads.now) (joins self (piece_trees firsts.now) (piece_trees seconds.now))) }
+        ensures crowded { result ≡ Err stop.Crowded → room < length out.old.items
+            + length (wanted now (leads_of leads.now) (joins self (piece_trees firsts.now) (piece_trees seconds.now))) }
     {
         if seconds.is_empty() {
             return Ok(());
         }
         for first in firsts {
-            self.join_row(alloc, first, seconds, out)?;
+            self.join_row(alloc, first, seconds, now, leads, room, out)?;
         }
         Ok(())
     }

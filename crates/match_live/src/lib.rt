@@ -10,6 +10,8 @@
 mod ending;
 mod join;
 pub mod laws;
+mod lead;
+mod level_step;
 mod levels;
 mod matcher;
 mod node;
@@ -19,7 +21,9 @@ mod row;
 mod row_numbers;
 mod run;
 mod sides;
+mod stop;
 mod store;
+mod wanted;
 
 pub use ending::{Ending, MatchRefusal};
 pub use matcher::Matcher;

@@ -96,6 +96,9 @@ impl<'p> Matcher<'p> {
     {
         laws::test_is_the_rule();
         laws::sorted_bindings_rise();
+        laws::listing_is_by_the_test();
+        laws::rising_lists_are_ordered();
+        laws::listings_exist();
         if let Some(ending) = &self.ended {
             return Err(MatchRefusal::Ended(ending.copied()));
         }

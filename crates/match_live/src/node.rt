@@ -1,4 +1,4 @@
-ghost use Rattle.std.specs.Prelude.{◌≡◌, ◌+◌, ◌<◌, ◌^◌, ◌++◌, [], false, IfOk, OnOk, map};
+ghost use Rattle.std.specs.Prelude.{◌≡◌, ◌+◌, ◌<◌, ◌^◌, ◌++◌, [], false, IfOk, OnOk, Err, map};
 ghost use Rattle.std.specs.Box.{box_value};
 ghost use Rattle.pattern_types.specs.Leaves.{leaves};
 ghost use Rattle.match_bindings.specs.NumberedPattern.{numbered_from};
@@ -6,19 +6,29 @@ ghost use Rattle.match_bindings.specs.BindTree.{One, First, Second};
 ghost use Rattle.match_live.specs.inner.Pieces.{piece_tree, piece_trees};
 ghost use Rattle.match_windows.specs.Stores.{window_of};
 ghost use Rattle.match_live.specs.inner.Steps.{held_with, a_leaf, a_join, a_chain, all_levels, empty_sides, step_new, step_state, new_at_leaf, empty_state};
-ghost use Rattle.match_live.specs.inner.Nodes.{state_of};
+ghost use Rattle.match_live.specs.inner.Wanted.{wanted, closed, leads_right, leads_part};
+ghost use Rattle.match_live.specs.inner.Leads.{ahead_of, leads_of};
+ghost use Rattle.match_live.specs.inner.Totals.{held_after, IsOverAt};
+ghost use Rattle.match_live.specs.inner.Nodes.{side_stores, state_of};
+ghost use Rattle.match_live.specs.declared.stop.Stop.TheVariants as stop;
 
 use crate::join::Join;
+use crate::lead::Lead;
 use crate::levels::Levels;
 use crate::piece::Piece;
+use crate::room::Room;
 use crate::row::Row;
 use crate::sides::Sides;
-use crate::store::{is_live, store_window};
+use crate::stop::Stop;
+use crate::store::{Store, is_live, store_window};
+use crate::wanted::is_wanted;
 use flow_values::NoMemory;
 use match_bindings::{Bind, Bounds};
 use match_windows::Window;
 use pattern_types::{Pattern, leaf_count};
 use std::alloc::Global;
+use std::mem;
+use stix_times::Instant;
 
 /// What a matcher keeps for a part of its pattern.
 #[derive(Drop)]
@@ -116,49 +126,169 @@ fn repeats_node(
     Ok(Box::new(alloc, Node::Repeats(part, levels))?)
 }
 
-/// One row: what ends at it, and what is kept after it.
+/// One row: what ends at it and is wanted, and what is kept after it. What the stores then hold is
+/// counted; it stops at the piece by which more would be live than there is room for.
+#[cycle(step)]
 pub(crate) fn step(
     alloc: Global,
     node: &mut Node,
     row: &Row,
     truths: &[bool],
-) -> Result<Vec<Piece>, NoMemory>
-    ensures new { IfOk result (λ new. piece_trees new.items ≡ step_new row.now truths.now (state_of node.old)) }
+    leads: &mut Vec<Lead>,
+    room: &mut Room,
+) -> Result<Vec<Piece>, Stop>
+    ensures new { IfOk result (λ new. piece_trees new.items ≡ wanted row.now.last (leads_of leads.old.items) (step_new row.now truths.now (state_of node.old))) }
     ensures kept { OnOk result (state_of node.new ≡ step_state row.now truths.now (state_of node.old)) }
+    ensures leads { OnOk result (leads.new.items ≡ leads.old.items) }
+    ensures counted { OnOk result (room.new.left + held_after row.now truths.now (state_of node.old) ≡ room.old.left) }
+    ensures crowded { result ≡ Err stop.Crowded → IsOverAt row.now truths.now (leads_of leads.old.items) (state_of node.old) room.old.left }
 {
     match node {
-        Node::Leaf(leaf, window) => new_at_leaf(alloc, *leaf, window, row, truths),
+        Node::Leaf(leaf, window) => {
+            let new = new_at_leaf(alloc, *leaf, window, row, truths, leads)?;
+            Ok(new)
+        }
         Node::Sides(join, left, right, sides) => {
-            let new_left = step(alloc, left, row, truths)?;
-            let new_right = step(alloc, right, row, truths)?;
-            sides.step(alloc, *join, row.last, new_left, new_right)
+            sides.expire(row.last, room)?;
+            let mut none = Vec::new(alloc);
+            let new_left = step(alloc, left, row, truths, &mut none, room)?;
+            room.take_admitted(&new_left, &sides.left_window, row.last)?;
+            let new_right = step_right(alloc, *join, right, sides, row, truths, leads, room)?;
+            room.take_admitted(&new_right, &sides.right_window, row.last)?;
+            let new = sides.join(
+                alloc, *join, row.last, new_left, new_right, leads, room.left,
+            )?;
+            Ok(new)
         }
         Node::Either(left, right) => {
-            let new_left = step(alloc, left, row, truths)?;
-            let new_right = step(alloc, right, row, truths)?;
-            either_of(alloc, new_left, new_right)
+            let new_left = step(alloc, left, row, truths, leads, room)?;
+            // Read, so that it is known to fit.
+            let _left = room.left;
+            room.take(new_left.len())?;
+            let new_right = step(alloc, right, row, truths, leads, room)?;
+            room.give_back(new_left.len());
+            let new = either_of(alloc, new_left, new_right)?;
+            Ok(new)
         }
-        Node::Under(part) => step(alloc, part, row, truths),
+        Node::Under(part) => step(alloc, part, row, truths, leads, room),
         Node::Repeats(part, levels) => {
-            let new = step(alloc, part, row, truths)?;
-            levels.step(alloc, row.last, &new)
+            let new = step_part(alloc, part, levels, row, truths, leads, room)?;
+            let answer = levels.step(alloc, row.last, &new, leads, room)?;
+            Ok(answer)
         }
     }
 }
 
-/// What is new at a leaf.
+/// One row at the right side of a node.
+#[cycle(step)]
+fn step_right(
+    alloc: Global,
+    join: Join,
+    right: &mut Node,
+    sides: &mut Sides,
+    row: &Row,
+    truths: &[bool],
+    leads: &mut Vec<Lead>,
+    room: &mut Room,
+) -> Result<Vec<Piece>, Stop>
+    ensures new { IfOk result (λ new. piece_trees new.items
+        ≡ wanted row.now.last (leads_right join (side_stores sides.old) (leads_of leads.old.items)) (step_new row.now truths.now (state_of right.old))) }
+    ensures kept { OnOk result (state_of right.new ≡ step_state row.now truths.now (state_of right.old)) }
+    ensures sides { OnOk result (side_stores sides.new ≡ side_stores sides.old) }
+    ensures leads { OnOk result (leads.new.items ≡ leads.old.items) }
+    ensures counted { OnOk result (room.new.left + held_after row.now truths.now (state_of right.old) ≡ room.old.left) }
+    ensures crowded { result ≡ Err stop.Crowded
+        → IsOverAt row.now truths.now (leads_right join (side_stores sides.old) (leads_of leads.old.items)) (state_of right.old) room.old.left }
+{
+    match join {
+        Join::Then => {
+            let left = mem::replace(&mut sides.left, Store::new(alloc));
+            leads.push(Lead {
+                left,
+                window: sides.right_window,
+            })?;
+            let new = step(alloc, right, row, truths, leads, room)?;
+            if let Some(lead) = leads.pop() {
+                sides.left = lead.left;
+            }
+            Ok(new)
+        }
+        Join::Both | Join::Repeats => {
+            let mut none = Vec::new(alloc);
+            let new = step(alloc, right, row, truths, &mut none, room)?;
+            Ok(new)
+        }
+    }
+}
+
+/// One row at what is repeated.
+#[cycle(step)]
+fn step_part(
+    alloc: Global,
+    part: &mut Node,
+    levels: &Levels,
+    row: &Row,
+    truths: &[bool],
+    leads: &mut Vec<Lead>,
+    room: &mut Room,
+) -> Result<Vec<Piece>, Stop>
+    ensures new { IfOk result (λ new. piece_trees new.items
+        ≡ wanted row.now.last (leads_part levels.now.count levels.now.window row.now.last (leads_of leads.old.items)) (step_new row.now truths.now (state_of part.old))) }
+    ensures kept { OnOk result (state_of part.new ≡ step_state row.now truths.now (state_of part.old)) }
+    ensures leads { OnOk result (leads.new.items ≡ leads.old.items) }
+    ensures counted { OnOk result (room.new.left + held_after row.now truths.now (state_of part.old) ≡ room.old.left) }
+    ensures crowded { result ≡ Err stop.Crowded
+        → IsOverAt row.now truths.now (leads_part levels.now.count levels.now.window row.now.last (leads_of leads.old.items)) (state_of part.old) room.old.left }
+{
+    match levels.count {
+        0 => {
+            leads.push(nothing_ahead(alloc, &levels.window, row.last))?;
+            let new = step(alloc, part, row, truths, leads, room)?;
+            leads.pop();
+            Ok(new)
+        }
+        1 => step(alloc, part, row, truths, leads, room),
+        _ => {
+            let mut none = Vec::new(alloc);
+            let new = step(alloc, part, row, truths, &mut none, room)?;
+            Ok(new)
+        }
+    }
+}
+
+/// Nothing ahead of a window that is closed: so nothing is wanted.
+fn nothing_ahead(alloc: Global, window: &Window, now: Instant) -> Lead
+    ensures { ahead_of result ≡ record { left = []; window = closed window.now now } }
+{
+    let window = Window {
+        seconds: window.seconds,
+        start: window.start,
+        stop: Some(now),
+        behind: window.behind,
+    };
+    Lead {
+        left: Store::new(alloc),
+        window,
+    }
+}
+
+/// What is new at a leaf, and wanted.
 fn new_at_leaf(
     alloc: Global,
     leaf: u32,
     window: &Window,
     row: &Row,
     truths: &[bool],
+    leads: &[Lead],
 ) -> Result<Vec<Piece>, NoMemory>
-    ensures { IfOk result (λ new. piece_trees new.items ≡ new_at_leaf row.now truths.now leaf window.now) }
+    ensures { IfOk result (λ new. piece_trees new.items ≡ wanted row.now.last (leads_of leads.now) (new_at_leaf row.now truths.now leaf window.now)) }
 {
     let mut new = Vec::new(alloc);
     if truths.get(leaf as usize).copied().unwrap_or(false) && is_live(window, row.first, row.last) {
-        new.push(alone(row))?;
+        let piece = alone(row);
+        if is_wanted(alloc, &piece, row.last, leads)? {
+            new.push(piece)?;
+        }
     }
     Ok(new)
 }

@@ -1,55 +1,58 @@
-ghost use Rattle.std.specs.Prelude.{◌≡◌, ◌+◌, ◌<◌, IfSome, IfNone, length};
-ghost use Rattle.match_live.specs.LivePart.{held_count};
-ghost use Rattle.match_live.specs.inner.Steps.{contents_of};
-ghost use Rattle.match_live.specs.inner.Nodes.{store_list, store_lists, state_of};
+ghost use Rattle.std.specs.Prelude.{◌≡◌, ◌+◌, ◌<◌, ◌^◌, OnOk, Err, length};
+ghost use Rattle.match_live.specs.declared.stop.Stop.TheVariants as stop;
+ghost use Rattle.match_live.specs.inner.Pieces.{piece_trees};
+ghost use Rattle.match_live.specs.inner.Steps.{kept};
 
-use crate::node::Node;
-use crate::sides::Sides;
-use crate::store::Store;
+use crate::piece::Piece;
+use crate::stop::Stop;
+use crate::store::is_live;
+use match_windows::Window;
+use stix_times::Instant;
 
-/// What is left of some room for all that a node holds.
-#[tactic(auto, using(crate::proofs::RoomLemmas::count_append, crate::proofs::RoomLemmas::count_levels))]
-pub(crate) fn room_after(node: &Node, room: u64) -> Option<u64>
-    ensures some { IfSome result (λ left. left + held_count (contents_of (state_of node.now)) ≡ room) }
-    ensures none { IfNone result (room < held_count (contents_of (state_of node.now))) }
-{
-    match node {
-        Node::Leaf(_, _) => Some(room),
-        Node::Sides(_, left, right, sides) => {
-            let room = room_after_sides(sides, room)?;
-            let room = room_after(left, room)?;
-            room_after(right, room)
-        }
-        Node::Either(left, right) => {
-            let room = room_after(left, room)?;
-            room_after(right, room)
-        }
-        Node::Under(part) => room_after(part, room),
-        Node::Repeats(part, levels) => {
-            let room = room_after_stores(&levels.stores, room)?;
-            room_after(part, room)
-        }
-    }
+/// What the cap leaves for pieces that aren't counted yet.
+#[derive(Drop)]
+pub(crate) struct Room {
+    pub left: u64,
 }
 
-/// What is left of some room for all that both sides hold.
-fn room_after_sides(sides: &Sides, room: u64) -> Option<u64>
-    ensures some { IfSome result (λ left. left + (length (store_list sides.now.left) + length (store_list sides.now.right)) ≡ room) }
-    ensures none { IfNone result (room < length (store_list sides.now.left) + length (store_list sides.now.right)) }
-{
-    let room = room.checked_sub(sides.left.held.len() as u64)?;
-    room.checked_sub(sides.right.held.len() as u64)
-}
-
-/// What is left of some room for all that stores hold.
-#[tactic(auto, using(crate::proofs::RoomLemmas::count_more, crate::proofs::RoomLemmas::count_take))]
-fn room_after_stores(stores: &[Store], room: u64) -> Option<u64>
-    ensures some { IfSome result (λ left. left + held_count (store_lists stores.now) ≡ room) }
-    ensures none { IfNone result (room < held_count (store_lists stores.now)) }
-{
-    let mut left = room;
-    for store in stores {
-        left = left.checked_sub(store.held.len() as u64)?;
+impl Room {
+    /// Counts so many pieces.
+    pub fn take(&mut self, pieces: usize) -> Result<(), Stop>
+        ensures taken { OnOk result (self.new.left + pieces ≡ self.old.left) }
+        ensures crowded { result ≡ Err stop.Crowded → self.old.left < pieces }
+    {
+        match self.left.checked_sub(pieces as u64) {
+            Some(left) => {
+                self.left = left;
+                Ok(())
+            }
+            None => Err(Stop::Crowded),
+        }
     }
-    Some(left)
+
+    /// Counts those of some new pieces that live in a window.
+    pub fn take_admitted(
+        &mut self,
+        new: &[Piece],
+        window: &Window,
+        now: Instant,
+    ) -> Result<(), Stop>
+        ensures taken { OnOk result (self.new.left + length (kept window.now now (piece_trees new.now)) ≡ self.old.left) }
+        ensures crowded { result ≡ Err stop.Crowded → self.old.left < length (kept window.now now (piece_trees new.now)) }
+    {
+        for piece in new {
+            if is_live(window, piece.earliest, now) {
+                self.take(1)?;
+            }
+        }
+        Ok(())
+    }
+
+    /// Counts so many pieces no longer.
+    pub fn give_back(&mut self, pieces: usize)
+        requires { self.old.left + pieces < 2 ^ 64 }
+        ensures { self.new.left ≡ self.old.left + pieces }
+    {
+        self.left += pieces as u64;
+    }
 }

@@ -1,18 +1,17 @@
-ghost use Rattle.std.specs.Prelude.{◌≡◌, ◌<◌, ◌+◌, ◌^◌, ◌↔◌, ℕ, ℤ, ◌<ℤ◌, Err, Some, map, IfOk, OnOk, IfSome, IfNone};
+ghost use Rattle.std.specs.Prelude.{◌≡◌, ◌<◌, ◌+◌, ◌^◌, ◌↔◌, ℕ, ℤ, ◌<ℤ◌, Err, Some, map, IfOk, OnOk};
 ghost use Rattle.match_bindings.specs.BindTree.{tree_of};
 ghost use Rattle.match_live.specs.declared.ending.Ending.TheVariants as ending;
 ghost use Rattle.match_live.specs.PieceTree.{trees_in};
-ghost use Rattle.match_live.specs.LivePart.{held_count};
 ghost use Rattle.match_live.specs.MatcherState.{Falls};
 ghost use Rattle.match_live.specs.inner.Pieces.{piece_trees};
-ghost use Rattle.match_live.specs.inner.Steps.{contents_of};
-ghost use Rattle.match_live.specs.inner.Nodes.{state_of};
+ghost use Rattle.match_live.specs.declared.stop.Stop.TheVariants as stop;
 
 use crate::Ending;
 use crate::node::{Node, step};
 use crate::piece::Piece;
-use crate::room::room_after;
+use crate::room::Room;
 use crate::row::Row;
+use crate::stop::Stop;
 use flow_values::{Items, NoMemory};
 use match_bindings::{Bind, in_order};
 use std::alloc::Global;
@@ -64,41 +63,38 @@ impl Run {
             last,
         };
         match self.answer(&row, truths) {
-            Ok(Some(binds)) => Ok(binds),
-            Ok(None) => Err(Ending::Crowded {
+            Ok(binds) => Ok(binds),
+            Err(Stop::Crowded) => Err(Ending::Crowded {
                 number,
                 cap: self.cap,
             }),
-            Err(_) => Err(Ending::NoMemory),
+            Err(Stop::OutOfMemory) => Err(Ending::NoMemory),
         }
     }
 
-    /// The binds that end at a row; none where more is live after it than the cap allows.
-    fn answer(&mut self, row: &Row, truths: &[bool]) -> Result<Option<Items<Bind>>, NoMemory>
-        ensures took { IfOk result (λ answer. IfSome answer (λ binds. TookRow self.old self.new row.now truths.now)) }
-        ensures binds { IfOk result (λ answer. IfSome answer (λ binds. AreSteps self.old row.now truths.now (map tree_of binds))) }
-        ensures crowded { IfOk result (λ answer. IfNone answer (IsOver self.old row.now truths.now)) }
+    /// The binds that end at a row, unless more is live after it than the cap allows.
+    fn answer(&mut self, row: &Row, truths: &[bool]) -> Result<Items<Bind>, Stop>
+        ensures took { OnOk result (TookRow self.old self.new row.now truths.now) }
+        ensures binds { IfOk result (λ binds. AreSteps self.old row.now truths.now (map tree_of binds)) }
+        ensures crowded { result ≡ Err stop.Crowded → IsOver self.old row.now truths.now }
         ensures cap { self.new.cap ≡ self.old.cap }
     {
-        let new = step(self.alloc, &mut self.node, row, truths)?;
-        let room = self.room_left(new.len());
+        let mut room = Room { left: self.cap };
+        let mut leads = Vec::new(self.alloc);
+        let new = step(
+            self.alloc,
+            &mut self.node,
+            row,
+            truths,
+            &mut leads,
+            &mut room,
+        )?;
+        room.take(new.len())?;
         let binds = binds_of(self.alloc, new)?;
         let sorted = in_order(self.alloc, binds)?;
         self.rows = row.number;
         self.last = Some(row.last);
-        match room {
-            Some(_) => Ok(Some(Items::from_vec(sorted))),
-            None => Ok(None),
-        }
-    }
-
-    /// What the cap leaves beside all that is held and so many answers.
-    fn room_left(&self, answers: usize) -> Option<u64>
-        ensures some { IfSome result (λ left. left + (answers + held_count (contents_of (state_of self.now.node))) ≡ self.now.cap) }
-        ensures none { IfNone result (self.now.cap < answers + held_count (contents_of (state_of self.now.node))) }
-    {
-        let room = self.cap.checked_sub(answers as u64)?;
-        room_after(&self.node, room)
+        Ok(Items::from_vec(sorted))
     }
 }
 

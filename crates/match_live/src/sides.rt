@@ -1,11 +1,17 @@
-ghost use Rattle.std.specs.Prelude.{◌≡◌, false, IfOk, OnOk};
+ghost use Rattle.std.specs.Prelude.{◌≡◌, ◌+◌, ◌<◌, false, length, IfOk, OnOk, Err};
 ghost use Rattle.match_windows.specs.Stores.{window_of};
 ghost use Rattle.match_live.specs.inner.Pieces.{piece_trees};
-ghost use Rattle.match_live.specs.inner.Steps.{joins_new, sides_after, empty_sides};
+ghost use Rattle.match_live.specs.inner.Steps.{joins_both, sides_kept, sides_stored, sides_count, empty_sides};
+ghost use Rattle.match_live.specs.inner.Wanted.{wanted};
+ghost use Rattle.match_live.specs.inner.Leads.{leads_of};
+ghost use Rattle.match_live.specs.declared.stop.Stop.TheVariants as stop;
 ghost use Rattle.match_live.specs.inner.Nodes.{side_stores};
 
 use crate::join::Join;
+use crate::lead::Lead;
 use crate::piece::Piece;
+use crate::room::Room;
+use crate::stop::Stop;
 use crate::store::{Store, store_window};
 use flow_values::NoMemory;
 use match_bindings::Bounds;
@@ -36,25 +42,56 @@ impl Sides {
         }
     }
 
-    /// One row, given what is new on each side: what is new where they are joined.
-    pub fn step(
+    /// Takes out what has expired, and counts what is left.
+    pub fn expire(&mut self, now: Instant, room: &mut Room) -> Result<(), Stop>
+        ensures kept { OnOk result (side_stores self.new ≡ sides_kept now (side_stores self.old)) }
+        ensures counted { OnOk result (room.new.left + sides_count (sides_kept now (side_stores self.old)) ≡ room.old.left) }
+        ensures crowded { result ≡ Err stop.Crowded → room.old.left < sides_count (sides_kept now (side_stores self.old)) }
+    {
+        self.left.expire(&self.left_window, now);
+        self.right.expire(&self.right_window, now);
+        room.take(self.left.held.len())?;
+        room.take(self.right.held.len())?;
+        Ok(())
+    }
+
+    /// What is new where the sides are joined, and wanted, given what is new on each; this is held then.
+    pub fn join(
         &mut self,
         alloc: Global,
         join: Join,
         now: Instant,
         new_left: Vec<Piece>,
         new_right: Vec<Piece>,
-    ) -> Result<Vec<Piece>, NoMemory>
+        leads: &[Lead],
+        room: u64,
+    ) -> Result<Vec<Piece>, Stop>
         ensures new { IfOk result (λ new. piece_trees new.items
-            ≡ joins_new join now (side_stores self.old) (piece_trees new_left.items) (piece_trees new_right.items)) }
+            ≡ wanted now (leads_of leads.now) (joins_both join (side_stores self.old) (piece_trees new_left.items) (piece_trees new_right.items))) }
         ensures kept { OnOk result (side_stores self.new
-            ≡ sides_after now (side_stores self.old) (piece_trees new_left.items) (piece_trees new_right.items)) }
+            ≡ sides_stored now (side_stores self.old) (piece_trees new_left.items) (piece_trees new_right.items)) }
+        ensures crowded { result ≡ Err stop.Crowded → room
+            < length (wanted now (leads_of leads.now) (joins_both join (side_stores self.old) (piece_trees new_left.items) (piece_trees new_right.items))) }
     {
-        self.left.expire(&self.left_window, now);
-        self.right.expire(&self.right_window, now);
         let mut new = Vec::new(alloc);
-        join.join(alloc, &new_left, &self.right.held, &mut new)?;
-        join.join(alloc, &self.left.held, &new_right, &mut new)?;
+        join.join(
+            alloc,
+            &new_left,
+            &self.right.held,
+            now,
+            leads,
+            room,
+            &mut new,
+        )?;
+        join.join(
+            alloc,
+            &self.left.held,
+            &new_right,
+            now,
+            leads,
+            room,
+            &mut new,
+        )?;
         self.left.admit(new_left, &self.left_window, now)?;
         self.right.admit(new_right, &self.right_window, now)?;
         Ok(new)

@@ -9,6 +9,7 @@ use Rattle.match_live.specs.declared.run.Run.{Run}
 use Rattle.match_live.specs.PieceTree.{trees_in}
 use Rattle.match_live.specs.LivePart.{held_count}
 use Rattle.match_live.specs.inner.Steps.{step_new, step_state, contents_of}
+use Rattle.match_live.specs.inner.Totals.{Admits}
 use Rattle.match_live.specs.inner.Nodes.{state_of}
 
 -- the next row
@@ -32,6 +33,6 @@ pub record TookRow (old new : Run) (row : Row) (truths : List Bool) : Type 0 whe
   pub cap : new.cap ≡ old.cap
   pub room : live_after old row truths ≤ old.cap
 
--- more is live after a row than the cap allows; these bindings end there
+-- more is live after a row than the cap allows
 abbrev pub IsOver : Run → Row → List Bool → Type 0
-IsOver run row truths = (binds : List BindTree) × AreSteps run row truths binds × (run.cap < live_after run row truths)
+IsOver run row truths = Admits row truths (state_of run.node) → run.cap < live_after run row truths

@@ -1,5 +1,5 @@
 -- For private clauses: what a matcher keeps as plain lists, and one row of it.
-use Rattle.std.specs.Prelude.{ℕ, zero, suc, ◌-◌, ℤ, int_le, Bool, true, false, ◌&&◌, cond, unwrap_or, slice_get, List, [], ◌∷◌, ◌++◌, map, filter, length}
+use Rattle.std.specs.Prelude.{ℕ, zero, suc, ◌+◌, ◌-◌, ℤ, int_le, Bool, true, false, ◌&&◌, cond, unwrap_or, slice_get, List, [], ◌∷◌, ◌++◌, map, filter, length}
 use Rattle.std.specs.Int.{int_min, int_max}
 use Rattle.std.specs.List.{flat_map}
 use Rattle.match_bindings.specs.declared.bounds.Bounds.{Bounds}
@@ -72,18 +72,38 @@ abbrev pub new_at_leaf : Row → List Bool → ℕ → Window → List PieceTree
 new_at_leaf row truths leaf window =
     cond (truth_at truths leaf && lives window row.first row.last) (record { tree = One row.number; earliest = row.first; latest = row.last } ∷ []) []
 
--- what is new where two sides are joined: the new on the left with what the right still holds, and what the left still holds
--- with the new on the right
-abbrev pub joins_new : Join → ℤ → SideStores → List PieceTree → List PieceTree → List PieceTree
-joins_new j now sides left right = joins j left (kept sides.right_window now sides.right) ++ joins j (kept sides.left_window now sides.left) right
-
-abbrev pub sides_after : ℤ → SideStores → List PieceTree → List PieceTree → SideStores
-sides_after now sides left right = record {
-  left = stored sides.left_window now sides.left left;
-  right = stored sides.right_window now sides.right right;
+-- the sides without what has expired, and how much they hold
+abbrev pub sides_kept : ℤ → SideStores → SideStores
+sides_kept now sides = record {
+  left = kept sides.left_window now sides.left;
+  right = kept sides.right_window now sides.right;
   left_window = sides.left_window;
   right_window = sides.right_window;
 }
+
+abbrev pub sides_count : SideStores → ℕ
+sides_count sides = length sides.left + length sides.right
+
+-- what is new where two sides are joined: the new on the left with what the right holds, and what the left holds with the new on
+-- the right
+abbrev pub joins_both : Join → SideStores → List PieceTree → List PieceTree → List PieceTree
+joins_both j sides left right = joins j left sides.right ++ joins j sides.left right
+
+-- the sides with what they admit
+abbrev pub sides_stored : ℤ → SideStores → List PieceTree → List PieceTree → SideStores
+sides_stored now sides left right = record {
+  left = sides.left ++ kept sides.left_window now left;
+  right = sides.right ++ kept sides.right_window now right;
+  left_window = sides.left_window;
+  right_window = sides.right_window;
+}
+
+-- the same at a row
+abbrev pub joins_new : Join → ℤ → SideStores → List PieceTree → List PieceTree → List PieceTree
+joins_new j now sides left right = joins_both j (sides_kept now sides) left right
+
+abbrev pub sides_after : ℤ → SideStores → List PieceTree → List PieceTree → SideStores
+sides_after now sides left right = sides_stored now (sides_kept now sides) left right
 
 -- what is new at the last level, where first is new at the level of the first store, and new at the operand
 abbrev pub levels_new : Window → ℤ → List PieceTree → List PieceTree → List (List PieceTree) → List PieceTree

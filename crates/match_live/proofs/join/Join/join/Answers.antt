@@ -1,9 +1,24 @@
-use Rattle.std.proofs.Common.{◌≡◌, length, rules}
-use Rattle.match_live.specs.inner.Pieces.{piece_trees}
-use Rattle.match_live.proofs.LevelLemmas.{joins_empty}
+use Rattle.std.proofs.Common.{◌≡◌, ◌<◌, ◌+◌, length, Err, rules, subst}
+use Rattle.match_live.specs.declared.stop.Stop.TheVariants as stop
+use Rattle.match_live.specs.declared.piece.Piece.{Piece}
+use Rattle.match_live.specs.inner.Pieces.{piece_tree, piece_trees}
+use Rattle.match_live.specs.inner.Steps.{join_row}
+use Rattle.match_live.specs.inner.Wanted.{wanted}
+use Rattle.match_live.specs.inner.Leads.{leads_of}
+use Rattle.match_live.proofs.WantedLemmas.{joins_full, none_joined}
 use Rattle.match_live.proofs.join.Join.join.Goals as goal
 
-pub returns-then-is_empty : goal.returns-then-is_empty
-returns-then-is_empty c =
+pub returns-then-is_empty-clause-joined : goal.returns-then-is_empty-clause-joined
+returns-then-is_empty-clause-joined c =
     let none : length c.args.seconds.now ≡ 0 = search rules in
-    joins_empty c.args.self (piece_trees c.args.out.now.items) (piece_trees c.args.firsts.now) c.args.seconds.now none
+    none_joined c.args.now (leads_of c.args.leads.now) c.args.self (piece_trees c.args.out.now.items) (piece_trees c.args.firsts.now) c.args.seconds.now none
+
+pub returns-in_err-join_row-clause-crowded : goal.returns-in_err-join_row-clause-crowded
+returns-in_err-join_row-clause-crowded c = λ e.
+    let ahead = leads_of c.args.leads.now in let x = c.first-item.result in
+    let failed : c.join_row.result ≡ Err stop.Crowded = search rules in
+    let over = c.join_row.ensures.crowded failed in
+    joins_full c.args.now ahead c.args.self c.args.firsts.now (piece_trees c.args.seconds.now) c.loop-first.first-index x c.args.room c.loop-first.out.items c.args.out.now.items
+    c.loop-first-test.true
+    (subst (λ (z : Piece). c.args.room < length c.loop-first.out.items + length (wanted c.args.now ahead (join_row c.args.self (piece_tree z) (piece_trees c.args.seconds.now)))) c.first-item.is over)
+    c.loop-first.invariant

@@ -2,7 +2,10 @@ use Rattle.std.proofs.Common.{◌≡◌, ◌++◌}
 use Rattle.std.specs.Prelude.{take}
 use Rattle.match_live.specs.inner.Pieces.{piece_tree, piece_trees}
 use Rattle.match_live.specs.inner.Steps.{join_row}
+use Rattle.match_live.specs.inner.Wanted.{wanted}
+use Rattle.match_live.specs.inner.Leads.{leads_of}
 use Rattle.match_live.proofs.join.Join.join_row.Given as goal
 
 abbrev pub invariant-loop-second : goal.invariant-loop-second
-invariant-loop-second l = piece_trees l.out.items ≡ piece_trees l.fn.out.items ++ join_row l.self (piece_tree l.first) (piece_trees (take l.second-index l.seconds))
+invariant-loop-second l = piece_trees l.out.items
+    ≡ piece_trees l.fn.out.items ++ wanted l.now (leads_of l.leads) (join_row l.self (piece_tree l.first) (piece_trees (take l.second-index l.seconds)))

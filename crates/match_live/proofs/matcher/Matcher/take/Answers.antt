@@ -19,6 +19,8 @@ use Rattle.match_live.specs.inner.Runs.{next_row, live_after}
 use Rattle.match_live.specs.inner.Seen.{seen, IsMade}
 use Rattle.match_live.proofs.LogLemmas.{not_falls, length_more, last_of_more}
 use Rattle.match_live.proofs.ShapeLemmas.{fits_step}
+use Rattle.match_live.proofs.AdmitLemmas.{admits}
+use Rattle.match_live.proofs.OverLemmas.{count_over}
 use Rattle.match_live.proofs.TakeLemmas.{entry, runs_fits, Goes, live_then, answer_then, count_then, stopped_same, same_stopped, same_err}
 use Rattle.match_live.proofs.matcher.Matcher.take.Goals as goal
 
@@ -80,15 +82,17 @@ returns-in-Err-clause-crowded c =
     let more = length_more log (entry first last truths) in
     let n : number ≡ m.run.rows + 1 = over.0 in
     let same : cap ≡ m.run.cap = over.1 in
+    let g = goes m log last c.self.invariant st order over.2 in
+    let more_live = over.3 (admits (next_row m.run.rows first last) truths (numbered_pattern m.pattern.now) no_bounds (state_of m.run.node) g.made).1 in
     record {
       order = in_order_then m log first last truths c.requires.span st order over.2;
       numbered = (let f : number ≡ length (with_row log first last truths) = omega (arith, rows, more, n) in f);
       cap_is = same;
       crowded = (
         live_after m.run (next_row m.run.rows first last) truths,
-        count_then c.test_is_the_rule.ensures c.sorted_bindings_rise.ensures m.run (numbered_pattern m.pattern.now) m.run.last log first last truths
-            (goes m log last c.self.invariant st order over.2) over.3.0 over.3.1,
-        omega (arith, over.3.2, same),
+        count_over c.test_is_the_rule.ensures c.listing_is_by_the_test.ensures c.rising_lists_are_ordered.ensures c.listings_exist.ensures
+            m.run (numbered_pattern m.pattern.now) m.run.last log first last truths g,
+        omega (arith, more_live, same),
       );
     })
 

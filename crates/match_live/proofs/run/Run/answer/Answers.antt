@@ -1,24 +1,55 @@
-use Rattle.std.proofs.Common.{◌≡◌, length, sym, ◌∙◌, ap, arith}
+use Rattle.std.proofs.Common.{◌≡◌, List, length, Err, rules, refl, sym, ◌∙◌, ap, arith, subst}
 use Rattle.std.specs.Prelude.{map}
-use Rattle.std.proofs.lemmas.List.{length-map}
+use Rattle.std.specs.List.Sorted.{IsSortedBy}
+use Rattle.match_bindings.specs.declared.bind.Bind.{Bind}
 use Rattle.match_bindings.specs.BindTree.{tree_of}
+use Rattle.match_bindings.specs.Flat.{comes_before}
+use Rattle.std.proofs.lemmas.List.{length-map}
 use Rattle.match_bindings.specs.Once.{count}
+use Rattle.match_live.specs.declared.stop.Stop.TheVariants as stop
+use Rattle.match_live.specs.declared.lead.Lead.{Lead}
 use Rattle.match_live.specs.PieceTree.{trees_in}
-use Rattle.match_live.specs.LivePart.{held_count}
 use Rattle.match_live.specs.inner.Pieces.{piece_tree}
-use Rattle.match_live.specs.inner.Steps.{contents_of, step_new}
+use Rattle.match_live.specs.inner.Steps.{step_new}
 use Rattle.match_live.specs.inner.Nodes.{state_of}
+use Rattle.match_live.specs.inner.Wanted.{wanted}
+use Rattle.match_live.specs.inner.Leads.{leads_of}
+use Rattle.match_live.proofs.WantedLemmas.{wanted_all}
 use Rattle.match_live.proofs.run.Run.answer.Goals as goal
 
-pub returns-in-None-clause-crowded : goal.returns-in-None-clause-crowded
-returns-in-None-clause-crowded c =
-    let row = c.args.row.now in let truths = c.args.truths.now in let before = state_of c.args.self.now.node in
-    let many : length c.in_ok-new.new.items ≡ length (step_new row truths before) = sym (length-map c.in_ok-new.new.items piece_tree) ∙ ap length c.in_ok-new.ensures.new in
-    let held = ap (λ z. held_count (contents_of z)) c.in_ok-new.ensures.kept in (
-      map tree_of c.in_ok-sorted.sorted.items,
-      record {
-        counts = λ x. c.in_ok-sorted.ensures.counts x ∙ ap (count x) (c.in_ok-binds.ensures ∙ ap trees_in c.in_ok-new.ensures.new);
-        sorted = c.in_ok-sorted.ensures.rises;
-      },
-      omega (arith, c.in-None.ensures.none, many, held, c.len.ensures),
-    )
+pub returns-in_err-new-clause-crowded : goal.returns-in_err-new-clause-crowded
+returns-in_err-new-clause-crowded c = λ e a.
+    let row = c.args.row.now in let new = step_new row c.args.truths.now (state_of c.args.self.now.node) in
+    let failed : c.step.result ≡ Err stop.Crowded = search rules in
+    let over = c.step.ensures.crowded failed a in
+    let all = ap length (ap (λ (y : List Lead). wanted row.last (leads_of y) new) c.new-leads.ensures.items ∙ wanted_all row.last new) in
+    omega (arith, over, all)
+
+pub returns-in_err-take-clause-crowded : goal.returns-in_err-take-clause-crowded
+returns-in_err-take-clause-crowded c = λ e a.
+    let row = c.args.row.now in let new = step_new row c.args.truths.now (state_of c.args.self.now.node) in
+    let failed : c.take.result ≡ Err stop.Crowded = search rules in
+    let over = c.take.ensures.crowded failed in
+    let all = sym (length-map c.in_ok-new.new.items piece_tree) ∙ ap length (c.in_ok-new.ensures.new ∙ ap (λ (y : List Lead). wanted row.last (leads_of y) new) c.new-leads.ensures.items ∙ wanted_all row.last new) in
+    omega (arith, over, all, c.len.ensures, c.in_ok-new.ensures.counted)
+
+pub returns-clause-took : goal.returns-clause-took
+returns-clause-took c =
+    let row = c.args.row.now in let new = step_new row c.args.truths.now (state_of c.args.self.now.node) in
+    let all = sym (length-map c.in_ok-new.new.items piece_tree) ∙ ap length (c.in_ok-new.ensures.new ∙ ap (λ (y : List Lead). wanted row.last (leads_of y) new) c.new-leads.ensures.items ∙ wanted_all row.last new) in
+    record {
+      rows = refl;
+      last = refl;
+      node = c.in_ok-new.ensures.kept;
+      cap = refl;
+      room = omega (arith, all, c.len.ensures, c.in_ok-new.ensures.counted, c.in_ok-take.ensures.taken);
+    }
+
+pub returns-clause-binds : goal.returns-clause-binds
+returns-clause-binds c =
+    let row = c.args.row.now in let new = step_new row c.args.truths.now (state_of c.args.self.now.node) in
+    let same = c.in_ok-new.ensures.new ∙ ap (λ (y : List Lead). wanted row.last (leads_of y) new) c.new-leads.ensures.items ∙ wanted_all row.last new in
+    record {
+      counts = λ x. ap (λ (y : List Bind). count x (map tree_of y)) c.from_vec.ensures ∙ c.in_ok-sorted.ensures.counts x ∙ ap (count x) (c.in_ok-binds.ensures ∙ ap trees_in same);
+      sorted = subst (λ (y : List Bind). IsSortedBy comes_before (map tree_of y)) (sym c.from_vec.ensures) c.in_ok-sorted.ensures.rises;
+    }

@@ -1,0 +1,197 @@
+-- What is wanted: leads one by one, and joins of which only what is wanted is made.
+use Rattle.std.proofs.Common.{◌≡◌, ℕ, ◌+◌, ◌≤◌, ◌<◌, ℤ, List, [], ◌∷◌, ◌++◌, length, get_or, take, drop, refl, sym, ◌∙◌, ap, arith, length-append}
+use Rattle.std.specs.Prelude.{Bool, true, false, ◌&&◌, ◌||◌, map, filter, cond}
+use Rattle.std.specs.List.{list_any}
+use Rattle.std.proofs.lemmas.List.{take-append-drop, length-map}
+use Rattle.std.proofs.lemmas.List.Elements.{filter-append}
+use Rattle.std.proofs.lemmas.List.Folds.{list_any-append}
+use Rattle.match_bindings.proofs.ListLemmas.{map_append}
+use Rattle.match_live.specs.declared.join.Join.{Join}
+use Rattle.match_live.specs.declared.join.Join.TheVariants as join
+use Rattle.match_live.specs.declared.lead.Lead.{Lead}
+use Rattle.match_live.specs.declared.piece.Piece.{Piece}
+use Rattle.match_windows.specs.declared.window.Window.{Window}
+use Rattle.match_live.specs.PieceTree.{PieceTree}
+use Rattle.match_live.specs.inner.Lives.{lives}
+use Rattle.match_live.specs.inner.Pieces.{piece_tree, piece_trees}
+use Rattle.match_live.specs.inner.Steps.{joined, may_join, join_row, joins, kept}
+use Rattle.match_live.specs.inner.Wanted.{Ahead, is_wanted, wanted}
+use Rattle.match_live.specs.inner.Leads.{ahead_of, ahead_from, leads_of}
+use Rattle.match_live.proofs.OldestLemmas.{next_taken}
+
+-- one lead more is the innermost
+from_more : (above : List Ahead) (leads : List Lead) (x : Lead) → ahead_from above (leads ++ x ∷ []) ≡ ahead_of x ∷ ahead_from above leads
+from_more above [] x = refl
+from_more above (y ∷ leads) x = from_more (ahead_of y ∷ above) leads x
+
+pub leads_more : (leads : List Lead) (x : Lead) → leads_of (leads ++ x ∷ []) ≡ ahead_of x ∷ leads_of leads
+leads_more leads x = from_more [] leads x
+
+-- ---- a row of a join
+
+pub row_append : (now : ℤ) (ahead : List Ahead) (j : Join) (x : PieceTree) (us vs : List PieceTree) →
+    wanted now ahead (join_row j x (us ++ vs)) ≡ wanted now ahead (join_row j x us) ++ wanted now ahead (join_row j x vs)
+row_append now ahead j x us vs =
+    ap (λ z. wanted now ahead (map (joined j x) z)) (filter-append (may_join j x) us vs)
+    ∙ ap (wanted now ahead) (map_append (joined j x) (filter (may_join j x) us) (filter (may_join j x) vs))
+    ∙ filter-append (is_wanted now ahead) (join_row j x us) (join_row j x vs)
+
+-- one thing alone
+abbrev pub pair : ℤ → List Ahead → Join → PieceTree → PieceTree → List PieceTree
+pair now ahead j x y = cond (may_join j x y && is_wanted now ahead (joined j x y)) (joined j x y ∷ []) []
+
+pub row_one : (now : ℤ) (ahead : List Ahead) (j : Join) (x y : PieceTree) → wanted now ahead (join_row j x (y ∷ [])) ≡ pair now ahead j x y
+row_one now ahead j x y = by (may_join j x y) (is_wanted now ahead (joined j x y)) refl refl where
+  by : (a b : Bool) → may_join j x y ≡ a → is_wanted now ahead (joined j x y) ≡ b → wanted now ahead (join_row j x (y ∷ [])) ≡ pair now ahead j x y
+  by false b ea eb = rw ea refl
+  by true false ea eb = rw (ea, eb) refl
+  by true true ea eb = rw (ea, eb) refl
+
+pub row_more : (now : ℤ) (ahead : List Ahead) (j : Join) (x : PieceTree) (ys : List Piece) (at : ℕ) (d : Piece) → at < length ys →
+    wanted now ahead (join_row j x (piece_trees (take (at + 1) ys)))
+    ≡ wanted now ahead (join_row j x (piece_trees (take at ys))) ++ pair now ahead j x (piece_tree (get_or ys at d))
+row_more now ahead j x ys at d h =
+    ap (λ z. wanted now ahead (join_row j x z)) (next_taken ys at d h)
+    ∙ row_append now ahead j x (piece_trees (take at ys)) (piece_tree (get_or ys at d) ∷ [])
+    ∙ ap (λ z. wanted now ahead (join_row j x (piece_trees (take at ys))) ++ z) (row_one now ahead j x (piece_tree (get_or ys at d)))
+
+pub row_part : (now : ℤ) (ahead : List Ahead) (j : Join) (x : PieceTree) (ys : List Piece) (at : ℕ) →
+    length (wanted now ahead (join_row j x (piece_trees (take at ys)))) ≤ length (wanted now ahead (join_row j x (piece_trees ys)))
+row_part now ahead j x ys at =
+    let whole : piece_trees ys ≡ piece_trees (take at ys) ++ piece_trees (drop at ys)
+    = ap piece_trees (sym (take-append-drop at ys)) ∙ map_append piece_tree (take at ys) (drop at ys) in
+    let parts = ap (λ z. length (wanted now ahead (join_row j x z))) whole
+    ∙ ap length (row_append now ahead j x (piece_trees (take at ys)) (piece_trees (drop at ys)))
+    ∙ length-append (wanted now ahead (join_row j x (piece_trees (take at ys)))) (wanted now ahead (join_row j x (piece_trees (drop at ys)))) in
+    omega (arith, parts)
+
+-- ---- all rows
+
+pub joins_append : (now : ℤ) (ahead : List Ahead) (j : Join) (us vs ys : List PieceTree) →
+    wanted now ahead (joins j (us ++ vs) ys) ≡ wanted now ahead (joins j us ys) ++ wanted now ahead (joins j vs ys)
+joins_append now ahead j [] vs ys = refl
+joins_append now ahead j (u ∷ us) vs ys =
+    filter-append (is_wanted now ahead) (join_row j u ys) (joins j (us ++ vs) ys)
+    ∙ ap (λ z. wanted now ahead (join_row j u ys) ++ z) (joins_append now ahead j us vs ys)
+    ∙ sym (assoc (wanted now ahead (join_row j u ys)) (wanted now ahead (joins j us ys)) (wanted now ahead (joins j vs ys)))
+    ∙ ap (λ z. z ++ wanted now ahead (joins j vs ys)) (sym (filter-append (is_wanted now ahead) (join_row j u ys) (joins j us ys))) where
+      assoc : (a b c : List PieceTree) → (a ++ b) ++ c ≡ a ++ (b ++ c)
+      assoc [] b c = refl
+      assoc (x ∷ a) b c = ap (λ z. x ∷ z) (assoc a b c)
+
+joins_one : (now : ℤ) (ahead : List Ahead) (j : Join) (x : PieceTree) (ys : List PieceTree) → wanted now ahead (joins j (x ∷ []) ys) ≡ wanted now ahead (join_row j x ys)
+joins_one now ahead j x ys = ap (wanted now ahead) (none (join_row j x ys)) where
+  none : (a : List PieceTree) → a ++ [] ≡ a
+  none [] = refl
+  none (x ∷ a) = ap (λ z. x ∷ z) (none a)
+
+pub joins_more : (now : ℤ) (ahead : List Ahead) (j : Join) (xs : List Piece) (ys : List PieceTree) (at : ℕ) (d : Piece) → at < length xs →
+    wanted now ahead (joins j (piece_trees (take (at + 1) xs)) ys)
+    ≡ wanted now ahead (joins j (piece_trees (take at xs)) ys) ++ wanted now ahead (join_row j (piece_tree (get_or xs at d)) ys)
+joins_more now ahead j xs ys at d h =
+    ap (λ z. wanted now ahead (joins j z ys)) (next_taken xs at d h)
+    ∙ joins_append now ahead j (piece_trees (take at xs)) (piece_tree (get_or xs at d) ∷ []) ys
+    ∙ ap (λ z. wanted now ahead (joins j (piece_trees (take at xs)) ys) ++ z) (joins_one now ahead j (piece_tree (get_or xs at d)) ys)
+
+pub joins_part : (now : ℤ) (ahead : List Ahead) (j : Join) (xs : List Piece) (ys : List PieceTree) (at : ℕ) →
+    length (wanted now ahead (joins j (piece_trees (take at xs)) ys)) ≤ length (wanted now ahead (joins j (piece_trees xs) ys))
+joins_part now ahead j xs ys at =
+    let whole : piece_trees xs ≡ piece_trees (take at xs) ++ piece_trees (drop at xs)
+    = ap piece_trees (sym (take-append-drop at xs)) ∙ map_append piece_tree (take at xs) (drop at xs) in
+    let parts = ap (λ z. length (wanted now ahead (joins j z ys))) whole
+    ∙ ap length (joins_append now ahead j (piece_trees (take at xs)) (piece_trees (drop at xs)) ys)
+    ∙ length-append (wanted now ahead (joins j (piece_trees (take at xs)) ys)) (wanted now ahead (joins j (piece_trees (drop at xs)) ys)) in
+    omega (arith, parts)
+
+-- ---- a part of what lives
+
+pub kept_part : (w : Window) (now : ℤ) (xs : List Piece) (at : ℕ) → length (kept w now (piece_trees (take at xs))) ≤ length (kept w now (piece_trees xs))
+kept_part w now xs at =
+    let whole : piece_trees xs ≡ piece_trees (take at xs) ++ piece_trees (drop at xs)
+    = ap piece_trees (sym (take-append-drop at xs)) ∙ map_append piece_tree (take at xs) (drop at xs) in
+    let parts = ap (λ z. length (kept w now z)) whole
+    ∙ ap length (filter-append (λ h. lives w h.earliest now) (piece_trees (take at xs)) (piece_trees (drop at xs)))
+    ∙ length-append (kept w now (piece_trees (take at xs))) (kept w now (piece_trees (drop at xs))) in
+    omega (arith, parts)
+
+pub kept_more : (w : Window) (now : ℤ) (xs : List Piece) (at : ℕ) (d : Piece) → at < length xs → lives w (get_or xs at d).earliest now ≡ true →
+    length (kept w now (piece_trees (take at xs))) + 1 ≤ length (kept w now (piece_trees xs))
+kept_more w now xs at d h live =
+    let next : kept w now (piece_trees (take (at + 1) xs)) ≡ kept w now (piece_trees (take at xs)) ++ piece_tree (get_or xs at d) ∷ []
+    = ap (kept w now) (next_taken xs at d h)
+    ∙ filter-append (λ h. lives w h.earliest now) (piece_trees (take at xs)) (piece_tree (get_or xs at d) ∷ [])
+    ∙ (rw live refl) in
+    let longer = ap length next ∙ length-append (kept w now (piece_trees (take at xs))) (piece_tree (get_or xs at d) ∷ []) in
+    omega (arith, longer, kept_part w now xs (at + 1))
+
+-- ---- a test of all that is held
+
+pub any_more : (f : PieceTree → Bool) (xs : List Piece) (at : ℕ) (d : Piece) → at < length xs →
+    list_any f (piece_trees (take (at + 1) xs)) ≡ (list_any f (piece_trees (take at xs)) || f (piece_tree (get_or xs at d)))
+any_more f xs at d h =
+    ap (list_any f) (next_taken xs at d h)
+    ∙ list_any-append f (piece_trees (take at xs)) (piece_tree (get_or xs at d) ∷ [])
+    ∙ ap (λ z. list_any f (piece_trees (take at xs)) || z) (last (f (piece_tree (get_or xs at d)))) where
+      last : (b : Bool) → (b || false) ≡ b
+      last true = refl
+      last false = refl
+
+-- one that passes is enough
+pub any_found : (f : PieceTree → Bool) (xs : List Piece) (at : ℕ) (d : Piece) → at < length xs → f (piece_tree (get_or xs at d)) ≡ true → list_any f (piece_trees xs) ≡ true
+any_found f xs at d h passes =
+    ap (λ z. list_any f (piece_trees z)) (sym (take-append-drop (at + 1) xs))
+    ∙ ap (list_any f) (map_append piece_tree (take (at + 1) xs) (drop (at + 1) xs))
+    ∙ list_any-append f (piece_trees (take (at + 1) xs)) (piece_trees (drop (at + 1) xs))
+    ∙ ap (λ z. z || list_any f (piece_trees (drop (at + 1) xs))) (any_more f xs at d h ∙ ap (λ z. list_any f (piece_trees (take at xs)) || z) passes)
+    ∙ yes_it_is (list_any f (piece_trees (take at xs))) (list_any f (piece_trees (drop (at + 1) xs))) where
+      yes_it_is : (a b : Bool) → ((a || true) || b) ≡ true
+      yes_it_is true b = refl
+      yes_it_is false b = refl
+
+pub wanted_by : (now : ℤ) (leads : List Lead) (above : List Lead) (x : Lead) (p : PieceTree) → leads ≡ above ++ x ∷ [] →
+    is_wanted now (leads_of leads) p
+    ≡ (lives x.window p.earliest now || list_any (λ (h : PieceTree). may_join join.Then h p && is_wanted now (leads_of above) (joined join.Then h p)) (piece_trees x.left.held.items))
+wanted_by now leads above x p is = ap (λ z. is_wanted now (leads_of z) p) is ∙ ap (λ z. is_wanted now z p) (leads_more above x)
+
+-- ---- where there is no room
+
+-- one pair more passes
+pub row_full : (now : ℤ) (ahead : List Ahead) (j : Join) (x : PieceTree) (ys : List Piece) (at : ℕ) (d : Piece) (room : ℕ) (out old : List Piece) → at < length ys →
+    may_join j x (piece_tree (get_or ys at d)) ≡ true → is_wanted now ahead (joined j x (piece_tree (get_or ys at d))) ≡ true → room ≤ length out →
+    piece_trees out ≡ piece_trees old ++ wanted now ahead (join_row j x (piece_trees (take at ys))) →
+    room < length old + length (wanted now ahead (join_row j x (piece_trees ys)))
+row_full now ahead j x ys at d room out old h may want most is =
+    let one : pair now ahead j x (piece_tree (get_or ys at d)) ≡ joined j x (piece_tree (get_or ys at d)) ∷ [] = rw (may, want) refl in
+    let more = ap length (row_more now ahead j x ys at d h ∙ ap (λ z. wanted now ahead (join_row j x (piece_trees (take at ys))) ++ z) one)
+    ∙ length-append (wanted now ahead (join_row j x (piece_trees (take at ys)))) (joined j x (piece_tree (get_or ys at d)) ∷ []) in
+    let long = sym (length-map out piece_tree) ∙ ap length is ∙ length-append (piece_trees old) (wanted now ahead (join_row j x (piece_trees (take at ys)))) in
+    omega (arith, more, long, most, row_part now ahead j x ys (at + 1), length-map old piece_tree)
+
+-- a row passes what is left
+pub joins_full : (now : ℤ) (ahead : List Ahead) (j : Join) (xs : List Piece) (ys : List PieceTree) (at : ℕ) (d : Piece) (room : ℕ) (out old : List Piece) → at < length xs →
+    room < length out + length (wanted now ahead (join_row j (piece_tree (get_or xs at d)) ys)) →
+    piece_trees out ≡ piece_trees old ++ wanted now ahead (joins j (piece_trees (take at xs)) ys) →
+    room < length old + length (wanted now ahead (joins j (piece_trees xs) ys))
+joins_full now ahead j xs ys at d room out old h over is =
+    let more = ap length (joins_more now ahead j xs ys at d h)
+    ∙ length-append (wanted now ahead (joins j (piece_trees (take at xs)) ys)) (wanted now ahead (join_row j (piece_tree (get_or xs at d)) ys)) in
+    let long = sym (length-map out piece_tree) ∙ ap length is ∙ length-append (piece_trees old) (wanted now ahead (joins j (piece_trees (take at xs)) ys)) in
+    omega (arith, more, long, over, joins_part now ahead j xs ys (at + 1), length-map old piece_tree)
+
+-- nothing is joined with nothing
+pub none_joined : (now : ℤ) (ahead : List Ahead) (j : Join) (out xs : List PieceTree) (ys : List Piece) → length ys ≡ 0 → out ≡ out ++ wanted now ahead (joins j xs (piece_trees ys))
+none_joined now ahead j out xs [] h = sym (none out) ∙ ap (λ z. out ++ wanted now ahead z) (sym (no_joins xs)) where
+  none : (a : List PieceTree) → a ++ [] ≡ a
+  none [] = refl
+  none (x ∷ a) = ap (λ z. x ∷ z) (none a)
+
+  no_joins : (xs : List PieceTree) → joins j xs [] ≡ []
+  no_joins [] = refl
+  no_joins (x ∷ xs) = no_joins xs
+none_joined now ahead j out xs (y ∷ ys) h = absurd (omega arith)
+
+-- ---- where all is wanted
+
+pub wanted_all : (now : ℤ) (xs : List PieceTree) → wanted now [] xs ≡ xs
+wanted_all now [] = refl
+wanted_all now (x ∷ xs) = ap (λ z. x ∷ z) (wanted_all now xs)

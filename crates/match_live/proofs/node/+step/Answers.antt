@@ -1,0 +1,415 @@
+-- One row, node by node.
+use Rattle.std.proofs.Common.{refl, ◌-◌, ◌≡◌, ◌+◌, ◌<◌, ◌≤◌, [], ◌∷◌, List, length, Err, rules, arith, ap, sym, ◌∙◌, subst}
+use Rattle.std.specs.Prelude.{ℕ, Bool, map}
+use Rattle.match_bindings.specs.BindTree.{Single}
+use Rattle.match_live.specs.LivePart.{held_count}
+use Rattle.std.proofs.lemmas.List.{length-map}
+use Rattle.match_live.specs.declared.stop.Stop.TheVariants as stop
+use Rattle.match_live.specs.declared.lead.Lead.{Lead}
+use Rattle.match_live.specs.declared.store.Store.{Store}
+use Rattle.match_live.specs.declared.piece.Piece.{Piece}
+use Rattle.match_live.specs.declared.row.Row.{Row}
+use Rattle.match_live.specs.PieceTree.{PieceTree}
+use Rattle.match_live.specs.inner.Pieces.{piece_tree, piece_trees}
+use Rattle.match_live.specs.inner.Steps.{State, a_leaf, all_levels, held_with, levels_new, levels_after, kept, joins_both, step_new, step_state}
+use Rattle.match_live.specs.inner.Wanted.{Ahead, wanted, leads_right, leads_part, chosen}
+use Rattle.match_live.specs.inner.Leads.{ahead_of, leads_of}
+use Rattle.match_live.specs.inner.Totals.{held_after, live_at, AdmitLevels, Admits}
+use Rattle.match_live.specs.inner.Nodes.{store_list, store_lists, side_stores, state_of}
+use Rattle.match_live.proofs.WantedLemmas.{leads_more}
+use Rattle.match_live.proofs.TotalLemmas.{over_left, over_left_held, over_right, over_right_held, join_is, join_counted, join_kept, over_first, over_first_new, over_second, choice_is, choice_counted, over_part, over_levels, chain_is, chain_counted, chain_kept}
+use Rattle.match_live.proofs.node.+step.Goals as goal
+
+-- what is said of a part, of the same part named otherwise
+over_at : (row : Row) (truths : List Bool) (room : ℕ) (a b : State) (u v : List Ahead) → a ≡ b → u ≡ v → (Admits row truths a → room < live_at row truths u a) → Admits row truths b → room < live_at row truths v b
+over_at row truths room a b u v e f h =
+    subst (λ (y : State). Admits row truths y → room < live_at row truths v y) e (subst (λ (x : List Ahead). Admits row truths a → room < live_at row truths x a) f h)
+
+new_at : (row : Row) (truths : List Bool) (new : List PieceTree) (a b : State) (u v : List Ahead) → a ≡ b → u ≡ v → new ≡ wanted row.last u (step_new row truths a) → new ≡ wanted row.last v (step_new row truths b)
+new_at row truths new a b u v e f h = h ∙ ap (λ x. wanted row.last x (step_new row truths a)) f ∙ ap (λ y. wanted row.last v (step_new row truths y)) e
+
+held_at : (row : Row) (truths : List Bool) (left room : ℕ) (a b : State) → a ≡ b → left + held_after row truths a ≡ room → left + held_after row truths b ≡ room
+held_at row truths left room a b e h = sym (ap (λ y. left + held_after row truths y) e) ∙ h
+
+pub step-returns-in_err-new_left-in-Sides-clause-crowded : goal.step-returns-in_err-new_left-in-Sides-clause-crowded
+step-returns-in_err-new_left-in-Sides-clause-crowded t c = λ e a.
+    let row = c.args.row.now in let truths = c.args.truths.now in let ahead = leads_of c.args.leads.now.items in
+    let l = state_of c.in-Sides.left.value in let r = state_of c.in-Sides.right.value in let z = state_of c.args.node.now in
+    let s = side_stores c.in-Sides.sides in let k = side_stores c.expire.new.self in
+    let is = ap state_of c.in-Sides.is in let kept_is = c.in_ok-expire-in-Sides.ensures.kept in let first = c.in_ok-expire-in-Sides.ensures.counted in
+    let el = ap state_of c.deref_mut.ensures.value in let none = ap leads_of c.new-none.ensures.items in
+    let room = c.args.room.now.left in let room1 = c.expire.new.room.left in
+    let failed : c.step.result ≡ Err stop.Crowded = search rules in
+    over_left row truths ahead c.in-Sides.join l r z s k k is kept_is refl a room room1 first
+    (over_at row truths room1 (state_of c.deref_mut.result.now) l (leads_of c.new-none.result.items) [] el none (c.step.ensures.crowded failed))
+
+pub step-returns-in_err-take_admitted-in-Sides-clause-crowded : goal.step-returns-in_err-take_admitted-in-Sides-clause-crowded
+step-returns-in_err-take_admitted-in-Sides-clause-crowded t c = λ e a.
+    let row = c.args.row.now in let truths = c.args.truths.now in let ahead = leads_of c.args.leads.now.items in
+    let l = state_of c.in-Sides.left.value in let r = state_of c.in-Sides.right.value in let z = state_of c.args.node.now in
+    let s = side_stores c.in-Sides.sides in let k = side_stores c.expire.new.self in
+    let is = ap state_of c.in-Sides.is in let kept_is = c.in_ok-expire-in-Sides.ensures.kept in let first = c.in_ok-expire-in-Sides.ensures.counted in
+    let el = ap state_of c.deref_mut.ensures.value in let none = ap leads_of c.new-none.ensures.items in
+    let room = c.args.room.now.left in let room1 = c.expire.new.room.left in
+    let nl = piece_trees c.in_ok-new_left-in-Sides.new_left.items in
+    let f = new_at row truths nl (state_of c.deref_mut.result.now) l (leads_of c.new-none.result.items) [] el none c.in_ok-new_left-in-Sides.ensures.new in
+    let room2 = c.step.new.room.left in let second = held_at row truths room2 room1 (state_of c.deref_mut.result.now) l el c.in_ok-new_left-in-Sides.ensures.counted in
+    let left = ap (λ (y : List Piece). length (kept k.left_window row.last (piece_trees y))) c.deref-in-Sides.ensures.value in
+    let failed : c.take_admitted.result ≡ Err stop.Crowded = search rules in
+    over_left_held row truths ahead c.in-Sides.join l r z s k k is kept_is refl nl f room room1 room2 first second (omega (arith, left, c.take_admitted.ensures.crowded failed))
+
+pub step-returns-in_err-new_right-in-Sides-clause-crowded : goal.step-returns-in_err-new_right-in-Sides-clause-crowded
+step-returns-in_err-new_right-in-Sides-clause-crowded t c = λ e a.
+    let row = c.args.row.now in let truths = c.args.truths.now in let ahead = leads_of c.args.leads.now.items in
+    let l = state_of c.in-Sides.left.value in let r = state_of c.in-Sides.right.value in let z = state_of c.args.node.now in
+    let s = side_stores c.in-Sides.sides in let k = side_stores c.expire.new.self in
+    let is = ap state_of c.in-Sides.is in let kept_is = c.in_ok-expire-in-Sides.ensures.kept in let first = c.in_ok-expire-in-Sides.ensures.counted in
+    let el = ap state_of c.deref_mut.ensures.value in let none = ap leads_of c.new-none.ensures.items in
+    let room = c.args.room.now.left in let room1 = c.expire.new.room.left in
+    let nl = piece_trees c.in_ok-new_left-in-Sides.new_left.items in
+    let f = new_at row truths nl (state_of c.deref_mut.result.now) l (leads_of c.new-none.result.items) [] el none c.in_ok-new_left-in-Sides.ensures.new in
+    let room2 = c.step.new.room.left in let second = held_at row truths room2 room1 (state_of c.deref_mut.result.now) l el c.in_ok-new_left-in-Sides.ensures.counted in
+    let left = ap (λ (y : List Piece). length (kept k.left_window row.last (piece_trees y))) c.deref-in-Sides.ensures.value in
+    let room3 = c.take_admitted.new.self.left in
+    let third : room3 + length (kept k.left_window row.last nl) ≡ room2 = omega (arith, left, c.in_ok-take_admitted-in-Sides.ensures.taken) in
+    let er = ap state_of c.deref_mut-in-Sides.ensures.value in
+    let failed : c.step_right.result ≡ Err stop.Crowded = search rules in
+    over_right row truths ahead c.in-Sides.join l r z s k k is kept_is refl nl f a room room1 room2 room3 first second third
+    (over_at row truths room3 (state_of c.deref_mut-in-Sides.result.now) r (leads_right c.in-Sides.join k ahead) (leads_right c.in-Sides.join k ahead) er refl (c.step_right.ensures.crowded failed))
+
+pub step-returns-in_err-take_admitted-in-Sides-2-clause-crowded : goal.step-returns-in_err-take_admitted-in-Sides-2-clause-crowded
+step-returns-in_err-take_admitted-in-Sides-2-clause-crowded t c = λ e a.
+    let row = c.args.row.now in let truths = c.args.truths.now in let ahead = leads_of c.args.leads.now.items in
+    let l = state_of c.in-Sides.left.value in let r = state_of c.in-Sides.right.value in let z = state_of c.args.node.now in
+    let s = side_stores c.in-Sides.sides in let k = side_stores c.expire.new.self in
+    let is = ap state_of c.in-Sides.is in let kept_is = c.in_ok-expire-in-Sides.ensures.kept in let first = c.in_ok-expire-in-Sides.ensures.counted in
+    let el = ap state_of c.deref_mut.ensures.value in let none = ap leads_of c.new-none.ensures.items in
+    let room = c.args.room.now.left in let room1 = c.expire.new.room.left in
+    let nl = piece_trees c.in_ok-new_left-in-Sides.new_left.items in
+    let f = new_at row truths nl (state_of c.deref_mut.result.now) l (leads_of c.new-none.result.items) [] el none c.in_ok-new_left-in-Sides.ensures.new in
+    let room2 = c.step.new.room.left in let second = held_at row truths room2 room1 (state_of c.deref_mut.result.now) l el c.in_ok-new_left-in-Sides.ensures.counted in
+    let left = ap (λ (y : List Piece). length (kept k.left_window row.last (piece_trees y))) c.deref-in-Sides.ensures.value in
+    let room3 = c.take_admitted.new.self.left in
+    let third : room3 + length (kept k.left_window row.last nl) ≡ room2 = omega (arith, left, c.in_ok-take_admitted-in-Sides.ensures.taken) in
+    let er = ap state_of c.deref_mut-in-Sides.ensures.value in
+    let m = side_stores c.step_right.new.sides in let same = c.in_ok-new_right-in-Sides.ensures.sides in
+    let nr = piece_trees c.in_ok-new_right-in-Sides.new_right.items in
+    let g = new_at row truths nr (state_of c.deref_mut-in-Sides.result.now) r (leads_right c.in-Sides.join k ahead) (leads_right c.in-Sides.join k ahead) er refl c.in_ok-new_right-in-Sides.ensures.new in
+    let room4 = c.step_right.new.room.left in let fourth = held_at row truths room4 room3 (state_of c.deref_mut-in-Sides.result.now) r er c.in_ok-new_right-in-Sides.ensures.counted in
+    let right = ap (λ (y : List Piece). length (kept m.right_window row.last (piece_trees y))) c.deref-in-Sides-2.ensures.value in
+    let failed : c.take_admitted-in-Sides.result ≡ Err stop.Crowded = search rules in
+    over_right_held row truths ahead c.in-Sides.join l r z s k m is kept_is same nl nr f g room room1 room2 room3 room4 first second third fourth (omega (arith, right, c.take_admitted-in-Sides.ensures.crowded failed))
+
+pub step-returns-in_err-new-in-Sides-clause-crowded : goal.step-returns-in_err-new-in-Sides-clause-crowded
+step-returns-in_err-new-in-Sides-clause-crowded t c = λ e a.
+    let row = c.args.row.now in let truths = c.args.truths.now in let ahead = leads_of c.args.leads.now.items in
+    let l = state_of c.in-Sides.left.value in let r = state_of c.in-Sides.right.value in let z = state_of c.args.node.now in
+    let s = side_stores c.in-Sides.sides in let k = side_stores c.expire.new.self in
+    let is = ap state_of c.in-Sides.is in let kept_is = c.in_ok-expire-in-Sides.ensures.kept in let first = c.in_ok-expire-in-Sides.ensures.counted in
+    let el = ap state_of c.deref_mut.ensures.value in let none = ap leads_of c.new-none.ensures.items in
+    let room = c.args.room.now.left in let room1 = c.expire.new.room.left in
+    let nl = piece_trees c.in_ok-new_left-in-Sides.new_left.items in
+    let f = new_at row truths nl (state_of c.deref_mut.result.now) l (leads_of c.new-none.result.items) [] el none c.in_ok-new_left-in-Sides.ensures.new in
+    let room2 = c.step.new.room.left in let second = held_at row truths room2 room1 (state_of c.deref_mut.result.now) l el c.in_ok-new_left-in-Sides.ensures.counted in
+    let left = ap (λ (y : List Piece). length (kept k.left_window row.last (piece_trees y))) c.deref-in-Sides.ensures.value in
+    let room3 = c.take_admitted.new.self.left in
+    let third : room3 + length (kept k.left_window row.last nl) ≡ room2 = omega (arith, left, c.in_ok-take_admitted-in-Sides.ensures.taken) in
+    let er = ap state_of c.deref_mut-in-Sides.ensures.value in
+    let m = side_stores c.step_right.new.sides in let same = c.in_ok-new_right-in-Sides.ensures.sides in
+    let nr = piece_trees c.in_ok-new_right-in-Sides.new_right.items in
+    let g = new_at row truths nr (state_of c.deref_mut-in-Sides.result.now) r (leads_right c.in-Sides.join k ahead) (leads_right c.in-Sides.join k ahead) er refl c.in_ok-new_right-in-Sides.ensures.new in
+    let room4 = c.step_right.new.room.left in let fourth = held_at row truths room4 room3 (state_of c.deref_mut-in-Sides.result.now) r er c.in_ok-new_right-in-Sides.ensures.counted in
+    let right = ap (λ (y : List Piece). length (kept m.right_window row.last (piece_trees y))) c.deref-in-Sides-2.ensures.value in
+    let room5 = c.take_admitted-in-Sides.new.self.left in
+    let fifth : room5 + length (kept m.right_window row.last nr) ≡ room4 = omega (arith, right, c.in_ok-take_admitted-in-Sides-2.ensures.taken) in
+    let leads = ap leads_of (c.deref-in-Sides-3.ensures.value ∙ c.in_ok-new_right-in-Sides.ensures.leads) in
+    let failed : c.join.result ≡ Err stop.Crowded = search rules in
+    let over = c.join.ensures.crowded failed in
+    let counted = join_counted row truths ahead c.in-Sides.join l r z s k m is kept_is same nl nr f g room room1 room2 room3 room4 room5 first second third fourth fifth in
+    let new = ap (λ y. length (wanted row.last y (joins_both c.in-Sides.join m nl nr))) leads ∙ ap length (join_is row truths ahead c.in-Sides.join l r z s k m is kept_is same nl nr f g) in
+    omega (arith, over, counted, new)
+
+pub step-returns-in_ok-new-in-Sides-clause-new : goal.step-returns-in_ok-new-in-Sides-clause-new
+step-returns-in_ok-new-in-Sides-clause-new t c =
+    let row = c.args.row.now in let truths = c.args.truths.now in let ahead = leads_of c.args.leads.now.items in
+    let l = state_of c.in-Sides.left.value in let r = state_of c.in-Sides.right.value in let z = state_of c.args.node.now in
+    let s = side_stores c.in-Sides.sides in let k = side_stores c.expire.new.self in
+    let is = ap state_of c.in-Sides.is in let kept_is = c.in_ok-expire-in-Sides.ensures.kept in let first = c.in_ok-expire-in-Sides.ensures.counted in
+    let el = ap state_of c.deref_mut.ensures.value in let none = ap leads_of c.new-none.ensures.items in
+    let room = c.args.room.now.left in let room1 = c.expire.new.room.left in
+    let nl = piece_trees c.in_ok-new_left-in-Sides.new_left.items in
+    let f = new_at row truths nl (state_of c.deref_mut.result.now) l (leads_of c.new-none.result.items) [] el none c.in_ok-new_left-in-Sides.ensures.new in
+    let room2 = c.step.new.room.left in let second = held_at row truths room2 room1 (state_of c.deref_mut.result.now) l el c.in_ok-new_left-in-Sides.ensures.counted in
+    let left = ap (λ (y : List Piece). length (kept k.left_window row.last (piece_trees y))) c.deref-in-Sides.ensures.value in
+    let room3 = c.take_admitted.new.self.left in
+    let third : room3 + length (kept k.left_window row.last nl) ≡ room2 = omega (arith, left, c.in_ok-take_admitted-in-Sides.ensures.taken) in
+    let er = ap state_of c.deref_mut-in-Sides.ensures.value in
+    let m = side_stores c.step_right.new.sides in let same = c.in_ok-new_right-in-Sides.ensures.sides in
+    let nr = piece_trees c.in_ok-new_right-in-Sides.new_right.items in
+    let g = new_at row truths nr (state_of c.deref_mut-in-Sides.result.now) r (leads_right c.in-Sides.join k ahead) (leads_right c.in-Sides.join k ahead) er refl c.in_ok-new_right-in-Sides.ensures.new in
+    let room4 = c.step_right.new.room.left in let fourth = held_at row truths room4 room3 (state_of c.deref_mut-in-Sides.result.now) r er c.in_ok-new_right-in-Sides.ensures.counted in
+    let right = ap (λ (y : List Piece). length (kept m.right_window row.last (piece_trees y))) c.deref-in-Sides-2.ensures.value in
+    let room5 = c.take_admitted-in-Sides.new.self.left in
+    let fifth : room5 + length (kept m.right_window row.last nr) ≡ room4 = omega (arith, right, c.in_ok-take_admitted-in-Sides-2.ensures.taken) in
+    let leads = ap leads_of (c.deref-in-Sides-3.ensures.value ∙ c.in_ok-new_right-in-Sides.ensures.leads) in
+    c.in_ok-new-in-Sides.ensures.new ∙ ap (λ y. wanted row.last y (joins_both c.in-Sides.join m nl nr)) leads ∙ join_is row truths ahead c.in-Sides.join l r z s k m is kept_is same nl nr f g
+
+pub step-returns-in_ok-new-in-Sides-clause-kept : goal.step-returns-in_ok-new-in-Sides-clause-kept
+step-returns-in_ok-new-in-Sides-clause-kept t c =
+    let row = c.args.row.now in let truths = c.args.truths.now in let ahead = leads_of c.args.leads.now.items in
+    let l = state_of c.in-Sides.left.value in let r = state_of c.in-Sides.right.value in let z = state_of c.args.node.now in
+    let s = side_stores c.in-Sides.sides in let k = side_stores c.expire.new.self in
+    let is = ap state_of c.in-Sides.is in let kept_is = c.in_ok-expire-in-Sides.ensures.kept in let first = c.in_ok-expire-in-Sides.ensures.counted in
+    let el = ap state_of c.deref_mut.ensures.value in let none = ap leads_of c.new-none.ensures.items in
+    let room = c.args.room.now.left in let room1 = c.expire.new.room.left in
+    let nl = piece_trees c.in_ok-new_left-in-Sides.new_left.items in
+    let f = new_at row truths nl (state_of c.deref_mut.result.now) l (leads_of c.new-none.result.items) [] el none c.in_ok-new_left-in-Sides.ensures.new in
+    let room2 = c.step.new.room.left in let second = held_at row truths room2 room1 (state_of c.deref_mut.result.now) l el c.in_ok-new_left-in-Sides.ensures.counted in
+    let left = ap (λ (y : List Piece). length (kept k.left_window row.last (piece_trees y))) c.deref-in-Sides.ensures.value in
+    let room3 = c.take_admitted.new.self.left in
+    let third : room3 + length (kept k.left_window row.last nl) ≡ room2 = omega (arith, left, c.in_ok-take_admitted-in-Sides.ensures.taken) in
+    let er = ap state_of c.deref_mut-in-Sides.ensures.value in
+    let m = side_stores c.step_right.new.sides in let same = c.in_ok-new_right-in-Sides.ensures.sides in
+    let nr = piece_trees c.in_ok-new_right-in-Sides.new_right.items in
+    let g = new_at row truths nr (state_of c.deref_mut-in-Sides.result.now) r (leads_right c.in-Sides.join k ahead) (leads_right c.in-Sides.join k ahead) er refl c.in_ok-new_right-in-Sides.ensures.new in
+    let room4 = c.step_right.new.room.left in let fourth = held_at row truths room4 room3 (state_of c.deref_mut-in-Sides.result.now) r er c.in_ok-new_right-in-Sides.ensures.counted in
+    let right = ap (λ (y : List Piece). length (kept m.right_window row.last (piece_trees y))) c.deref-in-Sides-2.ensures.value in
+    join_kept row truths ahead c.in-Sides.join l r z s k m is kept_is same nl nr f g (state_of c.step.new.node) (state_of c.step_right.new.right) (side_stores c.join.new.self)
+    (c.in_ok-new_left-in-Sides.ensures.kept ∙ ap (step_state row truths) el) (c.in_ok-new_right-in-Sides.ensures.kept ∙ ap (step_state row truths) er) c.in_ok-new-in-Sides.ensures.kept
+
+pub step-returns-in_ok-new-in-Sides-clause-counted : goal.step-returns-in_ok-new-in-Sides-clause-counted
+step-returns-in_ok-new-in-Sides-clause-counted t c =
+    let row = c.args.row.now in let truths = c.args.truths.now in let ahead = leads_of c.args.leads.now.items in
+    let l = state_of c.in-Sides.left.value in let r = state_of c.in-Sides.right.value in let z = state_of c.args.node.now in
+    let s = side_stores c.in-Sides.sides in let k = side_stores c.expire.new.self in
+    let is = ap state_of c.in-Sides.is in let kept_is = c.in_ok-expire-in-Sides.ensures.kept in let first = c.in_ok-expire-in-Sides.ensures.counted in
+    let el = ap state_of c.deref_mut.ensures.value in let none = ap leads_of c.new-none.ensures.items in
+    let room = c.args.room.now.left in let room1 = c.expire.new.room.left in
+    let nl = piece_trees c.in_ok-new_left-in-Sides.new_left.items in
+    let f = new_at row truths nl (state_of c.deref_mut.result.now) l (leads_of c.new-none.result.items) [] el none c.in_ok-new_left-in-Sides.ensures.new in
+    let room2 = c.step.new.room.left in let second = held_at row truths room2 room1 (state_of c.deref_mut.result.now) l el c.in_ok-new_left-in-Sides.ensures.counted in
+    let left = ap (λ (y : List Piece). length (kept k.left_window row.last (piece_trees y))) c.deref-in-Sides.ensures.value in
+    let room3 = c.take_admitted.new.self.left in
+    let third : room3 + length (kept k.left_window row.last nl) ≡ room2 = omega (arith, left, c.in_ok-take_admitted-in-Sides.ensures.taken) in
+    let er = ap state_of c.deref_mut-in-Sides.ensures.value in
+    let m = side_stores c.step_right.new.sides in let same = c.in_ok-new_right-in-Sides.ensures.sides in
+    let nr = piece_trees c.in_ok-new_right-in-Sides.new_right.items in
+    let g = new_at row truths nr (state_of c.deref_mut-in-Sides.result.now) r (leads_right c.in-Sides.join k ahead) (leads_right c.in-Sides.join k ahead) er refl c.in_ok-new_right-in-Sides.ensures.new in
+    let room4 = c.step_right.new.room.left in let fourth = held_at row truths room4 room3 (state_of c.deref_mut-in-Sides.result.now) r er c.in_ok-new_right-in-Sides.ensures.counted in
+    let right = ap (λ (y : List Piece). length (kept m.right_window row.last (piece_trees y))) c.deref-in-Sides-2.ensures.value in
+    let room5 = c.take_admitted-in-Sides.new.self.left in
+    let fifth : room5 + length (kept m.right_window row.last nr) ≡ room4 = omega (arith, right, c.in_ok-take_admitted-in-Sides-2.ensures.taken) in
+    let leads = ap leads_of (c.deref-in-Sides-3.ensures.value ∙ c.in_ok-new_right-in-Sides.ensures.leads) in
+    join_counted row truths ahead c.in-Sides.join l r z s k m is kept_is same nl nr f g room room1 room2 room3 room4 room5 first second third fourth fifth
+
+pub step-returns-in_err-new_left-in-Either-clause-crowded : goal.step-returns-in_err-new_left-in-Either-clause-crowded
+step-returns-in_err-new_left-in-Either-clause-crowded t c = λ e a.
+    let row = c.args.row.now in let truths = c.args.truths.now in let ahead = leads_of c.args.leads.now.items in
+    let l = state_of c.in-Either.left.value in let r = state_of c.in-Either.right.value in let z = state_of c.args.node.now in
+    let is = ap state_of c.in-Either.is in let el = ap state_of c.deref_mut-in-Either.ensures.value in
+    let room = c.args.room.now.left in
+    let failed : c.step-in-Either.result ≡ Err stop.Crowded = search rules in
+    over_first row truths ahead l r z is a room (over_at row truths room (state_of c.deref_mut-in-Either.result.now) l ahead ahead el refl (c.step-in-Either.ensures.crowded failed))
+
+pub step-returns-in_err-take-in-Either-clause-crowded : goal.step-returns-in_err-take-in-Either-clause-crowded
+step-returns-in_err-take-in-Either-clause-crowded t c = λ e a.
+    let row = c.args.row.now in let truths = c.args.truths.now in let ahead = leads_of c.args.leads.now.items in
+    let l = state_of c.in-Either.left.value in let r = state_of c.in-Either.right.value in let z = state_of c.args.node.now in
+    let is = ap state_of c.in-Either.is in let el = ap state_of c.deref_mut-in-Either.ensures.value in
+    let room = c.args.room.now.left in
+    let nl = piece_trees c.in_ok-new_left-in-Either.new_left.items in
+    let f = new_at row truths nl (state_of c.deref_mut-in-Either.result.now) l ahead ahead el refl c.in_ok-new_left-in-Either.ensures.new in
+    let room1 = c.step-in-Either.new.room.left in let first = held_at row truths room1 room (state_of c.deref_mut-in-Either.result.now) l el c.in_ok-new_left-in-Either.ensures.counted in
+    let long = length-map c.in_ok-new_left-in-Either.new_left.items piece_tree in
+    let failed : c.take.result ≡ Err stop.Crowded = search rules in
+    over_first_new row truths ahead l r z is nl f room room1 first (omega (arith, long, c.len.ensures, c.take.ensures.crowded failed))
+
+pub step-returns-in_err-new_right-in-Either-clause-crowded : goal.step-returns-in_err-new_right-in-Either-clause-crowded
+step-returns-in_err-new_right-in-Either-clause-crowded t c = λ e a.
+    let row = c.args.row.now in let truths = c.args.truths.now in let ahead = leads_of c.args.leads.now.items in
+    let l = state_of c.in-Either.left.value in let r = state_of c.in-Either.right.value in let z = state_of c.args.node.now in
+    let is = ap state_of c.in-Either.is in let el = ap state_of c.deref_mut-in-Either.ensures.value in
+    let room = c.args.room.now.left in
+    let nl = piece_trees c.in_ok-new_left-in-Either.new_left.items in
+    let f = new_at row truths nl (state_of c.deref_mut-in-Either.result.now) l ahead ahead el refl c.in_ok-new_left-in-Either.ensures.new in
+    let room1 = c.step-in-Either.new.room.left in let first = held_at row truths room1 room (state_of c.deref_mut-in-Either.result.now) l el c.in_ok-new_left-in-Either.ensures.counted in
+    let long = length-map c.in_ok-new_left-in-Either.new_left.items piece_tree in
+    let room2 = c.take.new.self.left in
+    let second : room2 + length nl ≡ room1 = omega (arith, long, c.len.ensures, c.in_ok-take-in-Either.ensures.taken) in
+    let er = ap state_of c.deref_mut-in-Either-2.ensures.value in
+    let leads = ap leads_of c.in_ok-new_left-in-Either.ensures.leads in
+    let failed : c.step-in-Either-2.result ≡ Err stop.Crowded = search rules in
+    over_second row truths ahead l r z is nl f a room room1 room2 first second
+    (over_at row truths room2 (state_of c.deref_mut-in-Either-2.result.now) r (leads_of c.step-in-Either.new.leads.items) ahead er leads (c.step-in-Either-2.ensures.crowded failed))
+
+pub step-give_back-requires : goal.step-give_back-requires
+step-give_back-requires t c =
+    let taken = c.in_ok-take-in-Either.ensures.taken in
+    omega (arith, taken, c.len.ensures, c.len-in-Either.ensures, c.in_ok-new_right-in-Either.ensures.counted)
+
+pub step-returns-in_ok-new-in-Either-clause-new : goal.step-returns-in_ok-new-in-Either-clause-new
+step-returns-in_ok-new-in-Either-clause-new t c =
+    let row = c.args.row.now in let truths = c.args.truths.now in let ahead = leads_of c.args.leads.now.items in
+    let l = state_of c.in-Either.left.value in let r = state_of c.in-Either.right.value in let z = state_of c.args.node.now in
+    let is = ap state_of c.in-Either.is in let el = ap state_of c.deref_mut-in-Either.ensures.value in
+    let room = c.args.room.now.left in
+    let nl = piece_trees c.in_ok-new_left-in-Either.new_left.items in
+    let f = new_at row truths nl (state_of c.deref_mut-in-Either.result.now) l ahead ahead el refl c.in_ok-new_left-in-Either.ensures.new in
+    let room1 = c.step-in-Either.new.room.left in let first = held_at row truths room1 room (state_of c.deref_mut-in-Either.result.now) l el c.in_ok-new_left-in-Either.ensures.counted in
+    let long = length-map c.in_ok-new_left-in-Either.new_left.items piece_tree in
+    let room2 = c.take.new.self.left in
+    let second : room2 + length nl ≡ room1 = omega (arith, long, c.len.ensures, c.in_ok-take-in-Either.ensures.taken) in
+    let er = ap state_of c.deref_mut-in-Either-2.ensures.value in
+    let leads = ap leads_of c.in_ok-new_left-in-Either.ensures.leads in
+    let nr = piece_trees c.in_ok-new_right-in-Either.new_right.items in
+    let g = new_at row truths nr (state_of c.deref_mut-in-Either-2.result.now) r (leads_of c.step-in-Either.new.leads.items) ahead er leads c.in_ok-new_right-in-Either.ensures.new in
+    let room3 = c.step-in-Either-2.new.room.left in let third = held_at row truths room3 room2 (state_of c.deref_mut-in-Either-2.result.now) r er c.in_ok-new_right-in-Either.ensures.counted in
+    c.in_ok-new-in-Either.ensures ∙ choice_is row truths ahead l r z is nl nr f g
+
+pub step-returns-in_ok-new-in-Either-clause-counted : goal.step-returns-in_ok-new-in-Either-clause-counted
+step-returns-in_ok-new-in-Either-clause-counted t c =
+    let row = c.args.row.now in let truths = c.args.truths.now in let ahead = leads_of c.args.leads.now.items in
+    let l = state_of c.in-Either.left.value in let r = state_of c.in-Either.right.value in let z = state_of c.args.node.now in
+    let is = ap state_of c.in-Either.is in let el = ap state_of c.deref_mut-in-Either.ensures.value in
+    let room = c.args.room.now.left in
+    let nl = piece_trees c.in_ok-new_left-in-Either.new_left.items in
+    let f = new_at row truths nl (state_of c.deref_mut-in-Either.result.now) l ahead ahead el refl c.in_ok-new_left-in-Either.ensures.new in
+    let room1 = c.step-in-Either.new.room.left in let first = held_at row truths room1 room (state_of c.deref_mut-in-Either.result.now) l el c.in_ok-new_left-in-Either.ensures.counted in
+    let long = length-map c.in_ok-new_left-in-Either.new_left.items piece_tree in
+    let room2 = c.take.new.self.left in
+    let second : room2 + length nl ≡ room1 = omega (arith, long, c.len.ensures, c.in_ok-take-in-Either.ensures.taken) in
+    let er = ap state_of c.deref_mut-in-Either-2.ensures.value in
+    let leads = ap leads_of c.in_ok-new_left-in-Either.ensures.leads in
+    let nr = piece_trees c.in_ok-new_right-in-Either.new_right.items in
+    let g = new_at row truths nr (state_of c.deref_mut-in-Either-2.result.now) r (leads_of c.step-in-Either.new.leads.items) ahead er leads c.in_ok-new_right-in-Either.ensures.new in
+    let room3 = c.step-in-Either-2.new.room.left in let third = held_at row truths room3 room2 (state_of c.deref_mut-in-Either-2.result.now) r er c.in_ok-new_right-in-Either.ensures.counted in
+    choice_counted row truths ahead l r z is room room1 room2 room3 c.give_back.new.self.left (length nl) first second third (omega (arith, long, c.len-in-Either.ensures, c.give_back.ensures))
+
+pub step-returns-in_err-new-in-Repeats-clause-crowded : goal.step-returns-in_err-new-in-Repeats-clause-crowded
+step-returns-in_err-new-in-Repeats-clause-crowded t c = λ e a.
+    let row = c.args.row.now in let truths = c.args.truths.now in let ahead = leads_of c.args.leads.now.items in
+    let levels = c.in-Repeats.levels in let xs = store_lists levels.stores.items in let count = levels.count in let w = levels.window in
+    let part = state_of c.in-Repeats.part.value in let z = state_of c.args.node.now in
+    let is = ap state_of c.in-Repeats.is in let ep = ap state_of c.deref_mut-in-Repeats.ensures.value in
+    let few : length xs ≤ count - 1 = omega (arith, length-map levels.stores.items store_list, levels.few) in
+    let room = c.args.room.now.left in
+    let failed : c.step_part.result ≡ Err stop.Crowded = search rules in
+    over_part row truths ahead part z count w xs is few a room
+    (over_at row truths room (state_of c.deref_mut-in-Repeats.result.now) part (leads_part count w row.last ahead) (leads_part count w row.last ahead) ep refl (c.step_part.ensures.crowded failed))
+
+pub step-returns-in_err-answer-in-Repeats-clause-crowded : goal.step-returns-in_err-answer-in-Repeats-clause-crowded
+step-returns-in_err-answer-in-Repeats-clause-crowded t c = λ e a.
+    let row = c.args.row.now in let truths = c.args.truths.now in let ahead = leads_of c.args.leads.now.items in
+    let levels = c.in-Repeats.levels in let xs = store_lists levels.stores.items in let count = levels.count in let w = levels.window in
+    let part = state_of c.in-Repeats.part.value in let z = state_of c.args.node.now in
+    let is = ap state_of c.in-Repeats.is in let ep = ap state_of c.deref_mut-in-Repeats.ensures.value in
+    let few : length xs ≤ count - 1 = omega (arith, length-map levels.stores.items store_list, levels.few) in
+    let room = c.args.room.now.left in
+    let new = piece_trees c.deref-in-Repeats.result.now in
+    let f = ap piece_trees c.deref-in-Repeats.ensures.value ∙ new_at row truths (piece_trees c.in_ok-new-in-Repeats.new.items) (state_of c.deref_mut-in-Repeats.result.now) part
+    (leads_part count w row.last ahead) (leads_part count w row.last ahead) ep refl c.in_ok-new-in-Repeats.ensures.new in
+    let room1 = c.step_part.new.room.left in let first = held_at row truths room1 room (state_of c.deref_mut-in-Repeats.result.now) part ep c.in_ok-new-in-Repeats.ensures.counted in
+    let leads = ap leads_of (c.deref-in-Repeats-2.ensures.value ∙ c.in_ok-new-in-Repeats.ensures.leads) in
+    let failed : c.step-in-Repeats.result ≡ Err stop.Crowded = search rules in
+    over_levels row truths ahead part z count w xs is few new f a room room1 first
+    (subst (λ (y : List Ahead). AdmitLevels w row.last (map (held_with Single) new) new (all_levels count xs) →
+    room1 < held_count (levels_after w row.last (map (held_with Single) new) new (all_levels count xs))
+    + length (chosen count row.last y (levels_new w row.last (map (held_with Single) new) new (all_levels count xs)))) leads (c.step-in-Repeats.ensures.crowded failed))
+
+pub step-returns-in_ok-answer-in-Repeats-clause-new : goal.step-returns-in_ok-answer-in-Repeats-clause-new
+step-returns-in_ok-answer-in-Repeats-clause-new t c =
+    let row = c.args.row.now in let truths = c.args.truths.now in let ahead = leads_of c.args.leads.now.items in
+    let levels = c.in-Repeats.levels in let xs = store_lists levels.stores.items in let count = levels.count in let w = levels.window in
+    let part = state_of c.in-Repeats.part.value in let z = state_of c.args.node.now in
+    let is = ap state_of c.in-Repeats.is in let ep = ap state_of c.deref_mut-in-Repeats.ensures.value in
+    let few : length xs ≤ count - 1 = omega (arith, length-map levels.stores.items store_list, levels.few) in
+    let room = c.args.room.now.left in
+    let new = piece_trees c.deref-in-Repeats.result.now in
+    let f = ap piece_trees c.deref-in-Repeats.ensures.value ∙ new_at row truths (piece_trees c.in_ok-new-in-Repeats.new.items) (state_of c.deref_mut-in-Repeats.result.now) part
+    (leads_part count w row.last ahead) (leads_part count w row.last ahead) ep refl c.in_ok-new-in-Repeats.ensures.new in
+    let room1 = c.step_part.new.room.left in let first = held_at row truths room1 room (state_of c.deref_mut-in-Repeats.result.now) part ep c.in_ok-new-in-Repeats.ensures.counted in
+    let leads = ap leads_of (c.deref-in-Repeats-2.ensures.value ∙ c.in_ok-new-in-Repeats.ensures.leads) in
+    c.in_ok-answer-in-Repeats.ensures.new
+    ∙ ap (λ y. chosen count row.last y (levels_new w row.last (map (held_with Single) new) new (all_levels count xs))) leads
+    ∙ chain_is row truths ahead part z count w xs is few new f
+
+pub step-returns-in_ok-answer-in-Repeats-clause-kept : goal.step-returns-in_ok-answer-in-Repeats-clause-kept
+step-returns-in_ok-answer-in-Repeats-clause-kept t c =
+    let row = c.args.row.now in let truths = c.args.truths.now in let ahead = leads_of c.args.leads.now.items in
+    let levels = c.in-Repeats.levels in let xs = store_lists levels.stores.items in let count = levels.count in let w = levels.window in
+    let part = state_of c.in-Repeats.part.value in let z = state_of c.args.node.now in
+    let is = ap state_of c.in-Repeats.is in let ep = ap state_of c.deref_mut-in-Repeats.ensures.value in
+    let few : length xs ≤ count - 1 = omega (arith, length-map levels.stores.items store_list, levels.few) in
+    let room = c.args.room.now.left in
+    let new = piece_trees c.deref-in-Repeats.result.now in
+    let f = ap piece_trees c.deref-in-Repeats.ensures.value ∙ new_at row truths (piece_trees c.in_ok-new-in-Repeats.new.items) (state_of c.deref_mut-in-Repeats.result.now) part
+    (leads_part count w row.last ahead) (leads_part count w row.last ahead) ep refl c.in_ok-new-in-Repeats.ensures.new in
+    let room1 = c.step_part.new.room.left in let first = held_at row truths room1 room (state_of c.deref_mut-in-Repeats.result.now) part ep c.in_ok-new-in-Repeats.ensures.counted in
+    let leads = ap leads_of (c.deref-in-Repeats-2.ensures.value ∙ c.in_ok-new-in-Repeats.ensures.leads) in
+    chain_kept row truths ahead part z count w xs is few new f (state_of c.step_part.new.part) c.step-in-Repeats.new.self.count c.step-in-Repeats.new.self.window
+    (all_levels c.step-in-Repeats.new.self.count (store_lists c.step-in-Repeats.new.self.stores.items))
+    (c.in_ok-new-in-Repeats.ensures.kept ∙ ap (step_state row truths) ep) c.in_ok-answer-in-Repeats.ensures.count c.in_ok-answer-in-Repeats.ensures.window c.in_ok-answer-in-Repeats.ensures.kept
+
+pub step-returns-in_ok-answer-in-Repeats-clause-counted : goal.step-returns-in_ok-answer-in-Repeats-clause-counted
+step-returns-in_ok-answer-in-Repeats-clause-counted t c =
+    let row = c.args.row.now in let truths = c.args.truths.now in let ahead = leads_of c.args.leads.now.items in
+    let levels = c.in-Repeats.levels in let xs = store_lists levels.stores.items in let count = levels.count in let w = levels.window in
+    let part = state_of c.in-Repeats.part.value in let z = state_of c.args.node.now in
+    let is = ap state_of c.in-Repeats.is in let ep = ap state_of c.deref_mut-in-Repeats.ensures.value in
+    let few : length xs ≤ count - 1 = omega (arith, length-map levels.stores.items store_list, levels.few) in
+    let room = c.args.room.now.left in
+    let new = piece_trees c.deref-in-Repeats.result.now in
+    let f = ap piece_trees c.deref-in-Repeats.ensures.value ∙ new_at row truths (piece_trees c.in_ok-new-in-Repeats.new.items) (state_of c.deref_mut-in-Repeats.result.now) part
+    (leads_part count w row.last ahead) (leads_part count w row.last ahead) ep refl c.in_ok-new-in-Repeats.ensures.new in
+    let room1 = c.step_part.new.room.left in let first = held_at row truths room1 room (state_of c.deref_mut-in-Repeats.result.now) part ep c.in_ok-new-in-Repeats.ensures.counted in
+    let leads = ap leads_of (c.deref-in-Repeats-2.ensures.value ∙ c.in_ok-new-in-Repeats.ensures.leads) in
+    chain_counted row truths ahead part z count w xs is few new f room room1 c.step-in-Repeats.new.room.left first c.in_ok-answer-in-Repeats.ensures.counted
+
+pub step-returns-in_ok-new-in-Leaf-clause-new : goal.step-returns-in_ok-new-in-Leaf-clause-new
+step-returns-in_ok-new-in-Leaf-clause-new t c =
+    c.in_ok-new-in-Leaf.ensures ∙ ap (λ (y : List Lead). wanted c.args.row.now.last (leads_of y) (step_new c.args.row.now c.args.truths.now (a_leaf c.in-Leaf.leaf c.in-Leaf.window))) c.deref.ensures.value
+    ∙ sym (ap (λ y. wanted c.args.row.now.last (leads_of c.args.leads.now.items) (step_new c.args.row.now c.args.truths.now y)) (ap state_of c.in-Leaf.is))
+
+pub step_part-returns-in_err-new-in-0-clause-crowded : goal.step_part-returns-in_err-new-in-0-clause-crowded
+step_part-returns-in_err-new-in-0-clause-crowded t c = λ e a.
+    let row = c.args.row.now in let truths = c.args.truths.now in let ahead = leads_of c.args.leads.now.items in
+    let levels = c.args.levels.now in
+    let is : leads_of c.push.new.self.items ≡ leads_part levels.count levels.window row.last ahead
+    = ap leads_of c.in_ok-push-in-0.ensures.items ∙ leads_more c.args.leads.now.items c.nothing_ahead.result ∙ ap (λ y. y ∷ ahead) c.nothing_ahead.ensures
+    ∙ sym (ap (λ n. leads_part n levels.window row.last ahead) c.in-0.is) in
+    let failed : c.step.result ≡ Err stop.Crowded = search rules in
+    over_at row truths c.args.room.now.left (state_of c.args.part.now) (state_of c.args.part.now) (leads_of c.push.new.self.items) (leads_part levels.count levels.window row.last ahead) refl is
+    (c.step.ensures.crowded failed) a
+
+pub step_part-returns-in_ok-new-in-0-clause-new : goal.step_part-returns-in_ok-new-in-0-clause-new
+step_part-returns-in_ok-new-in-0-clause-new t c =
+    let row = c.args.row.now in let truths = c.args.truths.now in let ahead = leads_of c.args.leads.now.items in
+    let levels = c.args.levels.now in
+    let is : leads_of c.push.new.self.items ≡ leads_part levels.count levels.window row.last ahead
+    = ap leads_of c.in_ok-push-in-0.ensures.items ∙ leads_more c.args.leads.now.items c.nothing_ahead.result ∙ ap (λ y. y ∷ ahead) c.nothing_ahead.ensures
+    ∙ sym (ap (λ n. leads_part n levels.window row.last ahead) c.in-0.is) in
+    new_at row truths (piece_trees c.in_ok-new-in-0.new.items) (state_of c.args.part.now) (state_of c.args.part.now) (leads_of c.push.new.self.items)
+    (leads_part levels.count levels.window row.last ahead) refl is c.in_ok-new-in-0.ensures.new
+
+pub step_right-returns-in_err-new-in-Then-clause-crowded : goal.step_right-returns-in_err-new-in-Then-clause-crowded
+step_right-returns-in_err-new-in-Then-clause-crowded t c = λ e a.
+    let row = c.args.row.now in let truths = c.args.truths.now in let ahead = leads_of c.args.leads.now.items in
+    let sides = c.args.sides.now in
+    let is : leads_of c.push.new.self.items ≡ leads_right c.args.join (side_stores sides) ahead
+    = ap leads_of c.in_ok-push-in-Then.ensures.items ∙ leads_more c.args.leads.now.items (record { left = c.replace-left.result; window = sides.right_window })
+    ∙ ap (λ (y : Store). ahead_of (record { left = y; window = sides.right_window }) ∷ ahead) c.replace-left.ensures.value
+    ∙ sym (ap (λ j. leads_right j (side_stores sides) ahead) c.in-Then.is) in
+    let failed : c.step.result ≡ Err stop.Crowded = search rules in
+    over_at row truths c.args.room.now.left (state_of c.args.right.now) (state_of c.args.right.now) (leads_of c.push.new.self.items) (leads_right c.args.join (side_stores sides) ahead) refl is
+    (c.step.ensures.crowded failed) a
+
+pub step_right-returns-after-pop-clause-new : goal.step_right-returns-after-pop-clause-new
+step_right-returns-after-pop-clause-new t c =
+    let row = c.args.row.now in let truths = c.args.truths.now in let ahead = leads_of c.args.leads.now.items in
+    let sides = c.args.sides.now in
+    let is : leads_of c.push.new.self.items ≡ leads_right c.args.join (side_stores sides) ahead
+    = ap leads_of c.in_ok-push-in-Then.ensures.items ∙ leads_more c.args.leads.now.items (record { left = c.replace-left.result; window = sides.right_window })
+    ∙ ap (λ (y : Store). ahead_of (record { left = y; window = sides.right_window }) ∷ ahead) c.replace-left.ensures.value
+    ∙ sym (ap (λ j. leads_right j (side_stores sides) ahead) c.in-Then.is) in
+    new_at row truths (piece_trees c.in_ok-new-in-Then.new.items) (state_of c.args.right.now) (state_of c.args.right.now) (leads_of c.push.new.self.items)
+    (leads_right c.args.join (side_stores sides) ahead) refl is c.in_ok-new-in-Then.ensures.new

@@ -1,0 +1,39 @@
+ghost use Rattle.std.specs.Prelude.{◌≡◌, IfOk};
+ghost use Rattle.match_live.specs.inner.Pieces.{piece_tree};
+ghost use Rattle.match_live.specs.inner.Wanted.{is_wanted};
+ghost use Rattle.match_live.specs.inner.Leads.{leads_of};
+
+use crate::join::Join;
+use crate::lead::Lead;
+use crate::piece::Piece;
+use crate::store::is_live;
+use flow_values::NoMemory;
+use std::alloc::Global;
+use stix_times::Instant;
+
+/// Whether a new thing is wanted: on the right of a `FOLLOWEDBY` only where the store there keeps it, or
+/// something on the left is joined with it to what is wanted above. The innermost lead is the last.
+pub(crate) fn is_wanted(
+    alloc: Global,
+    piece: &Piece,
+    now: Instant,
+    leads: &[Lead],
+) -> Result<bool, NoMemory>
+    ensures { IfOk result (λ wanted. wanted ≡ is_wanted now (leads_of leads.now) (piece_tree piece.now)) }
+{
+    let Some((innermost, above)) = leads.split_last() else {
+        return Ok(true);
+    };
+    if is_live(&innermost.window, piece.earliest, now) {
+        return Ok(true);
+    }
+    for left in &innermost.left.held {
+        if Join::Then.may_join(left, piece) {
+            let longer = Join::Then.joined(alloc, left, piece)?;
+            if is_wanted(alloc, &longer, now, above)? {
+                return Ok(true);
+            }
+        }
+    }
+    Ok(false)
+}
