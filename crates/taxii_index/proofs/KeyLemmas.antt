@@ -1,17 +1,18 @@
 -- Sets of keys: what they have after a key is added or taken out.
-use Rattle.std.proofs.Common.{◌≡◌, ℕ, ℤ, List, [], ◌∷◌, ◌++◌, Bool, true, false, cond, inl, inr, refl, sym, ap, ◌∙◌, subst, filter, nat_cmp}
+use Rattle.std.proofs.Common.{nat_eq, not, ◌||◌, ◌≡◌, ℕ, ℤ, List, [], ◌∷◌, ◌++◌, Bool, true, false, cond, inl, inr, refl, sym, ap, ◌∙◌, subst, filter, nat_cmp}
 use Rattle.std.specs.List.{Contains}
 use Rattle.std.specs.Cmp.{IsTotalOrder}
 use Rattle.std.specs.declared.cmp.Ordering.{Ordering}
 use Rattle.std.specs.declared.cmp.Ordering.TheVariants.{Less, Equal, Greater}
 use Rattle.std.specs.Ordering.{ordering_then, int_cmp, is_eq}
 use Rattle.std.specs.BTreeSet.{BTreeSet, contains}
-use Rattle.std.proofs.lemmas.Bool.{false≢true}
+use Rattle.std.proofs.lemmas.Bool.{false≢true, not_from_false, not-true, or_from, or_parts, false_from_ne_true, eqb-true, eq-eqb}
 use Rattle.std.proofs.lemmas.Cmp.{nat_cmp_total, int_cmp_total, on_total, then_total, tied_itself}
 use Rattle.std.proofs.lemmas.Map.Lookups.{exact_unsigned, exact_signed}
 use Rattle.std.proofs.lemmas.List.Elements.{Contains-push, Contains-push_cases, Contains-append_left}
-use Rattle.std.proofs.lemmas.List.Folds.{Any-from_list_any, list_any_at}
-use Rattle.taxii_index.specs.Keys.{Key, key_cmp, HasKeys}
+use Rattle.std.proofs.lemmas.List.Folds.{Any-from_list_any, list_any_at, list_any-append}
+use Rattle.taxii_rows.specs.Keeper.{is_date_in}
+use Rattle.taxii_index.specs.Keys.{Key, key_cmp, HasKeys, HasKeysBut, IsAloneIn}
 use Rattle.taxii_index.proofs.ListLemmas.{Contains-filter, Contains-from_filter}
 
 pub key_total : IsTotalOrder key_cmp
@@ -103,11 +104,59 @@ keys_unchanged keys old new has same other = (
   λ here. contains_listed new other (subst (λ (ks : List Key). Contains ks other) (sym same) (contained old other ((has other).1 here))),
 )
 
--- those that pass a test
-pub keys_filtered : (test : Key → Bool) (keys : List Key) (old new : BTreeSet Key) → HasKeys keys old → new.keys ≡ filter test old.keys → HasKeys (filter test keys) new
-keys_filtered test keys old new has left other = (
-  λ holds. let found = Contains-from_filter test old.keys other (subst (λ (ks : List Key). Contains ks other) left (contained new other holds)) in
-      Contains-filter test keys other ((has other).0 (contains_listed old other found.0)) found.1,
-  λ here. let found = Contains-from_filter test keys other here in
-      contains_listed new other (subst (λ (ks : List Key). Contains ks other) (sym left) (Contains-filter test old.keys other (contained old other ((has other).1 found.0)) found.1)),
+-- ---- without the keys of some dates
+
+pub all_yet : (keys : List Key) (set : BTreeSet Key) → HasKeys keys set → HasKeysBut [] keys set
+all_yet keys set has key = (λ holds. ((has key).0 holds, refl), λ here. (has key).1 here.0)
+
+pub those_left : (dates : List ℕ) (keys : List Key) (set : BTreeSet Key) → HasKeysBut dates keys set → HasKeys (filter (λ key. not (is_date_in dates key.2)) keys) set
+those_left dates keys set has key = (
+  λ holds. let here = (has key).0 holds in Contains-filter (λ (k : Key). not (is_date_in dates k.2)) keys key here.0 (not_from_false (is_date_in dates key.2) here.1),
+  λ here. let found = Contains-from_filter (λ (k : Key). not (is_date_in dates k.2)) keys key here in (has key).1 (found.0, not-true (is_date_in dates key.2) found.1),
+)
+
+one_any : (b : Bool) → (b || false) ≡ b
+one_any true = refl
+one_any false = refl
+
+in_more : (dates : List ℕ) (date d : ℕ) → is_date_in (dates ++ date ∷ []) d ≡ (is_date_in dates d || nat_eq date d)
+in_more dates date d =
+    list_any-append (λ (one : ℕ). nat_eq one d) dates (date ∷ []) ∙ ap (λ (b : Bool). is_date_in dates d || b) (one_any (nat_eq date d))
+
+apart_more : (dates : List ℕ) (date d : ℕ) → is_date_in dates d ≡ false → ¬ (d ≡ date) → is_date_in (dates ++ date ∷ []) d ≡ false
+apart_more dates date d apart other =
+    in_more dates date d ∙ or_from (is_date_in dates d) (nat_eq date d) apart (false_from_ne_true (nat_eq date d) (λ same. other (sym (eqb-true date d same))))
+
+apart_both : (dates : List ℕ) (date d : ℕ) → is_date_in (dates ++ date ∷ []) d ≡ false → (is_date_in dates d ≡ false) × (nat_eq date d ≡ false)
+apart_both dates date d apart = or_parts (is_date_in dates d) (nat_eq date d) (sym (in_more dates date d) ∙ apart)
+
+gone_one : (dates : List ℕ) (keys : List Key) (key other : Key) (old here : Bool) → is_eq (key_cmp key other) ≡ here → IsAloneIn keys key
+    → (old ≡ true → Contains keys other × (is_date_in dates other.2 ≡ false)) → cond here false old ≡ true → Contains keys other × (is_date_in (dates ++ key.2 ∷ []) other.2 ≡ false)
+gone_one dates keys key other old true same alone has holds = absurd (false≢true holds)
+gone_one dates keys key other old false same alone has holds =
+    let before = has holds in (
+      before.0,
+      apart_more dates key.2 other.2 before.1 (λ date. false≢true (sym same ∙ subst (λ (k : Key). is_eq (key_cmp key k) ≡ true) (sym (alone other before.0 date)) (key_itself key))),
+    )
+
+left_one : (key other : Key) (old here : Bool) → is_eq (key_cmp key other) ≡ here → nat_eq key.2 other.2 ≡ false → old ≡ true → cond here false old ≡ true
+left_one key other old true same apart holds =
+    absurd (false≢true (sym apart ∙ eq-eqb key.2 other.2 (ap (λ (k : Key). k.2) (key_same key other same))))
+left_one key other old false same apart holds = holds
+
+-- one key less, which is alone of its date
+pub one_less : (dates : List ℕ) (keys : List Key) (key : Key) (old new : BTreeSet Key) → IsAloneIn keys key → HasKeysBut dates keys old
+    → ((other : Key) → contains key_cmp new other ≡ cond (is_eq (key_cmp key other)) false (contains key_cmp old other)) → HasKeysBut (dates ++ key.2 ∷ []) keys new
+one_less dates keys key old new alone has updates other = (
+  λ holds. gone_one dates keys key other (contains key_cmp old other) (is_eq (key_cmp key other)) refl alone (has other).0 (sym (updates other) ∙ holds),
+  λ here. let apart = apart_both dates key.2 other.2 here.1 in
+      updates other ∙ left_one key other (contains key_cmp old other) (is_eq (key_cmp key other)) refl apart.1 ((has other).1 (here.0, apart.0)),
+)
+
+-- no key less, where none is of that date
+pub none_less : (dates : List ℕ) (date : ℕ) (keys : List Key) (set : BTreeSet Key) → ((other : Key) → Contains keys other → ¬ (other.2 ≡ date)) → HasKeysBut dates keys set
+    → HasKeysBut (dates ++ date ∷ []) keys set
+none_less dates date keys set none has other = (
+  λ holds. let before = (has other).0 holds in (before.0, apart_more dates date other.2 before.1 (none other before.0)),
+  λ here. (has other).1 (here.0, (apart_both dates date other.2 here.1).0),
 )

@@ -29,7 +29,7 @@ use Rattle.taxii_index.proofs.ListLemmas.{Contains-filter, Contains-from_filter,
 use Rattle.taxii_index.proofs.KeyLemmas.{equal, contained, contains_listed}
 use Rattle.taxii_index.proofs.OrderLemmas.{Precedes, never, never_of_one, precedes_from_less, less_from_precedes, not_less, le_from_less, between_ends, dates_rise}
 use Rattle.taxii_index.proofs.RowLemmas.{least_row, find_passes, find_nothing, find_none, first_date, first_row, one_row, has_row_its, PassesAt, passes_at}
-use Rattle.taxii_index.proofs.NameLemmas.{one_name, one_text_name}
+use Rattle.taxii_index.proofs.NameLemmas.{one_object, of_object, one_name, one_text_name}
 
 in_range : (low high : Bound Key) (set : BTreeSet Key) (key : Key) → Contains (keys_between key_cmp low high set) key
     → Contains set.keys key × (range_contains key_cmp low high key ≡ true)
@@ -222,9 +222,9 @@ object_found collection id rows keys found rise bits leads is =
     let front = front_of collection id in (
       λ holds.
           let one : Keeps (IsBefore front) front rows = any_of_those (IsBefore front) front rows keys rise leads (sym is ∙ holds) in
-          (one.here.0, one.other, one.here.1, one.here.2, one.its),
+          (one.here.0, one.other, one.here.1, one.here.2, one_object collection id one.other one.its),
       λ any.
           let here : Contains rows any.1 = (any.0, any.2, any.3) in
-          is ∙ those_any (IsBefore front) front rows keys rise leads any.1 here any.4
+          is ∙ those_any (IsBefore front) front rows keys rise leads any.1 here (of_object collection id any.1 any.4.0 any.4.1)
           (behind_front collection id any.1 (bits any.1 here) (least_row 1 rows any.1 rise here)),
     )

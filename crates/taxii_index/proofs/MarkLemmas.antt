@@ -1,8 +1,7 @@
 -- Marks: what they tell stays so where rows come, and of the rows that stay where others go.
 use Rattle.std.proofs.Common.{◌≡◌, ◌≢◌, ℕ, zero, suc, ◌+◌, ◌<◌, List, [], ◌∷◌, ◌++◌, Bool, true, false, cond, not, All, filter, take, length, get_or, set, leb, inl, inr, refl, sym, ap, ◌∙◌, subst, arith}
 use Rattle.std.specs.List.{Contains}
-use Rattle.std.specs.Cmp.Lexicographic.{bytes_decides}
-use Rattle.std.proofs.lemmas.Bool.{cases_Bool, leb-false, not-true, not_from_false, and_from, eq-eqb}
+use Rattle.std.proofs.lemmas.Bool.{cases_Bool, leb-false, not-true, not_from_false}
 use Rattle.std.proofs.lemmas.List.Elements.{All-weaker, All-contains, All-contains_itself, All-map, All-set, Contains-append_left}
 use Rattle.stix_ids.specs.declared.id.Id.{Id}
 use Rattle.stix_ids.specs.declared.pick.Pick.TheVariants.{Last, First}
@@ -15,7 +14,7 @@ use Rattle.taxii_index.specs.declared.marks.Mark.{Mark}
 use Rattle.taxii_index.specs.Index.{IsBefore}
 use Rattle.taxii_index.specs.Marks.{ComesBefore, IsTrueOf, AreTrueOf, forgotten, marks_without}
 use Rattle.taxii_index.proofs.ListLemmas.{nothing, first, later, cons_cases, same_element, Contains-filter, Contains-from_filter}
-use Rattle.taxii_index.proofs.NameLemmas.{one_object}
+use Rattle.taxii_index.proofs.NameLemmas.{one_object, itself}
 use Rattle.taxii_index.proofs.RowLemmas.{one_row, least_row}
 use Rattle.taxii_index.proofs.LookUpLemmas.{never_both_ways}
 
@@ -111,10 +110,6 @@ not_last rows row later rise here before picked =
     let same : before.row ≡ row = one_row rows before.row row rise before.row_here here before.row_date in
     let its = subst (λ (r : StoredRow). is_row_of r.collection r.id before.other ≡ true) same before.its in
     never_both_ways row before.other (picked before.other before.other_here its) (subst (λ (r : StoredRow). IsBefore r before.other) same before.before)
-
-itself : (row : StoredRow) → is_row_of row.collection row.id row ≡ true
-itself row = and_from _ _ (eq-eqb row.collection row.collection refl)
-    (and_from _ _ (eq-eqb row.id.number row.id.number refl) ((bytes_decides row.id.kind row.id.kind).1 refl))
 
 turned : (row other : StoredRow) → is_row_of row.collection row.id other ≡ true → is_row_of other.collection other.id row ≡ true
 turned row other its =

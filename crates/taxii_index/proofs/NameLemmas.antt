@@ -1,7 +1,7 @@
 -- Rows of one object have one name, and rows of one text of it have one.
-use Rattle.std.proofs.Common.{◌≡◌, ℕ, List, true, sym, ap, ◌∙◌, bytes_eq}
-use Rattle.std.specs.Cmp.Lexicographic.{same_text}
-use Rattle.std.proofs.lemmas.Bool.{and_parts, eqb-true}
+use Rattle.std.proofs.Common.{◌≡◌, ℕ, List, true, refl, sym, ap, ◌∙◌, subst, bytes_eq}
+use Rattle.std.specs.Cmp.Lexicographic.{same_text, bytes_decides}
+use Rattle.std.proofs.lemmas.Bool.{and_parts, and_from, eqb-true, eq-eqb}
 use Rattle.stix_ids.specs.declared.id.Id.{Id}
 use Rattle.taxii_rows.specs.declared.stored_row.StoredRow.{StoredRow}
 use Rattle.taxii_rows.specs.Identity.{is_id, is_row_of}
@@ -18,6 +18,15 @@ one_id id other holds =
 pub one_object : (collection : ℕ) (id : Id) (row : StoredRow) → is_row_of collection id row ≡ true → (row.collection ≡ collection) × (row.id ≡ id)
 one_object collection id row holds =
     let parts = and_parts _ (is_id row.id id) holds in (eqb-true row.collection collection parts.0, one_id row.id id parts.1)
+
+-- a row is of its own object
+pub itself : (row : StoredRow) → is_row_of row.collection row.id row ≡ true
+itself row = and_from _ _ (eq-eqb row.collection row.collection refl)
+    (and_from _ _ (eq-eqb row.id.number row.id.number refl) ((bytes_decides row.id.kind row.id.kind).1 refl))
+
+pub of_object : (collection : ℕ) (id : Id) (row : StoredRow) → row.collection ≡ collection → row.id ≡ id → is_row_of collection id row ≡ true
+of_object collection id row its one =
+    subst (λ (c : ℕ). is_row_of c id row ≡ true) its (subst (λ (i : Id). is_row_of row.collection i row ≡ true) one (itself row))
 
 pub one_name : (collection : ℕ) (id : Id) (row : StoredRow) → is_row_of collection id row ≡ true → name_of row.collection row.id ≡ name_of collection id
 one_name collection id row holds =

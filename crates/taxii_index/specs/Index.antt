@@ -9,7 +9,7 @@ use Rattle.taxii_rows.specs.Keeper.{row_at}
 use Rattle.taxii_rows.specs.Identity.{is_row_of}
 use Rattle.taxii_index.specs.declared.row_index.RowIndex.{RowIndex}
 use Rattle.taxii_index.specs.Names.{name_of, text_name_of}
-use Rattle.taxii_index.specs.Keys.{Key, IsIn64Bits, HasKeys}
+use Rattle.taxii_index.specs.Keys.{Key, IsIn64Bits, HasKeys, HasKeysBut}
 use Rattle.taxii_index.specs.Presence.{is_same}
 
 -- the key of a row among the versions of its object
@@ -24,6 +24,12 @@ text_key row = (text_name_of row.collection row.id row.body, pos 0, row.date)
 pub record IsIndexOf (rows : List StoredRow) (index : RowIndex) : Type 0 where
   pub versions : HasKeys (map version_key rows) index.by_version.keys
   pub texts : HasKeys (map text_key rows) index.by_text.keys
+  pub bits : All (λ row. IsIn64Bits (version_key row)) rows
+
+-- the index has each of the rows that are of other dates, and nothing else
+pub record IsIndexBut (dates : List ℕ) (rows : List StoredRow) (index : RowIndex) : Type 0 where
+  pub versions : HasKeysBut dates (map version_key rows) index.by_version.keys
+  pub texts : HasKeysBut dates (map text_key rows) index.by_text.keys
   pub bits : All (λ row. IsIn64Bits (version_key row)) rows
 
 -- no row is of that date
@@ -69,4 +75,4 @@ LeadsToObject collection id rows keys = LeadsToThose (IsBefore (front_of collect
 
 -- one of the rows is of the object
 abbrev pub HasRowOf : List StoredRow → ℕ → Id → Type 0
-HasRowOf rows collection id = Any (λ row. is_row_of collection id row ≡ true) rows
+HasRowOf rows collection id = Any (λ row. (row.collection ≡ collection) × (row.id ≡ id)) rows

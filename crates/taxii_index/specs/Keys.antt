@@ -1,10 +1,11 @@
 -- A set of keys, told by a list of them.
-use Rattle.std.specs.Prelude.{ℕ, ◌<◌, ◌^◌, ℤ, FitsSigned, IsTrue, ◌↔◌, List}
+use Rattle.std.specs.Prelude.{◌≡◌, false, ℕ, ◌<◌, ◌^◌, ℤ, FitsSigned, IsTrue, ◌↔◌, List}
 use Rattle.std.specs.Int.{w64}
 use Rattle.std.specs.List.{Contains}
 use Rattle.std.specs.declared.cmp.Ordering.{Ordering}
 use Rattle.std.specs.Ordering.{ordering_then, nat_cmp, int_cmp}
 use Rattle.std.specs.BTreeSet.{BTreeSet, contains}
+use Rattle.taxii_rows.specs.Keeper.{is_date_in}
 
 -- a name, a number, and a date
 abbrev pub Key : Type 0
@@ -22,3 +23,11 @@ pub record IsIn64Bits (key : Key) : Type 0 where
 -- a key is in the set exactly where it is one of these
 abbrev pub HasKeys : List Key → BTreeSet Key → Type 0
 HasKeys keys set = (key : Key) → IsTrue (contains key_cmp set key) ↔ Contains keys key
+
+-- the set has those of these keys that are of other dates
+abbrev pub HasKeysBut : List ℕ → List Key → BTreeSet Key → Type 0
+HasKeysBut dates keys set = (key : Key) → IsTrue (contains key_cmp set key) ↔ (Contains keys key × (is_date_in dates key.2 ≡ false))
+
+-- no other of these keys is of its date
+abbrev pub IsAloneIn : List Key → Key → Type 0
+IsAloneIn keys key = (other : Key) → Contains keys other → other.2 ≡ key.2 → other ≡ key

@@ -135,7 +135,7 @@ impl IndexedRows {
         requires rise { RiseFrom 0 dates.now }
         ensures { self.new ≡ filter (λ row. not (is_date_in dates.now row.date)) self.old }
     {
-        self.index.remove_dates(dates);
+        self.index.remove_dates(&self.rows, dates);
         self.rows.retain(|row| !is_among(dates, row.date));
     }
 

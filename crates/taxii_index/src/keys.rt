@@ -1,12 +1,9 @@
-ghost use Rattle.std.specs.Prelude.{◌≡◌, [], ◌∷◌, ◌++◌, List, not, filter, OnOk, OnErr};
+ghost use Rattle.std.specs.Prelude.{◌≡◌, ℕ, [], ◌∷◌, ◌++◌, List, OnOk, OnErr};
 ghost use Rattle.std.specs.List.{Contains};
 ghost use Rattle.std.specs.declared.ops.Bound.TheVariants.{Included, Excluded};
 ghost use Rattle.std.specs.BTreeSet.{keys_between, IsOrdered};
-ghost use Rattle.taxii_rows.specs.StoreState.{RiseFrom};
-ghost use Rattle.taxii_rows.specs.Keeper.{is_date_in};
-ghost use Rattle.taxii_index.specs.Keys.{Key as KeyValue, IsIn64Bits, HasKeys, key_cmp};
+ghost use Rattle.taxii_index.specs.Keys.{Key as KeyValue, IsIn64Bits, HasKeys, HasKeysBut, IsAloneIn, key_cmp};
 
-use crate::dates::is_among;
 use flow_values::NoMemory;
 use std::alloc::Global;
 use std::collections::BTreeSet;
@@ -49,13 +46,12 @@ impl Keys {
         self.keys.remove(&key);
     }
 
-    /// Takes the keys of these dates out.
-    pub(crate) fn remove_dates(&mut self, dates: &[u64])
-        requires { RiseFrom 0 dates.now }
-        ensures { (keys : List KeyValue) → HasKeys keys self.old.keys
-            → HasKeys (filter (λ key. not (is_date_in dates.now key.2)) keys) self.new.keys }
+    /// Takes a key out that is alone of its date.
+    pub(crate) fn remove_one(&mut self, key: Key)
+        ensures { (dates : List ℕ) (keys : List KeyValue) → IsAloneIn keys key → HasKeysBut dates keys self.old.keys
+            → HasKeysBut (dates ++ key.2 ∷ []) keys self.new.keys }
     {
-        self.keys.retain(|key| !is_among(dates, key.2));
+        self.keys.remove(&key);
     }
 
     /// The keys of that name and number, by date.

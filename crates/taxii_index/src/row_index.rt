@@ -1,8 +1,9 @@
-ghost use Rattle.std.specs.Prelude.{◌≡◌, [], ◌∷◌, ◌++◌, List, not, filter, OnOk, OnErr};
+ghost use Rattle.std.specs.Prelude.{◌≡◌, ℕ, [], ◌∷◌, ◌++◌, List, not, filter, OnOk, OnErr};
+ghost use Rattle.std.specs.List.{Contains};
 ghost use Rattle.taxii_rows.specs.declared.stored_row.StoredRow.{StoredRow as Row};
-ghost use Rattle.taxii_rows.specs.StoreState.{RiseFrom};
+ghost use Rattle.taxii_rows.specs.StoreState.{dates_of, RiseFrom};
 ghost use Rattle.taxii_rows.specs.Keeper.{is_date_in};
-ghost use Rattle.taxii_index.specs.Index.{version_key as version_key_of, text_key as text_key_of, IsIndexOf, IsAbsent, IsBefore, LeadsToSame, LeadsToThose, LeadsToObject};
+ghost use Rattle.taxii_index.specs.Index.{version_key as version_key_of, text_key as text_key_of, IsIndexOf, IsIndexBut, IsAbsent, IsBefore, LeadsToSame, LeadsToThose, LeadsToObject};
 ghost use Rattle.taxii_index.specs.Names.{id_of};
 
 use crate::keys::{Key, Keys};
@@ -10,7 +11,7 @@ use crate::names::{object_name, parts_name, text_name};
 use flow_values::NoMemory;
 use std::alloc::Global;
 use std::collections::btree_set::Range;
-use taxii_rows::{Described, StoredRow};
+use taxii_rows::{Described, StoredRow, row_at};
 
 /// Under which keys some rows are found: the versions of an object, and the rows of a text of it.
 #[derive(Drop)]
@@ -52,13 +53,32 @@ impl RowIndex {
         self.by_text.remove(text_key(row));
     }
 
-    /// Takes the rows of these dates out.
-    pub(crate) fn remove_dates(&mut self, dates: &[u64])
-        requires { RiseFrom 0 dates.now }
-        ensures { (rows : List Row) → IsIndexOf rows self.old → IsIndexOf (filter (λ row. not (is_date_in dates.now row.date)) rows) self.new }
+    /// Takes those of the rows out that are of these dates: as many look-ups as there are dates.
+    pub(crate) fn remove_dates(&mut self, rows: &[StoredRow], dates: &[u64])
+        requires { RiseFrom 1 (dates_of rows.now) }
+        ensures { IsIndexOf rows.now self.old → IsIndexOf (filter (λ row. not (is_date_in dates.now row.date)) rows.now) self.new }
     {
-        self.by_version.remove_dates(dates);
-        self.by_text.remove_dates(dates);
+        for date in dates {
+            self.remove_date(rows, *date);
+        }
+    }
+
+    fn remove_date(&mut self, rows: &[StoredRow], date: u64)
+        requires { RiseFrom 1 (dates_of rows.now) }
+        ensures { (gone : List ℕ) → IsIndexBut gone rows.now self.old → IsIndexBut (gone ++ date ∷ []) rows.now self.new }
+    {
+        match row_at(rows, date) {
+            Some(row) => self.remove_row(row),
+            None => {}
+        }
+    }
+
+    fn remove_row(&mut self, row: &StoredRow)
+        ensures { (gone : List ℕ) (rows : List Row) → RiseFrom 1 (dates_of rows) → Contains rows row.now → IsIndexBut gone rows self.old
+            → IsIndexBut (gone ++ row.now.date ∷ []) rows self.new }
+    {
+        self.by_version.remove_one(version_key(row));
+        self.by_text.remove_one(text_key(row));
     }
 
     /// The keys of the rows that may make the object present in the collection, by date: none is left

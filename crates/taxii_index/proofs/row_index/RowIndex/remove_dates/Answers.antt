@@ -1,16 +1,20 @@
-use Rattle.std.proofs.Common.{not, map, refl}
-use Rattle.std.proofs.lemmas.List.Elements.{All-filter}
-use Rattle.taxii_rows.specs.declared.stored_row.StoredRow.{StoredRow}
-use Rattle.taxii_rows.specs.Keeper.{is_date_in}
-use Rattle.taxii_index.specs.Keys.{IsIn64Bits}
-use Rattle.taxii_index.specs.Index.{version_key, text_key}
-use Rattle.taxii_index.proofs.IndexLemmas.{has_filtered}
+use Rattle.std.proofs.Common.{List, ℕ, take, sym, subst}
+use Rattle.std.proofs.lemmas.List.{take_more, take_all}
+use Rattle.taxii_index.specs.Index.{IsIndexBut}
+use Rattle.taxii_index.proofs.IndexLemmas.{index_yet, index_left}
 use Rattle.taxii_index.proofs.row_index.RowIndex.remove_dates.Goals as goal
 
+pub loop-date-init : goal.loop-date-init
+loop-date-init c = λ index. index_yet c.args.rows.now c.args.self.now index
+
+pub loop-date-preserved : goal.loop-date-preserved
+loop-date-preserved c = λ index.
+    let dates = c.args.dates.now in
+    let i = c.loop-date.date-index in
+    subst (λ (gone : List ℕ). IsIndexBut gone c.args.rows.now c.remove_date.new.self) (sym (take_more dates i _ c.loop-date-test.true)) (c.remove_date.ensures (take i dates) (c.loop-date.invariant index))
+
 pub returns : goal.returns
-returns c = λ rows index.
-    let dates = c.args.dates.now in record {
-      versions = has_filtered version_key dates rows c.remove_dates.new.self.keys refl (c.remove_dates.ensures (map version_key rows) index.versions);
-      texts = has_filtered text_key dates rows c.remove_dates-2.new.self.keys refl (c.remove_dates-2.ensures (map text_key rows) index.texts);
-      bits = All-filter (λ (row : StoredRow). not (is_date_in dates row.date)) (λ (row : StoredRow). IsIn64Bits (version_key row)) rows index.bits;
-    }
+returns c = λ index.
+    let dates = c.args.dates.now in
+    index_left dates c.args.rows.now c.loop-date.self
+    (subst (λ (gone : List ℕ). IsIndexBut gone c.args.rows.now c.loop-date.self) (take_all c.loop-date.date-index dates c.loop-date-test.false) (c.loop-date.invariant index))
