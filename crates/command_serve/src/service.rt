@@ -1,5 +1,6 @@
 ghost use Rattle.std.specs.Prelude.{◌≡◌};
 ghost use Rattle.flow_edges.specs.Faults.{Counted};
+ghost use Rattle.taxii_server.specs.Outside.{link_view};
 ghost use Rattle.command_line.specs.Request.{plain_service};
 ghost use Rattle.command_serve.specs.ServeEndings.{EndsServe, IsEarly, Concludes};
 
@@ -25,7 +26,7 @@ pub fn serve<O: Sink, D: Door, K: Keeper, C: Clock>(
     keeper: &mut K,
     clock: &mut C,
 ) -> ServeEnding
-    ensures ends { EndsServe (λ link. record { left = D.Link.left link; written = D.Link.written link; read_faults = D.Link.Source.faults link; write_faults = D.Link.Sink.faults link })
+    ensures ends { EndsServe (link_view D.Link.left D.Link.began D.Link.written D.Link.Source.faults D.Link.Sink.faults)
         (plain_service request.now)
         (record { door = D.told door.old; kept = K.kept keeper.old; written = O.written output.old; around = record { moments = C.moments clock.old; faults = K.faults keeper.old } })
         (record { door = D.told door.new; kept = K.kept keeper.new; written = O.written output.new; around = record { moments = C.moments clock.new; faults = K.faults keeper.new } })

@@ -52,11 +52,6 @@ outside left began written door kept moments faults = record {
   places = record { door = door; kept = kept; written = written; around = record { moments = moments; faults = faults } };
 }
 
--- what a link tells, from what each of its two sides does
-abbrev pub links : {L : Type 0} → (L → Option (List ℕ)) → (L → Option (List ℕ)) → (L → ℕ) → (L → ℕ) → L → LinkView
-links left written read_faults write_faults link =
-    record { left = left link; written = written link; read_faults = read_faults link; write_faults = write_faults link }
-
 -- the input and the output alone
 abbrev pub streams_of : {L : Type 0} → Outside L → Streams
 streams_of around = streams around.left around.began around.places.written

@@ -3,7 +3,8 @@ ghost use Rattle.flow_edges.specs.Faults.{Counted};
 ghost use Rattle.flow_edges.specs.Streams.{streams};
 ghost use Rattle.command_line.specs.CommandLines.{texts};
 ghost use Rattle.stix_command.specs.Requests.{AskForNoInput, AskToServe};
-ghost use Rattle.stix_command.specs.RunEndings.{status_of, IsReasonOf, EndsRun, ServesNone, WritesReason, Ends, IsDone, outside, links};
+ghost use Rattle.stix_command.specs.RunEndings.{status_of, IsReasonOf, EndsRun, ServesNone, WritesReason, Ends, IsDone, outside};
+ghost use Rattle.taxii_server.specs.Outside.{link_view};
 
 use crate::ending::Ending;
 use command_check::check;
@@ -28,7 +29,7 @@ fn obey<I: Source, O: Sink, D: Door, K: Keeper, C: Clock>(
     keeper: &mut K,
     clock: &mut C,
 ) -> Ending
-    ensures end { EndsRun (links D.Link.left D.Link.written D.Link.Source.faults D.Link.Sink.faults) (texts words.now)
+    ensures end { EndsRun (link_view D.Link.left D.Link.began D.Link.written D.Link.Source.faults D.Link.Sink.faults) (texts words.now)
         (outside (I.left input.old) (I.began input.old) (O.written output.old) (D.told door.old) (K.kept keeper.old) (C.moments clock.old) (K.faults keeper.old))
         (outside (I.left input.new) (I.began input.new) (O.written output.new) (D.told door.new) (K.kept keeper.new) (C.moments clock.new) (K.faults keeper.new)) result }
     ensures unread { (status_of result ≡ 2) ⊎ (status_of result ≡ 3) ⊎ AskForNoInput (texts words.now) → input.new ≡ input.old }
@@ -82,7 +83,7 @@ pub fn run<I: Source, O: Sink, E: Sink, D: Door, K: Keeper, C: Clock>(
     keeper: &mut K,
     clock: &mut C,
 ) -> u8
-    ensures ends { Ends (links D.Link.left D.Link.written D.Link.Source.faults D.Link.Sink.faults) (texts words.now)
+    ensures ends { Ends (link_view D.Link.left D.Link.began D.Link.written D.Link.Source.faults D.Link.Sink.faults) (texts words.now)
         (outside (I.left input.old) (I.began input.old) (O.written output.old) (D.told door.old) (K.kept keeper.old) (C.moments clock.old) (K.faults keeper.old))
         (outside (I.left input.new) (I.began input.new) (O.written output.new) (D.told door.new) (K.kept keeper.new) (C.moments clock.new) (K.faults keeper.new)) result
         (λ reason. WritesReason reason (E.written reasons.old) (E.written reasons.new) (E.faults reasons.old) (E.faults reasons.new)) }

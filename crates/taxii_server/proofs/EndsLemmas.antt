@@ -1,5 +1,5 @@
 -- How a connection ends, after what it has answered so far.
-use Rattle.std.proofs.Common.{◌≡◌, ◌≢◌, ℕ, ◌+◌, List, Bool, true, Option, Some, None, inl, inr, Result, Ok, Err, IsErr, MatchResult, refl, sym, ◌∙◌}
+use Rattle.std.proofs.Common.{◌≡◌, ◌≢◌, ℕ, ◌+◌, List, [], ◌∷◌, ◌++◌, length, length-append, arith, Bool, true, Option, Some, None, inl, inr, Result, Ok, Err, IsErr, MatchResult, refl, sym, ◌∙◌}
 use Rattle.std.proofs.lemmas.List.{append-nil}
 use Rattle.flow_edges.specs.Faults.{Rose}
 use Rattle.http_frames.specs.declared.answer.Answer.{Answer}
@@ -10,11 +10,13 @@ use Rattle.taxii_server.specs.declared.link_end.LinkEnd.{LinkEnd}
 use Rattle.taxii_server.specs.declared.link_end.LinkEnd.TheVariants.{Closed, LinkFault}
 use Rattle.taxii_server.specs.declared.pause.Pause.{Pause}
 use Rattle.taxii_server.specs.declared.pause.Pause.TheVariants.{AtEnd, Refused, NoMemory, Failed}
-use Rattle.taxii_server.specs.Connections.{IsFarewell, Ends, Connection, Pass, requests_of}
+use Rattle.taxii_server.specs.Connections.{IsFarewell, Ends, Connection, Pass, Reply, replies_within, RepliesInTime, requests_of}
+use Rattle.taxii_server.specs.declared.connection.TheConstants.{MAX_REQUESTS}
 use Rattle.taxii_server.specs.Outside.{LinkView, Outside}
 use Rattle.taxii_server.specs.inner.Answering.{IsLeave, SaysFarewell, TakesLeave}
-use Rattle.taxii_server.specs.inner.Receiving.{PausesAt}
-use Rattle.taxii_server.proofs.RepliesLemmas.{replies-next, writes-next, end-next, cuts-next}
+use Rattle.taxii_server.specs.inner.Receiving.{PausesAt, IsInTime}
+use Rattle.taxii_server.proofs.RepliesLemmas.{replies-next, replies-count, writes-next, end-next, cuts-next}
+use Rattle.taxii_server.proofs.TakesLemmas.{replies-in-time}
 use Rattle.taxii_server.proofs.SoFarLemmas.{HasAnswered, SoFar, IsNextAnswer, answered-next, next_reply, next_reply-closes}
 
 -- one thing alone
@@ -61,6 +63,13 @@ finishes {rest = rest} {exchanges = exchanges} link link_now farewell end has sa
   has.passes,
 )
 
+-- one reply more is due than requests were answered
+one-more-in-time : (link link_then : LinkView) (exchanges : List Exchange) (reply : Reply) (requests : ℕ) → length exchanges ≡ requests
+    → IsInTime link.left link_then.left link_then.began requests → RepliesInTime link link_then (replies_within MAX_REQUESTS exchanges ++ reply ∷ [])
+one-more-in-time link link_then exchanges reply requests count in_time =
+    let many = length-append (replies_within MAX_REQUESTS exchanges) (reply ∷ []) in
+    replies-in-time link link_then _ requests (omega (arith, many, replies-count MAX_REQUESTS exchanges, count)) in_time
+
 -- ---- at a pause
 
 -- nothing is said: the peer sends no more, or a read failed
@@ -83,13 +92,15 @@ finishes-saying : {T E : Type 0} {config : Config} {before : State} {outside : O
     {outside_now : Outside} {left_now written_now : Option (List ℕ)} (link_then : LinkView) (pause : Pause) (answer : Answer) (last : Result T E) (end : LinkEnd)
     → SoFar config before outside link rest requests now outside_now left_now written_now → link_then.left ≡ left_now
     → IsFarewell rest (Some answer) → SaysFarewell pause (Some answer) written_now link_then.written last → (IsErr last → Rose link.write_faults link_then.write_faults)
+    → IsInTime link.left link_then.left link_then.began requests
     → MatchResult last (λ _. end ≡ Closed requests) (λ _. end ≡ LinkFault requests) → Finishes config before outside link end now outside_now link_then
-finishes-saying {link = link} {requests = requests} link_then pause answer (Ok done) end so_far same farewell (text, its, says) rose is =
+finishes-saying {link = link} {requests = requests} link_then pause answer (Ok done) end so_far same farewell (text, its, says) rose in_time is =
     rw is (finishes link link_then (Some answer) (Closed requests) so_far.answered same refl farewell
     (writes-next _ (record { answer = answer; close = true }) text _ _ _ so_far.writes its says, inl (end-next _ _ so_far.go_on refl)))
-finishes-saying {link = link} {requests = requests} link_then pause answer (Err fault) end so_far same farewell (text, its, part) rose is =
+finishes-saying {link = link} {requests = requests} link_then pause answer (Err fault) end so_far same farewell (text, its, part) rose in_time is =
+    let reply : Reply = record { answer = answer; close = true } in
     rw is (finishes link link_then (Some answer) (LinkFault requests) so_far.answered same refl farewell
-    (inr (rose refl, cuts-next _ (record { answer = answer; close = true }) text _ _ _ so_far.go_on so_far.writes its part)))
+    (inr (rose refl, cuts-next _ reply text _ _ _ so_far.go_on so_far.writes its part, one-more-in-time link link_then so_far.exchanges reply requests so_far.answered.count in_time)))
 
 -- the farewell of a pause
 pub finishes-leave : {T E : Type 0} {config : Config} {before : State} {outside : Outside} {link : LinkView} {rest : List ℕ} {requests : ℕ} {now : State}
@@ -97,16 +108,17 @@ pub finishes-leave : {T E : Type 0} {config : Config} {before : State} {outside 
     → SoFar config before outside link rest requests now outside_now left_now written_now → link_then.left ≡ left_now
     → PausesAt rest left_now link.read_faults link_then.read_faults pause → TakesLeave pause written_now link_then.written last
     → (pause ≢ Failed → (IsErr last → Rose link.write_faults link_then.write_faults))
+    → IsInTime link.left link_then.left link_then.began requests
     → MatchResult last (λ _. end ≡ Closed requests) (λ _. end ≡ LinkFault requests) → Finishes config before outside link end now outside_now link_then
 finishes-leave {config = config} {before = before} {outside = outside} {link = link} {rest = rest} {now = now} {outside_now = outside_now} {left_now = left_now} {written_now = written_now}
-    link_then pause last end so_far same pauses takes rose is = go takes.farewell takes.leave takes.says
+    link_then pause last end so_far same pauses takes rose in_time is = go takes.farewell takes.leave takes.says
   where
     go : (farewell : Option Answer) → IsLeave pause farewell → SaysFarewell pause farewell written_now link_then.written last
         → Finishes config before outside link end now outside_now link_then
     go None leave says = finishes-silently link_then pause last end so_far same pauses says is
     go (Some answer) leave says =
         finishes-saying link_then pause answer last end so_far same (farewell-is rest left_now _ _ pause answer pauses leave) says
-        (rose (λ failed. not-failed pause answer leave failed)) is
+        (rose (λ failed. not-failed pause answer leave failed)) in_time is
 
 -- where the end is no fault, no read failed and no write
 pub quiet-leave : {T E : Type 0} {reads reads_now writes writes_now : ℕ} (pause : Pause) (last : Result T E) (end : LinkEnd) (requests closed : ℕ)
@@ -139,10 +151,14 @@ pub finishes-cut : {E : Type 0} {config : Config} {before : State} {outside : Ou
     {now state_then : State} {outside_now outside_then : Outside} {left_now written_now : Option (List ℕ)} {fault : E} (link_then : LinkView)
     → SoFar config before outside link rest requests now outside_now left_now written_now
     → IsNextAnswer config rest after requests now outside_now written_now (Err fault) state_then outside_then link_then.written
-    → link_then.left ≡ left_now → Rose link.write_faults link_then.write_faults
+    → link_then.left ≡ left_now → Rose link.write_faults link_then.write_faults → IsInTime link.left link_then.left link_then.began requests
     → Finishes config before outside link (LinkFault (requests + 1)) state_then outside_then link_then
-finishes-cut {link = link} {requests = requests} link_then so_far next same rose =
+finishes-cut {link = link} {requests = requests} link_then so_far next same rose in_time =
     let reply = next_reply so_far.exchanges next.answers.exchange in
     let close : reply.close ≡ next.answers.close = next_reply-closes so_far.exchanges so_far.answered.count next in
     finishes link link_then None (LinkFault (requests + 1)) (answered-next so_far.answered next) same refl tt
-    (rw (append-nil, replies-next) (inr (rose, cuts-next _ reply next.answers.text _ _ _ so_far.go_on so_far.writes (rw close next.answers.text_is) next.answers.writes)))
+    (rw (append-nil, replies-next) (inr (
+      rose,
+      cuts-next _ reply next.answers.text _ _ _ so_far.go_on so_far.writes (rw close next.answers.text_is) next.answers.writes,
+      one-more-in-time link link_then so_far.exchanges reply requests so_far.answered.count in_time,
+    )))

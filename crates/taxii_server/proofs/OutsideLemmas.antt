@@ -17,11 +17,11 @@ sink_side {bytes = bytes} {bytes_now = bytes_now} {faults = faults} {faults_now 
 -- and a write what is left, and when the last read began
 pub source_side : {before now : SourceSide} {bytes bytes_now began began_now : Option (List ℕ)} {faults faults_now : ℕ}
     → before ≡ record { left = bytes; began = began; faults = faults } → now ≡ record { left = bytes_now; began = began_now; faults = faults_now } → now ≡ before
-    → (bytes_now ≡ bytes) × (faults_now ≡ faults)
+    → (bytes_now ≡ bytes) × (faults_now ≡ faults) × (began_now ≡ began)
 source_side {bytes = bytes} {bytes_now = bytes_now} {began = began} {began_now = began_now} {faults = faults} {faults_now = faults_now} is is_now same =
     let sides : ◌≡◌ {A = SourceSide} (record { left = bytes_now; began = began_now; faults = faults_now }) (record { left = bytes; began = began; faults = faults })
     = sym is_now ∙ same ∙ is in
-    (ap (λ (side : SourceSide). side.left) sides, ap (λ (side : SourceSide). side.faults) sides)
+    (ap (λ (side : SourceSide). side.left) sides, ap (λ (side : SourceSide). side.faults) sides, ap (λ (side : SourceSide). side.began) sides)
 
 -- ---- moments
 

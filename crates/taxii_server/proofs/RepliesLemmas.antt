@@ -1,5 +1,5 @@
 -- Replies in turn, and one more at the end.
-use Rattle.std.proofs.Common.{◌≡◌, ℕ, ◌+◌, ◌-◌, ◌<◌, List, [], ◌∷◌, ◌++◌, length, true, false, ◌||◌, nat_eq, Option, Some, None, refl, sym, ap, ◌∙◌, arith, append_assoc}
+use Rattle.std.proofs.Common.{◌≡◌, ℕ, suc, ◌+◌, ◌-◌, ◌<◌, List, [], ◌∷◌, ◌++◌, length, true, false, ◌||◌, nat_eq, Option, Some, None, refl, sym, ap, ◌∙◌, arith, append_assoc}
 use Rattle.std.proofs.lemmas.Bool.Decides.{nat_tests}
 use Rattle.std.proofs.lemmas.List.{append-nil}
 use Rattle.flow_edges.specs.Flow.{written_with, WritesPart}
@@ -17,6 +17,10 @@ replies-next left [] e = ap (λ k. reply_within k e ∷ []) (omega arith)
 replies-next left (first ∷ exchanges) e =
     ap (λ (replies : List Reply). reply_within left first ∷ replies) (replies-next (left - 1) exchanges e
     ∙ ap (λ k. replies_within (left - 1) exchanges ++ reply_within k e ∷ []) (omega arith))
+
+pub replies-count : (left : ℕ) (exchanges : List Exchange) → length (replies_within left exchanges) ≡ length exchanges
+replies-count left [] = refl
+replies-count left (first ∷ exchanges) = ap suc (replies-count (left - 1) exchanges)
 
 -- the last reply that may be given
 pub last-within : (most requests : ℕ) → requests < most → nat_eq (most - requests) 1 ≡ nat_eq (requests + 1) most

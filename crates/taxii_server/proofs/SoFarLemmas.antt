@@ -1,7 +1,7 @@
 -- A connection that goes on: what it has answered so far, and how it takes more bytes and answers one request more.
-use Rattle.std.proofs.Common.{◌≡◌, ℕ, ◌+◌, ◌-◌, ◌<◌, List, [], ◌∷◌, ◌++◌, length, map, Bool, true, false, ◌||◌, nat_eq, Option, Result, Ok, refl, sym, ap, ◌∙◌, arith, length-append}
+use Rattle.std.proofs.Common.{◌≡◌, ◌⊎◌, inl, inr, IfSome, ℕ, ◌+◌, ◌-◌, ◌<◌, List, [], ◌∷◌, ◌++◌, length, map, Bool, true, false, ◌||◌, nat_eq, Option, Result, Ok, refl, sym, ap, ◌∙◌, arith, length-append}
 use Rattle.std.proofs.lemmas.Bool.Decides.{nat_tests}
-use Rattle.std.proofs.lemmas.List.{map-append}
+use Rattle.std.proofs.lemmas.List.{map-append, length-map}
 use Rattle.std.proofs.lemmas.List.Elements.{All-nil, All-push}
 use Rattle.http_frames.specs.declared.frame.Frame.TheVariants.{Request as Given}
 use Rattle.http_frames.specs.declared.request.Request.{Request}
@@ -14,11 +14,11 @@ use Rattle.taxii_server.specs.declared.pause.Pause.{Pause}
 use Rattle.taxii_server.specs.Connections.{BeginWith, Reply, is_out_of_memory, replies_within, GoOn, WritesReplies, Pass}
 use Rattle.taxii_server.specs.Outside.{LinkView, Outside, Takes}
 use Rattle.taxii_server.specs.inner.Answering.{Answers}
-use Rattle.taxii_server.specs.inner.Receiving.{Receives}
+use Rattle.taxii_server.specs.inner.Receiving.{Receives, WantedMore, IsInTime}
 use Rattle.taxii_server.proofs.BytesLemmas.{LaterBytesChangeNothing, begin_with-more, begin_with-next}
 use Rattle.taxii_server.proofs.OutsideLemmas.{pass-none, pass-then}
 use Rattle.taxii_server.proofs.RepliesLemmas.{reply_within, replies-next, last-within, go_on-next, writes-none, writes-next}
-use Rattle.taxii_server.proofs.TakesLemmas.{takes-none, takes-then}
+use Rattle.taxii_server.proofs.TakesLemmas.{takes-none, takes-then, still-in-time}
 
 -- ---- what a server did, and one exchange more
 
@@ -89,6 +89,21 @@ so_far-received later so_far received same = record {
   go_on = so_far.go_on;
   writes = rw same so_far.writes;
 }
+
+-- the last read began when only the requests that were answered had come whole
+pub received-in-time : {L : Type 0} {config : Config} {before : State} {outside : Outside} {link : LinkView} {rest : List ℕ} {requests : ℕ} {now : State}
+    {outside_now : Outside} {written_now : Option (List ℕ)} → LaterBytesChangeNothing → (left began : L → Option (List ℕ)) (old new : L)
+    → SoFar config before outside link rest requests now outside_now (left old) written_now
+    → IsInTime link.left (left old) (began old) requests → (new ≡ old) ⊎ IfSome (began new) (WantedMore rest (left old))
+    → IsInTime link.left (left new) (began new) requests
+received-in-time {rest = rest} {requests = requests} later left began old new so_far in_time wanted =
+    still-in-time requests later in_time so_far.answered.takes so_far.answered.begins
+    (length-map so_far.exchanges (λ e. e.request) ∙ so_far.answered.count) (told wanted)
+  where
+    told : (new ≡ old) ⊎ IfSome (began new) (WantedMore rest (left old))
+        → ((left new ≡ left old) × (began new ≡ began old)) ⊎ IfSome (began new) (WantedMore rest (left old))
+    told (inl same) = inl (ap left same, ap began same)
+    told (inr wants) = inr wants
 
 -- ---- one request more
 

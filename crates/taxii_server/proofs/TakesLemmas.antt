@@ -1,5 +1,5 @@
 -- Bytes that are taken from those that are left.
-use Rattle.std.proofs.Common.{◌≡◌, ℕ, ◌-◌, ◌<◌, ◌≤◌, List, [], ◌++◌, length, take, drop, Option, Some, None, Result, Ok, Err, IsErrAnd, refl, sym, ap, ◌∙◌, subst, append_assoc, length-append, arith}
+use Rattle.std.proofs.Common.{◌≡◌, ◌⊎◌, inl, inr, IfSome, ℕ, ◌-◌, ◌<◌, ◌≤◌, List, [], ◌++◌, length, take, drop, Option, Some, None, Result, Ok, Err, IsErrAnd, refl, sym, ap, ◌∙◌, subst, append_assoc, length-append, arith}
 use Rattle.std.proofs.lemmas.List.{append-nil, take-append-drop, length-take-le}
 use Rattle.flow_edges.specs.Flow.{left_after, IsNextOf}
 use Rattle.http_frames.specs.declared.frame.Frame.TheVariants.{More, Refused as Bad}
@@ -9,8 +9,10 @@ use Rattle.http_frames.specs.Frames.{IsFirstFrame}
 use Rattle.taxii_server.specs.declared.connection.TheConstants.{MAX_BODY}
 use Rattle.taxii_server.specs.declared.pause.Pause.{Pause}
 use Rattle.taxii_server.specs.declared.pause.Pause.TheVariants.{AtEnd, Refused, NoMemory, Failed}
-use Rattle.taxii_server.specs.Outside.{Takes}
-use Rattle.taxii_server.specs.inner.Receiving.{Lacks, TakesMore, PausesAt, Receives}
+use Rattle.taxii_server.specs.Connections.{BeginWith, Reply, RepliesInTime}
+use Rattle.taxii_server.specs.Outside.{LinkView, Takes}
+use Rattle.taxii_server.proofs.BytesLemmas.{LaterBytesChangeNothing, begin_with-more}
+use Rattle.taxii_server.specs.inner.Receiving.{Lacks, TakesMore, PausesAt, Receives, WantedMore, IsInTime}
 
 -- none was taken
 pub takes-none : (left now : Option (List ℕ)) → now ≡ left → Takes [] left now
@@ -82,3 +84,58 @@ receives-pause {before = before} {fed = fed} {left = left} {middle = middle} {no
 pub receives-refused : {before fed rest after : List ℕ} {left now : Option (List ℕ)} {faults faults_now : ℕ} {refusal : Refusal}
     → HasTaken before fed left now → IsFirstFrame MAX_BODY fed (Bad refusal) rest → Receives before after left now faults faults_now (Err (Refused refusal))
 receives-refused has first = record { taken = has.taken; takes = has.takes; gives = rw (← has.fed) (first.0, refl) }
+
+-- ---- when the last read began
+
+pub each_told : (began : Option (List ℕ)) {P Q : List ℕ → Type 0} → ((bytes : List ℕ) → P bytes → Q bytes) → IfSome began P → IfSome began Q
+each_told None each told = tt
+each_told (Some bytes) each told = each bytes told
+
+-- all bytes are those taken, and then those left
+takes-all : (taken bytes : List ℕ) (first left : Option (List ℕ)) → Takes taken first left → left ≡ Some bytes → first ≡ Some (taken ++ bytes)
+takes-all taken bytes None left takes is = absurd (cc (takes, is))
+takes-all taken bytes (Some all) left takes is =
+    let same : takes.0 ≡ bytes = cc (takes.2, is) in
+    ap Some (takes.1 ∙ ap (λ (rest : List ℕ). taken ++ rest) same)
+
+-- a read that began behind bytes that want more
+pub wanted-more : {before fed rest : List ℕ} {first left : Option (List ℕ)} → HasTaken before fed first left → IsFirstFrame MAX_BODY fed More rest
+    → (began : Option (List ℕ)) → IfSome began (λ bytes. left ≡ Some bytes) → IfSome began (WantedMore before first)
+wanted-more {fed = fed} {first = first} {left = left} has more began told =
+    let wants : IsFirstFrame MAX_BODY fed More fed = (more.0, refl) in
+    each_told began (λ bytes is. record {
+      early = has.taken;
+      all = takes-all has.taken bytes first left has.takes is;
+      wants = rw (← has.fed) wants;
+    }) told
+
+-- so it began when only the requests that were given before had come whole
+pub still-in-time : {first left left_then began began_then : Option (List ℕ)} {taken rest : List ℕ} {requests : List Request} (given : ℕ)
+    → LaterBytesChangeNothing → IsInTime first left began given → Takes taken first left → BeginWith taken requests rest → length requests ≡ given
+    → ((left_then ≡ left) × (began_then ≡ began)) ⊎ IfSome began_then (WantedMore rest left) → IsInTime first left_then began_then given
+still-in-time {first = first} {left_then = left_then} given later so_far takes begins count (inl same) =
+    rw (same.0, same.1) so_far
+still-in-time {first = first} {left = left} {began_then = began_then} {taken = taken} {rest = rest} {requests = requests} given later so_far takes begins count (inr told) =
+    inr (each_told began_then (λ bytes wanted. (
+      given,
+      omega arith,
+      record {
+        taken = taken ++ wanted.early;
+        all = takes-all taken (wanted.early ++ bytes) first left takes wanted.all ∙ ap Some (sym (append_assoc taken wanted.early bytes));
+        whole = requests;
+        rest = rest ++ wanted.early;
+        begins = begin_with-more later taken wanted.early requests rest begins;
+        wants = wanted.wants;
+        count = count;
+      },
+    )) told)
+
+-- and so before one reply more is due
+pub next-in-time : {first left began : Option (List ℕ)} (given later : ℕ) → given ≤ later → IsInTime first left began given → IsInTime first left began later
+next-in-time given later fewer (inl same) = inl same
+next-in-time {began = began} given later fewer (inr told) = inr (each_told began (λ bytes came. (came.0, omega (arith, came.1, fewer), came.2)) told)
+
+pub replies-in-time : (before now : LinkView) (replies : List Reply) (given : ℕ) → given < length replies → IsInTime before.left now.left now.began given
+    → RepliesInTime before now replies
+replies-in-time before now replies given fewer (inl same) = inl same
+replies-in-time before now replies given fewer (inr told) = inr (each_told now.began (λ bytes came. (came.0, omega (arith, came.1, fewer), came.2)) told)

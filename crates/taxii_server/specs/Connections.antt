@@ -1,5 +1,5 @@
 -- One connection (RFC 9112, sections 9.3 and 9.6): the requests of its bytes, each answered in turn, and how it ends.
-use Rattle.std.specs.Prelude.{◌≡◌, ◌⊎◌, ⊤, ℕ, ◌+◌, ◌-◌, List, [], ◌∷◌, ◌++◌, length, map, Bool, true, false, ◌||◌, if◌then◌else◌, nat_eq, Option, Some, None}
+use Rattle.std.specs.Prelude.{◌≡◌, ◌⊎◌, ⊤, ℕ, ◌+◌, ◌-◌, ◌<◌, List, [], ◌∷◌, ◌++◌, length, map, Bool, true, false, ◌||◌, if◌then◌else◌, nat_eq, Option, Some, None, IfSome}
 use Rattle.flow_edges.specs.Faults.{Rose}
 use Rattle.flow_edges.specs.Flow.{written_with, WritesPart, IsAtEnd}
 use Rattle.http_frames.specs.declared.answer.Answer.{Answer}
@@ -22,6 +22,16 @@ abbrev pub BeginWith : List ℕ → List Request → List ℕ → Type 0
 BeginWith bytes [] rest = rest ≡ bytes
 BeginWith bytes (request ∷ requests) rest =
     (more : List ℕ) × IsFirstFrame MAX_BODY bytes (Given request) more × BeginWith more requests rest
+
+-- when these bytes were left, so many requests had come whole, and more was wanted for the next one
+pub record HadCome (requests : ℕ) (left : Option (List ℕ)) (bytes : List ℕ) : Type 0 where
+  pub taken : List ℕ
+  pub all : left ≡ Some (taken ++ bytes)
+  pub whole : List Request
+  pub rest : List ℕ
+  pub begins : BeginWith taken whole rest
+  pub wants : IsFirstFrame MAX_BODY rest More rest
+  pub count : length whole ≡ requests
 
 -- an answer, and whether it says that the connection ends
 pub record Reply : Type 0 where
@@ -92,6 +102,12 @@ CutsReplies replies before now =
     (whole : List Reply) × (last : Reply) × (middle : Option (List ℕ)) × (text : List ℕ) × (replies ≡ whole ++ (last ∷ []))
     × GoOn whole × WritesReplies whole before middle × IsAnswerText last.answer last.close text × WritesPart text middle now
 
+-- the last read began before the last of these replies was due, as fewer requests had come whole: so each reply is written before more is
+-- read. Where memory is wanting from the start, nothing was read
+abbrev pub RepliesInTime : LinkView → LinkView → List Reply → Type 0
+RepliesInTime before now replies =
+    (now.left ≡ before.left) ⊎ IfSome now.began (λ bytes. (came : ℕ) × (came < length replies) × HadCome came before.left bytes)
+
 -- so a connection ends: by a reply that says so, or at the end of what the peer sends
 abbrev pub IsClosed : LinkView → LinkView → List ℕ → List Reply → Type 0
 IsClosed before now rest replies = WritesReplies replies before.written now.written
@@ -101,7 +117,7 @@ IsClosed before now rest replies = WritesReplies replies before.written now.writ
 abbrev pub IsCut : LinkView → LinkView → List ℕ → List Reply → Type 0
 IsCut before now rest replies =
     (Rose before.read_faults now.read_faults × GoOn replies × IsFirstFrame MAX_BODY rest More rest × WritesReplies replies before.written now.written)
-    ⊎ (Rose before.write_faults now.write_faults × CutsReplies replies before.written now.written)
+    ⊎ (Rose before.write_faults now.write_faults × CutsReplies replies before.written now.written × RepliesInTime before now replies)
 
 -- the connection ended so
 abbrev pub Ends : LinkEnd → LinkView → LinkView → List ℕ → List Exchange → Option Answer → Type 0

@@ -1,12 +1,23 @@
 -- What stands outside of a server: links, the clock, and the keeper's count of faults.
 use Rattle.std.specs.Prelude.{◌≡◌, ℕ, ◌+◌, ◌-◌, ◌^◌, ◌≤◌, List, ◌++◌, length, min, slice_get, Option, Some, None, IfSome, MatchOption}
 
--- what a link tells, and how many of its reads and writes failed
+-- what a link tells, among it what was left when its last read began, and how many of its reads and writes failed
 pub record LinkView : Type 0 where
   pub left : Option (List ℕ)
+  pub began : Option (List ℕ)
   pub written : Option (List ℕ)
   pub read_faults : ℕ
   pub write_faults : ℕ
+
+-- the same, from what each of its two sides tells
+abbrev pub link_view : {L : Type 0} → (L → Option (List ℕ)) → (L → Option (List ℕ)) → (L → Option (List ℕ)) → (L → ℕ) → (L → ℕ) → L → LinkView
+link_view left began written read_faults write_faults link = record {
+  left = left link;
+  began = began link;
+  written = written link;
+  read_faults = read_faults link;
+  write_faults = write_faults link;
+}
 
 -- the moments that the clock will give, and how many calls of the keeper failed
 pub record Outside : Type 0 where

@@ -3,6 +3,7 @@ ghost use Rattle.taxii_store.specs.Agreement.{Agrees};
 ghost use Rattle.taxii_histories.specs.Exchanges.{Exchange};
 ghost use Rattle.taxii_server.specs.declared.link_end.LinkEnd.TheVariants as End;
 ghost use Rattle.taxii_server.specs.Connections.{Connection, Pass, requests_of};
+ghost use Rattle.taxii_server.specs.Outside.{link_view};
 
 use crate::answering::answer;
 use crate::farewell::take_leave;
@@ -20,7 +21,7 @@ pub const MAX_BODY: u64 = 8_388_608;
 /// The most requests that one connection may make.
 pub const MAX_REQUESTS: u64 = 1024;
 
-/// Serves one connection: answers the requests of its bytes in turn. It ends after an answer that says
+/// Serves one connection: answers the requests of its bytes in turn, each before more is read. It ends after an answer that says
 /// so and at the end of what the peer sends, or where the link fails; a request that the end cuts gets
 /// no answer.
 pub fn serve_link<K: Keeper, L: Link, C: Clock>(
@@ -34,8 +35,8 @@ pub fn serve_link<K: Keeper, L: Link, C: Clock>(
     ensures name { (K.kept keeper.new).name ≡ (K.kept keeper.old).name }
     ensures config { server.new.config ≡ server.old.config }
     ensures serves { (exchanges : List Exchange) × Connection server.old.config server.old.state
-        (record { left = L.left link.old; written = L.written link.old; read_faults = L.Source.faults link.old; write_faults = L.Sink.faults link.old })
-        (record { left = L.left link.new; written = L.written link.new; read_faults = L.Source.faults link.new; write_faults = L.Sink.faults link.new })
+        (link_view L.left L.began L.written L.Source.faults L.Sink.faults link.old)
+        (link_view L.left L.began L.written L.Source.faults L.Sink.faults link.new)
         exchanges result server.new.state
         × Pass exchanges (record { moments = C.moments clock.old; faults = K.faults keeper.old }) (record { moments = C.moments clock.new; faults = K.faults keeper.new }) }
     ensures few { requests_of result ≤ MAX_REQUESTS }

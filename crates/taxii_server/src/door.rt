@@ -3,6 +3,7 @@ ghost use Rattle.flow_edges.specs.Faults.{Counted};
 ghost use Rattle.flow_links.specs.Doors.{Stays};
 ghost use Rattle.taxii_store.specs.Agreement.{Agrees};
 ghost use Rattle.taxii_server.specs.Connections.{Pass};
+ghost use Rattle.taxii_server.specs.Outside.{link_view};
 ghost use Rattle.taxii_server.specs.declared.connection.TheConstants.{MAX_REQUESTS};
 ghost use Rattle.taxii_server.specs.inner.Serving.{ServesCaller};
 ghost use Rattle.taxii_server.specs.Serving.{Caller, exchanges_of, HaveConnections, PassThrough, IsWholeOf};
@@ -29,7 +30,7 @@ pub fn serve_door<K: Keeper, D: Door, C: Clock>(
     ensures name { (K.kept keeper.new).name ≡ (K.kept keeper.old).name }
     ensures config { server.new.config ≡ server.old.config }
     ensures serves { (callers : List (Caller D.Link))
-        × HaveConnections (λ link. record { left = D.Link.left link; written = D.Link.written link; read_faults = D.Link.Source.faults link; write_faults = D.Link.Sink.faults link })
+        × HaveConnections (link_view D.Link.left D.Link.began D.Link.written D.Link.Source.faults D.Link.Sink.faults)
         server.old.config server.old.state callers server.new.state
         × Pass (exchanges_of callers) (record { moments = C.moments clock.old; faults = K.faults keeper.old }) (record { moments = C.moments clock.new; faults = K.faults keeper.new })
         × (PassThrough port callers (D.told door.old) (D.told door.new) ⊎ (IsErr result × (callers ≡ []) × Stays (D.told door.old) (D.told door.new)))
@@ -64,7 +65,7 @@ fn serve_caller<K: Keeper, D: Door, C: Clock>(
     ensures agrees { Agrees (K.kept keeper.new) server.new.state.library }
     ensures name { (K.kept keeper.new).name ≡ (K.kept keeper.old).name }
     ensures config { server.new.config ≡ server.old.config }
-    ensures serves { ServesCaller (λ link. record { left = D.Link.left link; written = D.Link.written link; read_faults = D.Link.Source.faults link; write_faults = D.Link.Sink.faults link })
+    ensures serves { ServesCaller (link_view D.Link.left D.Link.began D.Link.written D.Link.Source.faults D.Link.Sink.faults)
         server.old.config server.old.state link
         (record { moments = C.moments clock.old; faults = K.faults keeper.old }) (record { moments = C.moments clock.new; faults = K.faults keeper.new })
         (D.told door.old) (D.told door.new) result server.new.state }

@@ -1,5 +1,5 @@
-ghost use Rattle.std.specs.Prelude.{◌≡◌, ◌≢◌, [], Err, IfOk};
-ghost use Rattle.taxii_server.specs.inner.Receiving.{Receives, TakesMore};
+ghost use Rattle.std.specs.Prelude.{◌≡◌, ◌≢◌, ◌⊎◌, [], Some, Err, IfOk, IfSome};
+ghost use Rattle.taxii_server.specs.inner.Receiving.{Receives, TakesMore, WantedMore};
 
 use crate::connection::MAX_BODY;
 use crate::pause::Pause;
@@ -44,6 +44,7 @@ impl Receiver {
     /// The next request, for which bytes are taken from the link as long as more are wanted.
     pub(crate) fn receive<L: Link>(&mut self, link: &mut L) -> Result<Request, Pause>
         ensures receives { Receives self.old self.new (L.left link.old) (L.left link.new) (L.Source.faults link.old) (L.Source.faults link.new) result }
+        ensures in_time { (link.new ≡ link.old) ⊎ IfSome (L.began link.new) (WantedMore self.old (L.left link.old)) }
         ensures unwritten { L.Source.other link.new ≡ L.Source.other link.old }
         ensures quiet { result ≢ Err Pause.Failed → L.Source.faults link.new ≡ L.Source.faults link.old }
     {
@@ -60,6 +61,7 @@ impl Receiver {
     /// Takes the next bytes of the link, one at least.
     fn take<L: Link>(&mut self, link: &mut L) -> Result<(), Pause>
         ensures takes { TakesMore self.old self.new (L.left link.old) (L.left link.new) (L.Source.faults link.old) (L.Source.faults link.new) result }
+        ensures began { IfSome (L.began link.new) (λ bytes. L.left link.old ≡ Some bytes) }
         ensures unwritten { L.Source.other link.new ≡ L.Source.other link.old }
         ensures quiet { result ≢ Err Pause.Failed → L.Source.faults link.new ≡ L.Source.faults link.old }
     {

@@ -1,5 +1,5 @@
 -- What is received from a link: the next request, or why there is none yet.
-use Rattle.std.specs.Prelude.{◌≡◌, ◌<◌, ⊤, ℕ, List, [], ◌++◌, length, Option, Result, MatchResult}
+use Rattle.std.specs.Prelude.{◌≡◌, ◌⊎◌, ◌<◌, ◌≤◌, ⊤, ℕ, List, [], ◌++◌, length, Option, Some, IfSome, Result, MatchResult}
 use Rattle.flow_edges.specs.Faults.{Rose}
 use Rattle.flow_edges.specs.Flow.{IsAtEnd}
 use Rattle.http_frames.specs.declared.frame.Frame.TheVariants.{More, Request as Given, Refused as Bad}
@@ -8,6 +8,7 @@ use Rattle.http_frames.specs.Frames.{IsFirstFrame}
 use Rattle.taxii_server.specs.declared.connection.TheConstants.{MAX_BODY}
 use Rattle.taxii_server.specs.declared.pause.Pause.{Pause}
 use Rattle.taxii_server.specs.declared.pause.Pause.TheVariants.{AtEnd, Refused, NoMemory, Failed}
+use Rattle.taxii_server.specs.Connections.{HadCome}
 use Rattle.taxii_server.specs.Outside.{Takes}
 
 -- why these bytes give no request, and no more of them are there
@@ -29,6 +30,16 @@ pub record TakesMore {T : Type 0} (before after : List ℕ) (left left_now : Opt
   pub taken : List ℕ
   pub takes : Takes taken left left_now
   pub gives : MatchResult result (λ _. (after ≡ before ++ taken) × (0 < length taken)) (Lacks taken left_now faults faults_now)
+
+-- when these bytes were left, more was wanted behind those that were there before and had been taken since
+pub record WantedMore (before : List ℕ) (left : Option (List ℕ)) (bytes : List ℕ) : Type 0 where
+  pub early : List ℕ
+  pub all : left ≡ Some (early ++ bytes)
+  pub wants : IsFirstFrame MAX_BODY (before ++ early) More (before ++ early)
+
+-- nothing was read, or the last read began when no more requests than these had come whole
+abbrev pub IsInTime : Option (List ℕ) → Option (List ℕ) → Option (List ℕ) → ℕ → Type 0
+IsInTime first left began requests = (left ≡ first) ⊎ IfSome began (λ bytes. (came : ℕ) × (came ≤ requests) × HadCome came first bytes)
 
 -- some bytes were taken, and with those that were there before they give a request, or a pause
 pub record Receives (before after : List ℕ) (left left_now : Option (List ℕ)) (faults faults_now : ℕ) (result : Result Request Pause) : Type 0 where

@@ -1,13 +1,15 @@
-use Rattle.std.proofs.Common.{◌∙◌, refl, arith}
-use Rattle.taxii_server.specs.Outside.{LinkView}
+use Rattle.std.proofs.Common.{◌∙◌, ◌+◌, inl, refl, arith}
+use Rattle.taxii_server.specs.Outside.{LinkView, link_view}
 use Rattle.taxii_server.proofs.EndsLemmas.{finishes-leave, quiet-leave, finishes-answered, finishes-cut}
 use Rattle.taxii_server.proofs.OutsideLemmas.{sink_side, source_side}
-use Rattle.taxii_server.proofs.SoFarLemmas.{IsNextAnswer, so_far-start, so_far-received, so_far-next, few-next}
+use Rattle.taxii_server.proofs.TakesLemmas.{next-in-time}
+use Rattle.taxii_server.proofs.SoFarLemmas.{IsNextAnswer, so_far-start, so_far-received, received-in-time, so_far-next, few-next}
 use Rattle.taxii_server.proofs.connection.serve_link.Goals as goal
 
 pub loop-request-init : goal.loop-request-init
 loop-request-init g c = record {
   so_far = rw c.in-Ok.ensures (so_far-start _ _ _ _);
+  in_time = inl refl;
   few = omega arith;
   agrees = c.requires.agrees;
   name = refl;
@@ -20,17 +22,19 @@ pub returns-in-Err-receive-clause-serves : goal.returns-in-Err-receive-clause-se
 returns-in-Err-receive-clause-serves g c =
     let read = sink_side (g.met.L.Link.unwritten c.loop-request.link) (g.met.L.Link.unwritten c.receive.new.link) c.in-Err-receive.ensures.unwritten in
     let wrote = source_side (g.met.L.Link.unread c.receive.new.link) (g.met.L.Link.unread c.take_leave-in-Err-receive.new.link) c.take_leave-in-Err-receive.ensures.unread in
-    let link : LinkView = record { left = g.L.Source.left c.args.link.now; written = g.L.Sink.written c.args.link.now; read_faults = g.L.Source.faults c.args.link.now; write_faults = g.L.Sink.faults c.args.link.now } in
+    let link : LinkView = link_view g.L.Source.left g.L.Source.began g.L.Sink.written g.L.Source.faults g.L.Sink.faults c.args.link.now in
     let so_far = so_far-received {link = link} c.later_bytes_change_nothing.ensures c.loop-request.invariant.so_far c.in-Err-receive.ensures.receives read.0 in
+    let in_time = received-in-time {link = link} c.later_bytes_change_nothing.ensures g.L.Source.left g.L.Source.began
+    c.loop-request.link c.receive.new.link c.loop-request.invariant.so_far c.loop-request.invariant.in_time c.in-Err-receive.ensures.in_time in
     finishes-leave {link = link} _ c.in-Err-receive.pause c.take_leave-in-Err-receive.result c.after-in-Err-receive.result so_far wrote.0
     (rw (← c.loop-request.invariant.read_faults, wrote.1) c.in-Err-receive.ensures.receives.gives) c.take_leave-in-Err-receive.ensures.leave
-    (λ fine. rw (← c.loop-request.invariant.write_faults, ← read.1) (c.take_leave-in-Err-receive.ensures.causes fine).failed) c.after-in-Err-receive.ensures
+    (λ fine. rw (← c.loop-request.invariant.write_faults, ← read.1) (c.take_leave-in-Err-receive.ensures.causes fine).failed) (rw (wrote.0, wrote.2) in_time) c.after-in-Err-receive.ensures
 
 pub returns-in-Ok-true-clause-serves : goal.returns-in-Ok-true-clause-serves
 returns-in-Ok-true-clause-serves g c =
     let read = sink_side (g.met.L.Link.unwritten c.loop-request.link) (g.met.L.Link.unwritten c.receive.new.link) c.in-Ok-receive.ensures.unwritten in
     let wrote = source_side (g.met.L.Link.unread c.receive.new.link) (g.met.L.Link.unread c.answer.new.link) c.in-Ok-true.ensures.unread in
-    let link : LinkView = record { left = g.L.Source.left c.args.link.now; written = g.L.Sink.written c.args.link.now; read_faults = g.L.Source.faults c.args.link.now; write_faults = g.L.Sink.faults c.args.link.now } in
+    let link : LinkView = link_view g.L.Source.left g.L.Source.began g.L.Sink.written g.L.Source.faults g.L.Sink.faults c.args.link.now in
     let so_far = so_far-received {link = link} c.later_bytes_change_nothing.ensures c.loop-request.invariant.so_far c.in-Ok-receive.ensures.receives read.0 in
     let answers = rw c.loop-request.invariant.config at c.in-Ok-true.ensures.answers in
     finishes-answered {link = link} _ so_far (record { request = c.in-Ok-receive.request; is_last = _; answers = answers; first = c.in-Ok-receive.ensures.receives.gives; last = refl; few = c.loop-request.invariant.few }) wrote.0 c.in-Ok-true.field-0-test
@@ -47,22 +51,27 @@ pub returns-in-Err-answer-clause-serves : goal.returns-in-Err-answer-clause-serv
 returns-in-Err-answer-clause-serves g c =
     let read = sink_side (g.met.L.Link.unwritten c.loop-request.link) (g.met.L.Link.unwritten c.receive.new.link) c.in-Ok-receive.ensures.unwritten in
     let wrote = source_side (g.met.L.Link.unread c.receive.new.link) (g.met.L.Link.unread c.answer.new.link) c.in-Err-answer.ensures.unread in
-    let link : LinkView = record { left = g.L.Source.left c.args.link.now; written = g.L.Sink.written c.args.link.now; read_faults = g.L.Source.faults c.args.link.now; write_faults = g.L.Sink.faults c.args.link.now } in
+    let link : LinkView = link_view g.L.Source.left g.L.Source.began g.L.Sink.written g.L.Source.faults g.L.Sink.faults c.args.link.now in
     let so_far = so_far-received {link = link} c.later_bytes_change_nothing.ensures c.loop-request.invariant.so_far c.in-Ok-receive.ensures.receives read.0 in
     let answers = rw c.loop-request.invariant.config at c.in-Err-answer.ensures.answers in
+    let in_time = received-in-time {link = link} c.later_bytes_change_nothing.ensures g.L.Source.left g.L.Source.began
+    c.loop-request.link c.receive.new.link c.loop-request.invariant.so_far c.loop-request.invariant.in_time c.in-Ok-receive.ensures.in_time in
     finishes-cut {link = link} _ so_far (record { request = c.in-Ok-receive.request; is_last = _; answers = answers; first = c.in-Ok-receive.ensures.receives.gives; last = refl; few = c.loop-request.invariant.few }) wrote.0
-    (rw (← c.loop-request.invariant.write_faults, ← read.1) (c.in-Err-answer.ensures.causes.failed refl))
+    (rw (← c.loop-request.invariant.write_faults, ← read.1) (c.in-Err-answer.ensures.causes.failed refl)) (rw (wrote.0, wrote.2) in_time)
 
 pub loop-request-preserved : goal.loop-request-preserved
 loop-request-preserved g c =
     let read = sink_side (g.met.L.Link.unwritten c.loop-request.link) (g.met.L.Link.unwritten c.receive.new.link) c.in-Ok-receive.ensures.unwritten in
     let wrote = source_side (g.met.L.Link.unread c.receive.new.link) (g.met.L.Link.unread c.answer.new.link) c.in-Ok-false.ensures.unread in
-    let link : LinkView = record { left = g.L.Source.left c.args.link.now; written = g.L.Sink.written c.args.link.now; read_faults = g.L.Source.faults c.args.link.now; write_faults = g.L.Sink.faults c.args.link.now } in
+    let link : LinkView = link_view g.L.Source.left g.L.Source.began g.L.Sink.written g.L.Source.faults g.L.Sink.faults c.args.link.now in
     let so_far = so_far-received {link = link} c.later_bytes_change_nothing.ensures c.loop-request.invariant.so_far c.in-Ok-receive.ensures.receives read.0 in
     let answers = rw c.loop-request.invariant.config at c.in-Ok-false.ensures.answers in
     let next : IsNextAnswer _ _ _ _ _ _ _ _ _ _ _ =
     record { request = c.in-Ok-receive.request; is_last = _; answers = answers; first = c.in-Ok-receive.ensures.receives.gives; last = refl; few = c.loop-request.invariant.few } in
+    let in_time = received-in-time {link = link} c.later_bytes_change_nothing.ensures g.L.Source.left g.L.Source.began
+    c.loop-request.link c.receive.new.link c.loop-request.invariant.so_far c.loop-request.invariant.in_time c.in-Ok-receive.ensures.in_time in
     record {
+      in_time = next-in-time c.loop-request.requests (c.loop-request.requests + 1) (omega arith) (rw (wrote.0, wrote.2) in_time);
       so_far = so_far-next {link = link} _ so_far next wrote.0 c.in-Ok-false.field-0-test;
       few = few-next next c.in-Ok-false.field-0-test;
       agrees = c.in-Ok-false.ensures.agrees;
@@ -76,7 +85,7 @@ pub returns-in-Err-clause-serves : goal.returns-in-Err-clause-serves
 returns-in-Err-clause-serves g c =
     let wrote = source_side (g.met.L.Link.unread c.args.link.now) (g.met.L.Link.unread c.take_leave.new.link) c.take_leave.ensures.unread in
     finishes-leave _ _ c.take_leave.result c.after.result (so_far-start _ _ _ _) wrote.0 tt c.take_leave.ensures.leave
-    (λ fine. (c.take_leave.ensures.causes fine).failed) c.after.ensures
+    (λ fine. (c.take_leave.ensures.causes fine).failed) (inl wrote.0) c.after.ensures
 
 pub returns-in-Err-receive-clause-quiet : goal.returns-in-Err-receive-clause-quiet
 returns-in-Err-receive-clause-quiet g c requests closed =

@@ -1,5 +1,6 @@
 use Rattle.std.proofs.Common.{◌-◌, ◌≡◌, ◌≤◌}
 use Rattle.taxii_store.specs.Agreement.{Agrees}
+use Rattle.taxii_server.specs.Outside.{link_view}
 use Rattle.taxii_server.specs.inner.Serving.{SoFar}
 use Rattle.taxii_server.proofs.door.serve_door.Given as goal
 
@@ -8,7 +9,7 @@ invariant-loop-served g l = record {
   agrees : Agrees (g.K.Keeper.kept l.keeper) l.server.state.library;
   name : (g.K.Keeper.kept l.keeper).name ≡ (g.K.Keeper.kept l.fn.keeper).name;
   config : l.server.config ≡ l.fn.server.config;
-  so_far : SoFar (λ link. record { left = g.D.Link.Source.left link; written = g.D.Link.Sink.written link; read_faults = g.D.Link.Source.faults link; write_faults = g.D.Link.Sink.faults link })
+  so_far : SoFar (link_view g.D.Link.Source.left g.D.Link.Source.began g.D.Link.Sink.written g.D.Link.Source.faults g.D.Link.Sink.faults)
       l.fn.server.config l.fn.server.state l.server.state l.port
       (record { moments = g.C.Clock.moments l.fn.clock; faults = g.K.Keeper.faults l.fn.keeper }) (record { moments = g.C.Clock.moments l.clock; faults = g.K.Keeper.faults l.keeper })
       (g.D.Door.told l.fn.door) (g.D.Door.told l.door) l.served;

@@ -1,9 +1,9 @@
-use Rattle.std.proofs.Common.{◌≡◌, ◌<◌, ◌+◌, List, ℕ, ◌++◌, length, ap, ◌∙◌, arith}
+use Rattle.std.proofs.Common.{rules, inr, ◌≡◌, ◌<◌, ◌+◌, List, ℕ, ◌++◌, length, ap, ◌∙◌, arith}
 use Rattle.http_frames.specs.declared.frame.TheConstants.{MAX_HEAD}
 use Rattle.http_frames.specs.declared.frame.Frame.TheVariants.{More, Refused as Bad}
 use Rattle.http_frames.specs.Frames.{IsFirstFrame}
 use Rattle.taxii_server.specs.declared.connection.TheConstants.{MAX_BODY}
-use Rattle.taxii_server.proofs.TakesLemmas.{fed-falls, receives-pause, receives-refused}
+use Rattle.taxii_server.proofs.TakesLemmas.{fed-falls, receives-pause, receives-refused, wanted-more}
 use Rattle.taxii_server.proofs.receiver.Receiver.receive.Goals as goal
 
 pub loop-request-smaller : goal.loop-request-smaller
@@ -27,3 +27,20 @@ returns-in-Refused-clause-receives g c =
     let first = rw c.in-Refused.is at c.in_ok-request.ensures.first in
     let refused : IsFirstFrame MAX_BODY c.loop-request.self (Bad c.in-Refused.refusal) c.next_request.new.self.fed = rw (← c.self.view_is, ← c.self.invariant.0) first in
     receives-refused {after = c.next_request.new.self.fed} {faults_now = g.L.Source.faults c.loop-request.link} c.loop-request.invariant.taken refused
+
+pub returns-in_err-take-in-More-clause-in_time : goal.returns-in_err-take-in-More-clause-in_time
+returns-in_err-take-in-More-clause-in_time g c =
+    let more = rw c.in-More.is at c.in_ok-request.ensures.first in
+    let more_of : IsFirstFrame MAX_BODY c.loop-request.self More c.next_request.new.self.fed = rw (← c.self.view_is, ← c.self.invariant.0) more in
+    inr (wanted-more c.loop-request.invariant.taken more_of _ c.in_err-take-in-More.ensures.began)
+
+pub loop-request-preserved : goal.loop-request-preserved
+loop-request-preserved g c =
+    let more = rw c.in-More.is at c.in_ok-request.ensures.first in
+    let more_of : IsFirstFrame MAX_BODY c.loop-request.self More c.next_request.new.self.fed = rw (← c.self.view_is, ← c.self.invariant.0) more in
+    record {
+      taken = search rules;
+      unwritten = search rules;
+      in_time = inr (wanted-more c.loop-request.invariant.taken more_of _ c.in_ok-take-in-More.ensures.began);
+      quiet = search rules;
+    }
