@@ -19,7 +19,7 @@ pub returns-in-Ok-Show-clause-end : goal.returns-in-Ok-Show-clause-end
 returns-in-Ok-Show-clause-end g c = record {
   pattern = c.in-Ok-Show.pattern.now;
   command = subst (λ (r : Request). IsCommandLine (texts c.args.words.now) (plain_request r)) c.in-Ok-Show.field-0-is c.in-Ok-Show.ensures.ok;
-  show_ends = c.show.ensures.end (g.I.Source.left c.args.input.now);
+  show_ends = c.show.ensures.end (g.I.Source.left c.args.input.now) (g.I.Source.began c.args.input.now);
   unread = refl;
 }
 
