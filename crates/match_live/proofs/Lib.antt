@@ -20,3 +20,4 @@ pub mod WantedLemmas
 pub mod TotalLemmas
 pub mod AdmitLemmas
 pub mod OverLemmas
+pub mod PassLemmas

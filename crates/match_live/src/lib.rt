@@ -8,6 +8,7 @@
 #![tactic(auto)]
 
 mod ending;
+mod expired;
 mod join;
 pub mod laws;
 mod lead;

@@ -1,4 +1,4 @@
-ghost use Rattle.std.specs.Prelude.{◌≡◌, ◌<◌, ◌+◌, ◌^◌, ◌↔◌, ◌≤ℤ◌, ◌<ℤ◌, ℕ, ℤ, Some, None, Err, List, [], map, IfOk};
+ghost use Rattle.std.specs.Prelude.{◌≡◌, ◌<◌, ◌≤◌, ◌+◌, ◌++◌, ◌^◌, ◌↔◌, ◌≤ℤ◌, ◌<ℤ◌, ℕ, ℤ, Some, None, Err, List, [], map, IfOk, OnOk};
 ghost use Rattle.pattern_types.specs.Leaves.{leaves};
 ghost use Rattle.match_bindings.specs.declared.log_entry.LogEntry.{LogEntry};
 ghost use Rattle.match_bindings.specs.BindTree.{tree_of};
@@ -7,7 +7,9 @@ ghost use Rattle.match_live.specs.declared.ending.Ending.{Ending};
 ghost use Rattle.match_live.specs.declared.ending.Ending.TheVariants as ending;
 ghost use Rattle.match_live.specs.declared.ending.MatchRefusal.TheVariants as refusal;
 ghost use Rattle.match_live.specs.MatcherState.{StandsFor, with_row};
-ghost use Rattle.match_live.specs.Answer.{AnswersRow, IsCrowdedAtRow};
+ghost use Rattle.match_live.specs.Answer.{AnswersRow, IsCrowdedAtRow, AnswersAfter};
+ghost use Rattle.match_live.specs.Passing.{GoesOnQuietly, no_answers};
+ghost use Rattle.match_bindings.specs.NumberedPattern.{numbered_pattern};
 ghost use Rattle.match_live.specs.RowNumbers.{AreKept};
 
 use crate::node::empty_node;
@@ -104,6 +106,37 @@ impl<'p> Matcher<'p> {
         }
         match self.run.take(first, last, truths) {
             Ok(binds) => Ok(binds),
+            Err(ending) => {
+                self.ended = Some(ending.copied());
+                Err(MatchRefusal::Stopped(ending))
+            }
+        }
+    }
+
+    /// Takes the next rows of a log, so many at once, at which no bracket of the pattern holds; the last of
+    /// them has this last time. That is what as many calls of `take` without truths would do: nothing ends
+    /// at these rows. It costs one look at each store, and takes no memory.
+    pub fn pass(&mut self, rows: u64, last: Instant) -> Result<(), MatchRefusal>
+        requires some { 1 ≤ rows }
+        requires room { self.old.ended ≡ None → self.old.rows + rows < 2 ^ 64 }
+        ensures stands { (log quiet : List LogEntry) → StandsFor self.old log → GoesOnQuietly log quiet rows last
+            → OnOk result (StandsFor self.new (log ++ quiet)) }
+        ensures nothing_ends { (log quiet : List LogEntry) → StandsFor self.old log → GoesOnQuietly log quiet rows last
+            → OnOk result (AnswersAfter (numbered_pattern self.old.pattern) log quiet (no_answers quiet)) }
+        ensures out_of_order { (before now : ℤ) → (result ≡ Err (refusal.Stopped (ending.OutOfOrder before now)))
+            ↔ ((self.old.ended ≡ None) × (self.old.last ≡ Some before) × (now ≡ last) × (now <ℤ before)) }
+        ensures stopped { (ending : Ending) → result ≡ Err (refusal.Stopped ending) → (self.old.ended ≡ None) × (self.new.ended ≡ Some ending) }
+        ensures ended { (ending : Ending) → (result ≡ Err (refusal.Ended ending)) ↔ (self.old.ended ≡ Some ending) }
+        ensures unchanged { (ending : Ending) → self.old.ended ≡ Some ending → self.new ≡ self.old }
+        ensures kept { (self.new.pattern ≡ self.old.pattern) × (self.new.cap ≡ self.old.cap) }
+    {
+        laws::test_is_the_rule();
+        laws::sorted_bindings_rise();
+        if let Some(ending) = &self.ended {
+            return Err(MatchRefusal::Ended(ending.copied()));
+        }
+        match self.run.pass(rows, last) {
+            Ok(()) => Ok(()),
             Err(ending) => {
                 self.ended = Some(ending.copied());
                 Err(MatchRefusal::Stopped(ending))

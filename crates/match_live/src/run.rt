@@ -7,6 +7,7 @@ ghost use Rattle.match_live.specs.inner.Pieces.{piece_trees};
 ghost use Rattle.match_live.specs.declared.stop.Stop.TheVariants as stop;
 
 use crate::Ending;
+use crate::expired::expire;
 use crate::node::{Node, step};
 use crate::piece::Piece;
 use crate::room::Room;
@@ -28,7 +29,7 @@ pub(crate) struct Run {
 }
 
 impl Run {
-    ghost use Rattle.match_live.specs.inner.Runs.{next_row, AreSteps, TookRow, IsOver};
+    ghost use Rattle.match_live.specs.inner.Runs.{next_row, AreSteps, TookRow, IsOver, Passed};
 
     /// Takes a row, and gives the binds that end there.
     pub fn take(
@@ -70,6 +71,28 @@ impl Run {
             }),
             Err(Stop::OutOfMemory) => Err(Ending::NoMemory),
         }
+    }
+
+    /// Takes so many rows at which nothing holds, the last of which has this last time. Takes no memory.
+    pub fn pass(&mut self, rows: u64, last: Instant) -> Result<(), Ending>
+        requires { self.old.rows + rows < 2 ^ 64 }
+        ensures out_of_order { (before now : ℤ) → (result ≡ Err (ending.OutOfOrder before now))
+            ↔ ((self.old.last ≡ Some before) × (now ≡ last) × (now <ℤ before)) }
+        ensures passed { OnOk result (Passed self.old self.new rows last) }
+        ensures cap { self.new.cap ≡ self.old.cap }
+    {
+        if let Some(before) = self.last {
+            if last < before {
+                return Err(Ending::OutOfOrder {
+                    last: before,
+                    now: last,
+                });
+            }
+        }
+        expire(&mut self.node, last);
+        self.rows += rows;
+        self.last = Some(last);
+        Ok(())
     }
 
     /// The binds that end at a row, unless more is live after it than the cap allows.

@@ -42,6 +42,14 @@ impl Sides {
         }
     }
 
+    /// Takes out what has expired. Takes no memory.
+    pub fn clear(&mut self, now: Instant)
+        ensures { side_stores self.new ≡ sides_kept now (side_stores self.old) }
+    {
+        self.left.expire(&self.left_window, now);
+        self.right.expire(&self.right_window, now);
+    }
+
     /// Takes out what has expired, and counts what is left.
     pub fn expire(&mut self, now: Instant, room: &mut Room) -> Result<(), Stop>
         ensures kept { OnOk result (side_stores self.new ≡ sides_kept now (side_stores self.old)) }

@@ -8,7 +8,8 @@ use Rattle.match_live.specs.declared.row.Row.{Row}
 use Rattle.match_live.specs.declared.run.Run.{Run}
 use Rattle.match_live.specs.PieceTree.{trees_in}
 use Rattle.match_live.specs.LivePart.{held_count}
-use Rattle.match_live.specs.inner.Steps.{step_new, step_state, contents_of}
+use Rattle.match_live.specs.MatcherState.{Falls}
+use Rattle.match_live.specs.inner.Steps.{step_new, step_state, expired, contents_of}
 use Rattle.match_live.specs.inner.Totals.{Admits}
 use Rattle.match_live.specs.inner.Nodes.{state_of}
 
@@ -36,3 +37,10 @@ pub record TookRow (old new : Run) (row : Row) (truths : List Bool) : Type 0 whe
 -- more is live after a row than the cap allows
 abbrev pub IsOver : Run → Row → List Bool → Type 0
 IsOver run row truths = Admits row truths (state_of run.node) → run.cap < live_after run row truths
+
+-- a run took so many rows at which nothing holds
+pub record Passed (old new : Run) (rows : ℕ) (last : ℤ) : Type 0 where
+  pub rows_are : new.rows ≡ old.rows + rows
+  pub last_is : new.last ≡ Some last
+  pub node : state_of new.node ≡ expired last (state_of old.node)
+  pub order : ¬ (Falls old.last last)

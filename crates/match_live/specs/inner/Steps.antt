@@ -185,3 +185,11 @@ contents_of (a_join j l r sides) = sides.left ∷ sides.right ∷ (contents_of l
 contents_of (a_choice l r) = contents_of l ++ contents_of r
 contents_of (a_limit part) = contents_of part
 contents_of (a_chain part count window levels) = levels ++ contents_of part
+
+-- what is kept of it at a time
+abbrev pub expired : ℤ → State → State
+expired now (a_leaf leaf window) = a_leaf leaf window
+expired now (a_join j l r sides) = a_join j (expired now l) (expired now r) (sides_kept now sides)
+expired now (a_choice l r) = a_choice (expired now l) (expired now r)
+expired now (a_limit part) = a_limit (expired now part)
+expired now (a_chain part count window levels) = a_chain (expired now part) count window (map (kept window now) levels)
