@@ -7,10 +7,9 @@ ghost use Rattle.taxii_statuses.specs.Statuses.{body_of};
 ghost use Rattle.taxii_resources.specs.Finding.{allowed_of, Names, NamesRowOf, IsFound};
 
 use http_frames::Allow;
-use stix_ids::is_text_of;
+use stix_ids::Parts;
 use taxii_requests::{Config, Rights};
 use taxii_routes::Route;
-use taxii_rows::StoredRow;
 use taxii_state::State;
 use taxii_statuses::Statuses;
 use taxii_store::Library;
@@ -85,7 +84,7 @@ fn rights_to_object(
         × (rights ≡ rights_of info) × NamesRowOf object.now info.id library.now.rows) result }
 {
     let info = config.collection(collection)?;
-    if has_row(library.rows(), info.id, object) {
+    if has_row(library, info.id, object) {
         Some(Rights::of(info))
     } else {
         None
@@ -93,14 +92,11 @@ fn rights_to_object(
 }
 
 /// Whether one of the rows is of the collection, and the text is its identifier.
-fn has_row(rows: &[StoredRow], collection: u128, object: &str) -> bool
-    ensures { IsTrue result ↔ NamesRowOf object.now collection rows.now }
+fn has_row(library: &Library, collection: u128, object: &str) -> bool
+    ensures { IsTrue result ↔ NamesRowOf object.now collection library.now.rows }
 {
-    rows.iter().any(|row| is_row_named(row, collection, object))
-}
-
-fn is_row_named(row: &StoredRow, collection: u128, object: &str) -> bool
-    ensures { IsTrue result ↔ ((row.now.collection ≡ collection) × IsTextOf object.now row.now.id) }
-{
-    row.collection == collection && is_text_of(&row.id, object)
+    match Parts::read(object) {
+        Ok(parts) => library.has_object(collection, parts.number, parts.kind),
+        Err(_) => false,
+    }
 }

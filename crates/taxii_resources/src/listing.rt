@@ -16,12 +16,12 @@ use taxii_routes::Query;
 use taxii_store::Library;
 
 /// A page of objects.
-pub(crate) fn list_objects(
+pub(crate) fn list_objects<'a>(
     alloc: Global,
-    library: &Library,
+    library: &'a Library,
     collection: u128,
-    only: Option<&Id>,
-    query: &Query,
+    only: Option<&'a Id>,
+    query: &'a Query,
 ) -> Result<Answer, NoMemory>
     ensures { IfOk result (IsPageOf library.now.rows collection (option_map (λ id. id.now) only.entry) query.now IsEnvelope) }
 {
@@ -31,11 +31,11 @@ pub(crate) fn list_objects(
 }
 
 /// A page of a manifest.
-pub(crate) fn list_manifest(
+pub(crate) fn list_manifest<'a>(
     alloc: Global,
-    library: &Library,
+    library: &'a Library,
     collection: u128,
-    query: &Query,
+    query: &'a Query,
 ) -> Result<Answer, NoMemory>
     ensures { IfOk result (IsPageOf library.now.rows collection None query.now IsManifest) }
 {
@@ -48,12 +48,12 @@ pub(crate) fn list_manifest(
 }
 
 /// A page of the versions of an object.
-pub(crate) fn list_versions(
+pub(crate) fn list_versions<'a>(
     alloc: Global,
-    library: &Library,
+    library: &'a Library,
     collection: u128,
-    only: Option<&Id>,
-    query: &Query,
+    only: Option<&'a Id>,
+    query: &'a Query,
 ) -> Result<Answer, NoMemory>
     ensures { IfOk result (IsPageOf library.now.rows collection (option_map (λ id. id.now) only.entry) query.now AreVersions) }
 {
