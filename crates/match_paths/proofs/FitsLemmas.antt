@@ -17,11 +17,6 @@ ordered_rest d ds all k e inside = all (suc k) e (omega (arith, inside))
 pub ordered_others : (row : List Json) (first : Json) (others : List Json) → row ≡ first ∷ others → All IsOrdered (data_in row) → All IsOrdered (data_in others)
 ordered_others row first others is all = ordered_rest (data_of first) (data_in others) (subst (λ (r : List Json). All IsOrdered (data_in r)) is all)
 
-pub ordered_first : (row : List Json) (first : Json) (others : List Json) → row ≡ first ∷ others → All IsOrdered (data_in row) → IsOrdered (data_of first)
-ordered_first row first others is all =
-    let all_of : All IsOrdered (data_of first ∷ data_in others) = subst (λ (r : List Json). All IsOrdered (data_in r)) is all in
-    all_of 0 (data_of first) (omega arith)
-
 pub fits_others : (frame : Frame) (frames : List Frame) (first : Json) (others : Bor (List Json)) → frame.values.now ≡ first ∷ others.now
     → Fits (frame ∷ frames) → Fits (with_values frame others ∷ frames)
 fits_others frame frames first others row fits = (fits.0, ordered_others frame.values.now first others.now row fits.1, fits.2)
@@ -40,14 +35,6 @@ at_least_two (step ∷ steps) = omega (arith, at_least_two steps)
 
 one_fewer : (count room : ℕ) → suc count * room ≡ count * room + room
 one_fewer count room = grind arith
-
-pub falls_given : (frame : Frame) (frames : List Frame) (first : Json) (others : Bor (List Json)) → frame.values.now ≡ first ∷ others.now
-    → weight (with_values frame others ∷ frames) < weight (frame ∷ frames)
-falls_given frame frames first others row =
-    let room = weight_of frame.steps.now in
-    let total : length frame.values.now ≡ suc (length others.now) = ap length row in
-    let parts : length frame.values.now * room ≡ length others.now * room + room = ap (λ n. n * room) total ∙ one_fewer (length others.now) room in
-    omega (arith, parts, at_least_two frame.steps.now)
 
 pub falls_below : (frame : Frame) (frames : List Frame) (first : Json) (others : Bor (List Json)) (step : Step) (steps : List Step) (below : Frame)
     → frame.values.now ≡ first ∷ others.now → frame.steps.now ≡ step ∷ steps → below.steps.now ≡ steps → length below.values.now < 2 ^ 64

@@ -18,17 +18,6 @@ use Rattle.match_paths.proofs.OneSelectionLemmas.{one_step, one_found, one_root}
 abbrev pub with_values : Frame → Bor (List Json) → Frame
 with_values frame values = record { last = frame.last; steps = frame.steps; values = values }
 
--- the frame has no value
-pub left_without : (objects : List Data) (frame : Frame) (frames : List Frame) → frame.values.now ≡ []
-    → (values : List Data) → LeftIn objects (frame ∷ frames) values ↔ LeftIn objects frames values
-left_without objects frame frames empty values =
-    let Chosen : List Data → List Json → Type 0 = λ own row. Joined (StepsSelect objects (last_of frame) frame.steps.now) (data_in row) own in (
-      λ left.
-          let own : left.0 ≡ [] = subst (Chosen left.0) empty left.2 in
-          subst (LeftIn objects frames) (sym (left.4 ∙ ap (λ (o : List Data). o ++ left.1) own)) left.3,
-      λ left. ([], values, subst (Chosen []) (sym empty) refl, left, refl),
-    )
-
 -- no step leads on from the first value
 pub left_given : (objects : List Data) (frame : Frame) (frames : List Frame) (first : Json) (others : Bor (List Json))
     → frame.values.now ≡ first ∷ others.now → frame.steps.now ≡ []

@@ -1,11 +1,9 @@
 -- Whether the block whose text a value is stands so, by what it is found to be.
-use Rattle.std.proofs.Common.{◌≡◌, ◌↔◌, ℕ, List, Option, Some, None, Bool, false, IsTrue, sym, subst, ◌∙◌}
+use Rattle.std.proofs.Common.{◌≡◌, ◌↔◌, Option, Some, None, Bool, false, IsTrue, sym, subst, ◌∙◌}
 use Rattle.std.proofs.lemmas.Bool.{false≢true}
 use Rattle.std.proofs.lemmas.Option.{none-some, same_Some}
 use Rattle.serde_json.specs.Data.{Data}
-use Rattle.serde_json.specs.Find.{as_str}
 use Rattle.pattern_cidr.specs.declared.block.Block.{Block}
-use Rattle.pattern_cidr.specs.BlockText.{IsBlockText}
 use Rattle.match_tests.specs.Tests.{IsBlockOf}
 
 -- the value is the text of a block that stands so
@@ -24,11 +22,3 @@ module _ (Stands : Block → Type 0) (value : Data) (found : Option Block) (exac
     λ yes. absurd (false≢true yes),
     λ h. absurd (none-some h.0 (sym is ∙ (exact h.0).1 h.1)),
   )
-
--- the block of a text
-pub block_of_text : (text : List ℕ) (value : Data) (found : Option Block) → Some text ≡ as_str value
-    → ((block : Block) → (found ≡ Some block) ↔ IsBlockText text block) → (block : Block) → (found ≡ Some block) ↔ IsBlockOf value block
-block_of_text text value found is exact block = (
-  λ e. (text, sym is, (exact block).0 e),
-  λ h. (exact block).1 (subst (λ (t : List ℕ). IsBlockText t block) (same_Some h.0 text (sym h.1 ∙ sym is)) h.2),
-)

@@ -96,6 +96,3 @@ one_more_seen observations o roots more are added at = (
     | inr now ↦ inr (subst (λ (it : Observation). Contains it.roots at) now some.2)
   ]),
 )
-
-pub none_seen : (at : ℕ) → Contains {X = ℕ} [] at ↔ IsSomeRoot [] at
-none_seen at = (λ has. absurd (none_in at has), λ some. absurd (none_in some.0 some.1))

@@ -4,16 +4,9 @@ use Rattle.std.proofs.lemmas.Bool.{false≢true}
 use Rattle.std.specs.Prelude.{Contains}
 use Rattle.match_tests.specs.declared.split.Split.{Split}
 use Rattle.match_tests.specs.inner.Splits.{Splits, Adds}
-use Rattle.match_tests.proofs.ContainsLemmas.{none_in, in_more, in_both}
+use Rattle.match_tests.proofs.ContainsLemmas.{in_more, in_both}
 
 module _ (Fact : ℕ → Type 0) where
-  pub none_split : (split : Split) → split.held.items ≡ [] → split.failed.items ≡ [] → Splits Fact [] split
-  none_split split held failed = record {
-    held = λ at has. absurd (none_in at (subst (λ (l : List ℕ). Contains l at) held has));
-    failed = λ at has. absurd (none_in at (subst (λ (l : List ℕ). Contains l at) failed has));
-    all = λ at has. absurd (none_in at has);
-  }
-
   module _ (asked : List ℕ) (x : ℕ) (old new : Split) (splits : Splits Fact asked old) where
     one_held : Fact x → new.held.items ≡ old.held.items ++ x ∷ [] → new.failed.items ≡ old.failed.items → Splits Fact (asked ++ x ∷ []) new
     one_held holds held failed = record {
@@ -141,18 +134,3 @@ module _ (Whole Rest : ℕ → Type 0) (asked : List ℕ) (split : Split) where
     failed = λ at has. let it = still.failed_is at has in (it.0, λ whole. over at (it.1.0 whole));
     all = still.each;
   }
-
--- at the start all that are asked for stand, or fail
-pub all_start : (Whole : ℕ → Type 0) (asked : List ℕ) → StillHeld Whole Whole asked asked []
-all_start Whole asked = record {
-  held_is = λ at has. (has, (λ holds. holds, λ holds. holds));
-  failed_is = λ at has. absurd (none_in at has);
-  each = λ at has. inl has;
-}
-
-pub some_start : (Whole : ℕ → Type 0) (asked : List ℕ) → StillFailed Whole Whole asked [] asked
-some_start Whole asked = record {
-  held_is = λ at has. absurd (none_in at has);
-  failed_is = λ at has. (has, (λ holds. holds, λ holds. holds));
-  each = λ at has. inr has;
-}

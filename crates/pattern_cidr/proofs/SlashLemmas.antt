@@ -20,10 +20,6 @@ no_slash_digits radix (c ∷ digits) small all = (
   no_slash_digits radix digits small all.1,
 )
 
--- texts joined by another byte than a slash
-AllClear : List (List ℕ) → Type 0
-AllClear texts = AllByRecursion HasNoSlash texts
-
 no_slash_joined : (byte : ℕ) (texts : List (List ℕ)) → byte ≢ 47 → AllByRecursion HasNoSlash texts → HasNoSlash (join_with_byte byte texts)
 no_slash_joined byte [] other clear = tt
 no_slash_joined byte (text ∷ []) other clear = clear.0

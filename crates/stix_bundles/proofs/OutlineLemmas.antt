@@ -1,14 +1,14 @@
 -- The outline of a bundle, as the values in it tell it.
-use Rattle.std.proofs.Common.{rules, ◌≡◌, ◌≤◌, List, [], ◌∷◌, length, All, Some, None, IfSome, IfNone, Option, MatchOption, codes, refl, sym, ap, subst, unwrap_or, ◌∙◌}
+use Rattle.std.proofs.Common.{rules, ◌≡◌, ◌≤◌, List, [], ◌∷◌, length, All, Some, None, IfSome, IfNone, Option, refl, sym, ap, subst, unwrap_or, ◌∙◌}
 use Rattle.std.proofs.lemmas.List.{length-map}
 use Rattle.serde_json.specs.Data.{Data, array, Items}
-use Rattle.serde_json.specs.Find.{as_array, get}
+use Rattle.serde_json.specs.Find.{as_array}
 use Rattle.serde_json.specs.View.{items_of}
 use Rattle.stix_json.specs.declared.value.Json.{Json, the_lemmas}
 use Rattle.stix_json.specs.declared.value.Json.TheVariants as json
 use Rattle.stix_json.specs.DataOf.{data_of}
 use Rattle.stix_bundles.specs.Objects.{data_in}
-use Rattle.stix_bundles.specs.Bundle.{listed, IsObject, IsListOf, HasObjects}
+use Rattle.stix_bundles.specs.Bundle.{listed, IsObject, IsListOf}
 use Rattle.stix_bundles.specs.declared.outline.Failure.{Failure}
 use Rattle.stix_bundles.specs.declared.outline.TheConstants.{MAX_OBJECTS}
 use Rattle.stix_bundles.specs.declared.outline.Failure.TheVariants.{NoObject, NoType, NoId, NoList, NoMember}
@@ -55,11 +55,3 @@ pub list_is_well : (value : Data) (members : List Data) → IsListOf value membe
     → IfNone failure (All IsObject members) → IfNone failure ((ms : List Data) × IsListOf value ms × All IsObject ms)
 list_is_well value members list None all = (members, list, all)
 list_is_well value members list (Some failure) all = all
-
--- the list that was taken out of a bundle holds its objects
-pub taken_row : (d : Data) (objects : List Data) → HasObjects d objects → (row : Json) (values : List Json)
-    → get (codes "objects") d ≡ Some (data_of row) → row ≡ json.Array values → HasObjects d (data_in values)
-taken_row d objects has row values got is =
-    let there : IsListOf (data_of row) objects = subst (λ (o : Option Data). MatchOption o (objects ≡ []) (λ value. IsListOf value objects)) got has in
-    let same = list_is_row row values objects is there in
-    subst (λ (o : Option Data). MatchOption o (data_in values ≡ []) (λ value. IsListOf value (data_in values))) (sym got) (subst (IsListOf (data_of row)) same there)
