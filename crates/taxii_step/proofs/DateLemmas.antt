@@ -1,12 +1,17 @@
 -- The dates of an answer are those of rows, none of which is later than the last date there is.
-use Rattle.std.proofs.Common.{ℕ, suc, ◌≤◌, List, [], ◌∷◌, All, Option, Some, None, arith, slice_index_or}
+use Rattle.std.proofs.Common.{ℕ, suc, ◌≤◌, List, [], ◌∷◌, All, Option, Some, None, Result, Ok, Err, IfOk, sym, subst, arith, slice_index_or}
 use Rattle.std.specs.Prelude.{IfSome, Bool}
 use Rattle.std.specs.List.{Contains, last_or}
 use Rattle.std.proofs.lemmas.List.Elements.{All-contains}
 use Rattle.stix_ids.specs.declared.id.Id.{Id}
 use Rattle.http_frames.specs.declared.answer.Answer.{Answer}
 use Rattle.http_frames.specs.declared.answer.TheConstants.{MAX_DATE}
+use Rattle.http_frames.specs.declared.method.Method.{Method}
+use Rattle.http_frames.specs.declared.method.Method.TheVariants.{Get, Head, Post, Delete, Other}
 use Rattle.http_frames.specs.declared.request.Request.{Request}
+use Rattle.taxii_bodies.specs.declared.problem.Problem.{Problem as AnyProblem}
+use Rattle.taxii_requests.specs.declared.refusal.Refusal.{Refusal}
+use Rattle.taxii_requests.specs.declared.refusal.Refusal.TheVariants.{NotAllowed, Problem, NoMemory}
 use Rattle.http_frames.specs.Answers.{HasDates}
 use Rattle.taxii_routes.specs.declared.query.Query.{Query}
 use Rattle.taxii_routes.specs.declared.route.Route.{Route}
@@ -15,9 +20,9 @@ use Rattle.taxii_rows.specs.StoreState.{dates_of}
 use Rattle.taxii_rows.specs.SoundRow.{IsSoundState}
 use Rattle.taxii_walks.specs.Page.{IsPage}
 use Rattle.taxii_requests.specs.declared.config.Config.{Config}
-use Rattle.taxii_requests.specs.Answers.{first_of}
+use Rattle.taxii_requests.specs.Answers.{first_of, answer_to_problem}
 use Rattle.taxii_state.specs.declared.state.State.{State}
-use Rattle.taxii_step.specs.Step.{IsDone}
+use Rattle.taxii_step.specs.Step.{IsDone, IsAnswerTo}
 use Rattle.taxii_step.proofs.AnswerLemmas.{HoldsOfForms, done_holds}
 
 abbrev IsEarly : StoredRow → Type 0
@@ -59,3 +64,20 @@ pub done_dated : PagesAreStored → (config : Config) (before : State) (moment :
     → IsSoundState before.library → IsDone config before moment request route text answer after → HasDates answer
 done_dated stored config before moment request route text answer after sound done =
     done_holds HasDates config before (dated stored before.library.rows (sound_early before sound)) moment request route text answer after done
+
+-- an answer to a refusal has none
+told_dated : (method : Method) (problem : AnyProblem) → HasDates (answer_to_problem method problem)
+told_dated Get problem = record { first = tt; last = tt }
+told_dated Head problem = record { first = tt; last = tt }
+told_dated Post problem = record { first = tt; last = tt }
+told_dated Delete problem = record { first = tt; last = tt }
+told_dated Other problem = record { first = tt; last = tt }
+
+refusal_dated : (method : Method) (refusal : Refusal) (answer : Answer) → IsAnswerTo method refusal answer → HasDates answer
+refusal_dated method (NotAllowed its) answer is = subst HasDates (sym is) (record { first = tt; last = tt })
+refusal_dated method (Problem problem) answer is = subst HasDates (sym is) (told_dated method problem)
+refusal_dated method NoMemory answer is = absurd is
+
+pub refused_dated : {E : Type 0} (method : Method) (refusal : Refusal) (answer : Result Answer E) → IfOk answer (IsAnswerTo method refusal) → IfOk answer HasDates
+refused_dated method refusal (Ok answer) is = refusal_dated method refusal answer is
+refused_dated method refusal (Err error) is = tt

@@ -1,6 +1,6 @@
 use Rattle.std.proofs.Common.{inr}
 use Rattle.taxii_step.proofs.AnswerLemmas.{route_step_no_fault}
-use Rattle.taxii_step.proofs.DateLemmas.{done_dated}
+use Rattle.taxii_step.proofs.DateLemmas.{done_dated, refused_dated}
 use Rattle.taxii_step.proofs.PerformLemmas.{refusal_counted}
 use Rattle.taxii_step.proofs.response.respond_at.Goals as goal
 
@@ -17,3 +17,6 @@ returns-in-Ok-clause-causes g c =
 
 pub returns-in-Err-clause-causes : goal.returns-in-Err-clause-causes
 returns-in-Err-clause-causes g c = refusal_counted c.args.request.now.method c.in-Err.refusal c.answer_to.result _ _ c.answer_to.ensures.ok c.answer_to.ensures.there c.in-Err.ensures.causes
+
+pub returns-in-Err-clause-dates : goal.returns-in-Err-clause-dates
+returns-in-Err-clause-dates g c = refused_dated c.args.request.now.method c.in-Err.refusal c.answer_to.result c.answer_to.ensures.ok
