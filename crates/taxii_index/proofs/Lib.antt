@@ -5,5 +5,5 @@ pub mod RowLemmas
 pub mod NameLemmas
 pub mod IndexLemmas
 pub mod LookUpLemmas
-mod MarkLemmas
+mod HintLemmas
 pub mod GrowthLemmas

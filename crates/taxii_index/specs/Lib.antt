@@ -2,4 +2,4 @@ pub mod Presence
 pub mod Names
 pub mod Keys
 pub mod Index
-pub mod Marks
+pub mod Hints

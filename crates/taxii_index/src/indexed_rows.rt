@@ -8,7 +8,7 @@ ghost use Rattle.taxii_rows.specs.Picking.{IsPicked, IsPickedBy};
 ghost use Rattle.taxii_index.specs.Presence.{is_same as is_present, row_of_same as first_of_same};
 ghost use Rattle.taxii_index.specs.Index.{has_row, key_dates, HasRowOf};
 ghost use Rattle.taxii_index.specs.Names.{id_of};
-ghost use Rattle.taxii_index.specs.Marks.{ComesBefore, IsLaterAt};
+ghost use Rattle.taxii_index.specs.Hints.{ComesBefore, IsLaterAt};
 
 use crate::dates::is_among;
 use crate::keys::Key;

@@ -6,14 +6,14 @@
 #![tactic(auto)]
 
 mod dates;
+mod hinted_rows;
+mod hints;
 mod indexed_rows;
 mod keys;
-mod marked_rows;
-mod marks;
 mod names;
 mod order;
 mod presence;
 mod row_index;
 
+pub use hinted_rows::HintedRows;
 pub use indexed_rows::IndexedRows;
-pub use marked_rows::MarkedRows;

@@ -11,7 +11,7 @@ use crate::moved::{first_date, last_of, move_outcomes, move_rows};
 use crate::{AddOutcome, Library, PlanRefusal, Planned};
 use flow_values::{Items, NoMemory};
 use std::alloc::Global;
-use taxii_index::{IndexedRows, MarkedRows};
+use taxii_index::{HintedRows, IndexedRows};
 use taxii_rows::{Described, LAST_DATE};
 
 /// An addition whose new rows have the dates behind the mark, while it isn't known how many they are.
@@ -132,7 +132,7 @@ impl Draft {
 }
 
 /// The date of the first of the rows of a library that makes the object present.
-fn date_held(rows: &MarkedRows, collection: u128, object: &Described) -> Option<u64>
+fn date_held(rows: &HintedRows, collection: u128, object: &Described) -> Option<u64>
     ensures { result ≡ option_map (λ row. row.date) (row_of_same collection object.now rows.now) }
 {
     let row = rows.row_of_same(collection, object)?;

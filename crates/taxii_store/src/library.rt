@@ -14,7 +14,7 @@ use crate::Planned;
 use std::alloc::Global;
 use std::marker::Model;
 use stix_ids::Pick;
-use taxii_index::MarkedRows;
+use taxii_index::HintedRows;
 use taxii_rows::laws::{later_rows, sound_states};
 use taxii_rows::{Keeper, KeeperRefusal, StoredRow, row_after, row_at};
 
@@ -22,7 +22,7 @@ use taxii_rows::{Keeper, KeeperRefusal, StoredRow, row_after, row_at};
 #[derive(Drop)]
 pub struct Library {
     pub(crate) alloc: Global,
-    pub(crate) rows: MarkedRows,
+    pub(crate) rows: HintedRows,
     pub(crate) mark: u64,
 }
 

@@ -10,7 +10,7 @@ ghost use Rattle.taxii_store.specs.declared.load_refusal.LoadRefusal.TheVariants
 use crate::{Library, LoadRefusal};
 use flow_values::{Items, NoMemory};
 use std::alloc::Global;
-use taxii_index::MarkedRows;
+use taxii_index::HintedRows;
 use taxii_rows::{Keeper, LAST_DATE, StoredRow, is_sound_row};
 
 impl Library {
@@ -28,7 +28,7 @@ impl Library {
         keeper.attach(name)?;
         let mark = keeper.mark()?;
         let found = read_rows(alloc, keeper, mark)?;
-        let mut rows = MarkedRows::new(alloc);
+        let mut rows = HintedRows::new(alloc);
         rows.append(found.into_vec())?;
         Ok(Library { alloc, rows, mark })
     }

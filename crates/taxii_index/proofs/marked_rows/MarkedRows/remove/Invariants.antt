@@ -1,5 +1,0 @@
-use Rattle.std.proofs.Common.{◌≡◌}
-use Rattle.taxii_index.proofs.marked_rows.MarkedRows.remove.Given as goal
-
-abbrev pub invariant-loop-date : goal.invariant-loop-date
-invariant-loop-date l = l.self ≡ l.fn.self

@@ -1,4 +1,0 @@
-use Rattle.taxii_index.proofs.marks.Marks.note.Goals as goal
-
-pub returns : goal.returns
-returns c = λ rows before are. c.note_earlier.ensures rows before (c.note_later.ensures rows before are)

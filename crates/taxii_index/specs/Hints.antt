@@ -1,0 +1,43 @@
+-- What hints tell of rows: which of them is a later or an earlier version of an object. What no hint tells may be so too.
+use Rattle.std.specs.Prelude.{◌≡◌, ◌≢◌, ℕ, List, Bool, true, not, cond, All, map, filter}
+use Rattle.std.specs.List.{Contains}
+use Rattle.taxii_rows.specs.declared.stored_row.StoredRow.{StoredRow}
+use Rattle.taxii_rows.specs.Identity.{is_row_of}
+use Rattle.taxii_index.specs.declared.hints.Hint.{Hint}
+use Rattle.taxii_index.specs.Index.{IsBefore}
+
+-- the row of the date is a later version of the row's object
+pub record IsLaterAt (rows : List StoredRow) (row : StoredRow) (date : ℕ) : Type 0 where
+  pub other : StoredRow
+  pub here : Contains rows other
+  pub its_date : other.date ≡ date
+  pub its : is_row_of row.collection row.id other ≡ true
+  pub later : IsBefore row other
+
+-- the row of the first date is an earlier version of an object than the row of the second
+pub record ComesBefore (rows : List StoredRow) (first second : ℕ) : Type 0 where
+  pub row : StoredRow
+  pub other : StoredRow
+  pub row_here : Contains rows row
+  pub other_here : Contains rows other
+  pub row_date : row.date ≡ first
+  pub other_date : other.date ≡ second
+  pub its : is_row_of row.collection row.id other ≡ true
+  pub before : IsBefore row other
+
+-- what the hint tells is so: of a later version, and of an earlier one, where it names their dates
+pub record IsTrueOf (rows : List StoredRow) (hint : Hint) : Type 0 where
+  pub later : hint.later ≢ 0 → ComesBefore rows hint.date hint.later
+  pub earlier : hint.earlier ≢ 0 → ComesBefore rows hint.earlier hint.date
+
+-- what all the hints tell is so
+abbrev pub AreTrueOf : List StoredRow → List Hint → Type 0
+AreTrueOf rows hints = All (IsTrueOf rows) hints
+
+-- a hint that tells nothing of the rows of those dates
+abbrev pub forgotten : (ℕ → Bool) → Hint → Hint
+forgotten gone hint = record { date = hint.date; later = cond (gone hint.later) 0 hint.later; earlier = cond (gone hint.earlier) 0 hint.earlier }
+
+-- the hints of the other rows, which tell nothing of the rows of those dates
+abbrev pub hints_without : (ℕ → Bool) → List Hint → List Hint
+hints_without gone hints = map (forgotten gone) (filter (λ hint. not (gone hint.date)) hints)

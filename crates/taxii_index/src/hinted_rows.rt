@@ -1,0 +1,180 @@
+ghost use Rattle.std.specs.Prelude.{◌≡◌, ◌↔◌, IsTrue, [], ◌++◌, not, length, take, filter, option_map, true, OnOk, OnErr};
+ghost use Rattle.std.specs.List.{Contains};
+ghost use Rattle.stix_ids.specs.declared.pick.Pick.TheVariants.{Last as LastOne, First as FirstOne};
+ghost use Rattle.taxii_rows.specs.StoreState.{dates_of, RiseFrom};
+ghost use Rattle.taxii_rows.specs.Keeper.{is_date_in};
+ghost use Rattle.taxii_rows.specs.Picking.{IsPicked, IsPickedBy};
+ghost use Rattle.taxii_index.specs.Names.{id_of};
+ghost use Rattle.taxii_index.specs.Index.{HasRowOf};
+ghost use Rattle.taxii_index.specs.Presence.{row_of_same as first_of_same};
+
+use crate::IndexedRows;
+use crate::hints::Hints;
+use flow_values::NoMemory;
+use std::alloc::Global;
+use std::marker::Model;
+use stix_ids::Pick;
+use taxii_rows::{Described, StoredRow};
+
+/// Indexed rows with a hint for each, which tells without a look-up of most old versions that they are
+/// old, and of most later ones that they aren't the first.
+#[derive(Drop)]
+pub struct HintedRows {
+    rows: IndexedRows,
+    hints: Hints,
+}
+
+impl Model for HintedRows {
+    ghost use Rattle.std.specs.Prelude.{List};
+    ghost use Rattle.taxii_rows.specs.declared.stored_row.StoredRow.{StoredRow as Row};
+    ghost use Rattle.taxii_index.specs.Hints.{AreTrueOf};
+
+    ghost Value = { List Row };
+
+    ghost view = { λ store. store.rows };
+
+    ghost invariant = { λ store. AreTrueOf store.rows store.hints.hints.items };
+}
+
+impl HintedRows {
+    /// No rows. Takes no memory.
+    pub fn new(alloc: Global) -> HintedRows
+        ensures { result ≡ [] }
+    {
+        HintedRows {
+            rows: IndexedRows::new(alloc),
+            hints: Hints::new(alloc),
+        }
+    }
+
+    /// The rows, by date.
+    pub fn as_slice(&self) -> &[StoredRow]
+        ensures rows { result.now ≡ self.now }
+        ensures rise { RiseFrom 1 (dates_of self.now) }
+    {
+        self.rows.as_slice()
+    }
+
+    /// Adds rows of later dates. Without memory the rows are as they were.
+    pub fn append(&mut self, rows: Vec<StoredRow>) -> Result<(), NoMemory>
+        requires later { RiseFrom 1 (dates_of (self.old ++ rows.items)) }
+        ensures ok { OnOk result (self.new ≡ self.old ++ rows.items) }
+        ensures err { OnErr result (self.new ≡ self.old) }
+    {
+        let length = self.rows.as_slice().len();
+        self.rows.append(rows)?;
+        let hinted = self.hint_from(length);
+        if hinted.is_err() {
+            self.truncate(length);
+        }
+        hinted
+    }
+
+    /// Gives each row from a place on its hint.
+    fn hint_from(&mut self, first: usize) -> Result<(), NoMemory>
+        ensures { self.new ≡ self.old }
+    {
+        for place in first..self.rows.as_slice().len() {
+            self.hint(place)?;
+        }
+        Ok(())
+    }
+
+    /// Gives the row at the place its hint, and tells its neighbours among the versions of its object.
+    fn hint(&mut self, place: usize) -> Result<(), NoMemory>
+        ensures { self.new ≡ self.old }
+    {
+        let Some(row) = self.rows.as_slice().get(place) else {
+            return Ok(());
+        };
+        let date = row.date;
+        let (earlier, later) = self.rows.neighbours(row);
+        self.hints.push(date)?;
+        self.note(earlier, date);
+        self.note(date, later);
+        Ok(())
+    }
+
+    /// Notes that the row of the second date is a later version than that of the first, where it is.
+    fn note(&mut self, first: u64, second: u64)
+        ensures { self.new ≡ self.old }
+    {
+        if self.rows.comes_before(first, second) {
+            self.hints.note(first, second);
+        }
+    }
+
+    /// Takes the rows behind that many out. Takes no memory, as all below.
+    pub fn truncate(&mut self, length: usize)
+        ensures { self.new ≡ take length self.old }
+    {
+        let gone = match self.rows.as_slice().get(length) {
+            Some(row) => row.date,
+            None => return,
+        };
+        self.hints.forget_from(gone);
+        self.rows.truncate(length);
+    }
+
+    /// Takes the rows of these dates out.
+    pub fn remove(&mut self, dates: &[u64])
+        requires rise { RiseFrom 0 dates.now }
+        ensures { self.new ≡ filter (λ row. not (is_date_in dates.now row.date)) self.old }
+    {
+        for date in dates {
+            self.unlink(*date);
+        }
+        self.hints.forget(dates);
+        self.rows.remove(dates);
+    }
+
+    /// Tells the neighbours of the row of that date of one another.
+    fn unlink(&mut self, date: u64)
+        ensures { self.new ≡ self.old }
+    {
+        if let Some(hint) = self.hints.of(date) {
+            self.note(hint.earlier, hint.later);
+        }
+    }
+
+    /// The first row, by date, that makes the object present in the collection (TAXII 2.1, section
+    /// 5.5): one that tells its version where the object does, and else one that has its text.
+    pub fn row_of_same(&self, collection: u128, object: &Described) -> Option<&StoredRow>
+        ensures { option_map (λ row. row.now) result ≡ first_of_same collection object.now self.now }
+    {
+        self.rows.row_of_same(collection, object)
+    }
+
+    /// Whether one of the rows is of the object that has that number and kind, in the collection.
+    pub fn has_object(&self, collection: u128, number: u128, kind: &str) -> bool
+        ensures { IsTrue result ↔ HasRowOf self.now collection (id_of number kind.now) }
+    {
+        self.rows.has_object(collection, number, kind)
+    }
+
+    /// Whether one of the picks selects the row among the rows of its object.
+    pub fn is_picked(&self, row: &StoredRow, picks: &[Pick]) -> bool
+        ensures { IsTrue result ↔ IsPicked picks.now self.now row.now }
+    {
+        self.rows.is_picked(row, picks)
+    }
+
+    /// Whether the row at a place may be the last version of its object, which costs no look-up: each
+    /// that is the last may be.
+    pub fn may_be_last(&self, place: usize, row: &StoredRow) -> bool
+        requires { Contains self.now row.now }
+        ensures { IsPickedBy LastOne self.now row.now → result ≡ true }
+    {
+        self.rows.as_slice();
+        !self.hints.knows_later(place, row.date)
+    }
+
+    /// Whether the row at a place may be the first version of its object, as above.
+    pub fn may_be_first(&self, place: usize, row: &StoredRow) -> bool
+        requires { Contains self.now row.now }
+        ensures { IsPickedBy FirstOne self.now row.now → result ≡ true }
+    {
+        self.rows.as_slice();
+        !self.hints.knows_earlier(place, row.date)
+    }
+}
