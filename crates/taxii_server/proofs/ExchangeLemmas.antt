@@ -10,6 +10,7 @@ use Rattle.http_frames.specs.declared.status.Status.TheVariants.{InternalServerE
 use Rattle.http_frames.specs.Answers.{IsAnswerText, no_memory_answer}
 use Rattle.taxii_requests.specs.declared.config.Config.{Config}
 use Rattle.taxii_state.specs.declared.state.State.{State}
+use Rattle.taxii_requests.proofs.AnswerLemmas.{told_fault}
 use Rattle.taxii_step.specs.Step.{Step, FailsToKeep}
 use Rattle.taxii_histories.specs.Exchanges.{Course, IsExchange}
 use Rattle.taxii_histories.specs.Exchanges.Course.{Stepped, KeeperFailed, OutOfMemory}
@@ -54,13 +55,13 @@ exchanged-answer law {moment = moment} {outside = outside} {now = now} (inl step
       its = step;
       passes = record { moments = moments-one moment outside.moments now.moments next goes_on; faults = omega (arith, quiet); quiet = λ none. quiet };
     }
-exchanged-answer law {moment = moment} {outside = outside} {now = now} (inr fails) next goes_on tells = record {
+exchanged-answer law {moment = moment} {request = request} {outside = outside} {now = now} (inr fails) next goes_on tells = record {
   course = KeeperFailed;
   memory = refl;
   its = fails;
   passes = record {
     moments = moments-one moment outside.moments now.moments next goes_on;
-    faults = tells.failed (ap (λ (its : Answer). its.status) fails.answer_is);
+    faults = tells.failed (ap (λ (its : Answer). its.status) fails.answer_is ∙ told_fault request.method);
     quiet = λ none. absurd (cc none);
   };
 }
