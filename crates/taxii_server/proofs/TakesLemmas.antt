@@ -44,6 +44,15 @@ pub record HasTaken (before after : List ℕ) (left now : Option (List ℕ)) : T
   pub takes : Takes taken left now
   pub fed : after ≡ before ++ taken
 
+-- and then some more
+pub taken-more : {before fed after : List ℕ} {left middle now : Option (List ℕ)} → HasTaken before fed left middle → (taken : List ℕ) → Takes taken middle now
+    → after ≡ fed ++ taken → HasTaken before after left now
+taken-more {before = before} {left = left} {middle = middle} {now = now} has taken takes is = record {
+  taken = has.taken ++ taken;
+  takes = takes-then has.taken taken left middle now has.takes takes;
+  fed = is ∙ ap (λ (front : List ℕ). front ++ taken) has.fed ∙ append_assoc before has.taken taken;
+}
+
 -- a read that gave at least a byte, where there was room for more, leaves less room
 pub fed-falls : (most : ℕ) (before after taken : List ℕ) → length before < most → after ≡ before ++ taken → 0 < length taken
     → most - length after < most - length before

@@ -1,9 +1,9 @@
-use Rattle.std.proofs.Common.{rules, inr, ◌≡◌, ◌<◌, ◌+◌, List, ℕ, ◌++◌, length, ap, ◌∙◌, arith}
+use Rattle.std.proofs.Common.{inr, ◌≡◌, ◌<◌, ◌+◌, List, ℕ, ◌++◌, length, ap, ◌∙◌, arith}
 use Rattle.http_frames.specs.declared.frame.TheConstants.{MAX_HEAD}
 use Rattle.http_frames.specs.declared.frame.Frame.TheVariants.{More, Refused as Bad}
 use Rattle.http_frames.specs.Frames.{IsFirstFrame}
 use Rattle.taxii_server.specs.declared.connection.TheConstants.{MAX_BODY}
-use Rattle.taxii_server.proofs.TakesLemmas.{fed-falls, receives-pause, receives-refused, wanted-more}
+use Rattle.taxii_server.proofs.TakesLemmas.{fed-falls, receives-pause, receives-refused, taken-more, wanted-more}
 use Rattle.taxii_server.proofs.receiver.Receiver.receive.Goals as goal
 
 pub loop-request-smaller : goal.loop-request-smaller
@@ -38,9 +38,11 @@ pub loop-request-preserved : goal.loop-request-preserved
 loop-request-preserved g c =
     let more = rw c.in-More.is at c.in_ok-request.ensures.first in
     let more_of : IsFirstFrame MAX_BODY c.loop-request.self More c.next_request.new.self.fed = rw (← c.self.view_is, ← c.self.invariant.0) more in
+    let same : c.next_request.new.self.fed ≡ c.loop-request.self = more.1 ∙ c.self.view_is in
+    let takes = c.in_ok-take-in-More.ensures.takes in
     record {
-      taken = search rules;
-      unwritten = search rules;
+      taken = taken-more c.loop-request.invariant.taken takes.taken takes.takes (takes.gives.0 ∙ ap (λ (front : List ℕ). front ++ takes.taken) same);
+      unwritten = c.in_ok-take-in-More.ensures.unwritten ∙ c.loop-request.invariant.unwritten;
       in_time = inr (wanted-more c.loop-request.invariant.taken more_of _ c.in_ok-take-in-More.ensures.began);
-      quiet = search rules;
+      quiet = c.in_ok-take-in-More.ensures.quiet (λ failed. absurd (cc failed)) ∙ c.loop-request.invariant.quiet;
     }
