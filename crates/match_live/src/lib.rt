@@ -3,8 +3,9 @@
 //!
 //! A `Matcher` holds the live part of its pattern alone: what can still become part of a binding by
 //! the windows and the order of the pattern. `Matcher::take` says what it holds after a row, and that
-//! its answer is every binding that ends at the row, each once. The laws say that the answers of the
-//! rows of a log, one after another, are the listing of `match_bindings`.
+//! its answer is every binding that ends at the row, each once; while it works, no more is built than
+//! the cap allows. `Matcher::pass` takes rows at which nothing holds, any number at once. The laws say
+//! that the answers of the rows of a log, one after another, are the listing of `match_bindings`.
 #![tactic(auto)]
 
 mod ending;
