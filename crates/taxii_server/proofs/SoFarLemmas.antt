@@ -97,7 +97,7 @@ pub received-in-time : {L : Type 0} {config : Config} {before : State} {outside 
     → IsInTime link.left (left old) (began old) requests → (new ≡ old) ⊎ IfSome (began new) (WantedMore rest (left old))
     → IsInTime link.left (left new) (began new) requests
 received-in-time {rest = rest} {requests = requests} later left began old new so_far in_time wanted =
-    still-in-time requests later in_time so_far.answered.takes so_far.answered.begins
+    still-in-time so_far.answered.taken rest (map (λ e. e.request) so_far.exchanges) requests later in_time so_far.answered.takes so_far.answered.begins
     (length-map so_far.exchanges (λ e. e.request) ∙ so_far.answered.count) (told wanted)
   where
     told : (new ≡ old) ⊎ IfSome (began new) (WantedMore rest (left old))

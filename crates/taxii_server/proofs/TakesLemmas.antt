@@ -119,12 +119,12 @@ wanted-more {fed = fed} {first = first} {left = left} has more began told =
     }) told
 
 -- so it began when only the requests that were given before had come whole
-pub still-in-time : {first left left_then began began_then : Option (List ℕ)} {taken rest : List ℕ} {requests : List Request} (given : ℕ)
+pub still-in-time : {first left left_then began began_then : Option (List ℕ)} (taken rest : List ℕ) (requests : List Request) (given : ℕ)
     → LaterBytesChangeNothing → IsInTime first left began given → Takes taken first left → BeginWith taken requests rest → length requests ≡ given
     → ((left_then ≡ left) × (began_then ≡ began)) ⊎ IfSome began_then (WantedMore rest left) → IsInTime first left_then began_then given
-still-in-time {first = first} {left_then = left_then} given later so_far takes begins count (inl same) =
+still-in-time {first = first} {left_then = left_then} taken rest requests given later so_far takes begins count (inl same) =
     rw (same.0, same.1) so_far
-still-in-time {first = first} {left = left} {began_then = began_then} {taken = taken} {rest = rest} {requests = requests} given later so_far takes begins count (inr told) =
+still-in-time {first = first} {left = left} {began_then = began_then} taken rest requests given later so_far takes begins count (inr told) =
     inr (each_told began_then (λ bytes wanted. (
       given,
       omega arith,
@@ -140,9 +140,9 @@ still-in-time {first = first} {left = left} {began_then = began_then} {taken = t
     )) told)
 
 -- and so before one reply more is due
-pub next-in-time : {first left began : Option (List ℕ)} (given later : ℕ) → given ≤ later → IsInTime first left began given → IsInTime first left began later
-next-in-time given later fewer (inl same) = inl same
-next-in-time {began = began} given later fewer (inr told) = inr (each_told began (λ bytes came. (came.0, omega (arith, came.1, fewer), came.2)) told)
+pub next-in-time : {first left : Option (List ℕ)} (began : Option (List ℕ)) (given later : ℕ) → given ≤ later → IsInTime first left began given → IsInTime first left began later
+next-in-time began given later fewer (inl same) = inl same
+next-in-time began given later fewer (inr told) = inr (each_told began (λ bytes came. (came.0, omega (arith, came.1, fewer), came.2)) told)
 
 pub replies-in-time : (before now : LinkView) (replies : List Reply) (given : ℕ) → given < length replies → IsInTime before.left now.left now.began given
     → RepliesInTime before now replies

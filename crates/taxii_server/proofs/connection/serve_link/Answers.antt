@@ -71,7 +71,7 @@ loop-request-preserved g c =
     let in_time = received-in-time {link = link} c.later_bytes_change_nothing.ensures g.L.Source.left g.L.Source.began
     c.loop-request.link c.receive.new.link c.loop-request.invariant.so_far c.loop-request.invariant.in_time c.in-Ok-receive.ensures.in_time in
     record {
-      in_time = next-in-time c.loop-request.requests (c.loop-request.requests + 1) (omega arith) (rw (wrote.0, wrote.2) in_time);
+      in_time = next-in-time _ c.loop-request.requests (c.loop-request.requests + 1) (omega arith) (rw (wrote.0, wrote.2) in_time);
       so_far = so_far-next {link = link} _ so_far next wrote.0 c.in-Ok-false.field-0-test;
       few = few-next next c.in-Ok-false.field-0-test;
       agrees = c.in-Ok-false.ensures.agrees;
