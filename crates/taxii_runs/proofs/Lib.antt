@@ -1,0 +1,5 @@
+mod PageLemmas
+mod MarkLemmas
+mod ChainLemmas
+mod NextLemmas
+mod WalkLemmas
