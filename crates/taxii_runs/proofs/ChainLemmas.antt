@@ -8,7 +8,7 @@ use Rattle.taxii_requests.specs.declared.config.Config.{Config}
 use Rattle.taxii_state.specs.declared.state.State.{State}
 use Rattle.taxii_walks.specs.History.{IsDated, Becomes, IsHistory}
 use Rattle.taxii_histories.specs.Exchanges.{Exchange, IsExchange, Follow, HasServed}
-use Rattle.taxii_runs.specs.Runs.{Run, IsRunFrom, GoOn, Round, rounds_of}
+use Rattle.taxii_runs.specs.Runs.{Run, GoOn, Round, rounds_of}
 use Rattle.taxii_runs.specs.Following.{Among}
 use Rattle.taxii_runs.proofs.MarkLemmas.{stays_within}
 
@@ -59,8 +59,7 @@ pub among_chain : (store : StoreState) (some rounds : List Round) → Among some
 among_chain store [] rounds among chain = tt
 among_chain store (round ∷ some) [] among chain = absurd among
 among_chain store (round ∷ some) (first ∷ rounds) (inl (same, among)) (history, ready, chain) =
-    let rest : Chain (found first) some = among_chain (found first) some rounds among chain in
-    (
+    let rest : Chain (found first) some = among_chain (found first) some rounds among chain in (
       subst (λ (r : Round). IsHistory store (found r)) (sym same) history,
       subst IsReady (sym same) ready,
       subst (λ (r : Round). Chain (found r) some) (sym same) rest,
@@ -94,8 +93,7 @@ run_chain laws config before after (e ∷ exchanges) rest each (begins, follow) 
     let goes : IsExchange config e = All-head (IsExchange config) e exchanges each in
     let here : IsOrdered e.before.library = subst IsOrdered (sym library) ordered in
     let chain : Chain e.after.library (map (round_of config) exchanges ++ rest) =
-    run_chain laws config e.after after exchanges rest (All-tail (IsExchange config) e exchanges each) follow (after_exchange laws config e goes here) behind in
-    (
+    run_chain laws config e.after after exchanges rest (All-tail (IsExchange config) e exchanges each) follow (after_exchange laws config e goes here) behind in (
       no_history before.library e.before.library library,
       record { goes = goes; ordered = here },
       chain_before e.before.library e.after.library (map (round_of config) exchanges ++ rest)

@@ -1,5 +1,5 @@
 -- No exchange gives a date past the last one that there is.
-use Rattle.std.proofs.Common.{◌≡◌, inl, inr, ℕ, ◌+◌, ◌≤◌, List, unwrap_or, [], ◌∷◌, ◌++◌, length, Option, Some, None, MatchOption, sym, ap, subst, arith}
+use Rattle.std.proofs.Common.{◌≡◌, inl, inr, ℕ, ◌+◌, ◌≤◌, List, unwrap_or, [], ◌∷◌, ◌++◌, length, Option, Some, None, MatchOption, sym, subst, arith}
 use Rattle.http_frames.specs.declared.answer.Answer.{Answer}
 use Rattle.http_frames.specs.declared.method.Method.{Method}
 use Rattle.http_frames.specs.declared.method.Method.TheVariants.{Get, Head, Post, Delete, Other}
@@ -14,7 +14,7 @@ use Rattle.taxii_rows.specs.Described.{row_of}
 use Rattle.taxii_index.specs.Presence.{row_of_same}
 use Rattle.taxii_store.specs.declared.add_outcome.AddOutcome.{AddOutcome}
 use Rattle.taxii_store.specs.declared.add_outcome.AddOutcome.TheVariants.{Added, Present}
-use Rattle.taxii_store.specs.Addition.{Adds, IsAddition, first_date, mark_after}
+use Rattle.taxii_store.specs.Addition.{Adds, first_date, mark_after}
 use Rattle.taxii_requests.specs.declared.config.Config.{Config}
 use Rattle.taxii_state.specs.declared.state.State.{State}
 use Rattle.taxii_step.specs.Step.{Posts, Deletes, Does, RouteStep, Step}
@@ -39,7 +39,7 @@ adds_within most mark collection date rows (object ∷ objects) outcomes new low
         (λ held. (others : List AddOutcome) × (outcomes ≡ Present held.date ∷ others) × Adds collection date rows objects others new)
         → ((others : List AddOutcome) → Adds collection date rows objects others new → mark_after mark new ≤ most)
         → ((others : List AddOutcome) (more : List StoredRow) → date + length (row ∷ more) ≤ most + 1 → Adds collection (date + 1) (rows ++ row ∷ []) objects others more
-            → mark_after date more ≤ most)
+        → mark_after date more ≤ most)
         → mark_after mark new ≤ most
     next (Some held) (others, out_is, it) again behind = again others it
     next None (others, more, out_is, new_is, it) again behind =

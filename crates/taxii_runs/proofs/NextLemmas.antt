@@ -33,9 +33,12 @@ told_next (Some date) told tail rest long texts same =
     let before = codes "{\"more\":true,\"next\":\"" in
     let end = codes "\"" in
     let text : before ++ (next_text date ++ (end ++ tail)) ≡ before ++ (told ++ rest) =
-    ap (λ (its : List ℕ). before ++ its) (sym (append_assoc (next_text date) end tail)) ∙ sym (append_assoc before (next_text date ++ end) tail) ∙ same in
-    (date, refl, sym (same_letters (next_text date) told (end ++ tail) rest (texts date refl) long
-        (append_cancel_left before (next_text date ++ (end ++ tail)) (told ++ rest) text)))
+    ap (λ (its : List ℕ). before ++ its) (sym (append_assoc (next_text date) end tail)) ∙ sym (append_assoc before (next_text date ++ end) tail) ∙ same in (
+      date,
+      refl,
+      sym (same_letters (next_text date) told (end ++ tail) rest (texts date refl) long
+          (append_cancel_left before (next_text date ++ (end ++ tail)) (told ++ rest) text)),
+    )
 
 pub told_no_more : (next : Option ℕ) (tail rest : List ℕ) → head_text next ++ tail ≡ codes "{\"more\":false" ++ rest → next ≡ None
 told_no_more None tail rest same = refl

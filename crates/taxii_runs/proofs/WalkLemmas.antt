@@ -1,5 +1,5 @@
 -- The fetches of a client are the stops of a walk.
-use Rattle.std.proofs.Common.{◌≡◌, ◌⊎◌, inl, inr, ℕ, ◌^◌, ◌<◌, ◌≤◌, List, [], ◌∷◌, ◌++◌, length, map, Bool, true, false, Option, Some, None, unwrap_or, refl, sym, ap, subst, ◌∙◌, arith}
+use Rattle.std.proofs.Common.{◌≡◌, ◌⊎◌, inl, inr, ℕ, ◌^◌, ◌<◌, ◌≤◌, List, [], ◌∷◌, ◌++◌, map, true, false, Option, Some, None, unwrap_or, refl, sym, ap, subst, ◌∙◌, arith}
 use Rattle.std.specs.Prelude.{codes, IsSomeAnd}
 use Rattle.http_frames.specs.declared.answer.Answer.{Answer}
 use Rattle.taxii_routes.specs.declared.param.Param.TheVariants.{Next}
@@ -12,11 +12,9 @@ use Rattle.taxii_rows.specs.declared.stored_row.TheConstants.{LAST_DATE}
 use Rattle.taxii_rows.specs.StoreState.{StoreState}
 use Rattle.taxii_bodies.specs.Envelope.{next_of, next_text, objects_text, envelope_text}
 use Rattle.taxii_requests.specs.Answers.{page_answer}
-use Rattle.taxii_resources.specs.Reading.{IsPageOf, IsEnvelope}
-use Rattle.taxii_walks.specs.Page.{IsPage}
 use Rattle.taxii_walks.specs.History.{IsHistory}
 use Rattle.taxii_walks.specs.Walk.{Stop, Wanted, IsStop, GoesFrom, last_date}
-use Rattle.taxii_histories.specs.Visits.{AsksForAll, AsksForOne, Asks, answer_at}
+use Rattle.taxii_histories.specs.Visits.{AsksForAll, AsksForOne, answer_at}
 use Rattle.taxii_runs.specs.Runs.{Round}
 use Rattle.taxii_runs.specs.Following.{TellsNext, TellsNoMore, sent, IsFetch, FetchFrom}
 use Rattle.taxii_runs.proofs.PageLemmas.{Laws, IsPaged, paged}
@@ -75,12 +73,14 @@ pub record IsStopOf (wanted : Wanted) (date : Option ℕ) (round : Round) (stop 
 
 stop_with : (wanted : Wanted) (date : Option ℕ) (round : Round) (next : Option (List ℕ)) (fetch : IsFetch wanted next round) → IsReady round → fetch.query.next ≡ date
     → IsPaged wanted.collection wanted.only fetch.query round.exchange → (stop : Stop) × IsStopOf wanted date round stop
-stop_with wanted date round next fetch ready goes page =
-    (record { state = found round; query = fetch.query; page = page.page; more = page.more }, record {
-      its = record { dated = ready.ordered.dated; alike = fetch.alike; goes_on = goes; page = page.page_is };
-      state = refl;
-      answer = page.answer_is ∙ ap (page_answer page.page) page.body_is;
-    })
+stop_with wanted date round next fetch ready goes page = (
+  record { state = found round; query = fetch.query; page = page.page; more = page.more },
+  record {
+    its = record { dated = ready.ordered.dated; alike = fetch.alike; goes_on = goes; page = page.page_is };
+    state = refl;
+    answer = page.answer_is ∙ ap (page_answer page.page) page.body_is;
+  },
+)
 
 stop_of : Laws → (wanted : Wanted) (next : Option (List ℕ)) (date : Option ℕ) (round : Round) (fetch : IsFetch wanted next round) → IsReady round → Means next date
     → (stop : Stop) × IsStopOf wanted date round stop
@@ -121,12 +121,14 @@ is_told read_back wanted next round stop told its ready (long, rest, body) =
     let back = λ (date : ℕ) (is : next_of stop.page stop.more ≡ Some date). read_back date (omega (arith, within date is)) in
     let text = told_next (next_of stop.page stop.more) told (tail_of stop) rest long (λ date is. (back date is).long)
     (body_is wanted next round stop (codes "{\"more\":true,\"next\":\"" ++ (told ++ rest)) its body) in
-    let last = next_is_last stop.page stop.more text.0 text.1 in
-    (text.0, record {
-      more = last.0;
-      last = last.1;
-      means = (text.0, refl, subst (λ (letters : List ℕ). IsNext letters text.0) (sym text.2) (back text.0 text.1));
-    })
+    let last = next_is_last stop.page stop.more text.0 text.1 in (
+      text.0,
+      record {
+        more = last.0;
+        last = last.1;
+        means = (text.0, refl, subst (λ (letters : List ℕ). IsNext letters text.0) (sym text.2) (back text.0 text.1));
+      },
+    )
 
 -- no more was told, and there is none
 is_last : (wanted : Wanted) (next : Option ℕ) (round : Round) (stop : Stop) → IsStopOf wanted next round stop → TellsNoMore round.exchange.answer → stop.more ≡ false
