@@ -1,5 +1,5 @@
 -- What stands around a server when it ends, from what its parts say.
-use Rattle.std.proofs.Common.{◌≡◌, ℕ, List, Option, Some, None, option_map, IfSome, refl, sym, ap, subst, ◌∙◌}
+use Rattle.std.proofs.Common.{◌≡◌, ◌≤◌, ℕ, List, length, Option, Some, None, option_map, IfSome, refl, sym, ap, subst, ◌∙◌}
 use Rattle.flow_edges.specs.Flow.{written_with}
 use Rattle.taxii_rows.specs.StoreState.{StoreState}
 use Rattle.taxii_rows.specs.Keeper.{Kept}
@@ -51,9 +51,9 @@ module _ {L : Type 0} (view : L → LinkView) (service : PlainService) (before a
 
   pub serves-of : (server : Server) (last : State) (callers : List (Caller L)) (kept : Kept) → Begins service kept server → kept.told ≡ before.kept.told
       → after.kept.name ≡ kept.name → HaveConnections view server.config server.state callers last → IfSome after.kept.told (λ its. its ≡ last.library)
-      → Pass (exchanges_of callers) before.around after.around
+      → length callers ≤ service.connections → Pass (exchanges_of callers) before.around after.around
       → (IsDated server.state.library → WalksSkipNoRow server.config (exchanges_of callers)) → Serves view service before after callers
-  serves-of server last callers kept begins same named connections held pass walks =
+  serves-of server last callers kept begins same named connections held few pass walks =
       let store = server.state.library in record {
         config = server.config;
         config_is = begins.config_is;
@@ -65,6 +65,7 @@ module _ {L : Type 0} (view : L → LinkView) (service : PlainService) (before a
         last = last;
         connections = subst (λ (it : StatusesState). HaveConnections view server.config (record { library = store; statuses = it }) callers last) begins.statuses connections;
         kept = held;
+        few = few;
         pass = pass;
         walks = walks (dated store begins.loaded.sound);
       }

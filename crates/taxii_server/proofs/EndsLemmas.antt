@@ -10,7 +10,7 @@ use Rattle.taxii_server.specs.declared.link_end.LinkEnd.{LinkEnd}
 use Rattle.taxii_server.specs.declared.link_end.LinkEnd.TheVariants.{Closed, LinkFault}
 use Rattle.taxii_server.specs.declared.pause.Pause.{Pause}
 use Rattle.taxii_server.specs.declared.pause.Pause.TheVariants.{AtEnd, Refused, NoMemory, Failed}
-use Rattle.taxii_server.specs.Connections.{IsFarewell, Ends, Connection, Pass, Reply, replies_within, RepliesInTime, requests_of}
+use Rattle.taxii_server.specs.Connections.{IsQuiet, IsFarewell, Ends, Connection, Pass, Reply, replies_within, RepliesInTime, requests_of}
 use Rattle.taxii_server.specs.declared.connection.TheConstants.{MAX_REQUESTS}
 use Rattle.taxii_server.specs.Outside.{LinkView, Outside}
 use Rattle.taxii_server.specs.inner.Answering.{IsLeave, SaysFarewell, TakesLeave}
@@ -77,12 +77,13 @@ finishes-silently : {T E : Type 0} {config : Config} {before : State} {outside :
     {outside_now : Outside} {left_now written_now : Option (List ℕ)} (link_then : LinkView) (pause : Pause) (last : Result T E) (end : LinkEnd)
     → SoFar config before outside link rest requests now outside_now left_now written_now → link_then.left ≡ left_now
     → PausesAt rest left_now link.read_faults link_then.read_faults pause → SaysFarewell pause None written_now link_then.written last
+    → ((closed : ℕ) → end ≡ Closed closed → IsQuiet link link_then)
     → MatchResult last (λ _. end ≡ Closed requests) (λ _. end ≡ LinkFault requests) → Finishes config before outside link end now outside_now link_then
-finishes-silently {link = link} {requests = requests} link_then pause (Ok done) end so_far same pauses (silent, why) is =
+finishes-silently {link = link} {requests = requests} link_then pause (Ok done) end so_far same pauses (silent, why) quiet is =
     let at = rw why at pauses in
     rw is (finishes link link_then None (Closed requests) so_far.answered same refl tt
-    (rw (append-nil, silent, same) (so_far.writes, inr (so_far.go_on, at.0, at.1))))
-finishes-silently {link = link} {requests = requests} link_then pause (Err fault) end so_far same pauses (silent, why) is =
+    (quiet requests is, rw (append-nil, silent) so_far.writes, inr (rw append-nil so_far.go_on, at.0, rw same at.1)))
+finishes-silently {link = link} {requests = requests} link_then pause (Err fault) end so_far same pauses (silent, why) quiet is =
     let at = rw why at pauses in
     rw is (finishes link link_then None (LinkFault requests) so_far.answered same refl tt
     (rw (append-nil, silent) (inl (at.1, so_far.go_on, at.0, so_far.writes))))
@@ -92,12 +93,12 @@ finishes-saying : {T E : Type 0} {config : Config} {before : State} {outside : O
     {outside_now : Outside} {left_now written_now : Option (List ℕ)} (link_then : LinkView) (pause : Pause) (answer : Answer) (last : Result T E) (end : LinkEnd)
     → SoFar config before outside link rest requests now outside_now left_now written_now → link_then.left ≡ left_now
     → IsFarewell rest (Some answer) → SaysFarewell pause (Some answer) written_now link_then.written last → (IsErr last → Rose link.write_faults link_then.write_faults)
-    → IsInTime link.left link_then.left link_then.began requests
+    → IsInTime link.left link_then.left link_then.began requests → ((closed : ℕ) → end ≡ Closed closed → IsQuiet link link_then)
     → MatchResult last (λ _. end ≡ Closed requests) (λ _. end ≡ LinkFault requests) → Finishes config before outside link end now outside_now link_then
-finishes-saying {link = link} {requests = requests} link_then pause answer (Ok done) end so_far same farewell (text, its, says) rose in_time is =
+finishes-saying {link = link} {requests = requests} link_then pause answer (Ok done) end so_far same farewell (text, its, says) rose in_time quiet is =
     rw is (finishes link link_then (Some answer) (Closed requests) so_far.answered same refl farewell
-    (writes-next _ (record { answer = answer; close = true }) text _ _ _ so_far.writes its says, inl (end-next _ _ so_far.go_on refl)))
-finishes-saying {link = link} {requests = requests} link_then pause answer (Err fault) end so_far same farewell (text, its, part) rose in_time is =
+    (quiet requests is, writes-next _ (record { answer = answer; close = true }) text _ _ _ so_far.writes its says, inl (end-next _ _ so_far.go_on refl)))
+finishes-saying {link = link} {requests = requests} link_then pause answer (Err fault) end so_far same farewell (text, its, part) rose in_time quiet is =
     let reply : Reply = record { answer = answer; close = true } in
     rw is (finishes link link_then (Some answer) (LinkFault requests) so_far.answered same refl farewell
     (inr (rose refl, cuts-next _ reply text _ _ _ so_far.go_on so_far.writes its part, one-more-in-time link link_then so_far.exchanges reply requests so_far.answered.count in_time)))
@@ -108,17 +109,17 @@ pub finishes-leave : {T E : Type 0} {config : Config} {before : State} {outside 
     → SoFar config before outside link rest requests now outside_now left_now written_now → link_then.left ≡ left_now
     → PausesAt rest left_now link.read_faults link_then.read_faults pause → TakesLeave pause written_now link_then.written last
     → (pause ≢ Failed → (IsErr last → Rose link.write_faults link_then.write_faults))
-    → IsInTime link.left link_then.left link_then.began requests
+    → IsInTime link.left link_then.left link_then.began requests → ((closed : ℕ) → end ≡ Closed closed → IsQuiet link link_then)
     → MatchResult last (λ _. end ≡ Closed requests) (λ _. end ≡ LinkFault requests) → Finishes config before outside link end now outside_now link_then
 finishes-leave {config = config} {before = before} {outside = outside} {link = link} {rest = rest} {now = now} {outside_now = outside_now} {left_now = left_now} {written_now = written_now}
-    link_then pause last end so_far same pauses takes rose in_time is = go takes.farewell takes.leave takes.says
+    link_then pause last end so_far same pauses takes rose in_time quiet is = go takes.farewell takes.leave takes.says
   where
     go : (farewell : Option Answer) → IsLeave pause farewell → SaysFarewell pause farewell written_now link_then.written last
         → Finishes config before outside link end now outside_now link_then
-    go None leave says = finishes-silently link_then pause last end so_far same pauses says is
+    go None leave says = finishes-silently link_then pause last end so_far same pauses says quiet is
     go (Some answer) leave says =
         finishes-saying link_then pause answer last end so_far same (farewell-is rest left_now _ _ pause answer pauses leave) says
-        (rose (λ failed. not-failed pause answer leave failed)) in_time is
+        (rose (λ failed. not-failed pause answer leave failed)) in_time quiet is
 
 -- where the end is no fault, no read failed and no write
 pub quiet-leave : {T E : Type 0} {reads reads_now writes writes_now : ℕ} (pause : Pause) (last : Result T E) (end : LinkEnd) (requests closed : ℕ)
@@ -135,13 +136,14 @@ pub finishes-answered : {E : Type 0} {config : Config} {before : State} {outside
     {now state_then : State} {outside_now outside_then : Outside} {left_now written_now : Option (List ℕ)} {closes : Bool} (link_then : LinkView)
     → SoFar config before outside link rest requests now outside_now left_now written_now
     → IsNextAnswer {E = E} config rest after requests now outside_now written_now (Ok closes) state_then outside_then link_then.written
-    → link_then.left ≡ left_now → closes ≡ true
+    → link_then.left ≡ left_now → closes ≡ true → IsQuiet link link_then
     → Finishes config before outside link (Closed (requests + 1)) state_then outside_then link_then
-finishes-answered {link = link} {requests = requests} link_then so_far next same ends =
+finishes-answered {link = link} {requests = requests} link_then so_far next same ends quiet =
     let reply = next_reply so_far.exchanges next.answers.exchange in
     let close : reply.close ≡ next.answers.close = next_reply-closes so_far.exchanges so_far.answered.count next in
     finishes link link_then None (Closed (requests + 1)) (answered-next so_far.answered next) same refl tt
     (rw (append-nil, replies-next) (
+      quiet,
       writes-next _ reply next.answers.text _ _ _ so_far.writes (rw close next.answers.text_is) next.answers.writes.1,
       inl (end-next _ reply so_far.go_on (close ∙ sym next.answers.writes.0 ∙ ends)),
     ))

@@ -108,9 +108,13 @@ abbrev pub RepliesInTime : LinkView → LinkView → List Reply → Type 0
 RepliesInTime before now replies =
     (now.left ≡ before.left) ⊎ IfSome now.began (λ bytes. (came : ℕ) × (came < length replies) × HadCome came before.left bytes)
 
+-- no read of the link failed, and no write
+abbrev pub IsQuiet : LinkView → LinkView → Type 0
+IsQuiet before now = (now.read_faults ≡ before.read_faults) × (now.write_faults ≡ before.write_faults)
+
 -- so a connection ends: by a reply that says so, or at the end of what the peer sends
 abbrev pub IsClosed : LinkView → LinkView → List ℕ → List Reply → Type 0
-IsClosed before now rest replies = WritesReplies replies before.written now.written
+IsClosed before now rest replies = IsQuiet before now × WritesReplies replies before.written now.written
     × (End replies ⊎ (GoOn replies × IsFirstFrame MAX_BODY rest More rest × IsAtEnd now.left))
 
 -- or a read failed, while more was wanted for the next request, or a write of a reply

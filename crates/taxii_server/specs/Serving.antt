@@ -1,5 +1,5 @@
 -- A server behind its door: callers are served one after the other, each from what the one before left.
-use Rattle.std.specs.Prelude.{◌≡◌, ◌⊎◌, ℕ, ◌≤◌, List, [], ◌∷◌, ◌++◌, length, map, Option, Some, IfSome}
+use Rattle.std.specs.Prelude.{◌≡◌, ◌⊎◌, ℕ, List, [], ◌∷◌, ◌++◌, length, map, Option, Some, IfSome}
 use Rattle.std.specs.List.{flat_map}
 use Rattle.flow_links.specs.Doors.{DoorState, Changes}
 use Rattle.taxii_requests.specs.declared.config.Config.{Config}
@@ -39,4 +39,4 @@ PassThrough port callers before now = Changes (λ state now.
 -- so many callers were served as were asked for, or no further one is to come, as far as the door tells
 abbrev pub IsWholeOf : {L : Type 0} → ℕ → List (Caller L) → Option (DoorState L) → Served → Type 0
 IsWholeOf many callers now served = (served.connections ≡ length callers) × (served.requests ≡ length (exchanges_of callers))
-    × (length callers ≤ many) × ((length callers ≡ many) ⊎ IfSome now (λ state. state.coming ≡ []))
+    × ((length callers ≡ many) ⊎ IfSome now (λ state. state.coming ≡ []))

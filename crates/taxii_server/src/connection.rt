@@ -1,7 +1,6 @@
-ghost use Rattle.std.specs.Prelude.{◌≡◌, ◌≤◌, List, ℕ};
+ghost use Rattle.std.specs.Prelude.{◌≡◌, ◌≤◌, List};
 ghost use Rattle.taxii_store.specs.Agreement.{Agrees};
 ghost use Rattle.taxii_histories.specs.Exchanges.{Exchange};
-ghost use Rattle.taxii_server.specs.declared.link_end.LinkEnd.TheVariants as End;
 ghost use Rattle.taxii_server.specs.Connections.{Connection, Pass, requests_of};
 ghost use Rattle.taxii_server.specs.Outside.{link_view};
 
@@ -40,8 +39,6 @@ pub fn serve_link<K: Keeper, L: Link, C: Clock>(
         exchanges result server.new.state
         × Pass exchanges (record { moments = C.moments clock.old; faults = K.faults keeper.old }) (record { moments = C.moments clock.new; faults = K.faults keeper.new }) }
     ensures few { requests_of result ≤ MAX_REQUESTS }
-    ensures quiet { (requests : ℕ) → result ≡ End.Closed requests
-        → (L.Source.faults link.new ≡ L.Source.faults link.old) × (L.Sink.faults link.new ≡ L.Sink.faults link.old) }
 {
     later_bytes_change_nothing();
     let alloc = server.config.alloc;

@@ -1,4 +1,4 @@
-ghost use Rattle.std.specs.Prelude.{◌≡◌, ◌≤◌, ◌<◌, ◌⊎◌, ◌^◌, [], List, IfOk, IfSome, IsErr};
+ghost use Rattle.std.specs.Prelude.{◌≡◌, ◌≤◌, ◌<◌, ◌⊎◌, ◌^◌, [], List, length, IfOk, IfSome, IsErr};
 ghost use Rattle.flow_edges.specs.Faults.{Counted};
 ghost use Rattle.flow_links.specs.Doors.{Stays};
 ghost use Rattle.taxii_store.specs.Agreement.{Agrees};
@@ -33,6 +33,7 @@ pub fn serve_door<K: Keeper, D: Door, C: Clock>(
         × HaveConnections (link_view D.Link.left D.Link.began D.Link.written D.Link.Source.faults D.Link.Sink.faults)
         server.old.config server.old.state callers server.new.state
         × Pass (exchanges_of callers) (record { moments = C.moments clock.old; faults = K.faults keeper.old }) (record { moments = C.moments clock.new; faults = K.faults keeper.new })
+        × (length callers ≤ connections)
         × (PassThrough port callers (D.told door.old) (D.told door.new) ⊎ (IsErr result × (callers ≡ []) × Stays (D.told door.old) (D.told door.new)))
         × IfOk result (IsWholeOf connections callers (D.told door.new)) }
     ensures causes { Counted (IsErr result) (D.faults door.old) (D.faults door.new) }

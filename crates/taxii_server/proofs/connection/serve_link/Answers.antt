@@ -28,7 +28,13 @@ returns-in-Err-receive-clause-serves g c =
     c.loop-request.link c.receive.new.link c.loop-request.invariant.so_far c.loop-request.invariant.in_time c.in-Err-receive.ensures.in_time in
     finishes-leave {link = link} _ c.in-Err-receive.pause c.take_leave-in-Err-receive.result c.after-in-Err-receive.result so_far wrote.0
     (rw (← c.loop-request.invariant.read_faults, wrote.1) c.in-Err-receive.ensures.receives.gives) c.take_leave-in-Err-receive.ensures.leave
-    (λ fine. rw (← c.loop-request.invariant.write_faults, ← read.1) (c.take_leave-in-Err-receive.ensures.causes fine).failed) (rw (wrote.0, wrote.2) in_time) c.after-in-Err-receive.ensures
+    (λ fine. rw (← c.loop-request.invariant.write_faults, ← read.1) (c.take_leave-in-Err-receive.ensures.causes fine).failed) (rw (wrote.0, wrote.2) in_time)
+    (λ closed is.
+    let quiet = quiet-leave c.in-Err-receive.pause c.take_leave-in-Err-receive.result c.after-in-Err-receive.result _ closed c.after-in-Err-receive.ensures is
+    (λ failed. (c.take_leave-in-Err-receive.ensures.failed failed).0) (λ fine. c.in-Err-receive.ensures.quiet (λ failed. fine (cc failed)))
+    (λ fine. (c.take_leave-in-Err-receive.ensures.causes fine).quiet) in
+    (wrote.1 ∙ quiet.0 ∙ c.loop-request.invariant.read_faults, quiet.1 ∙ read.1 ∙ c.loop-request.invariant.write_faults))
+    c.after-in-Err-receive.ensures
 
 pub returns-in-Ok-true-clause-serves : goal.returns-in-Ok-true-clause-serves
 returns-in-Ok-true-clause-serves g c =
@@ -37,12 +43,7 @@ returns-in-Ok-true-clause-serves g c =
     let link : LinkView = link_view g.L.Source.left g.L.Source.began g.L.Sink.written g.L.Source.faults g.L.Sink.faults c.args.link.now in
     let so_far = so_far-received {link = link} c.later_bytes_change_nothing.ensures c.loop-request.invariant.so_far c.in-Ok-receive.ensures.receives read.0 in
     let answers = rw c.loop-request.invariant.config at c.in-Ok-true.ensures.answers in
-    finishes-answered {link = link} _ so_far (record { request = c.in-Ok-receive.request; is_last = _; answers = answers; first = c.in-Ok-receive.ensures.receives.gives; last = refl; few = c.loop-request.invariant.few }) wrote.0 c.in-Ok-true.field-0-test
-
-pub returns-in-Ok-true-clause-quiet : goal.returns-in-Ok-true-clause-quiet
-returns-in-Ok-true-clause-quiet g c requests is =
-    let read = sink_side (g.met.L.Link.unwritten c.loop-request.link) (g.met.L.Link.unwritten c.receive.new.link) c.in-Ok-receive.ensures.unwritten in
-    let wrote = source_side (g.met.L.Link.unread c.receive.new.link) (g.met.L.Link.unread c.answer.new.link) c.in-Ok-true.ensures.unread in (
+    finishes-answered {link = link} _ so_far (record { request = c.in-Ok-receive.request; is_last = _; answers = answers; first = c.in-Ok-receive.ensures.receives.gives; last = refl; few = c.loop-request.invariant.few }) wrote.0 c.in-Ok-true.field-0-test (
       wrote.1 ∙ c.in-Ok-receive.ensures.quiet (λ failed. absurd (cc failed)) ∙ c.loop-request.invariant.read_faults,
       c.in-Ok-true.ensures.causes.quiet (λ failed. absurd (cc failed)) ∙ read.1 ∙ c.loop-request.invariant.write_faults,
     )
@@ -85,13 +86,9 @@ pub returns-in-Err-clause-serves : goal.returns-in-Err-clause-serves
 returns-in-Err-clause-serves g c =
     let wrote = source_side (g.met.L.Link.unread c.args.link.now) (g.met.L.Link.unread c.take_leave.new.link) c.take_leave.ensures.unread in
     finishes-leave _ _ c.take_leave.result c.after.result (so_far-start _ _ _ _) wrote.0 tt c.take_leave.ensures.leave
-    (λ fine. (c.take_leave.ensures.causes fine).failed) (inl wrote.0) c.after.ensures
-
-pub returns-in-Err-receive-clause-quiet : goal.returns-in-Err-receive-clause-quiet
-returns-in-Err-receive-clause-quiet g c requests closed =
-    let read = sink_side (g.met.L.Link.unwritten c.loop-request.link) (g.met.L.Link.unwritten c.receive.new.link) c.in-Err-receive.ensures.unwritten in
-    let wrote = source_side (g.met.L.Link.unread c.receive.new.link) (g.met.L.Link.unread c.take_leave-in-Err-receive.new.link) c.take_leave-in-Err-receive.ensures.unread in
-    let quiet = quiet-leave c.in-Err-receive.pause c.take_leave-in-Err-receive.result c.after-in-Err-receive.result _ requests c.after-in-Err-receive.ensures closed
-    (λ failed. (c.take_leave-in-Err-receive.ensures.failed failed).0) (λ fine. c.in-Err-receive.ensures.quiet (λ failed. fine (cc failed)))
-    (λ fine. (c.take_leave-in-Err-receive.ensures.causes fine).quiet) in
-    (wrote.1 ∙ quiet.0 ∙ c.loop-request.invariant.read_faults, quiet.1 ∙ read.1 ∙ c.loop-request.invariant.write_faults)
+    (λ fine. (c.take_leave.ensures.causes fine).failed) (inl wrote.0)
+    (λ closed is.
+    let quiet = quiet-leave {reads = 0} {reads_now = 0} _ c.take_leave.result c.after.result _ closed c.after.ensures is (λ failed. absurd (cc failed)) (λ fine. refl)
+    (λ fine. (c.take_leave.ensures.causes fine).quiet) in
+    (wrote.1, quiet.1))
+    c.after.ensures

@@ -5,7 +5,7 @@ use Rattle.taxii_server.proofs.door.serve_door.Goals as goal
 
 pub returns-in_err-listen-clause-serves : goal.returns-in_err-listen-clause-serves
 returns-in_err-listen-clause-serves g c =
-    ([], refl, no_pass _, inr (search rules, refl, c.in_err-listen.ensures.err), search rules)
+    ([], refl, no_pass _, omega arith, inr (search rules, refl, c.in_err-listen.ensures.err), search rules)
 
 pub loop-served-init : goal.loop-served-init
 loop-served-init g c = record {
