@@ -273,6 +273,7 @@ fn nothing_ahead(alloc: Global, window: &Window, now: Instant) -> Lead
 }
 
 /// What is new at a leaf, and wanted.
+#[inline(never)]
 fn new_at_leaf(
     alloc: Global,
     leaf: u32,
@@ -305,6 +306,7 @@ fn alone(row: &Row) -> Piece
 }
 
 /// The things of both sides of an `OR`.
+#[inline(never)]
 fn either_of(alloc: Global, left: Vec<Piece>, right: Vec<Piece>) -> Result<Vec<Piece>, NoMemory>
     ensures { IfOk result (λ new. piece_trees new.items
         ≡ map (held_with First) (piece_trees left.items) ++ map (held_with Second) (piece_trees right.items)) }

@@ -31,6 +31,7 @@ impl Room {
     }
 
     /// Counts those of some new pieces that live in a window.
+    #[inline(never)]
     pub fn take_admitted(
         &mut self,
         new: &[Piece],

@@ -51,6 +51,7 @@ impl Sides {
     }
 
     /// Takes out what has expired, and counts what is left.
+    #[inline(never)]
     pub fn expire(&mut self, now: Instant, room: &mut Room) -> Result<(), Stop>
         ensures kept { OnOk result (side_stores self.new ≡ sides_kept now (side_stores self.old)) }
         ensures counted { OnOk result (room.new.left + sides_count (sides_kept now (side_stores self.old)) ≡ room.old.left) }
