@@ -5,9 +5,10 @@ use Rattle.std.proofs.lemmas.Bool.Decides.{nat_tests}
 use Rattle.flow_edges.specs.declared.source.TheConstants.{MAX_READ}
 use Rattle.flow_lines.specs.declared.refusal.TheConstants.{MAX_INPUT}
 use Rattle.flow_lines.specs.declared.refusal.LineRefusal.{LineRefusal}
+use Rattle.flow_lines.specs.declared.refusal.LineRefusal.TheVariants.{Fault, LineTooLong, InputTooLong, NoMemory}
 use Rattle.flow_edges.specs.Flow.{IsAtEnd}
-use Rattle.flow_lines.specs.Lines.{RawLine, raw_lines, length_refusal, refusal_of, width, content, is_blank, Lined, ended, refused, line_then, unless_refused, unless_blank, lines_from, lines_ahead}
-use Rattle.flow_lines.specs.inner.Reading.{bytes_ahead, ReadsToLineFeed, ReadsLast, ReadsPart, IsFirstRefused, ReadsNext, lines_state}
+use Rattle.flow_lines.specs.Lines.{RawLine, raw_lines, length_refusal, refusal_of, width, content, is_blank, Lined, ended, refused, line_then, unless_refused, unless_blank, lines_from, lines_ahead, GivesEnd, RefusesLine, KeepsLines, NoLineFeed}
+use Rattle.flow_lines.specs.inner.Reading.{bytes_ahead, ReadsToLineFeed, ReadsLast, ReadsPart, IsFirstRefused, ReadsNext, IsBetweenLines, BreaksOffLine, lines_state}
 use Rattle.flow_lines.proofs.RawLinesLemmas.{raw_lines-fed, raw_lines-last}
 
 pub option_map-map : {A B C : Type 0} (f : B → C) (g : A → B) (o : Option A) → option_map f (option_map g o) ≡ option_map (λ a. f (g a)) o
@@ -169,3 +170,36 @@ reads-next chunk line_new chunk_new bytes count given wide left left_new closed 
   numbered = omega arith;
   within = omega (arith, is, fits-read (count + 1) given (bytes_ahead [] chunk left) left_new line_new chunk_new closed reads);
 }
+
+-- no line was left, and the reader stands between lines still
+pub ends-read : (chunk line chunk_new : List ℕ) (count given wide : ℕ) (left left_new : Option (List ℕ)) (closed : Bool)
+    → MatchBool closed (ReadsToLineFeed (count + 1) given (bytes_ahead [] chunk left) left_new line chunk_new) (ReadsLast (count + 1) given (bytes_ahead [] chunk left) left_new line chunk_new)
+    → wide ≡ width (record { bytes = line; closed = closed }) → wide ≡ 0 → count ≤ given → given ≤ MAX_INPUT
+    → GivesEnd (lines_state [] chunk count given) (lines_state line chunk_new count given) left left_new × IsBetweenLines line chunk_new count given
+ends-read chunk line chunk_new count given wide left left_new true reads is none numbered within = absurd (omega (arith, is, none))
+ends-read chunk (byte ∷ line) chunk_new count given wide left left_new false reads is none numbered within = absurd (omega (arith, is, none))
+ends-read chunk [] chunk_new count given wide left left_new false reads is none numbered within =
+    let drained = reads.drained in (
+      record {
+        lines = ahead-none chunk count given left left_new (subst (λ rest. ReadsLast (count + 1) given (bytes_ahead [] chunk left) left_new [] rest) drained reads);
+        drained = reads.ended;
+        held = drained;
+      },
+      record { empty = refl; room = rw drained (omega arith); numbered = numbered; within = within },
+    )
+
+-- a reader that breaks off in a line refuses it so
+pub refuses-line : (chunk line chunk_new : List ℕ) (count given : ℕ) (left left_new : Option (List ℕ)) (refusal : LineRefusal)
+    → BreaksOffLine (count + 1) given (bytes_ahead [] chunk left) left_new line chunk_new refusal
+    → RefusesLine (lines_state [] chunk count given) (lines_state line chunk_new count given) left left_new refusal
+refuses-line chunk line chunk_new count given left left_new Fault breaks =
+    let reads = breaks.fault refl in
+    let drained = reads.drained in
+    subst (λ rest. KeepsLines (lines_state [] chunk count given) (lines_state line rest count given) left left_new) (sym drained) (record {
+      lines = ahead-part chunk line count given left left_new (subst (λ rest. ReadsPart (count + 1) given (bytes_ahead [] chunk left) left_new line rest) drained reads);
+      part = subst NoLineFeed (sym (append-nil line)) reads.plain;
+      fits = ap (λ (held : List ℕ). length_refusal (count + 1) given (length held) false) (append-nil line) ∙ reads.fits;
+    })
+refuses-line chunk line chunk_new count given left left_new (LineTooLong n) breaks = ahead-refused chunk count given left (LineTooLong n) (breaks.length tt)
+refuses-line chunk line chunk_new count given left left_new (InputTooLong n) breaks = ahead-refused chunk count given left (InputTooLong n) (breaks.length tt)
+refuses-line chunk line chunk_new count given left left_new NoMemory breaks = tt

@@ -1,8 +1,8 @@
 ghost use Rattle.std.specs.Prelude.{◌≡◌, ℕ, ◌≤◌, ◌++◌, [], Ok, Some, length, IfOk, IfSome, OnOk, OnErr, MatchOption, IsErr};
 ghost use Rattle.flow_edges.specs.declared.source.TheConstants.{MAX_READ};
 ghost use Rattle.flow_edges.specs.Faults.{Counted};
-ghost use Rattle.flow_edges.specs.Flow.{left_after, IsNextOf, IsAtEnd};
-ghost use Rattle.flow_lines.specs.inner.Reading.{TakesToLineFeed, TakesAll};
+ghost use Rattle.flow_edges.specs.Flow.{IsAtEnd};
+ghost use Rattle.flow_lines.specs.inner.Reading.{Fills, TakesToLineFeed, TakesAll};
 
 use flow_edges::{MAX_READ, Source};
 use flow_values::{Fault, NoMemory};
@@ -51,9 +51,7 @@ impl Chunk {
 
     /// Reads the next bytes in the place of those before, and answers how many.
     pub fn fill<S: Source>(&mut self, _due: ReadDue, source: &mut S) -> Result<usize, Fault>
-        ensures count { IfOk result (λ n. n ≡ length self.new) }
-        ensures given { IfOk result (λ n. IsNextOf self.new (S.left source.old)) }
-        ensures rest { IfOk result (λ n. S.left source.new ≡ left_after n (S.left source.old)) }
+        ensures filled { IfOk result (λ n. Fills n self.new (S.left source.old) (S.left source.new)) }
         ensures end { result ≡ Ok 0 → IsAtEnd (S.left source.old) }
         ensures empty { OnErr result (self.new ≡ []) }
         ensures err { OnErr result (S.left source.new ≡ S.left source.old) }

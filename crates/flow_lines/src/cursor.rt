@@ -1,7 +1,7 @@
 ghost use Rattle.std.specs.Prelude.{◌≡◌, ◌≢◌, ℕ, ◌≤◌, ◌+◌, ◌++◌, [], true, false, Ok, Err, IfOk, IfErr, IfSome, OnOk, MatchBool};
 ghost use Rattle.flow_edges.specs.Faults.{Counted};
-ghost use Rattle.flow_lines.specs.Lines.{AnswersLine, GivesEnd, RefusesLine, HoldsLine, AccountsFor, LosesNone, StopsInLine, LacksLine, NoLineFeed, is_blank};
-ghost use Rattle.flow_lines.specs.inner.Reading.{IsBetweenLines, ReadsNext, lines_state};
+ghost use Rattle.flow_lines.specs.Lines.{AnswersLine, HoldsLine, LosesNone, StopsInLine, LacksLine, NoLineFeed, is_blank};
+ghost use Rattle.flow_lines.specs.inner.Reading.{IsBetweenLines, ReadsOrEnds, StopsReading, lines_state};
 
 use crate::chunk::Chunk;
 use crate::line::{Line, is_blank_line, strip_return};
@@ -31,29 +31,11 @@ impl Cursor {
     fn read_next<S: Source>(&mut self, source: &mut S) -> Result<bool, LineRefusal>
         requires { IsBetweenLines self.old.line.items self.old.chunk self.old.count self.old.given }
 
-        ensures next { IfOk result (λ found. MatchBool found
-            (ReadsNext self.old.chunk self.new.chunk self.old.count self.new.count self.old.given self.new.given
-            self.new.line.items (S.left source.old) (S.left source.new))
-            (GivesEnd
+        ensures next { IfOk result (ReadsOrEnds self.old.line.items self.old.chunk self.new.line.items self.new.chunk
+            self.old.count self.new.count self.old.given self.new.given (S.left source.old) (S.left source.new)) }
+        ensures refused { IfErr result (StopsReading
             (lines_state self.old.line.items self.old.chunk self.old.count self.old.given)
             (lines_state self.new.line.items self.new.chunk self.new.count self.new.given)
-            (S.left source.old) (S.left source.new))) }
-        ensures refused { IfErr result (RefusesLine
-            (lines_state self.old.line.items self.old.chunk self.old.count self.old.given)
-            (lines_state self.new.line.items self.new.chunk self.new.count self.new.given)
-            (S.left source.old) (S.left source.new)) }
-        ensures ended { result ≡ Ok false
-            → IsBetweenLines self.new.line.items self.new.chunk self.new.count self.new.given }
-        ensures accounted { IfOk result (λ _. AccountsFor
-            (lines_state self.old.line.items self.old.chunk self.old.count self.old.given)
-            (lines_state [] self.new.chunk self.new.count self.new.given)
-            (S.left source.old) (S.left source.new)) }
-        ensures kept { result ≡ Err LineRefusal.Fault → AccountsFor
-            (lines_state self.old.line.items self.old.chunk self.old.count self.old.given)
-            (lines_state self.new.line.items self.new.chunk self.new.count self.new.given)
-            (S.left source.old) (S.left source.new) }
-        ensures stops { IfErr result (StopsInLine
-            (lines_state self.old.line.items self.old.chunk self.old.count self.old.given)
             (S.left source.old) (S.left source.new)) }
         ensures unread { HoldsLine self.old.chunk → source.new ≡ source.old }
         ensures in_time { NoLineFeed self.old.chunk → IfOk result (λ _. IfSome (S.began source.new)
@@ -62,7 +44,6 @@ impl Cursor {
             → HoldsLine self.old.chunk → is_blank self.new.line.items ≡ true → HoldsLine self.new.chunk) }
         ensures there { ¬ (NoLineFeed self.old.chunk) → result ≡ Ok true → (source.new ≡ source.old)
             × (HoldsLine self.new.chunk → HoldsLine self.old.chunk) × (is_blank self.new.line.items ≡ false → HoldsLine self.old.chunk) }
-        ensures counts { result ≡ Ok true → self.new.count ≡ self.old.count + 1 }
         ensures causes { Counted (result ≡ Err LineRefusal.Fault) (S.faults source.old) (S.faults source.new) }
     {
         let start = LineStart {

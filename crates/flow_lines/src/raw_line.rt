@@ -1,8 +1,8 @@
 ghost use Rattle.std.specs.Prelude.{◌≡◌, ◌≢◌, ℕ, ◌≤◌, [], ◌⊎◌, Some, None, Ok, Err, length, IfOk, IfErr, IfSome, OnErr, MatchBool};
 ghost use Rattle.flow_edges.specs.declared.source.TheConstants.{MAX_READ};
 ghost use Rattle.flow_edges.specs.Faults.{Counted};
-ghost use Rattle.flow_lines.specs.Lines.{NoLineFeed, length_refusal, IsOfLine};
-ghost use Rattle.flow_lines.specs.inner.Reading.{bytes_ahead, ReadsToLineFeed, ReadsLast, ReadsPart, TakesPart, IsHeld, IsFirstRefused, IsForLength, IsWithinLine};
+ghost use Rattle.flow_lines.specs.Lines.{NoLineFeed, length_refusal};
+ghost use Rattle.flow_lines.specs.inner.Reading.{bytes_ahead, ReadsToLineFeed, ReadsLast, BreaksOffLine, IsHeld, IsWithinLine};
 
 use crate::chunk::Chunk;
 use crate::refusal::{LineRefusal, MAX_INPUT, MAX_LINE};
@@ -45,12 +45,8 @@ pub fn read_line<S: Source>(
     ensures line { IfOk result (λ closed. let all = bytes_ahead [] chunk.old (S.left source.old) in MatchBool closed
         (ReadsToLineFeed start.number start.place all (S.left source.new) line.new.items chunk.new)
         (ReadsLast start.number start.place all (S.left source.new) line.new.items chunk.new)) }
-    ensures refused { IfErr result (λ refusal. IsForLength refusal
-        → IfSome (bytes_ahead [] chunk.old (S.left source.old)) (IsFirstRefused start.number start.place refusal)) }
-    ensures fault { result ≡ Err LineRefusal.Fault
-        → ReadsPart start.number start.place (bytes_ahead [] chunk.old (S.left source.old)) (S.left source.new) line.new.items chunk.new }
-    ensures number { IfErr result (IsOfLine start.number) }
-    ensures stops { OnErr result (TakesPart (bytes_ahead [] chunk.old (S.left source.old)) (S.left source.new)) }
+    ensures refused { IfErr result (BreaksOffLine start.number start.place (bytes_ahead [] chunk.old (S.left source.old)) (S.left source.new)
+        line.new.items chunk.new) }
     ensures causes { Counted (result ≡ Err LineRefusal.Fault) (S.faults source.old) (S.faults source.new) }
     ensures small { length chunk.new ≤ MAX_READ }
     ensures unread { ¬ (NoLineFeed chunk.old) → source.new ≡ source.old }

@@ -1,5 +1,6 @@
 -- The items of a list in a value that fits are good entries.
 use Rattle.std.proofs.Common.{◌≡◌, ℕ, zero, suc, List, [], ◌∷◌, map, Option, Some, Ordering, Less, Equal, Greater, nat_cmp, refl, ap, subst}
+use Rattle.std.specs.Prelude.{Bool, codes}
 use Rattle.std.specs.Ordering.{match_ordering}
 use Rattle.std.specs.Cmp.Lexicographic.{slice_cmp}
 use Rattle.serde_json.specs.Data.{Data, null, boolean, number, string, array, object, Items, no_items, item, Members, no_members, member}
@@ -9,6 +10,7 @@ use Rattle.stix_json.specs.declared.limits.TheConstants.{MAX_LEVELS}
 use Rattle.stix_json.specs.declared.value.Json.{Json}
 use Rattle.stix_json.specs.declared.entry.Entry.TheVariants.{Good}
 use Rattle.stix_json.specs.DataOf.{data_of}
+use Rattle.stix_json.specs.Envelopes.{more_in, next_in, IsEnvelopeOf}
 use Rattle.stix_json.specs.Entries.{list_or_none, list_under, AreEntriesFor, AreEntriesOf}
 use Rattle.stix_json.specs.Ordered.{ItemsAreOrdered}
 use Rattle.stix_json.specs.Reading.{IsJsonOf}
@@ -65,16 +67,39 @@ all_good : (row : List Json) → ItemsFit MAX_LEVELS (items_of (map data_of row)
 all_good [] fits ordered = tt
 all_good (json ∷ row) fits ordered = (record { same = refl; good = fits_good (data_of json) fits.0; ordered = ordered.0 }, all_good row fits.1 ordered.1)
 
--- the items under a name of a Json that fits are the entries there
+-- the items under a name of a Json that fits are a list there, and each is good
+pub listed_good : (bytes name : List ℕ) (json : Json) (row : List Json) → IsJsonOf bytes json → Fits MAX_LEVELS (data_of json) → get name (data_of json) ≡ Some (array (items_of (map data_of row)))
+    → (list_under name (data_of json) ≡ Some (items_of (map data_of row))) × AreEntriesFor (items_of (map data_of row)) (map Good row)
+listed_good bytes name json row read fits is =
+    let list = items_of (map data_of row) in
+    let fewer : ItemsFit 62 list = listed_fit 62 name (data_of json) list fits is in (
+      listed name (data_of json) list is,
+      all_good row (items_more 63 list (items_more 62 list fewer)) (property_ordered (data_of json) (array list) name read.ordered is),
+    )
+
+-- so they are the entries there
 pub good_entries : (bytes name : List ℕ) (json : Json) (row : List Json) → IsJsonOf bytes json → Fits MAX_LEVELS (data_of json) → get name (data_of json) ≡ Some (array (items_of (map data_of row)))
     → AreEntriesOf bytes name (map Good row)
 good_entries bytes name json row read fits is =
-    let list = items_of (map data_of row) in
-    let fewer : ItemsFit 62 list = listed_fit 62 name (data_of json) list fits is in
-    record {
+    let good = listed_good bytes name json row read fits is in record {
       whole = data_of json;
-      list = list;
+      list = items_of (map data_of row);
       value = read.value;
-      under = listed name (data_of json) list is;
-      judged = all_good row (items_more 63 list (items_more 62 list fewer)) (property_ordered (data_of json) (array list) name read.ordered is);
+      under = good.0;
+      judged = good.1;
+    }
+
+-- and those of a page, of which these say what follows
+pub good_envelope : (bytes : List ℕ) (json : Json) (row : List Json) (more : Bool) (next : Option (List ℕ)) → IsJsonOf bytes json → Fits MAX_LEVELS (data_of json)
+    → get (codes "objects") (data_of json) ≡ Some (array (items_of (map data_of row))) → more_in (data_of json) ≡ Some more → next_in more (data_of json) ≡ Some next
+    → IsEnvelopeOf bytes (record { more = more; next = next; entries = map Good row })
+good_envelope bytes json row more next read fits is flag cursor =
+    let good = listed_good bytes (codes "objects") json row read fits is in record {
+      whole = data_of json;
+      list = items_of (map data_of row);
+      value = read.value;
+      objects = good.0;
+      judged = good.1;
+      more = flag;
+      next = cursor;
     }

@@ -1,5 +1,6 @@
 pub mod DataOf
 pub mod Entries
+pub mod Envelopes
 pub mod Ordered
 pub mod Properties
 pub mod Reading

@@ -33,7 +33,7 @@ fn into_list(value: Value) -> Option<Vec<Value>>
 }
 
 /// The list under a name of an object, taken out of it. An absent one is empty.
-fn take_list(alloc: Global, value: Value, name: &str) -> Option<Vec<Value>>
+pub(crate) fn take_list(alloc: Global, value: Value, name: &str) -> Option<Vec<Value>>
     ensures { option_map (λ list. items_view list.items) result ≡ list_under name.now (view value) }
 {
     match value {
@@ -47,7 +47,7 @@ fn take_list(alloc: Global, value: Value, name: &str) -> Option<Vec<Value>>
 }
 
 /// Each item judged by itself.
-fn judge_items(alloc: Global, items: Vec<Value>) -> Result<Items<Entry>, NoMemory>
+pub(crate) fn judge_items(alloc: Global, items: Vec<Value>) -> Result<Items<Entry>, NoMemory>
     requires { ItemsAreOrdered (items_view items.items) }
     ensures { IfOk result (λ entries. AreEntriesFor (items_view items.items) entries) }
 {
@@ -60,7 +60,7 @@ fn judge_items(alloc: Global, items: Vec<Value>) -> Result<Items<Entry>, NoMemor
 }
 
 /// Good entries of these values.
-fn good_entries(alloc: Global, items: Items<Json>) -> Option<Items<Entry>>
+pub(crate) fn good_entries(alloc: Global, items: Items<Json>) -> Option<Items<Entry>>
     ensures { IfSome result (λ entries. entries ≡ map Good items) }
 {
     let mut entries = Items::with_capacity(alloc, items.len()).ok()?;

@@ -14,7 +14,7 @@ use std::alloc::Global;
 /// many thousands of names in falling order is too dear.
 const MAX_MOVED: usize = 256;
 
-/// Room for so many more fields may stay unused.
+/// Room for so many more fields or items may stay unused.
 const MAX_SPARE: usize = 3;
 
 /// Puts a field at the place of its name. None where a field has that name, where too many would have to
@@ -38,18 +38,18 @@ pub(crate) fn put_field(
     Some(())
 }
 
-/// The fields as they are, in memory of their own size where more than a little would stay unused: values
-/// are kept, and fields take most of the memory of one. Copying them costs less than shrinking the memory
-/// where it lies.
-pub(crate) fn fitted(alloc: Global, fields: Vec<Field>) -> Option<Items<Field>>
-    ensures { IfSome result (λ copy. copy ≡ fields.items) }
+/// The fields or items as they are, in memory of their own size where more than a little would stay unused:
+/// values are kept, and these take most of the memory of one. Copying them costs less than shrinking the
+/// memory where it lies.
+pub(crate) fn fitted<T: Drop>(alloc: Global, row: Vec<T>) -> Option<Items<T>>
+    ensures { IfSome result (λ copy. copy ≡ row.items) }
 {
-    if fields.capacity() - fields.len() <= MAX_SPARE {
-        return Some(Items::from_vec(fields));
+    if row.capacity() - row.len() <= MAX_SPARE {
+        return Some(Items::from_vec(row));
     }
-    let mut fields = fields;
-    let mut copy = Vec::with_capacity(alloc, fields.len()).ok()?;
-    copy.append(&mut fields).ok()?;
+    let mut row = row;
+    let mut copy = Vec::with_capacity(alloc, row.len()).ok()?;
+    copy.append(&mut row).ok()?;
     Some(Items::from_vec(copy))
 }
 

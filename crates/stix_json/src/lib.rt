@@ -8,6 +8,7 @@ mod convert;
 mod depth;
 mod entries;
 mod entry;
+mod envelope;
 mod fields;
 mod flaw;
 mod judge;
@@ -26,6 +27,7 @@ mod write;
 
 pub use entries::read_entries;
 pub use entry::Entry;
+pub use envelope::{Envelope, read_envelope};
 pub use limits::{MAX_LEVELS, MAX_WHOLE};
 pub use lookup::{get, get_ordered, take};
 pub use ordered::is_ordered;

@@ -73,12 +73,13 @@ fn take_items(alloc: Global, reader: &mut Reader<'_>, levels: usize) -> Option<I
     ensures fits { IfSome result (λ row. ItemsFit levels (items_of (map data_of row))) }
     ensures shorter { OnSome result (length reader.new < length reader.old) }
 {
-    let mut row = Vec::new(alloc);
+    // Lists nest, and most have one item: without this each would keep room for four.
+    let mut row = Vec::with_capacity(alloc, 1).ok()?;
     'items: while !reader.take_end_array() {
         let item = take_value(alloc, reader, levels)?;
         row.push(item).ok()?;
     }
-    Some(Items::from_vec(row))
+    fitted(alloc, row)
 }
 
 /// The fields up to the brace that closes their object.

@@ -1,11 +1,17 @@
 -- What the private parts of a reader of lines do: its chunk of bytes, the line that it reads, and its cursor. No public contract cites these.
-use Rattle.std.specs.Prelude.{Bool, true, ◌≡◌, ◌<◌, ◌≤◌, ⊤, ℕ, ◌+◌, length, List, [], ◌∷◌, ◌++◌, true, false, Option, Some, None, option_map}
+use Rattle.std.specs.Prelude.{Bool, true, ◌≡◌, ◌<◌, ◌≤◌, ⊤, ℕ, ◌+◌, length, List, [], ◌∷◌, ◌++◌, true, false, Option, Some, None, option_map, IfSome, MatchBool}
 use Rattle.flow_edges.specs.declared.source.TheConstants.{MAX_READ}
 use Rattle.flow_lines.specs.declared.refusal.TheConstants.{MAX_LINE, MAX_INPUT}
-use Rattle.flow_lines.specs.Lines.{NoLineFeed, RawLine, raw_lines, length_refusal, refusal_of, LinesState, unless_blank, lines_ahead}
+use Rattle.flow_lines.specs.Lines.{NoLineFeed, RawLine, raw_lines, length_refusal, refusal_of, LinesState, unless_blank, lines_ahead, IsOfLine, GivesEnd, AccountsFor, RefusesLine, StopsInLine}
 use Rattle.flow_lines.specs.declared.refusal.LineRefusal.{LineRefusal}
 use Rattle.flow_lines.specs.declared.refusal.LineRefusal.TheVariants.{Fault, LineTooLong, InputTooLong, NoMemory}
-use Rattle.flow_edges.specs.Flow.{IsAtEnd}
+use Rattle.flow_edges.specs.Flow.{IsAtEnd, IsNextOf, left_after as left_behind}
+
+-- so many bytes were read, which are the next ones of the source
+pub record Fills (count : ℕ) (chunk : List ℕ) (left left_after : Option (List ℕ)) : Type 0 where
+  pub count_is : count ≡ length chunk
+  pub given : IsNextOf chunk left
+  pub rest : left_after ≡ left_behind count left
 
 -- the bytes before the next line feed went from the chunk to the line, and the line feed was dropped
 pub record TakesToLineFeed (chunk_old chunk_new line_old line_new : List ℕ) : Type 0 where
@@ -74,6 +80,14 @@ IsForLength (LineTooLong number) = ⊤
 IsForLength (InputTooLong number) = ⊤
 IsForLength NoMemory = ⊥
 
+-- a line isn't read to its end, for this refusal: it is that of the line's length, or of the input's, or a fault that lost no
+-- byte, and no more is taken than such a line may have and one read gives
+pub record BreaksOffLine (number place : ℕ) (all left : Option (List ℕ)) (line chunk : List ℕ) (refusal : LineRefusal) : Type 0 where
+  pub length : IsForLength refusal → IfSome all (IsFirstRefused number place refusal)
+  pub fault : refusal ≡ Fault → ReadsPart number place all left line chunk
+  pub number_is : IsOfLine number refusal
+  pub stops : TakesPart all left
+
 -- a reader of lines between two lines
 pub record IsBetweenLines (line chunk : List ℕ) (count given : ℕ) : Type 0 where
   pub empty : line ≡ []
@@ -93,3 +107,18 @@ pub record ReadsNext (chunk_old chunk_new : List ℕ) (count_old count_new given
   pub room : length chunk_new ≤ MAX_READ
   pub numbered : count_new ≤ given_new
   pub within : given_new ≤ MAX_INPUT
+
+-- it read the next line, or found that there is none: what went by is accounted for
+pub record ReadsOrEnds (line_old chunk_old line_new chunk_new : List ℕ) (count_old count_new given_old given_new : ℕ) (left left_after : Option (List ℕ)) (found : Bool) : Type 0 where
+  pub next : MatchBool found
+      (ReadsNext chunk_old chunk_new count_old count_new given_old given_new line_new left left_after)
+      (GivesEnd (lines_state line_old chunk_old count_old given_old) (lines_state line_new chunk_new count_new given_new) left left_after)
+  pub ended : found ≡ false → IsBetweenLines line_new chunk_new count_new given_new
+  pub counts : found ≡ true → count_new ≡ count_old + 1
+  pub accounts : AccountsFor (lines_state line_old chunk_old count_old given_old) (lines_state [] chunk_new count_new given_new) left left_after
+
+-- it stopped in the next line for this refusal: a fault lost no byte
+pub record StopsReading (before after : LinesState) (left left_after : Option (List ℕ)) (refusal : LineRefusal) : Type 0 where
+  pub refused : RefusesLine before after left left_after refusal
+  pub kept : refusal ≡ Fault → AccountsFor before after left left_after
+  pub stops : StopsInLine before left left_after refusal

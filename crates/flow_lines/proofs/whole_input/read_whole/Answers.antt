@@ -8,8 +8,8 @@ returns-in_err-due-clause-taken g c = takes-these _ _ _ _ c.loop-turn.invariant.
 
 pub returns-in-Ok-eq0-clause-taken : goal.returns-in-Ok-eq0-clause-taken
 returns-in-Ok-eq0-clause-taken g c =
-    takes-more _ MAX_READ _ _ _ _ (takes-these _ _ _ _ c.loop-turn.invariant.all c.loop-turn.invariant.fits) c.in-Ok-eq0.ensures.rest (omega (arith, c.in-Ok-eq0.ensures.count, c.fill.ensures.room))
+    takes-more _ MAX_READ _ _ _ _ (takes-these _ _ _ _ c.loop-turn.invariant.all c.loop-turn.invariant.fits) c.in-Ok-eq0.ensures.filled.rest (omega (arith, c.in-Ok-eq0.ensures.filled.count_is, c.fill.ensures.room))
 
 pub returns-then-count-len-clause-taken : goal.returns-then-count-len-clause-taken
 returns-then-count-len-clause-taken g c =
-    takes-more _ MAX_READ _ _ _ _ (takes-these _ _ _ _ c.loop-turn.invariant.all c.loop-turn.invariant.fits) c.in-Ok.ensures.rest (omega (arith, c.in-Ok.ensures.count, c.fill.ensures.room))
+    takes-more _ MAX_READ _ _ _ _ (takes-these _ _ _ _ c.loop-turn.invariant.all c.loop-turn.invariant.fits) c.in-Ok.ensures.filled.rest (omega (arith, c.in-Ok.ensures.filled.count_is, c.fill.ensures.room))

@@ -91,8 +91,10 @@ take_items-returns-clause-ok t c =
     let n = l.invariant.0 in
     let r = c.take_end_array.new.self in
     let ds = map data_of l.row.items in
-    l.invariant.2 ∙ ap (parse_map (items_before ds)) (items_over p n l.reader r l.invariant.1 (grind arith)) ∙ ap (λ es. Some (es, r)) (items_before-no_items ds)
-    ∙ ap (λ (row : List Json). Some (items_of (map data_of row), r)) (sym c.from_vec.ensures)
+    let all = converted of_items (items p (length c.args.reader.now) c.args.reader.now) in
+    if_same (λ (row : List Json). all ≡ Some (items_of (map data_of row), r)) c.fitted.result l.row.items
+    (l.invariant.2 ∙ ap (parse_map (items_before ds)) (items_over p n l.reader r l.invariant.1 (grind arith)) ∙ ap (λ es. Some (es, r)) (items_before-no_items ds))
+    c.fitted.ensures
 
 pub take_fields-fields-preserved : goal.take_fields-fields-preserved
 take_fields-fields-preserved t c =

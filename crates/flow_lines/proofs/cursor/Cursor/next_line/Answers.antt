@@ -1,4 +1,4 @@
-use Rattle.std.proofs.Common.{rules, ◌++◌, inl, refl, ap, Ok, Err, IfErr, sym, ◌∙◌, arith}
+use Rattle.std.proofs.Common.{rules, ◌++◌, inl, refl, ap, Ok, IfErr, sym, ◌∙◌, arith}
 use Rattle.flow_lines.specs.Lines.{is_blank, StopsInLine}
 use Rattle.flow_lines.specs.inner.Reading.{lines_state}
 use Rattle.flow_lines.proofs.AccountsForLemmas.{accounts-start, accounts-then, goes_on, accounts-emptied, loses-passed_on, passed_on, stops-then}
@@ -11,16 +11,16 @@ returns-in_err-read_next-clause-accounted g c =
     (lines_state c.args.self.now.line.items c.args.self.now.chunk c.args.self.now.count c.args.self.now.given)
     (lines_state c.lines.self.line.items c.lines.self.chunk c.lines.self.count c.lines.self.given)
     (lines_state c.read_next.new.self.line.items c.read_next.new.self.chunk c.read_next.new.self.count c.read_next.new.self.given)
-    _ _ _ c.in_err-read_next.field-0.0 c.from_residual.result c.from_residual.ensures.1 c.lines.invariant.accounted (λ fault. c.in_err-read_next.ensures.kept (ap Err fault))
+    _ _ _ c.in_err-read_next.field-0.0 c.from_residual.result c.from_residual.ensures.1 c.lines.invariant.accounted (λ fault. c.in_err-read_next.ensures.refused.kept fault)
 
 pub returns-then-not-branch-clause-accounted : goal.returns-then-not-branch-clause-accounted
 returns-then-not-branch-clause-accounted g c =
-    let between = c.in_ok-read_next.ensures.ended (ap Ok c.if-not-branch.true) in
-    goes_on _ _ _ _ _ _ c.lines.invariant.accounted (accounts-emptied _ _ _ _ _ _ _ between.empty c.in_ok-read_next.ensures.accounted)
+    let between = c.in_ok-read_next.ensures.next.ended c.if-not-branch.true in
+    goes_on _ _ _ _ _ _ c.lines.invariant.accounted (accounts-emptied _ _ _ _ _ _ _ between.empty c.in_ok-read_next.ensures.next.accounts)
 
 pub returns-then-not-is_blank_line-clause-accounted : goal.returns-then-not-is_blank_line-clause-accounted
 returns-then-not-is_blank_line-clause-accounted g c =
-    goes_on _ _ _ _ _ _ c.lines.invariant.accounted (accounts-emptied _ _ _ _ _ _ _ (ap (λ v. v.items) c.replace-bytes.ensures.after ∙ c.new.ensures.items) c.in_ok-read_next.ensures.accounted)
+    goes_on _ _ _ _ _ _ c.lines.invariant.accounted (accounts-emptied _ _ _ _ _ _ _ (ap (λ v. v.items) c.replace-bytes.ensures.after ∙ c.new.ensures.items) c.in_ok-read_next.ensures.next.accounts)
 
 pub lines-init : goal.lines-init
 lines-init g c = record {
@@ -35,11 +35,11 @@ lines-init g c = record {
 
 pub lines-preserved : goal.lines-preserved
 lines-preserved g c =
-    let next = rw c.if-not-branch.false at c.in_ok-read_next.ensures.next in
+    let next = rw c.if-not-branch.false at c.in_ok-read_next.ensures.next.next in
     record {
       between = search rules;
       ahead = search rules;
-      accounted = accounts-then _ _ _ _ _ _ c.lines.invariant.accounted (accounts-emptied _ _ _ _ _ _ _ c.clear.ensures.items c.in_ok-read_next.ensures.accounted);
+      accounted = accounts-then _ _ _ _ _ _ c.lines.invariant.accounted (accounts-emptied _ _ _ _ _ _ _ c.clear.ensures.items c.in_ok-read_next.ensures.next.accounts);
       held = λ holds. (
         c.read_next.ensures.unread (c.lines.invariant.held holds).1 ∙ (c.lines.invariant.held holds).0,
         c.in_ok-read_next.ensures.held c.if-not-branch.false (c.lines.invariant.held holds).1 (ap is_blank (sym c.deref.ensures.value) ∙ sym c.if-not-is_blank_line.ensures),
@@ -47,7 +47,7 @@ lines-preserved g c =
       in_time = still_in_time g.S.Source.began c.args.source.now c.lines.source c.read_next.new.source
           (c.args.self.now.line.items ++ c.args.self.now.chunk) c.lines.self.line.items c.lines.self.chunk c.read_next.new.self.chunk c.read_next.new.self.line.items _ _ _ _ _ _
           c.lines.invariant.in_time c.lines.invariant.accounted c.in_ok-read_next.ensures.in_time
-          (λ feed. c.in_ok-read_next.ensures.there feed (ap Ok c.if-not-branch.false)) (c.in_ok-read_next.ensures.counts (ap Ok c.if-not-branch.false));
+          (λ feed. c.in_ok-read_next.ensures.there feed (ap Ok c.if-not-branch.false)) (c.in_ok-read_next.ensures.next.counts c.if-not-branch.false);
       moved = omega (arith, next.moved);
       quiet = c.in_ok-read_next.ensures.causes.quiet (λ failed. cc failed) ∙ c.lines.invariant.quiet;
     }
@@ -59,12 +59,12 @@ returns-in_err-read_next-clause-stops g c =
     c.from_residual.result c.in_err-read_next.field-0.0 c.from_residual.ensures.1
     (stops-then _
     (lines_state c.lines.self.line.items c.lines.self.chunk c.lines.self.count c.lines.self.given)
-    _ _ _ _ c.lines.invariant.accounted c.lines.invariant.ahead c.in_err-read_next.ensures.stops)
+    _ _ _ _ c.lines.invariant.accounted c.lines.invariant.ahead c.in_err-read_next.ensures.refused.stops)
 
 pub returns-then-not-is_blank_line-clause-in_time : goal.returns-then-not-is_blank_line-clause-in_time
 returns-then-not-is_blank_line-clause-in_time g c unheld =
     given_in_time g.S.Source.began c.args.source.now c.lines.source c.read_next.new.source
     (c.args.self.now.line.items ++ c.args.self.now.chunk) c.lines.self.line.items c.lines.self.chunk c.read_next.new.self.chunk c.read_next.new.self.line.items _ _ _ _ _ _
     c.lines.invariant.in_time c.lines.invariant.accounted c.in_ok-read_next.ensures.in_time
-    (λ feed. c.in_ok-read_next.ensures.there feed (ap Ok c.if-not-branch.false)) (c.in_ok-read_next.ensures.counts (ap Ok c.if-not-branch.false))
+    (λ feed. c.in_ok-read_next.ensures.there feed (ap Ok c.if-not-branch.false)) (c.in_ok-read_next.ensures.next.counts c.if-not-branch.false)
     (ap is_blank (sym c.deref.ensures.value) ∙ sym c.if-not-is_blank_line.ensures) unheld

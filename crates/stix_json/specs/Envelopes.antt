@@ -1,0 +1,50 @@
+-- A page of a collection as a client reads it (TAXII 2.1, section 3.7): whether there is more behind it, what asks for that,
+-- and its objects, each judged by itself.
+use Rattle.std.specs.Prelude.{◌≡◌, ◌⊎◌, ⊤, ℕ, List, Bool, true, false, codes, Option, Some, None, option_map}
+use Rattle.serde_json.specs.Data.{Data, Items}
+use Rattle.serde_json.specs.Find.{get, as_bool}
+use Rattle.stix_json.specs.declared.envelope.Envelope.{Envelope}
+use Rattle.stix_json.specs.declared.refusal.JsonRefusal.{JsonRefusal}
+use Rattle.stix_json.specs.declared.refusal.JsonRefusal.TheVariants.{NotJson, TooDeep, NotWhole, Null, OutOfRange, NotList, NoMemory}
+use Rattle.stix_json.specs.Properties.{text_at}
+use Rattle.stix_json.specs.Entries.{list_under, AreEntriesFor}
+use Rattle.stix_json.specs.Reading.{IsValueOf, HasNoValue}
+
+-- a flag, which is false where it is absent; none where something else stands there
+abbrev pub flag_or_false : Option Data → Option Bool
+flag_or_false None = Some false
+flag_or_false (Some d) = as_bool d
+
+-- whether a value says that there is more
+abbrev pub more_in : Data → Option Bool
+more_in d = flag_or_false (get (codes "more") d)
+
+-- what asks for the next page: a text where there is more, and nothing elsewhere; none where there is more and no text
+abbrev pub next_in : Bool → Data → Option (Option (List ℕ))
+next_in false d = Some None
+next_in true d = option_map Some (text_at (codes "next") d)
+
+-- the page that some bytes are
+pub record IsEnvelopeOf (bytes : List ℕ) (envelope : Envelope) : Type 0 where
+  pub whole : Data
+  pub list : Items
+  pub value : IsValueOf bytes whole
+  pub objects : list_under (codes "objects") whole ≡ Some list
+  pub judged : AreEntriesFor list envelope.entries
+  pub more : more_in whole ≡ Some envelope.more
+  pub next : next_in envelope.more whole ≡ Some envelope.next
+
+-- a value is no page: it has no list of objects, no flag that says whether there is more, or says that there is and not what
+-- asks for it
+abbrev pub IsNoPage : Data → Type 0
+IsNoPage d = (list_under (codes "objects") d ≡ None) ⊎ (more_in d ≡ None) ⊎ ((more_in d ≡ Some true) × (next_in true d ≡ None))
+
+-- why bytes are no page; memory may run out at any time
+abbrev pub HasNoEnvelopeAs : List ℕ → JsonRefusal → Type 0
+HasNoEnvelopeAs bytes NotJson = HasNoValue bytes
+HasNoEnvelopeAs bytes (TooDeep path) = ⊥
+HasNoEnvelopeAs bytes (NotWhole path) = ⊥
+HasNoEnvelopeAs bytes (Null path) = ⊥
+HasNoEnvelopeAs bytes (OutOfRange path) = ⊥
+HasNoEnvelopeAs bytes NotList = (d : Data) × IsValueOf bytes d × IsNoPage d
+HasNoEnvelopeAs bytes NoMemory = ⊤
