@@ -10,9 +10,9 @@ pub record DoorState (L : Type 0) : Type 0 where
   pub port : Option ℕ
   pub given : ℕ
 
--- what a call made of the state, where the door tells it
-abbrev pub Changes : {L : Type 0} → (DoorState L → DoorState L → Type 0) → Option (DoorState L) → Option (DoorState L) → Type 0
-Changes {L} How before after = MatchOption before (after ≡ None) (λ state. (now : DoorState L) × (after ≡ Some now) × How state now)
+-- what a call made of a state, where that is told
+abbrev pub Changes : {S : Type 0} → (S → S → Type 0) → Option S → Option S → Type 0
+Changes {S} How before after = MatchOption before (after ≡ None) (λ state. (now : S) × (after ≡ Some now) × How state now)
 
 -- nothing changed
 abbrev pub Stays : {L : Type 0} → Option (DoorState L) → Option (DoorState L) → Type 0

@@ -1,3 +1,4 @@
+pub mod Dials
 pub mod Doors
 pub mod Moments
 pub mod System

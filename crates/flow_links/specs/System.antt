@@ -12,3 +12,10 @@ pub record StreamState : Type 0 where
 pub record PortState : Type 0 where
   pub listening : Bool
   pub faults : ℕ
+
+-- the bytes that the stream has left and those that it holds, where it tells them, and when its time ends: nanoseconds since the
+-- clock's start
+pub record LimitedState : Type 0 where
+  pub remaining : Option (List ℕ)
+  pub contents : Option (List ℕ)
+  pub deadline : ℕ

@@ -1,7 +1,8 @@
--- Links, doors and clocks in memory: what contracts see of them.
+-- Links, doors, dials and clocks in memory: what contracts see of them.
 use Rattle.std.specs.Prelude.{ℕ, ◌-◌, List, Option, length, min, slice_get}
 use Rattle.flow_memory.specs.Streams.{SourceState, SinkState}
 use Rattle.flow_links.specs.Doors.{DoorState}
+use Rattle.flow_links.specs.Dials.{DialState}
 
 -- what comes from the peer, and what goes to it
 pub record LinkState : Type 0 where
@@ -11,6 +12,13 @@ pub record LinkState : Type 0 where
 -- the links, which calls of `listen` and `next` fail (counted together from 1), and the counts of calls and faults
 pub record MemoryDoorState : Type 0 where
   pub links : DoorState LinkState
+  pub failing : List ℕ
+  pub calls : ℕ
+  pub faults : ℕ
+
+-- the links, which calls of `dial` fail (counted from 1), and the counts of calls and faults
+pub record MemoryDialState : Type 0 where
+  pub links : DialState LinkState
   pub failing : List ℕ
   pub calls : ℕ
   pub faults : ℕ

@@ -3,6 +3,7 @@ ghost use Rattle.flow_edges.specs.Faults.{Counted};
 ghost use Rattle.flow_links.specs.Doors.{Stays, Listens, GivesNext, Finishes};
 ghost use Rattle.flow_links.specs.System.{StreamState};
 
+use super::PATIENCE;
 use crate::{Door, TcpLink};
 use flow_edges::counted_fault;
 use flow_values::Fault;
@@ -10,9 +11,6 @@ use std::io;
 use std::marker::Model;
 use std::net::{Ipv4Addr, Net, OpenListener, OpenStream, SocketAddr, TcpListener};
 use std::time::Duration;
-
-/// How many seconds a read and a write of a link may wait for the peer.
-const PATIENCE: u64 = 30;
 
 /// A port of the system as a door, for callers of this machine. It tells no links, and counts each
 /// error of its calls; contracts see the count. A link's reads and writes fail after 30 seconds, and

@@ -1,0 +1,112 @@
+ghost use Rattle.std.specs.Prelude.{◌≡◌, ◌≤◌, None, length, IfOk, OnErr, IsErr};
+ghost use Rattle.flow_edges.specs.Faults.{Counted};
+ghost use Rattle.flow_links.specs.declared.dial.TheConstants.{MAX_HOST};
+ghost use Rattle.flow_links.specs.Dials.{Stays, GivesDialled, Finishes};
+ghost use Rattle.flow_links.specs.System.{StreamState};
+
+use super::Deadline;
+use crate::{Dial, LimitedStream, TcpLink};
+use flow_edges::counted_fault;
+use flow_values::Fault;
+use std::io;
+use std::io::ErrorKind;
+use std::marker::Model;
+use std::net::{HostAddrs, Net, OpenStream, TcpStream, ToSocketAddrs};
+use std::time::{Clock as Timer, Duration};
+
+/// How many seconds a dial may wait until a peer answers.
+const DIAL_TIME: u64 = 30;
+
+/// How many seconds after the dial a link's bytes must have come and gone.
+const LINK_TIME: u64 = 600;
+
+/// The system's network, by name or address. It tells no links, and counts each error of its calls;
+/// contracts see the count. What is written to a link is sent at once, and its reads and writes fail
+/// after 30 seconds, and from 10 minutes after the dial on.
+///
+/// A dial tries each address of the name (32 at most) in turn, and gives each its share of what is left
+/// of 30 seconds. How long the system looks a name up can't be limited; that time is taken from the 30
+/// seconds and from the 10 minutes.
+#[derive(Drop)]
+pub struct TcpDial<'r, R: Net + Timer> {
+    rt: &'r R,
+    faults: u64,
+}
+
+impl<'r, R: Net + Timer> Model for TcpDial<'r, R> {
+    ghost use Rattle.std.specs.Prelude.{ℕ};
+
+    ghost Value = { ℕ };
+
+    ghost view = { λ dial. dial.faults };
+}
+
+impl<'r, R: Net + Timer> TcpDial<'r, R> {
+    /// A dial that has failed in no call yet.
+    pub fn new(rt: &'r R) -> TcpDial<'r, R>
+        ensures { result ≡ 0 }
+    {
+        TcpDial { rt, faults: 0 }
+    }
+
+    /// A stream to this host and port, with its limits set.
+    fn connect(&self, host: &str, port: u16) -> io::Result<LimitedStream<'r, R::Stream, R>> {
+        let dialled_by = Deadline::after(self.rt, Duration::from_secs(DIAL_TIME))?;
+        let deadline = Deadline::after(self.rt, Duration::from_secs(LINK_TIME))?;
+        let addresses = (host, port).to_socket_addrs(self.rt)?;
+        let stream = self.first_answer(addresses, &dialled_by)?;
+        stream.set_nodelay(true)?;
+        Ok(LimitedStream::new(stream, deadline))
+    }
+
+    /// A stream to the first of these addresses that answers in its share of the time.
+    fn first_answer(
+        &self,
+        addresses: HostAddrs,
+        deadline: &Deadline<'r, R>,
+    ) -> io::Result<R::Stream> {
+        let mut untried = u32::try_from(addresses.len()).unwrap_or(u32::MAX);
+        for address in addresses {
+            let share = deadline.left()? / untried.max(1);
+            if let Ok(stream) = TcpStream::connect_timeout(self.rt, &address, share) {
+                return Ok(stream);
+            }
+            untried = untried.saturating_sub(1);
+        }
+        Err(io::Error::from(ErrorKind::NotConnected))
+    }
+}
+
+impl<'r, R: Net + Timer> Dial for TcpDial<'r, R> {
+    type Link = TcpLink<LimitedStream<'r, R::Stream, R>>;
+
+    ghost told = { λ _. None };
+
+    ghost faults = { λ dial. dial };
+
+    fn dial(
+        &mut self,
+        host: &str,
+        port: u16,
+    ) -> Result<TcpLink<LimitedStream<'r, R::Stream, R>>, Fault>
+        requires short { length host.now ≤ MAX_HOST }
+        ensures ok { IfOk result (λ link. GivesDialled {L = StreamState} link host.now port None None) }
+        ensures err { OnErr result (Stays {L = StreamState} None None) }
+        ensures causes { Counted (IsErr result) self.old self.new }
+
+        ensures fresh { IfOk result (λ link. (link.read_faults ≡ 0) × (link.write_faults ≡ 0)) }
+    {
+        match self.connect(host, port) {
+            Ok(stream) => Ok(TcpLink::new(stream)),
+            Err(_) => Err(counted_fault(&mut self.faults)),
+        }
+    }
+
+    /// Closes the link.
+    fn finish(&mut self, link: TcpLink<LimitedStream<'r, R::Stream, R>>)
+        ensures back { Finishes {L = StreamState} link.entry None None }
+        ensures quiet { self.new ≡ self.old }
+    {
+        drop(link);
+    }
+}
