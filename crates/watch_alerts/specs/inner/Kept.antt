@@ -1,0 +1,13 @@
+-- For private clauses: what a set of kept rows does.
+use Rattle.std.specs.Prelude.{ℕ, ℤ, List, [], ◌∷◌, length, Option, Some, None, nat_lt, if◌then◌else◌}
+use Rattle.watch_alerts.specs.declared.matching_row.MatchingRow.{MatchingRow}
+
+-- the last n of a list
+abbrev pub keep : {X : Type 0} → ℕ → List X → List X
+keep n [] = []
+keep n (x ∷ xs) = if nat_lt (length xs) n then x ∷ xs else keep n xs
+
+-- the first time of the first row, where there are n rows
+abbrev pub earliest_if_full : ℕ → List MatchingRow → Option ℤ
+earliest_if_full n [] = None
+earliest_if_full n (row ∷ rows) = if nat_lt (length (row ∷ rows)) n then None else Some row.first
