@@ -1,15 +1,14 @@
 -- The matching rows of a log, and the last of them.
-use Rattle.std.proofs.Common.{◌≡◌, ◌⊎◌, inl, inr, ◌↔◌, ℕ, zero, suc, ◌+◌, ◌<◌, ◌≤◌, ℤ, ◌<ℤ◌, ◌≤ℤ◌, Bool, true, false, cond, List, [], ◌∷◌, ◌++◌, length, slice_index_or, refl, sym, ◌∙◌, ap, subst, arith}
-use Rattle.std.specs.Prelude.{Option, Some, None, IfSome, IsSome, Contains, count_by, ⊤, int_lt}
+use Rattle.std.proofs.Common.{◌≡◌, inl, inr, ◌↔◌, ℕ, zero, suc, ◌+◌, ◌<◌, ◌≤◌, ℤ, ◌<ℤ◌, ◌≤ℤ◌, true, false, cond, List, [], ◌∷◌, ◌++◌, length, refl, sym, ◌∙◌, ap, subst, arith}
+use Rattle.std.specs.Prelude.{Option, Some, None, IfSome, IsSome, Contains}
 use Rattle.std.specs.declared.cmp.Ordering.{Ordering}
 use Rattle.std.specs.declared.cmp.Ordering.TheVariants.{Less, Equal, Greater}
 use Rattle.std.specs.Cmp.{IsTotalOrder}
-use Rattle.std.specs.Ordering.{is_lt, nat_cmp, int_cmp, ordering_then, ordering_reverse, MatchOrdering}
+use Rattle.std.specs.Ordering.{nat_cmp, int_cmp, ordering_then, ordering_reverse, MatchOrdering}
 use Rattle.std.specs.List.{AllByRecursion}
 use Rattle.std.specs.List.Sorted.{IsStrictlySortedBy}
 use Rattle.std.specs.BTreeSet.{insert_key}
 use Rattle.std.proofs.lemmas.Bool.{cases_Bool, false≢true}
-use Rattle.std.proofs.lemmas.Bool.Decides.{nat_tests}
 use Rattle.std.proofs.lemmas.Cmp.{then_total, on_total, int_cmp_total, nat_cmp_total, tied_itself, ranked, int_ranked}
 use Rattle.std.proofs.lemmas.Int.{ints}
 use Rattle.std.proofs.lemmas.List.{append-nil, append_assoc}
@@ -18,7 +17,7 @@ use Rattle.match_bindings.specs.Log.{truth}
 use Rattle.watch_alerts.specs.declared.matching_row.MatchingRow.{MatchingRow}
 use Rattle.watch_alerts.specs.MatchingRows.{matching_row, matching_from, matching_rows, row_cmp, AreLast}
 use Rattle.watch_alerts.specs.inner.Kept.{keep}
-use Rattle.watch_alerts.proofs.OrderLemmas.{In, Apart, IsOrder, Rise, IsLast, last_goes_on, keep_tail, bit_le}
+use Rattle.watch_alerts.proofs.OrderLemmas.{In, Apart, IsOrder, Rise, IsLast, last_goes_on, keep_tail}
 
 -- ---- the order of rows
 
@@ -156,7 +155,7 @@ pub matching_numbers : (number : ℕ) (log : List LogEntry) (y : MatchingRow) �
 matching_numbers number [] y h = absurd h
 matching_numbers number (r ∷ log) y h =
     let later : In y (matching_from (number + 1) log) → (number ≤ y.number) × (y.number < number + length (r ∷ log)) = λ i.
-      let deeper = matching_numbers (number + 1) log y i in (omega arith, omega arith)
+    let deeper = matching_numbers (number + 1) log y i in (omega arith, omega arith)
     in
     elim (cases_Bool (truth (Some r) 0)) [
       | inl holds ↦
@@ -174,7 +173,8 @@ matching_apart number (r ∷ log) =
     elim (cases_Bool (truth (Some r) 0)) [
       | inl holds ↦
           subst (λ (rows : List MatchingRow). Apart (rows ++ matching_from (number + 1) log)) (sym (matching_row_holds number r holds)) (
-            λ i. let later = matching_numbers (number + 1) log (row_at number r) i in absurd (omega arith), rest
+            λ i. let later = matching_numbers (number + 1) log (row_at number r) i in absurd (omega arith),
+            rest,
           )
       | inr fails ↦ subst (λ (rows : List MatchingRow). Apart (rows ++ matching_from (number + 1) log)) (sym (matching_row_fails number r fails)) rest
     ]
@@ -189,7 +189,7 @@ kept_more n log row kept holds h =
     let r : MatchingRow = row_at (length log + 1) row in
     let more = last_goes_on row_order n r (matching_rows log) kept (matching_apart 1 log) (new_row log row) (is_last n (matching_rows log) kept h) in
     are_last n (matching_rows (log ++ row ∷ [])) (keep n (insert_key row_cmp kept r)) (
-      subst (λ (rows : List MatchingRow). IsLast row_cmp n rows (keep n (insert_key row_cmp kept r))) (sym (matching_more log row holds)) more
+    subst (λ (rows : List MatchingRow). IsLast row_cmp n rows (keep n (insert_key row_cmp kept r))) (sym (matching_more log row holds)) more
     )
 
 pub kept_same : (n : ℕ) (log : List LogEntry) (row : LogEntry) (kept : List MatchingRow) → truth (Some row) 0 ≡ false → AreLast n (matching_rows log) kept → AreLast n (matching_rows (log ++ row ∷ [])) kept

@@ -167,12 +167,12 @@ module _ {K : Type 0} {cmp : K → K → Ordering} (o : IsOrder cmp) where
         | inr long ↦
             let e = none_behind_itself x y xs up h in
             subst (λ (zs : List K). In y zs) (sym (keep_rest n x xs long)) (
-              elim h [
-                | inl first ↦
-                    let all = subst (λ (z : K). behind z (x ∷ xs) ≡ length xs) first (all_behind_first x xs up) in
-                    absurd (omega arith)
-                | inr later ↦ few_behind_kept n xs y up.1 later (omega arith)
-              ]
+            elim h [
+              | inl first ↦
+                  let all = subst (λ (z : K). behind z (x ∷ xs) ≡ length xs) first (all_behind_first x xs up) in
+                  absurd (omega arith)
+              | inr later ↦ few_behind_kept n xs y up.1 later (omega arith)
+            ]
             )
       ]
 
@@ -206,7 +206,7 @@ module _ {K : Type 0} {cmp : K → K → Ordering} (o : IsOrder cmp) where
       (λ k. subst (λ (zs : List K). In y zs) (sym (ins_equal cmp r x xs k)) h)
       (λ k.
       subst (λ (zs : List K). In y zs) (sym (ins_greater cmp r x xs k)) (
-        elim h [ inl e ↦ inl e | inr i ↦ inr (ins_old r y xs i) ]
+      elim h [ inl e ↦ inl e | inr i ↦ inr (ins_old r y xs i) ]
       ))
 
   pub ins_new : (r : K) (xs : List K) → In r (insert_key cmp xs r)
@@ -223,19 +223,19 @@ module _ {K : Type 0} {cmp : K → K → Ordering} (o : IsOrder cmp) where
       by_order (cmp r x)
       (λ k.
       let first : (y : K) → In y (x ∷ xs) → cmp r y ≡ Less = λ y h.
-        elim h [
-          | inl e ↦ subst (λ (z : K). cmp r z ≡ Less) e k
-          | inr i ↦ o.trans r x y k (up.0 y i)
-        ]
+      elim h [
+        | inl e ↦ subst (λ (z : K). cmp r z ≡ Less) e k
+        | inr i ↦ o.trans r x y k (up.0 y i)
+      ]
       in
       subst (λ (zs : List K). Rise cmp zs) (sym (ins_less cmp r x xs k)) (first, up))
       (λ k. subst (λ (zs : List K). Rise cmp zs) (sym (ins_equal cmp r x xs k)) up)
       (λ k.
       let first : (y : K) → In y (insert_key cmp xs r) → cmp x y ≡ Less = λ y h.
-        elim (ins_from r y xs h) [
-          | inl e ↦ subst (λ (z : K). cmp x z ≡ Less) e (o.flip r x k)
-          | inr i ↦ up.0 y i
-        ]
+      elim (ins_from r y xs h) [
+        | inl e ↦ subst (λ (z : K). cmp x z ≡ Less) e (o.flip r x k)
+        | inr i ↦ up.0 y i
+      ]
       in
       subst (λ (zs : List K). Rise cmp zs) (sym (ins_greater cmp r x xs k)) (first, ins_rise r xs up.1))
 
@@ -262,7 +262,7 @@ module _ {K : Type 0} {cmp : K → K → Ordering} (o : IsOrder cmp) where
         | inr long ↦
             let deeper = ap (λ (zs : List K). keep n (insert_key cmp zs r)) (keep_rest n x xs long) ∙ keep_ins n r xs up.1 in
             let first : ((y : K) → In y xs → cmp r y ≡ Less) → keep n (insert_key cmp xs r) ≡ keep n xs = λ h.
-              ap (λ (zs : List K). keep n zs) (ins_first cmp r xs h) ∙ keep_rest n r xs long
+            ap (λ (zs : List K). keep n zs) (ins_first cmp r xs h) ∙ keep_rest n r xs long
             in
             by_order (cmp r x)
             (λ k.
@@ -286,16 +286,16 @@ module _ {K : Type 0} {cmp : K → K → Ordering} (o : IsOrder cmp) where
   same_rising (x ∷ xs) [] up up' to from = absurd (to x (inl refl))
   same_rising (x ∷ xs) (y ∷ ys) up up' to from =
       let first : x ≡ y =
-        elim (to x (inl refl)) [
-          | inl e ↦ sym e
-          | inr i ↦ elim (from y (inl refl)) [ inl e ↦ e | inr j ↦ absurd (not_both x y (up.0 y j) (up'.0 x i)) ]
-        ]
+      elim (to x (inl refl)) [
+        | inl e ↦ sym e
+        | inr i ↦ elim (from y (inl refl)) [ inl e ↦ e | inr j ↦ absurd (not_both x y (up.0 y j) (up'.0 x i)) ]
+      ]
       in
       let to' : (z : K) → In z xs → In z ys = λ z i.
-        elim (to z (inr i)) [ inl e ↦ absurd (not_self x z (first ∙ e) (up.0 z i)) | inr j ↦ j ]
+      elim (to z (inr i)) [ inl e ↦ absurd (not_self x z (first ∙ e) (up.0 z i)) | inr j ↦ j ]
       in
       let from' : (z : K) → In z ys → In z xs = λ z i.
-        elim (from z (inr i)) [ inl e ↦ absurd (not_self y z (sym first ∙ e) (up'.0 z i)) | inr j ↦ j ]
+      elim (from z (inr i)) [ inl e ↦ absurd (not_self y z (sym first ∙ e) (up'.0 z i)) | inr j ↦ j ]
       in
       let rest : xs ≡ ys = same_rising xs ys up.1 up'.1 to' from' in
       cc
@@ -367,34 +367,34 @@ module _ {K : Type 0} {cmp : K → K → Ordering} (o : IsOrder cmp) where
       let rows : List K = insert_key cmp all r in
       let up : Rise cmp rows = ins_rise o r all (sorted_rise o xs) in
       let kept : keep n (insert_key cmp last r) ≡ keep n rows =
-        ap (λ (zs : List K). keep n (insert_key cmp zs r)) (last_is_kept n xs last apart h) ∙ keep_ins o n r all (sorted_rise o xs)
+      ap (λ (zs : List K). keep n (insert_key cmp zs r)) (last_is_kept n xs last apart h) ∙ keep_ins o n r all (sorted_rise o xs)
       in
       let count : (y : K) → behind o y rows ≡ behind o y (xs ++ r ∷ []) = λ y.
-        let e = ins_count o (λ z. is_lt (cmp y z)) r all (λ i. new (sorted_from o r xs i)) in
-        let e' = sorted_count o (λ z. is_lt (cmp y z)) xs apart in
-        let e'' = sum_by_push (λ z. cond (is_lt (cmp y z)) 1 0) xs r in
-        omega arith
+      let e = ins_count o (λ z. is_lt (cmp y z)) r all (λ i. new (sorted_from o r xs i)) in
+      let e' = sorted_count o (λ z. is_lt (cmp y z)) xs apart in
+      let e'' = sum_by_push (λ z. cond (is_lt (cmp y z)) 1 0) xs r in
+      omega arith
       in
       subst (λ (zs : List K). IsLast cmp n (xs ++ r ∷ []) zs) (sym kept) (
-        record {
-          rise = kept_rise o n rows up;
-          from = λ y i.
-              let few = kept_few_behind o n rows y up i in
-              let e = count y in
-              let here : (r ≡ y) ⊎ In y xs =
-                elim (ins_from o r y all (keep_in n rows y i)) [ inl e ↦ inl e | inr j ↦ inr (sorted_from o y xs j) ]
-              in
-              (in_push y r xs here, omega arith);
-          all = λ y i few.
-              let e = count y in
-              let here : In y rows =
-                elim (push_from y r xs i) [
-                  | inl e ↦ subst (λ (z : K). In z rows) e (ins_new o r all)
-                  | inr j ↦ ins_old o r y all (in_sorted o y xs j)
-                ]
-              in
-              few_behind_kept o n rows y up here (omega arith);
-        }
+      record {
+        rise = kept_rise o n rows up;
+        from = λ y i.
+            let few = kept_few_behind o n rows y up i in
+            let e = count y in
+            let here : (r ≡ y) ⊎ In y xs =
+            elim (ins_from o r y all (keep_in n rows y i)) [ inl e ↦ inl e | inr j ↦ inr (sorted_from o y xs j) ]
+            in
+            (in_push y r xs here, omega arith);
+        all = λ y i few.
+            let e = count y in
+            let here : In y rows =
+            elim (push_from y r xs i) [
+              | inl e ↦ subst (λ (z : K). In z rows) e (ins_new o r all)
+              | inr j ↦ ins_old o r y all (in_sorted o y xs j)
+            ]
+            in
+            few_behind_kept o n rows y up here (omega arith);
+      }
       )
 
 -- ---- how many pass a test that what is behind passes too
@@ -447,8 +447,7 @@ module _ {K : Type 0} {cmp : K → K → Ordering} (o : IsOrder cmp) (p : K → 
   pub enough_is_full : (n : ℕ) (xs last : List K) → 1 ≤ n → Apart xs → IsLast cmp n xs last → (n ≤ count_by p xs) ↔ FullFrom p n last
   enough_is_full n xs last some apart h =
       let e : last ≡ keep n (sorted o xs) = last_is_kept o n xs last apart h in
-      let count : count_by p (sorted o xs) ≡ count_by p xs = sorted_count o p xs apart in
-      (
+      let count : count_by p (sorted o xs) ≡ count_by p xs = sorted_count o p xs apart in (
         λ enough. subst (λ (zs : List K). FullFrom p n zs) (sym e) (full_from_enough cmp p goes_on n (sorted o xs) some (sorted_rise o xs) (omega arith)),
         λ full.
             let enough = enough_from_full cmp p goes_on n (sorted o xs) (sorted_rise o xs) (subst (λ (zs : List K). FullFrom p n zs) e full) in

@@ -7,6 +7,7 @@
 #![tactic(auto)]
 
 mod kept_rows;
+pub mod laws;
 mod matching_row;
 mod refusal;
 mod watch;

@@ -2,8 +2,6 @@ ghost use Rattle.std.specs.Prelude.{◌≡◌};
 ghost use Rattle.watch_alerts.specs.declared.refusal.WatchRefusal.TheVariants as refused;
 
 use flow_values::NoMemory;
-use std::error::Error;
-use std::fmt;
 use stix_times::Instant;
 
 /// Why a watch doesn't take a row.

@@ -1,9 +1,12 @@
-ghost use Rattle.std.specs.Prelude.{◌≡◌, ◌↔◌, ◌≤◌, ◌+◌, ◌<◌, ◌^◌, ◌≤ℤ◌, ◌<ℤ◌, ℤ, [], List, Some, Err, length, IsTrue, IfOk, OnErr};
+ghost use Rattle.std.specs.Prelude.{◌≡◌, ◌↔◌, ◌≤◌, ◌+◌, ◌<◌, ◌^◌, ◌≤ℤ◌, ◌<ℤ◌, ℤ, [], List, Some, Err, length, IsTrue, IfOk, OnOk, OnErr};
 ghost use Rattle.match_bindings.specs.declared.log_entry.LogEntry.{LogEntry};
 ghost use Rattle.match_bindings.specs.Log.{IsInOrder};
 ghost use Rattle.match_bindings.specs.Span.{later_by};
 ghost use Rattle.watch_alerts.specs.declared.refusal.WatchRefusal.TheVariants as refused;
+ghost use Rattle.std.specs.BTreeSet.{insert_key};
+ghost use Rattle.watch_alerts.specs.MatchingRows.{row_cmp};
 ghost use Rattle.watch_alerts.specs.WatchState.{StandsFor, AnswersRow, with_row};
+ghost use Rattle.watch_alerts.specs.inner.Kept.{keep, IsReached};
 
 use crate::kept_rows::KeptRows;
 use crate::{MatchingRow, WatchRefusal};
@@ -25,17 +28,20 @@ pub struct Watch {
 }
 
 impl Model for Watch {
+    ghost use Rattle.std.specs.Prelude.{◌≤◌};
     ghost use Rattle.watch_alerts.specs.WatchState.{WatchState};
 
     ghost Value = { WatchState };
 
     ghost view = { λ watch. record {
-        n = watch.kept.most;
-        x = watch.seconds;
-        rows = watch.rows;
-        last = watch.last;
-        kept = watch.kept.rows.keys;
+      n = watch.kept.most;
+      x = watch.seconds;
+      rows = watch.rows;
+      last = watch.last;
+      kept = watch.kept.rows.keys;
     } };
+
+    ghost invariant = { λ watch. 1 ≤ watch.kept.most };
 }
 
 impl Watch {
@@ -58,12 +64,7 @@ impl Watch {
 
     /// Takes the next row of a log: its first and last time, and whether the bracket holds. The answer is
     /// whether the row is an alert. A refused row changes nothing.
-    pub fn take(
-        &mut self,
-        first: Instant,
-        last: Instant,
-        holds: bool,
-    ) -> Result<bool, WatchRefusal>
+    pub fn take(&mut self, first: Instant, last: Instant, holds: bool) -> Result<bool, WatchRefusal>
         requires span { first ≤ℤ last }
         requires room { self.old.rows + 1 < 2 ^ 64 }
         ensures answers { (log : List LogEntry) → StandsFor self.old log → IsInOrder log
@@ -82,17 +83,27 @@ impl Watch {
             });
         }
         let number = self.rows + 1;
-        if holds {
-            self.kept.add(MatchingRow { first, number })?;
-        }
+        let alert = holds && self.keep(number, first, last)?;
         self.rows = number;
         self.last = Some(last);
-        Ok(holds && self.is_reached(first, last))
+        Ok(alert)
     }
 
-    /// Whether n of the matching rows, this one among them, began less than the seconds before its last
-    /// time.
-    fn is_reached(&self, first: Instant, last: Instant) -> bool {
+    /// Keeps a matching row with that number and these times, and tells whether it is an alert.
+    fn keep(&mut self, number: u64, first: Instant, last: Instant) -> Result<bool, NoMemory>
+        ensures kept { OnOk result (self.new ≡ record self.old { kept = keep self.old.n (insert_key row_cmp self.old.kept (record { first = first; number = number })) }) }
+        ensures reached { IfOk result (λ alert. IsTrue alert ↔ IsReached self.old.n self.old.x self.new.kept first last) }
+        ensures err { OnErr result (self.new ≡ self.old) }
+    {
+        self.kept.add(MatchingRow { first, number })?;
+        Ok(self.is_reached(first, last))
+    }
+
+    /// Whether n rows are kept, and they and a row with these times lie in less than the seconds before
+    /// its end.
+    fn is_reached(&self, first: Instant, last: Instant) -> bool
+        ensures { IsTrue result ↔ IsReached self.now.n self.now.x self.now.kept first last }
+    {
         match self.kept.earliest_if_full() {
             Some(earliest) => {
                 is_within(self.seconds, earliest, last) && is_within(self.seconds, first, last)

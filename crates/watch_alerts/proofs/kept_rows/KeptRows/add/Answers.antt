@@ -1,7 +1,6 @@
 -- One row too many is the first.
-use Rattle.std.proofs.Common.{◌≡◌, ◌≤◌, ◌+◌, List, length, arith, sym, ◌∙◌, ap, ◌∷◌}
+use Rattle.std.proofs.Common.{◌≡◌, ◌≤◌, ◌+◌, List, length, arith, sym, ◌∙◌, ap}
 use Rattle.watch_alerts.specs.declared.matching_row.MatchingRow.{MatchingRow}
-use Rattle.watch_alerts.specs.MatchingRows.{row_cmp}
 use Rattle.watch_alerts.specs.inner.Kept.{keep}
 use Rattle.watch_alerts.proofs.OrderLemmas.{keep_all, bit_le}
 use Rattle.watch_alerts.proofs.KeptLemmas.{popped}
