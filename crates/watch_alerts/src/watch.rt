@@ -91,7 +91,9 @@ impl Watch {
 
     /// Keeps a matching row with that number and these times, and tells whether it is an alert.
     fn keep(&mut self, number: u64, first: Instant, last: Instant) -> Result<bool, NoMemory>
-        ensures kept { OnOk result (self.new ≡ record self.old { kept = keep self.old.n (insert_key row_cmp self.old.kept (record { first = first; number = number })) }) }
+        ensures kept { OnOk result (self.new ≡ record self.old {
+          kept = keep self.old.n (insert_key row_cmp self.old.kept (record { first = first; number = number }));
+        }) }
         ensures reached { IfOk result (λ alert. IsTrue alert ↔ IsReached self.old.n self.old.x self.new.kept first last) }
         ensures err { OnErr result (self.new ≡ self.old) }
     {
