@@ -1,4 +1,4 @@
-ghost use Rattle.std.specs.Prelude.{◌≡◌, ◌↔◌, ◌≤◌, ◌+◌, ◌<◌, ◌^◌, ◌≤ℤ◌, ◌<ℤ◌, ℤ, [], List, Some, Err, length, IsTrue, IfOk, OnOk, OnErr};
+ghost use Rattle.std.specs.Prelude.{◌≡◌, ◌↔◌, ◌≤◌, ◌+◌, ◌<◌, ◌^◌, ◌≤ℤ◌, ◌<ℤ◌, ℤ, [], List, Some, Err, length, IsTrue, IsOk, IfOk, OnOk, OnErr};
 ghost use Rattle.match_bindings.specs.declared.log_entry.LogEntry.{LogEntry};
 ghost use Rattle.match_bindings.specs.Log.{IsInOrder};
 ghost use Rattle.match_bindings.specs.Span.{later_by};
@@ -50,6 +50,7 @@ impl Watch {
         requires some { 1 ≤ n }
         requires most { n ≤ 10_000 }
         requires seconds { 1 ≤ x }
+        ensures made { IsOk result }
         ensures stands { IfOk result (λ watch. StandsFor watch []) }
         ensures n { IfOk result (λ watch. watch.n ≡ n) }
         ensures x { IfOk result (λ watch. watch.x ≡ x) }
