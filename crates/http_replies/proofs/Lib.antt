@@ -1,0 +1,5 @@
+mod GrammarLemmas
+mod HeadLemmas
+mod OutcomeLemmas
+mod ReadLemmas
+mod JudgeLemmas

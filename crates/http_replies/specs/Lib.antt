@@ -1,0 +1,3 @@
+pub mod Heads
+pub mod Replies
+pub mod inner
