@@ -1,5 +1,5 @@
 -- How far an input is read, behind each answer of its reader.
-use Rattle.std.proofs.Common.{◌≡◌, inl, inr, ℕ, suc, ◌+◌, ◌-◌, ◌<◌, ◌≤◌, ℤ, List, [], ◌∷◌, ◌++◌, length, Option, None, Some, Result, Ok, Err, option_map, IfSome, IfOk, slice_get, refl, sym, ap, subst, ◌∙◌, length-append, arith}
+use Rattle.std.proofs.Common.{◌≡◌, inl, inr, ℕ, zero, suc, ◌+◌, ◌-◌, ◌<◌, ◌≤◌, ℤ, List, [], ◌∷◌, ◌++◌, length, Option, None, Some, Result, Ok, Err, option_map, IfSome, IfOk, slice_get, refl, sym, ap, subst, ◌∙◌, length-append, arith}
 use Rattle.std.specs.Option.{option_or}
 use Rattle.std.proofs.lemmas.List.{append-nil}
 use Rattle.std.proofs.lemmas.Grind.{flat_map-append}
@@ -16,7 +16,7 @@ use Rattle.match_input.specs.declared.stage.Stage.TheVariants as stage
 use Rattle.match_input.specs.Line.{last_after}
 use Rattle.match_input.specs.Reading.{BundleOf}
 use Rattle.match_input.specs.Ahead.{ReaderState, reader_start, next_number, IsOpen, HoldsLines, LacksLineIn, Moves, AnswersNext, GivesBatch}
-use Rattle.match_log.specs.Matching.{IsToCome}
+use Rattle.match_log.specs.Matching.{BeginsSo, IsToCome}
 use Rattle.match_log.specs.inner.Rows.{MayFollow as FollowsSo}
 use Rattle.match_log.specs.inner.Runs.{HasRead as ReadSo, IsStageOf, IsInTime}
 use Rattle.match_log.proofs.FollowLemmas.{Spans, may_follow}
@@ -82,7 +82,20 @@ module _ (first left began : Option (List ℕ)) (reader : ReaderState) (earlier 
   pub is_open : IsOpen reader.stage
   is_open = subst IsOpen (sym far.stage) far.stands.unrefused
 
+  pub comes-first : BeginsSo Lines first earlier
+  comes-first = begins_so Lines first left reader earlier read_so
+
 -- ---- a bundle more
+
+pub numbers : (last : Option ℤ) (next k : ℕ) (os : List Observation) (o : Observation) → MayFollow last next os → slice_get os k ≡ Some o → o.number ≡ next + k
+numbers last next k [] o follow is = absurd (cc)
+numbers last next zero (x ∷ os) o follow is =
+    let same : x ≡ o = cc in
+    let none : next + 0 ≡ next = omega arith in
+    subst (λ (y : Observation). y.number ≡ next + 0) same (follow.1 ∙ sym none)
+numbers last next (suc k) (x ∷ os) o follow is =
+    let one : (next + 1) + k ≡ next + suc k = omega arith in
+    numbers (Some x.last) (next + 1) k os o follow.3 is ∙ one
 
 may_follow_so : (last : Option ℤ) (next : ℕ) (os : List Observation) → FollowsSo last next os → MayFollow last next os
 may_follow_so last next [] h = tt

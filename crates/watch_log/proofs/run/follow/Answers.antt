@@ -1,6 +1,5 @@
-use Rattle.std.proofs.Common.{ℕ, ℤ, List, ◌++◌, ◌+◌, length, Option, Ok, refl, sym, ap, subst, ◌∙◌}
+use Rattle.std.proofs.Common.{ℕ, ℤ, List, ◌++◌, ◌+◌, length, Option, Ok, refl, sym, subst, ◌∙◌}
 use Rattle.match_input.specs.declared.batch.Batch.{Batch}
-use Rattle.match_input.specs.Line.{last_after}
 use Rattle.match_input.specs.Ahead.{IsOpen}
 use Rattle.flow_edges.specs.Streams.{streams}
 use Rattle.match_input.specs.Reading.{BundleOf}
@@ -8,7 +7,7 @@ use Rattle.watch_log.specs.declared.end.WatchEnd.{WatchEnd}
 use Rattle.watch_log.specs.Reading.{MayFollow, HasRead, NextAnswers}
 use Rattle.watch_log.specs.Watching.{AnswersWatch}
 use Rattle.watch_log.proofs.ReadingLemmas.{is_open}
-use Rattle.watch_log.proofs.WatchLemmas.{counts-reads, given, run-start, run-more, run-read_end, run-none, run-see_end}
+use Rattle.watch_log.proofs.WatchLemmas.{seen-more, last-more, counts-reads, given, run-start, run-more, run-read_end, run-none, run-see_end}
 use Rattle.watch_log.proofs.run.follow.Goals as goal
 
 pub bundles-init : goal.bundles-init
@@ -95,8 +94,10 @@ bundles-preserved g c =
           (g.O.Sink.written c.bundles.output) reader (g.I.Source.left c.bundles.input) (g.I.Source.began c.bundles.input) (invariant.runs first earlier begun)
           c.see.new.self (g.O.Sink.written c.see.new.output) after left_after began_after batch (gives_of first earlier begun) c.in-Ok.ensures.sees;
       ready = c.in-Ok.ensures.ready;
-      seen = c.in-Ok.ensures.seen ∙ ap (λ (n : ℕ). n + length batch.observations) invariant.seen ∙ sym gives.observations;
-      last = c.in-Ok.ensures.last ∙ ap (λ (l : Option ℤ). last_after l batch.observations) invariant.last ∙ sym gives.last;
+      seen = seen-more (g.W.Watcher.seen c.bundles.watcher) (g.W.Watcher.seen c.see.new.self) reader.observations after.observations (length batch.observations)
+          c.in-Ok.ensures.seen invariant.seen gives.observations;
+      last = last-more (g.W.Watcher.last c.bundles.watcher) (g.W.Watcher.last c.see.new.self) reader.last after.last batch.observations
+          c.in-Ok.ensures.last invariant.last gives.last;
       read_quiet = c.in-Ok-Some.ensures.causes.quiet (λ failed. cc failed.1) ∙ invariant.read_quiet;
       write_quiet = c.in-Ok.ensures.causes.quiet (λ failed. cc failed) ∙ invariant.write_quiet;
     }
