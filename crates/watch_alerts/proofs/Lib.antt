@@ -1,0 +1,5 @@
+mod OrderLemmas
+mod KeptLemmas
+mod AlertLemmas
+mod TakeLemmas
+mod StayLemmas

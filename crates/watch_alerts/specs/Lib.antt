@@ -1,0 +1,4 @@
+pub mod MatchingRows
+pub mod Alert
+pub mod WatchState
+pub mod inner

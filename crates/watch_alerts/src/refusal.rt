@@ -1,0 +1,22 @@
+ghost use Rattle.std.specs.Prelude.{◌≡◌};
+ghost use Rattle.watch_alerts.specs.declared.refusal.WatchRefusal.TheVariants as refused;
+
+use flow_values::NoMemory;
+use stix_times::Instant;
+
+/// Why a watch doesn't take a row.
+#[derive(Clone, Copy, Debug)]
+pub enum WatchRefusal {
+    /// Its last time is earlier than that of the row before.
+    OutOfOrder { last: Instant, now: Instant },
+    /// There was no memory.
+    NoMemory,
+}
+
+impl From<NoMemory> for WatchRefusal {
+    ghost from_gives = { λ _ refusal. refusal ≡ refused.NoMemory };
+
+    fn from(_error: NoMemory) -> WatchRefusal {
+        WatchRefusal::NoMemory
+    }
+}
