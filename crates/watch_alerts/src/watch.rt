@@ -1,4 +1,4 @@
-ghost use Rattle.std.specs.Prelude.{◌≡◌, ◌↔◌, ◌≤◌, ◌+◌, ◌<◌, ◌^◌, ◌≤ℤ◌, ◌<ℤ◌, ℤ, [], List, Some, Err, length, IsTrue, IfOk, OnOk, OnErr};
+ghost use Rattle.std.specs.Prelude.{◌≡◌, ◌↔◌, ◌≤◌, ◌+◌, ◌<◌, ◌^◌, ◌≤ℤ◌, ◌<ℤ◌, ℤ, [], List, Some, Err, length, IsTrue, IsOk, IfOk, OnOk, OnErr};
 ghost use Rattle.match_bindings.specs.declared.log_entry.LogEntry.{LogEntry};
 ghost use Rattle.match_bindings.specs.Log.{IsInOrder};
 ghost use Rattle.match_bindings.specs.Span.{later_by};
@@ -50,6 +50,7 @@ impl Watch {
         requires some { 1 ≤ n }
         requires most { n ≤ 10_000 }
         requires seconds { 1 ≤ x }
+        ensures made { IsOk result }
         ensures stands { IfOk result (λ watch. StandsFor watch []) }
         ensures n { IfOk result (λ watch. watch.n ≡ n) }
         ensures x { IfOk result (λ watch. watch.x ≡ x) }
@@ -91,7 +92,9 @@ impl Watch {
 
     /// Keeps a matching row with that number and these times, and tells whether it is an alert.
     fn keep(&mut self, number: u64, first: Instant, last: Instant) -> Result<bool, NoMemory>
-        ensures kept { OnOk result (self.new ≡ record self.old { kept = keep self.old.n (insert_key row_cmp self.old.kept (record { first = first; number = number })) }) }
+        ensures kept { OnOk result (self.new ≡ record self.old {
+          kept = keep self.old.n (insert_key row_cmp self.old.kept (record { first = first; number = number }));
+        }) }
         ensures reached { IfOk result (λ alert. IsTrue alert ↔ IsReached self.old.n self.old.x self.new.kept first last) }
         ensures err { OnErr result (self.new ≡ self.old) }
     {
