@@ -30,11 +30,11 @@ after_low true n = omega arith
 after_low false n = omega arith
 
 -- the LF behind which the head ends, in another list with the same bytes
-record SameLast (bytes other : List ℕ) (end place : ℕ) : Type 0 where
+pub record SameLast (bytes other : List ℕ) (end place : ℕ) : Type 0 where
   pub empty : is_last_line_end other place ≡ true
   pub end_is : end ≡ after_empty_line other place
 
-same_last : (bytes other : List ℕ) (end place : ℕ) → SameBefore end bytes other → end ≡ after_empty_line bytes place → is_last_line_end bytes place ≡ true
+pub same_last : (bytes other : List ℕ) (end place : ℕ) → SameBefore end bytes other → end ≡ after_empty_line bytes place → is_last_line_end bytes place ≡ true
     → SameLast bytes other end place
 same_last bytes other end place same ends empty = by_test (get_or bytes (place + 1) 0 == 10) refl
   where

@@ -4,8 +4,8 @@ use Rattle.std.proofs.Math.ListN.{get_or-eq_default}
 use Rattle.std.proofs.lemmas.Bool.{cases_lt}
 use Rattle.std.proofs.lemmas.Bool.Decides.{Decides-eqb}
 use Rattle.http_frames.specs.declared.search.HeadSearch.{HeadSearch}
-use Rattle.http_frames.specs.Heads.{is_line_byte, is_last_line_end, after_empty_line, IsHeadAt}
-use Rattle.http_frames.specs.inner.Searching.{HasNoEnd, IsSearched, SkipsTo, IsFirstEnd, HasNoHead}
+use Rattle.http_frames.specs.Heads.{is_line_byte, is_last_line_end, after_empty_line, HasNoEnd, IsFirstEnd, IsHeadAt}
+use Rattle.http_frames.specs.inner.Searching.{IsSearched, SkipsTo, HasNoHead}
 use Rattle.http_frames.proofs.HeadLemmas.{same_before}
 
 -- a byte that isn't 0 stands in the list

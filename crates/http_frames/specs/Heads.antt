@@ -16,6 +16,16 @@ is_last_line_end bytes at =
 abbrev pub after_empty_line : List ℕ → ℕ → ℕ
 after_empty_line bytes at = if slice_index bytes (at + 1) == 10 then at + 2 else at + 3
 
+-- from `low` on up to `high` no LF has an empty line behind it
+abbrev pub HasNoEnd : List ℕ → ℕ → ℕ → Type 0
+HasNoEnd bytes low high = (place : ℕ) → low ≤ place → place < high → is_last_line_end bytes place ≡ false
+
+-- the first LF from `from` on that has an empty line behind it
+pub record IsFirstEnd (bytes : List ℕ) (from place : ℕ) : Type 0 where
+  pub order : from ≤ place
+  pub here : is_last_line_end bytes place ≡ true
+  pub first : HasNoEnd bytes from place
+
 -- the bytes before `start` are CR and LF, which are dropped; the head begins there with another byte, and `end` is after its first
 -- empty line
 pub record IsHeadAt (bytes : List ℕ) (start end : ℕ) : Type 0 where

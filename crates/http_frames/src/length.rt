@@ -19,7 +19,7 @@ pub(crate) fn read_length(value: &[u8]) -> Option<u64>
 }
 
 /// The number that the first of some lengths states, or 0.
-pub(crate) fn first_length(values: &[&[u8]]) -> u64
+pub fn first_length(values: &[&[u8]]) -> u64
     ensures number { result ≡ first_length (map (λ value. value.now) values.now) }
     ensures small { result < 10 ^ 18 }
 {
@@ -30,7 +30,7 @@ pub(crate) fn first_length(values: &[&[u8]]) -> u64
 }
 
 /// Whether each of the values is a length and states that number.
-pub(crate) fn all_state(values: &[&[u8]], number: u64) -> bool
+pub fn all_state(values: &[&[u8]], number: u64) -> bool
     ensures { result ≡ list_all (λ value. states number value.now) values.now }
 {
     values.iter().all(|value| states(value, number))

@@ -29,11 +29,14 @@ mod texts;
 mod writing;
 
 pub use answer::{Allow, Answer, MAX_DATE, refusal_answer};
+pub use ascii::same_name;
 pub use body::Body;
 pub use frame::{Frame, MAX_HEAD};
+pub use length::{all_state, first_length};
 pub use method::Method;
 pub use refusal::Refusal;
 pub use request::Request;
+pub use search::last_line_end;
 pub use session::Session;
 pub use status::Status;
 pub use writing::{write_answer, write_no_memory};

@@ -1,6 +1,6 @@
 ghost use Rattle.std.specs.Prelude.{◌≡◌, ◌-◌, ◌≤◌, ◌<◌, None, length, max, slice_index, IfSome, MatchOption};
-ghost use Rattle.http_frames.specs.Heads.{is_last_line_end, after_empty_line, IsHeadAt};
-ghost use Rattle.http_frames.specs.inner.Searching.{IsSearched, SkipsTo, IsFirstEnd, HasNoEnd, HasNoHead};
+ghost use Rattle.http_frames.specs.Heads.{is_last_line_end, after_empty_line, HasNoEnd, IsFirstEnd, IsHeadAt};
+ghost use Rattle.http_frames.specs.inner.Searching.{IsSearched, SkipsTo, HasNoHead};
 
 /// The search for the end of a head in bytes that grow. What it has passed it doesn't look at again.
 #[derive(Clone, Copy)]
@@ -63,7 +63,7 @@ fn skip_line_ends(bytes: &[u8], from: usize) -> usize
 }
 
 /// The first LF from `from` on with an empty line behind it.
-fn last_line_end(bytes: &[u8], from: usize) -> Option<usize>
+pub fn last_line_end(bytes: &[u8], from: usize) -> Option<usize>
     ensures some { IfSome result (IsFirstEnd bytes.now from) }
     ensures none { result ≡ None → HasNoEnd bytes.now from (length bytes.now) }
 {

@@ -6,6 +6,8 @@
 #[cfg(test)]
 mod bindings;
 #[cfg(test)]
+mod dials;
+#[cfg(test)]
 mod doors;
 #[cfg(test)]
 mod failing_streams;

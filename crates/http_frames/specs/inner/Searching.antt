@@ -4,12 +4,8 @@ use Rattle.http_frames.specs.declared.search.HeadSearch.{HeadSearch}
 use Rattle.http_frames.specs.declared.judging.Found.{Found}
 use Rattle.http_frames.specs.declared.judging.Found.TheVariants.{More, Request as Given, Refused}
 use Rattle.http_frames.specs.declared.request.Request.{Request}
-use Rattle.http_frames.specs.Heads.{is_line_byte, is_last_line_end, IsHeadAt}
+use Rattle.http_frames.specs.Heads.{is_line_byte, HasNoEnd, IsHeadAt}
 use Rattle.http_frames.specs.Frames.{WantsHead, WantsBody, GivesRequest, IsRefused}
-
--- from `low` on up to `high` no LF has an empty line behind it
-abbrev pub HasNoEnd : List ℕ → ℕ → ℕ → Type 0
-HasNoEnd bytes low high = (place : ℕ) → low ≤ place → place < high → is_last_line_end bytes place ≡ false
 
 -- the bytes before `start` are dropped, and no head ends before `next`, whatever bytes follow
 pub record IsSearched (bytes : List ℕ) (search : HeadSearch) : Type 0 where
@@ -26,12 +22,6 @@ pub record SkipsTo (bytes : List ℕ) (from place : ℕ) : Type 0 where
   pub within : place ≤ length bytes
   pub passed : (k : ℕ) → from ≤ k → k < place → is_line_byte (slice_index bytes k) ≡ true
   pub other : place < length bytes → is_line_byte (slice_index bytes place) ≡ false
-
--- the first LF from `from` on that has an empty line behind it
-pub record IsFirstEnd (bytes : List ℕ) (from place : ℕ) : Type 0 where
-  pub order : from ≤ place
-  pub here : is_last_line_end bytes place ≡ true
-  pub first : HasNoEnd bytes from place
 
 -- the bytes hold no head
 abbrev pub HasNoHead : List ℕ → Type 0

@@ -1,4 +1,4 @@
-use Rattle.http_frames.specs.inner.Searching.{HasNoEnd}
+use Rattle.http_frames.specs.Heads.{HasNoEnd}
 use Rattle.http_frames.proofs.search.last_line_end.Given as goal
 
 abbrev pub invariant-loop-place : goal.invariant-loop-place

@@ -1,0 +1,3 @@
+pub mod WayLemmas
+pub mod ReadingLemmas
+pub mod WatchLemmas

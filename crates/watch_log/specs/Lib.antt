@@ -1,0 +1,4 @@
+pub mod Reading
+pub mod Watching
+pub mod OnItsWay
+pub mod inner
