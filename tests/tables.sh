@@ -95,38 +95,63 @@ login() {
     '{"type":"user-account","id":"user-account--00000000-0000-4000-8000-000000000001","account_login":"'"$1"'"}'
 }
 
+# brackets WORDS: the words, in which A to D, each alone, are the brackets of the logins a to d.
+brackets() {
+  local words=$1 letter
+  for letter in a b c d; do
+    words=$(sed -E "s/(^|[( ])${letter^^}($|[) ])/\\1[user-account:account_login = '$letter']\\2/g" <<< "$words")
+    words=$(sed -E "s/(^|[( ])${letter^^}($|[) ])/\\1[user-account:account_login = '$letter']\\2/g" <<< "$words")
+  done
+  printf '%s\n' "$words"
+}
+
+# lay_log LINE: the row's input and what is wanted, of a table's line 'WORDS | LOG => LINES' or 'WORDS | LOG => LINES ! STATUS TEXT'.
+lay_log() {
+  local log=${1#* | } wanted=${1##* =>} event name span
+  log=${log%% =>*}
+  for event in $log; do
+    name=${event%%@*} span=${event#*@}
+    login "$name" "${span%%..*}" "${span##*..}"
+  done > "$to/stdin"
+  if [[ $wanted == *'! '* ]]; then
+    name=${wanted#*! }
+    refused "${name%% *}" "${name#* }"
+    wanted=${wanted%!*}
+  fi
+  wanted=$(sed 's/^ *//; s/ *$//' <<< "$wanted")
+  [ -z "$wanted" ] || sed 's/; /\n/g' <<< "$wanted" > "$to/stdout"
+}
+
 # lay_logs TABLE TO: lines 'WORDS | LOG => LINES'. WORDS are those after `match`, the last one the pattern, in which A to
 # D are the brackets of the logins a to d; LOG is NAME@SECOND or NAME@FIRST..LAST, a line each; LINES stand between `; `.
 # 'WORDS | LOG => LINES ! STATUS TEXT': the run ends with this status and this text.
 lay_logs() {
-  local line words log wanted letter event name span number=0
+  local line words number=0
   while IFS= read -r line; do
     number=$((number + 1))
     [[ $line == *' | '*' =>'* ]] || continue
-    words=${line%% | *} log=${line#* | } wanted=${line##* =>}
-    log=${log%% =>*}
+    words=${line%% | *}
     local options=()
     while [[ $words == --* ]]; do
       options+=("${words%% *}")
       words=${words#* }
       if [ "${options[-1]}" = --cap ]; then options+=("${words%% *}") words=${words#* }; fi
     done
-    for letter in a b c d; do
-      words=$(sed -E "s/(^|[( ])${letter^^}($|[) ])/\\1[user-account:account_login = '$letter']\\2/g" <<< "$words")
-      words=$(sed -E "s/(^|[( ])${letter^^}($|[) ])/\\1[user-account:account_login = '$letter']\\2/g" <<< "$words")
-    done
-    row "$2:$number" match "${options[@]}" "$words"
-    for event in $log; do
-      name=${event%%@*} span=${event#*@}
-      login "$name" "${span%%..*}" "${span##*..}"
-    done > "$to/stdin"
-    if [[ $wanted == *'! '* ]]; then
-      name=${wanted#*! }
-      refused "${name%% *}" "${name#* }"
-      wanted=${wanted%!*}
-    fi
-    wanted=$(sed 's/^ *//; s/ *$//' <<< "$wanted")
-    [ -z "$wanted" ] || sed 's/; /\n/g' <<< "$wanted" > "$to/stdout"
+    row "$2:$number" match "${options[@]}" "$(brackets "$words")"
+    lay_log "$line"
+  done < "$1"
+}
+
+# lay_alerts TABLE TO: the same for stix_alerts, with 'PATTERN N SECONDS' as WORDS.
+lay_alerts() {
+  local line words rest number=0
+  while IFS= read -r line; do
+    number=$((number + 1))
+    [[ $line == *' | '*' =>'* ]] || continue
+    words=${line%% | *}
+    rest=${words% *}
+    row "$2:$number" "$(brackets "${rest% *}")" "${rest##* }" "${words##* }"
+    lay_log "$line"
   done < "$1"
 }
 
@@ -140,7 +165,7 @@ word() {
   esac
 }
 
-# lay_lines TABLE TO: lines 'WORDS => TEXT', what is written; 'WORDS => usage', where they are no command line; or
+# lay_lines TABLE TO: lines 'WORDS => TEXT', what is written; 'WORDS => usage', where they are no command line, of $usage; or
 # 'WORDS => STATUS TEXT'. Words are divided by spaces, and written as `word` says; the input is the login of a.
 lay_lines() {
   local line words text number=0 -
@@ -156,7 +181,7 @@ lay_lines() {
     done > "$to/args"
     login a 0 0 > "$to/stdin"
     case $text in
-      usage) refused 2 'usage: stix_command (match | check | show | serve | make) WORDS' ;;
+      usage) refused 2 "usage: $usage" ;;
       [1-9]' '*) refused "${text%% *}" "${text#* }" ;;
       *) printf '%s\n' "$text" > "$to/stdout" ;;
     esac
@@ -176,6 +201,7 @@ lay_tables() {
       *.objects) lay_objects "$table" "$name" ;;
       *.truths) lay_truths "$table" "$name" ;;
       *.logs) lay_logs "$table" "$name" ;;
+      *.alerts) lay_alerts "$table" "$name" ;;
     esac
   done < <(find "$1" -type f | sort)
 }

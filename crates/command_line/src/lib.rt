@@ -17,9 +17,11 @@ mod parser;
 mod read;
 mod request;
 mod serve;
+mod words;
 
 pub use base::MAX_BASE;
 pub use collections::{MAX_COLLECTIONS, MAX_TITLE};
-pub use numbers::{DEFAULT_CAP, MAX_CAP, MAX_CONNECTIONS, MAX_PORT};
+pub use numbers::{DEFAULT_CAP, MAX_CAP, MAX_CONNECTIONS, MAX_PORT, number_in};
 pub use read::read_words;
 pub use request::{CollectionRequest, MatchRequest, Request, ServeRequest, WordsRefusal};
+pub use words::program_words;

@@ -16,7 +16,7 @@ pub const MAX_PORT: u32 = 65_535;
 pub const MAX_CONNECTIONS: u32 = 4_294_967_295;
 
 /// The number of a text, if it has one in the range.
-pub(crate) fn number_in(text: &str, least: u32, most: u32) -> Option<u32>
+pub fn number_in(text: &str, least: u32, most: u32) -> Option<u32>
     ensures { (number : ℕ) → (result ≡ Some number) ↔ IsNumberIn least most text.now number }
 {
     if text.len() > 10 || text.as_bytes().first() == Some(&b'+') {

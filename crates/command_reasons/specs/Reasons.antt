@@ -1,5 +1,7 @@
--- Texts that are refused as patterns, and what is told of it.
-use Rattle.std.specs.Prelude.{ℕ, List, ◌++◌, codes}
+-- What is told of why a command ended.
+use Rattle.std.specs.Prelude.{◌≡◌, ◌⊎◌, ℕ, List, ◌++◌, Option, codes}
+use Rattle.flow_edges.specs.Faults.{Rose}
+use Rattle.flow_edges.specs.Flow.{written_with, WritesPrefix}
 use Rattle.pattern_types.specs.declared.pattern.Pattern.{Pattern}
 use Rattle.pattern_reader.specs.declared.refusal.PatternRefusal.{PatternRefusal}
 use Rattle.pattern_reader.specs.PatternRefusal.{refusal_text}
@@ -17,3 +19,8 @@ pub record IsRefusedPattern (text : List ℕ) (refusal : PatternRefusal) : Type 
 -- why a pattern is refused
 abbrev pub pattern_reason : PatternRefusal → List ℕ
 pattern_reason refusal = codes "pattern refused: " ++ (refusal_text refusal ++ codes "\n")
+
+-- the text was written, or a prefix of it where the sink's count of faults rose
+abbrev pub WritesReason : List ℕ → Option (List ℕ) → Option (List ℕ) → ℕ → ℕ → Type 0
+WritesReason text written written_after faults faults_after =
+    (written_after ≡ written_with text written) ⊎ (WritesPrefix text written written_after × Rose faults faults_after)

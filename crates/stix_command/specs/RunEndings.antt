@@ -1,7 +1,6 @@
 -- What stands when the program ended, by the command that it ran and how that ended.
 use Rattle.std.specs.Prelude.{◌≡◌, ◌≢◌, ◌⊎◌, ℕ, List, Option, codes}
-use Rattle.flow_edges.specs.Faults.{Rose}
-use Rattle.flow_edges.specs.Flow.{written_with, WritesPrefix}
+use Rattle.flow_edges.specs.Flow.{written_with}
 use Rattle.pattern_types.specs.declared.pattern.Pattern.{Pattern}
 use Rattle.pattern_types.specs.PlainPattern.{plain_pattern}
 use Rattle.pattern_reader.specs.Read.{IsReadAs}
@@ -133,11 +132,6 @@ pub record RefusesShow (words : List (List ℕ)) : Type 0 where
 -- the words are a command, and its pattern is refused
 abbrev pub RefusesPattern : List (List ℕ) → Type 0
 RefusesPattern words = RefusesMatch words ⊎ RefusesShow words
-
--- the text was written, or a prefix of it where the sink's count of faults rose
-abbrev pub WritesReason : List ℕ → Option (List ℕ) → Option (List ℕ) → ℕ → ℕ → Type 0
-WritesReason text written written_after faults faults_after =
-    (written_after ≡ written_with text written) ⊎ (WritesPrefix text written written_after × Rose faults faults_after)
 
 -- the statuses 2 and 3 tell that the words are no command line, and that their pattern is refused; only want of memory comes instead
 pub record TellsRefusals (words : List (List ℕ)) (status : ℕ) : Type 0 where

@@ -2,8 +2,9 @@ ghost use Rattle.std.specs.Prelude.{◌≡◌, ◌⊎◌, ℕ, List};
 ghost use Rattle.flow_edges.specs.Faults.{Counted};
 ghost use Rattle.flow_edges.specs.Streams.{streams};
 ghost use Rattle.command_line.specs.CommandLines.{texts};
+ghost use Rattle.command_reasons.specs.Reasons.{WritesReason};
 ghost use Rattle.stix_command.specs.Requests.{AskForNoInput, AskToServe};
-ghost use Rattle.stix_command.specs.RunEndings.{status_of, IsReasonOf, EndsRun, ServesNone, WritesReason, Ends, IsDone, outside};
+ghost use Rattle.stix_command.specs.RunEndings.{status_of, IsReasonOf, EndsRun, ServesNone, Ends, IsDone, outside};
 ghost use Rattle.taxii_server.specs.Outside.{link_view};
 
 use crate::ending::Ending;

@@ -1,0 +1,4 @@
+mod TellingLemmas
+mod SeeingLemmas
+mod EndLemmas
+mod RunLemmas

@@ -1,0 +1,30 @@
+//! The program `stix_alerts`: tells at which observations of a log at least n matches of one bracket lie within x seconds,
+//! each before the next line is read.
+#![tactic(auto)]
+
+mod alert_line;
+mod alerter;
+mod ending;
+mod run;
+mod words;
+
+use command_line::program_words;
+use command_reasons::write_no_memory;
+use flow_edges::{ReadSource, WriteSink};
+use flow_values::NoMemory;
+use std::process::ExitCode;
+
+fn main(rt: HostRuntime) -> ExitCode {
+    let mut input = ReadSource::new(rt.stdin());
+    let mut output = WriteSink::new(rt.stdout());
+    let mut faults = WriteSink::new(rt.stderr());
+    let words = match program_words(&rt) {
+        Ok(words) => words,
+        Err(NoMemory) => {
+            let _ = write_no_memory(&mut faults);
+            return ExitCode::from(1);
+        }
+    };
+    let status = run::run_alerts(rt.alloc(), &words, &mut input, &mut output, &mut faults);
+    ExitCode::from(status)
+}
