@@ -1,0 +1,6 @@
+mod RowsLemmas
+pub mod GrowingLemmas
+pub mod VersionLemmas
+pub mod AddingLemmas
+pub mod HuntingLemmas
+pub mod BundleLemmas

@@ -1,0 +1,36 @@
+use flow_values::Items;
+use pattern_reader::PatternRefusal;
+use pattern_types::Pattern;
+use stix_ids::Id;
+use stix_times::Instant;
+
+/// An indicator that is hunted.
+#[derive(Debug, Drop)]
+pub struct Hunted {
+    /// Its position among the objects, counted from 0.
+    pub at: u32,
+    /// Its identifier.
+    pub id: Id,
+    /// When it was created: a whole number of microseconds.
+    pub created: Instant,
+    /// What its pattern is read as.
+    pub pattern: Pattern,
+}
+
+/// An indicator that would be hunted, had it a pattern that is read.
+#[derive(Debug, Drop)]
+pub struct Skipped {
+    /// Its position among the objects, counted from 0.
+    pub at: u32,
+    /// Its identifier.
+    pub id: Id,
+    /// Why its pattern is refused; never for want of memory.
+    pub refusal: PatternRefusal,
+}
+
+/// The indicators that are hunted at a moment, and those that are skipped, both by position.
+#[derive(Debug, Drop)]
+pub struct Hunt {
+    pub hunted: Items<Hunted>,
+    pub skipped: Items<Skipped>,
+}
