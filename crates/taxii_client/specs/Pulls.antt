@@ -1,11 +1,10 @@
 -- A walk over the pages of a peer's collection, each fetched on a link of its own: each page asks for the one behind it.
-use Rattle.std.specs.Prelude.{◌≡◌, ◌≢◌, ◌⊎◌, ⊥, ℕ, ◌+◌, ◌<◌, Bool, true, false, List, [], ◌∷◌, ◌++◌, map, Option, Some, None, Result, Ok, Err}
+use Rattle.std.specs.Prelude.{◌≡◌, ◌≢◌, ◌⊎◌, ℕ, ◌+◌, ◌<◌, Bool, true, false, List, [], ◌∷◌, ◌++◌, map, Option, Some, None, Result, Ok, Err}
 use Rattle.flow_edges.specs.Faults.{Rose}
 use Rattle.flow_links.specs.Doors.{Changes}
-use Rattle.flow_links.specs.Dials.{Dialled, DialState}
+use Rattle.flow_links.specs.Dials.{DialState}
 use Rattle.stix_json.specs.declared.entry.Entry.{Entry}
 use Rattle.stix_json.specs.declared.envelope.Envelope.{Envelope}
-use Rattle.taxii_client.specs.declared.refusal.ReplyRefusal.{ReplyRefusal}
 use Rattle.taxii_client.specs.declared.target.Target.{Target}
 use Rattle.taxii_client.specs.declared.fetch_end.FetchEnd.{FetchEnd}
 use Rattle.taxii_client.specs.declared.fetch_end.FetchEnd.TheVariants as Fetch
@@ -79,36 +78,40 @@ pub record PullState : Type 0 where
   pub turn : Turn
   pub pages : ℕ
 
--- a page came: over a link that was dialled for it and handed back
-pub record GivesPage {L : Type 0} (view : L → LinkView) (before after : PullState) (dial now : DialView L) (entries : List Entry) : Type 0 where
-  pub page : Page L
-  pub is_page : IsPageAt view before.target before.turn page
-  pub entries_are : entries ≡ page.envelope.entries
-  pub through : PassThrough before.target (page.link ∷ []) dial.told now.told
-  pub quiet : now.faults ≡ dial.faults
-  pub few : before.pages < MAX_PAGES
-  pub after_is : after ≡ record { target = before.target; turn = turn_after page.envelope; pages = before.pages + 1 }
-
--- the fetch of a page ended so, over a link that was dialled for it and handed back
-pub record EndsFetch {L : Type 0} (view : L → LinkView) (before : PullState) (dial now : DialView L) (end : FetchEnd) : Type 0 where
-  pub next : Option (List ℕ)
-  pub asks : Asks before.turn next
+-- a link was dialled, fetched over and handed back
+pub record FetchesOver {L : Type 0} (view : L → LinkView) (target : Target) (next : Option (List ℕ)) (dial now : DialView L) (answer : Result Envelope FetchEnd) : Type 0 where
   pub link : Lent L
-  pub fetched : Fetched before.target next (view link.given) (view link.finished) (Err end)
-  pub through : PassThrough before.target (link ∷ []) dial.told now.told
+  pub fetched : Fetched target next (view link.given) (view link.finished) answer
+  pub through : PassThrough target (link ∷ []) dial.told now.told
   pub quiet : now.faults ≡ dial.faults
 
 -- the dial gave no link, and counted that
-pub record FailsToDial {L : Type 0} (dial now : DialView L) : Type 0 where
+pub record FailsToDial {L : Type 0} (dial now : DialView L) (answer : Result Envelope FetchEnd) : Type 0 where
   pub same : now.told ≡ dial.told
   pub rose : Rose dial.faults now.faults
+  pub fault : answer ≡ Err Fetch.Fault
 
--- a page was asked for and didn't come
-pub record LosesPage {L : Type 0} (before after : PullState) (Ends : Type 0) : Type 0 where
+-- a fetch over a link that was dialled for it, or no link
+abbrev pub Dials : {L : Type 0} → (L → LinkView) → Target → Option (List ℕ) → DialView L → DialView L → Result Envelope FetchEnd → Type 0
+Dials view target next dial now answer = FetchesOver view target next dial now answer ⊎ FailsToDial dial now answer
+
+-- a page was asked for at its turn
+pub record AsksFor {L : Type 0} (view : L → LinkView) (before : PullState) (dial now : DialView L) (answer : Result Envelope FetchEnd) : Type 0 where
   pub few : before.pages < MAX_PAGES
-  pub turn : before.turn ≢ Over
-  pub stays : after ≡ before
-  pub ends : Ends
+  pub next : Option (List ℕ)
+  pub asks : Asks before.turn next
+  pub dials : Dials view before.target next dial now answer
+
+-- a page came, and the walk goes on behind it
+pub record GivesPage {L : Type 0} (view : L → LinkView) (before after : PullState) (dial now : DialView L) (entries : List Entry) : Type 0 where
+  pub envelope : Envelope
+  pub asks : AsksFor view before dial now (Ok envelope)
+  pub entries_are : entries ≡ envelope.entries
+  pub after_is : after ≡ record { target = before.target; turn = turn_after envelope; pages = before.pages + 1 }
+
+-- a page didn't come, and the walk stands where it stood
+abbrev pub LosesPage : {L : Type 0} → (L → LinkView) → PullState → PullState → DialView L → DialView L → FetchEnd → Type 0
+LosesPage view before after dial now end = AsksFor view before dial now (Err end) × (after ≡ before)
 
 -- nothing was asked for, and nothing changed
 abbrev pub Rests : {L : Type 0} → PullState → PullState → DialView L → DialView L → Type 0
@@ -118,8 +121,8 @@ Rests before after dial now = (after ≡ before) × (now ≡ dial)
 abbrev pub Answers : {L : Type 0} → (L → LinkView) → PullState → PullState → DialView L → DialView L → Result (Option (List Entry)) PageEnd → Type 0
 Answers view before after dial now (Ok None) = (before.turn ≡ Over) × Rests before after dial now
 Answers view before after dial now (Ok (Some entries)) = GivesPage view before after dial now entries
-Answers view before after dial now (Err Fault) = LosesPage before after (FailsToDial dial now ⊎ EndsFetch view before dial now Fetch.Fault)
-Answers view before after dial now (Err Cut) = LosesPage before after (EndsFetch view before dial now Fetch.Cut)
-Answers view before after dial now (Err (Refused refusal)) = LosesPage before after (EndsFetch view before dial now (Fetch.Refused refusal))
+Answers view before after dial now (Err Fault) = LosesPage view before after dial now Fetch.Fault
+Answers view before after dial now (Err Cut) = LosesPage view before after dial now Fetch.Cut
+Answers view before after dial now (Err (Refused refusal)) = LosesPage view before after dial now (Fetch.Refused refusal)
 Answers view before after dial now (Err TooManyPages) = (before.pages ≡ MAX_PAGES) × (before.turn ≢ Over) × Rests before after dial now
-Answers view before after dial now (Err NoMemory) = LosesPage before after (EndsFetch view before dial now Fetch.NoMemory)
+Answers view before after dial now (Err NoMemory) = LosesPage view before after dial now Fetch.NoMemory

@@ -15,11 +15,12 @@ next_pair (Some next) = codes "&next=" ++ byte_serialize next
 abbrev pub path_of : Target → List ℕ
 path_of target = target.root ++ codes "collections/" ++ uuid_text target.collection ++ codes "/objects/"
 
-abbrev pub query_of : Target → Option (List ℕ) → List ℕ
-query_of target next = codes "?limit=" ++ decimal target.limit ++ codes "&match%5Bversion%5D=all" ++ next_pair next
+-- the query for at most so many objects, in all their versions
+abbrev pub query_of : ℕ → Option (List ℕ) → List ℕ
+query_of limit next = codes "?limit=" ++ decimal limit ++ codes "&match%5Bversion%5D=all" ++ next_pair next
 
 abbrev pub request_line : Target → Option (List ℕ) → List ℕ
-request_line target next = codes "GET " ++ path_of target ++ query_of target next ++ codes " HTTP/1.1" ++ line_end
+request_line target next = codes "GET " ++ path_of target ++ query_of target.limit next ++ codes " HTTP/1.1" ++ line_end
 
 abbrev pub host_of : Target → List ℕ
 host_of target = target.host ++ codes ":" ++ decimal target.port
