@@ -136,3 +136,16 @@ needed_body head some count announces few front back is more = by_length (cases_
           bytes_are = over.longer;
           short = omega (arith, few, more, ap length over.rest, length-append over.middle back);
         })
+
+pub cut_none : IsCut []
+cut_none = inl (record { room = omega arith; none = λ k low lt. absurd (omega (arith, lt)) })
+
+pub needed_reply : (reply body : List ℕ) → IsReply reply body → IsNeeded reply
+needed_reply reply body is = subst IsNeeded (sym is.bytes) (needed_body is.head body (length body) is.announces (omega arith))
+
+pub needed_refused : (bytes : List ℕ) (refusal : HeadRefusal) → IsRefused bytes refusal → IsNeeded bytes
+needed_refused bytes refusal (inl long) = λ front back is some. inl (record {
+  room = omega (arith, long.0.full, some, ap length is, length-append front back);
+  none = no_head_front front back (subst HoldNoHead is long.0.none);
+})
+needed_refused bytes refusal (inr refused) = needed_head bytes refused.is_head refused.fits

@@ -1,0 +1,4 @@
+mod RequestLemmas
+mod OutcomeLemmas
+mod FetchLemmas
+mod PullLemmas

@@ -1,0 +1,5 @@
+pub mod Requests
+pub mod Refusals
+pub mod Outside
+pub mod Fetches
+pub mod Pulls

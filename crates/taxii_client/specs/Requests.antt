@@ -1,0 +1,35 @@
+-- The request of a client for a page of a collection (TAXII 2.1, sections 3.4 and 5.4): the objects in all their versions, at most so
+-- many of them, and behind a page those that follow it.
+use Rattle.std.specs.Prelude.{ℕ, List, [], ◌++◌, codes, decimal, Option, Some, None}
+use Rattle.form_urlencoded.specs.Form.{byte_serialize}
+use Rattle.stix_ids.specs.Uuid.{uuid_text}
+use Rattle.http_frames.specs.Answers.{field_line, line_end}
+use Rattle.taxii_client.specs.declared.target.Target.{Target}
+
+-- the pair of a query that asks for what follows a page
+abbrev pub next_pair : Option (List ℕ) → List ℕ
+next_pair None = []
+next_pair (Some next) = codes "&next=" ++ byte_serialize next
+
+-- the path to a collection's objects, below the root
+abbrev pub path_of : Target → List ℕ
+path_of target = target.root ++ codes "collections/" ++ uuid_text target.collection ++ codes "/objects/"
+
+-- the query for at most so many objects, in all their versions
+abbrev pub query_of : ℕ → Option (List ℕ) → List ℕ
+query_of limit next = codes "?limit=" ++ decimal limit ++ codes "&match%5Bversion%5D=all" ++ next_pair next
+
+abbrev pub request_line : Target → Option (List ℕ) → List ℕ
+request_line target next = codes "GET " ++ path_of target ++ query_of target.limit next ++ codes " HTTP/1.1" ++ line_end
+
+abbrev pub host_of : Target → List ℕ
+host_of target = target.host ++ codes ":" ++ decimal target.port
+
+-- the request for the first page, or for the one that `next` asks for
+unfoldable pub request_of : Target → Option (List ℕ) → List ℕ
+request_of target next =
+    request_line target next
+    ++ field_line (codes "Host") (host_of target)
+    ++ field_line (codes "Accept") (codes "application/taxii+json;version=2.1")
+    ++ field_line (codes "Connection") (codes "close")
+    ++ line_end

@@ -1,0 +1,67 @@
+use crate::ReplyRefusal;
+use flow_values::{Fault, NoMemory};
+use http_replies::ReplyEnd;
+use std::error::Error;
+use std::fmt;
+
+/// Why a page wasn't fetched over a link.
+#[derive(Clone, Copy, Debug, PartialEq, Eq, Hash)]
+pub enum FetchEnd {
+    /// A read or a write failed, and was counted by the link.
+    Fault,
+    /// The link's bytes end inside the reply.
+    Cut,
+    Refused(ReplyRefusal),
+    NoMemory,
+}
+
+impl From<Fault> for FetchEnd {
+    ghost use Rattle.std.specs.Prelude.{◌≡◌};
+    ghost use Rattle.taxii_client.specs.declared.fetch_end.FetchEnd.TheVariants as FetchEnd;
+
+    ghost from_gives = { λ _ end. end ≡ FetchEnd.Fault };
+
+    fn from(_: Fault) -> FetchEnd {
+        FetchEnd::Fault
+    }
+}
+
+impl From<NoMemory> for FetchEnd {
+    ghost use Rattle.std.specs.Prelude.{◌≡◌};
+    ghost use Rattle.taxii_client.specs.declared.fetch_end.FetchEnd.TheVariants as FetchEnd;
+
+    ghost from_gives = { λ _ end. end ≡ FetchEnd.NoMemory };
+
+    fn from(_: NoMemory) -> FetchEnd {
+        FetchEnd::NoMemory
+    }
+}
+
+impl From<ReplyEnd> for FetchEnd {
+    ghost use Rattle.std.specs.Prelude.{◌≡◌};
+    ghost use Rattle.taxii_client.specs.Refusals.{for_reply};
+
+    ghost from_gives = { λ reply end. end ≡ for_reply reply };
+
+    fn from(end: ReplyEnd) -> FetchEnd {
+        match end {
+            ReplyEnd::Fault => FetchEnd::Fault,
+            ReplyEnd::Cut => FetchEnd::Cut,
+            ReplyEnd::Refused(head) => FetchEnd::Refused(ReplyRefusal::from(head)),
+            ReplyEnd::NoMemory => FetchEnd::NoMemory,
+        }
+    }
+}
+
+impl fmt::Display for FetchEnd {
+    fn fmt<W: fmt::Write>(&self, f: &mut fmt::Formatter<W>) -> fmt::Result {
+        match self {
+            FetchEnd::Fault => write!(f, "the link failed"),
+            FetchEnd::Cut => write!(f, "the reply is cut"),
+            FetchEnd::Refused(refusal) => write!(f, "the reply is refused: {refusal}"),
+            FetchEnd::NoMemory => write!(f, "out of memory"),
+        }
+    }
+}
+
+impl Error for FetchEnd {}

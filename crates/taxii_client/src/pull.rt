@@ -1,0 +1,88 @@
+ghost use Rattle.std.specs.Prelude.{◌≡◌, ◌≤◌, length, option_map};
+ghost use Rattle.flow_links.specs.declared.dial.TheConstants.{MAX_HOST};
+ghost use Rattle.taxii_client.specs.Outside.{link_view};
+ghost use Rattle.taxii_client.specs.Pulls.{Answers, Dials};
+ghost use Rattle.taxii_client.specs.declared.turn.Turn.TheVariants.{First};
+
+use crate::{FetchEnd, PageEnd, Target, Turn, fetch};
+use flow_links::Dial;
+use flow_values::Items;
+use std::alloc::Global;
+use std::marker::Model;
+use stix_json::{Entry, Envelope};
+
+/// The most pages that a walk may have.
+pub const MAX_PAGES: u64 = 1_000_000;
+
+/// A walk over the pages of a peer's collection, each fetched over a link of its own. Contracts see the
+/// target, which page is the next one, and how many came.
+#[derive(Drop)]
+pub struct Pull<'t> {
+    alloc: Global,
+    target: &'t Target,
+    turn: Turn,
+    pages: u64,
+}
+
+impl<'t> Model for Pull<'t> {
+    ghost use Rattle.std.specs.Prelude.{◌≤◌, length};
+    ghost use Rattle.flow_links.specs.declared.dial.TheConstants.{MAX_HOST};
+    ghost use Rattle.taxii_client.specs.declared.pull.TheConstants.{MAX_PAGES};
+    ghost use Rattle.taxii_client.specs.Pulls.{PullState};
+
+    ghost Value = { PullState };
+
+    ghost view = { λ pull. record { target = pull.target.now; turn = pull.turn; pages = pull.pages } };
+
+    ghost invariant = { λ pull. (length pull.target.now.host ≤ MAX_HOST) × (pull.pages ≤ MAX_PAGES) };
+}
+
+impl<'t> Pull<'t> {
+    /// A walk that begins at the first page.
+    pub fn new(alloc: Global, target: &'t Target) -> Pull<'t>
+        requires short { length target.now.host ≤ MAX_HOST }
+        ensures { result ≡ record { target = target.now; turn = First; pages = 0 } }
+    {
+        Pull {
+            alloc,
+            target,
+            turn: Turn::First,
+            pages: 0,
+        }
+    }
+
+    /// The objects of the next page, or none where the last page had no more behind it. A page that
+    /// doesn't come is the next one again. Each link that the dial gives is handed back to it.
+    pub fn next_page<D: Dial>(&mut self, dial: &mut D) -> Result<Option<Items<Entry>>, PageEnd>
+        ensures { Answers (link_view D.Link.left D.Link.written D.Link.Source.faults D.Link.Sink.faults) self.old self.new
+            (record { told = D.told dial.old; faults = D.faults dial.old }) (record { told = D.told dial.new; faults = D.faults dial.new }) result }
+    {
+        let Some(next) = self.turn.next() else {
+            return Ok(None);
+        };
+        if self.pages == MAX_PAGES {
+            return Err(PageEnd::TooManyPages);
+        }
+        let envelope = dial_and_fetch(self.alloc, self.target, next, dial)?;
+        self.turn = Turn::after(envelope.more, envelope.next);
+        self.pages += 1;
+        Ok(Some(envelope.entries))
+    }
+}
+
+/// Dials for a link, fetches a page over it, and hands it back.
+fn dial_and_fetch<D: Dial>(
+    alloc: Global,
+    target: &Target,
+    next: Option<&str>,
+    dial: &mut D,
+) -> Result<Envelope, FetchEnd>
+    requires short { length target.now.host ≤ MAX_HOST }
+    ensures { Dials (link_view D.Link.left D.Link.written D.Link.Source.faults D.Link.Sink.faults) target.now (option_map (λ next. next.now) next.entry)
+        (record { told = D.told dial.old; faults = D.faults dial.old }) (record { told = D.told dial.new; faults = D.faults dial.new }) result }
+{
+    let mut link = dial.dial(target.host.as_str(), target.port)?;
+    let answer = fetch(alloc, target, next, &mut link);
+    dial.finish(link);
+    answer
+}
