@@ -1,0 +1,2 @@
+mod WritingLemmas
+mod RunLemmas
