@@ -1,0 +1,3 @@
+mod WritingLemmas
+mod RunLemmas
+mod EndLemmas

@@ -1,0 +1,5 @@
+pub mod Words
+pub mod Telling
+pub mod Pulling
+pub mod Endings
+pub mod Runs

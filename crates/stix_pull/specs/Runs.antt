@@ -1,0 +1,29 @@
+-- What stands when the program ended, by its status.
+use Rattle.std.specs.Prelude.{◌≡◌, ◌⊎◌, ◌↔◌, ℕ, List}
+use Rattle.flow_edges.specs.Faults.{Rose}
+use Rattle.taxii_client.specs.Outside.{LinkView}
+use Rattle.taxii_client.specs.Pulls.{Lent}
+use Rattle.stix_pull.specs.declared.ending.PullEnd.{PullEnd}
+use Rattle.stix_pull.specs.Words.{AskForNothing}
+use Rattle.stix_pull.specs.Pulling.{Outside, StopsBehind}
+use Rattle.stix_pull.specs.Endings.{AskSo, AreAll, EndsWords, pull_status, end_reason}
+
+-- the program ended in one of its ways, with that status and that reason
+pub record Ends {L : Type 0} (view : L → LinkView) (words : List (List ℕ)) (before now : Outside L) (status : ℕ) (Writes : List ℕ → Type 0) : Type 0 where
+  pub end : PullEnd
+  pub status_is : status ≡ pull_status end.ending
+  pub stands : EndsWords view words before now end
+  pub reason : Writes (end_reason end)
+
+-- all pages of the collection came, and their good entries were written
+abbrev pub PullsAll : {L : Type 0} → (L → LinkView) → List (List ℕ) → Outside L → Outside L → Type 0
+PullsAll view words before now = AskSo words (λ target. (skipped : ℕ) × StopsBehind view target before now AreAll skipped)
+
+-- of the two counts of a link one rose
+abbrev pub LinkRose : LinkView → LinkView → Type 0
+LinkRose before now = Rose before.read_faults now.read_faults ⊎ Rose before.write_faults now.write_faults
+
+-- the status 5 comes only where the dial counted a fault or a link did, and at no other status did the dial
+pub record CountsDial {L : Type 0} (view : L → LinkView) (before now : Outside L) (status : ℕ) : Type 0 where
+  pub failed : status ≡ 5 → Rose before.dial.faults now.dial.faults ⊎ ((link : Lent L) × LinkRose (view link.given) (view link.finished))
+  pub quiet : ¬ (status ≡ 5) → now.dial.faults ≡ before.dial.faults

@@ -1,0 +1,32 @@
+//! The program `stix_pull`: all objects of a collection of a TAXII 2.1 server, fetched page by page and written as
+//! lines, each page before the next one is asked for.
+#![tactic(auto)]
+
+mod ending;
+mod forms;
+mod pulling;
+mod run;
+mod words;
+mod writing;
+
+use command_line::program_words;
+use command_reasons::write_no_memory;
+use flow_edges::WriteSink;
+use flow_links::TcpDial;
+use flow_values::NoMemory;
+use std::process::ExitCode;
+
+fn main(rt: HostRuntime) -> ExitCode {
+    let mut output = WriteSink::new(rt.stdout());
+    let mut faults = WriteSink::new(rt.stderr());
+    let words = match program_words(&rt) {
+        Ok(words) => words,
+        Err(NoMemory) => {
+            let _ = write_no_memory(&mut faults);
+            return ExitCode::from(1);
+        }
+    };
+    let mut dial = TcpDial::new(&rt);
+    let status = run::run_pull(rt.alloc(), &words, &mut dial, &mut output, &mut faults);
+    ExitCode::from(status)
+}

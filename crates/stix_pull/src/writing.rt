@@ -1,0 +1,93 @@
+ghost use Rattle.std.specs.Prelude.{◌≡◌, ◌++◌, [], ℕ, List, Option, IfOk, OnOk, OnErr, All, Err};
+ghost use Rattle.flow_edges.specs.Faults.{Counted};
+ghost use Rattle.flow_edges.specs.Flow.{written_with, WritesPrefix};
+ghost use Rattle.watch_log.specs.OnItsWay.{IsOnItsWay};
+ghost use Rattle.stix_pull.specs.Telling.{line_of, told_of, bad_in, IsWritable};
+
+use flow_edges::Sink;
+use flow_values::{NoMemory, Text};
+use std::alloc::Global;
+use stix_json::{Entry, write_json};
+use watch_log::laws::parts_on_their_way;
+use watch_log::{CutShort, Pending};
+
+/// How many of a page's entries are bad.
+pub(crate) fn count_bad(entries: &[Entry]) -> usize
+    ensures { result ≡ bad_in entries.now }
+{
+    entries
+        .iter()
+        .filter(|entry| matches!(entry, Entry::Bad(_)))
+        .count()
+}
+
+/// Writes a line for each good entry of a page.
+pub(crate) fn write_page<O: Sink>(
+    alloc: Global,
+    entries: &[Entry],
+    output: &mut O,
+) -> Result<(), CutShort>
+    requires { All IsWritable entries.now }
+    ensures ok { OnOk result (O.written output.new ≡ written_with (told_of entries.now) (O.written output.old)) }
+    ensures err { OnErr result (WritesPrefix (told_of entries.now) (O.written output.old) (O.written output.new)) }
+    ensures causes { Counted (result ≡ Err CutShort.WriteFault) (O.faults output.old) (O.faults output.new) }
+{
+    let mut pending = Pending::new(alloc);
+    add_page(alloc, entries, &mut pending, output)?;
+    pending.write(output)?;
+    Ok(())
+}
+
+/// Puts a line for each good entry of a page behind what is pending.
+fn add_page<O: Sink>(
+    alloc: Global,
+    entries: &[Entry],
+    pending: &mut Pending,
+    output: &mut O,
+) -> Result<(), CutShort>
+    requires ordered { All IsWritable entries.now }
+    requires empty { pending.old ≡ [] }
+    ensures ok { OnOk result (IsOnItsWay (told_of entries.now) pending.new (O.written output.old) (O.written output.new)) }
+    ensures err { OnErr result (WritesPrefix (told_of entries.now) (O.written output.old) (O.written output.new)) }
+    ensures causes { Counted (result ≡ Err CutShort.WriteFault) (O.faults output.old) (O.faults output.new) }
+{
+    parts_on_their_way();
+    for entry in entries {
+        add_entry(alloc, entry, pending, output)?;
+    }
+    Ok(())
+}
+
+/// Puts the line of an entry behind what is pending.
+fn add_entry<O: Sink>(
+    alloc: Global,
+    entry: &Entry,
+    pending: &mut Pending,
+    output: &mut O,
+) -> Result<(), CutShort>
+    requires { IsWritable entry.now }
+    ensures ok { (before : List ℕ) (first : Option (List ℕ)) → IsOnItsWay before pending.old first (O.written output.old)
+        → OnOk result (IsOnItsWay (before ++ line_of entry.now) pending.new first (O.written output.new)) }
+    ensures err { (before : List ℕ) (first : Option (List ℕ)) → IsOnItsWay before pending.old first (O.written output.old)
+        → OnErr result (WritesPrefix (before ++ line_of entry.now) first (O.written output.new)) }
+    ensures causes { Counted (result ≡ Err CutShort.WriteFault) (O.faults output.old) (O.faults output.new) }
+{
+    parts_on_their_way();
+    let line = text_of(alloc, entry)?;
+    pending.add(line.as_str().as_bytes(), output)
+}
+
+/// The line of a good entry, or nothing.
+fn text_of(alloc: Global, entry: &Entry) -> Result<Text, NoMemory>
+    requires { IsWritable entry.now }
+    ensures { IfOk result (λ line. line ≡ line_of entry.now) }
+{
+    match entry {
+        Entry::Good(json) => {
+            let mut line = write_json(alloc, json)?;
+            line.push("\n")?;
+            Ok(line)
+        }
+        Entry::Bad(_) => Ok(Text::new(alloc)),
+    }
+}
