@@ -117,7 +117,7 @@ module _ (stay : AlertsStay) (start : AlerterState) (new : IsBehind start.watch 
       taken = taken.taken;
     }
     end-told WriteFault ends = within ends
-    end-told (Stopped never) ends = ends.within.1.0
+    end-told (Stopped never) ends = ends.within.1
     end-told NoMemory (inl between) = inl (record {
       bundles = between.bundles;
       begins = between.begins;

@@ -43,7 +43,7 @@ module _ (words : List (List ℕ)) (before after : Streams) where
   refused-task one task (PatternRefused refusal) ends is = λ p read. ends.0.unread p read.0
   refused-task one task NotLeaf ends is = λ p read.
       let more = ends.0 in
-      more.1.1 (read.1.0, one task.pattern more.0 p more.1.0 read.0 ∙ read.1.1)
+      more.2 (read.1, one task.pattern more.0 p more.1 read.0 ∙ read.2)
   refused-task one task (Ended end.Done) ends is = absurd (omega arith)
   refused-task one task (Ended (end.Input line why)) ends is = absurd (omega arith)
   refused-task one task (Ended end.ReadFault) ends is = absurd (omega arith)

@@ -46,7 +46,7 @@ alert_status NotLeaf = 3
 alert_status (Ended (end.Input line why)) = 4
 alert_status (Ended end.ReadFault) = 5
 alert_status (Ended end.WriteFault) = 6
-alert_status (Ended (end.Stopped never)) = elim never []
+alert_status (Ended (end.Stopped never)) = elim never [ ]
 
 abbrev pub IsAlertReason : AlertEnding → List ℕ → Type 0
 IsAlertReason (Ended end.Done) text = text ≡ []
