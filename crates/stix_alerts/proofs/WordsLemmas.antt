@@ -1,5 +1,5 @@
 -- Three words, and what they ask for.
-use Rattle.std.proofs.Common.{◌≡◌, ℕ, ◌≤◌, ◌<◌, List, [], ◌∷◌, length, String, Global, string_bytes, get_or, refl, sym, ap, subst, ◌∙◌, arith}
+use Rattle.std.proofs.Common.{◌≡◌, ℕ, ◌≤◌, ◌<◌, List, [], ◌∷◌, length, String, Global, string_bytes, get_or, sym, ap, subst, ◌∙◌, arith}
 use Rattle.command_line.specs.CommandLines.{IsNumberIn, texts}
 use Rattle.stix_alerts.specs.declared.words.TheConstants.{MAX_N, MAX_SECONDS}
 use Rattle.stix_alerts.specs.Tasks.{AlertTask, AskFor, AskForNothing}

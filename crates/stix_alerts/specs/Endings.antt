@@ -1,5 +1,5 @@
 -- What an ending says of the words, the log and what was told; its status, and its reason as a text.
-use Rattle.std.specs.Prelude.{◌≡◌, ◌⊎◌, ℕ, List, [], ◌++◌, codes}
+use Rattle.std.specs.Prelude.{◌≡◌, ◌⊎◌, ℕ, List, [], codes}
 use Rattle.flow_edges.specs.Streams.{Streams, AreUntouched}
 use Rattle.pattern_types.specs.declared.pattern.Pattern.{Pattern}
 use Rattle.match_input.specs.Texts.{IsInputRefusalText}

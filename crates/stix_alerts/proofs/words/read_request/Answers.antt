@@ -1,7 +1,6 @@
-use Rattle.std.proofs.Common.{◌≡◌, ℕ, List, Some, None, refl, subst, sym}
+use Rattle.std.proofs.Common.{ℕ, List, refl, subst, sym}
 use Rattle.command_line.specs.CommandLines.{IsNumberIn}
 use Rattle.stix_alerts.specs.declared.words.TheConstants.{MAX_N, MAX_SECONDS}
-use Rattle.stix_alerts.specs.Tasks.{task_of}
 use Rattle.stix_alerts.proofs.WordsLemmas.{three, no_n, no_seconds, asks}
 use Rattle.stix_alerts.proofs.words.read_request.Goals as goal
 
@@ -12,7 +11,7 @@ returns-in_err-n-clause-none c =
     let d = c.seconds-item.result in
     let are = three c.args.words.now a b d c.in-len3.len_at_least c.in-len3.len_below c.pattern-item.is c.n-item.is c.seconds-item.is in
     rw c.from_residual.ensures (no_n c.args.words.now a b d are (λ n is.
-        let found = (c.in_err-n.ensures n).1 (subst (λ (text : List ℕ). IsNumberIn 1 MAX_N text n) (sym c.as_str.ensures.value) is) in cc))
+    let found = (c.in_err-n.ensures n).1 (subst (λ (text : List ℕ). IsNumberIn 1 MAX_N text n) (sym c.as_str.ensures.value) is) in cc))
 
 pub returns-in_err-seconds-clause-none : goal.returns-in_err-seconds-clause-none
 returns-in_err-seconds-clause-none c =
@@ -21,7 +20,7 @@ returns-in_err-seconds-clause-none c =
     let d = c.seconds-item.result in
     let are = three c.args.words.now a b d c.in-len3.len_at_least c.in-len3.len_below c.pattern-item.is c.n-item.is c.seconds-item.is in
     rw c.from_residual-in_err-seconds.ensures (no_seconds c.args.words.now a b d are (λ n is.
-        let found = (c.in_err-seconds.ensures n).1 (subst (λ (text : List ℕ). IsNumberIn 1 MAX_SECONDS text n) (sym c.as_str-2.ensures.value) is) in cc))
+    let found = (c.in_err-seconds.ensures n).1 (subst (λ (text : List ℕ). IsNumberIn 1 MAX_SECONDS text n) (sym c.as_str-2.ensures.value) is) in cc))
 
 pub returns-clause-some : goal.returns-clause-some
 returns-clause-some c =

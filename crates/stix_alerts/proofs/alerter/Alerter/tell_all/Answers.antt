@@ -1,17 +1,16 @@
-use Rattle.std.proofs.Common.{◌≡◌, ◌+◌, ◌++◌, ℕ, List, [], ◌∷◌, Bool, Option, take, drop, length, append_assoc, take-append-drop, refl, sym, ap, subst, ◌∙◌}
+use Rattle.std.proofs.Common.{◌+◌, ◌++◌, ℕ, List, [], ◌∷◌, take, drop, append_assoc, take-append-drop, refl, sym, ap, subst, ◌∙◌}
 use Rattle.std.proofs.lemmas.List.{append-nil}
 use Rattle.flow_edges.specs.Flow.{WritesPrefix}
 use Rattle.stix_bundles.specs.Objects.{data_in}
 use Rattle.stix_bundles.specs.declared.observation.Observation.{Observation}
-use Rattle.pattern_types.specs.declared.pattern.Pattern.{Pattern}
 use Rattle.pattern_types.specs.PlainPattern.{plain_pattern}
-use Rattle.match_tests.specs.Truths.{AreTruths, AreTruthsOfEach}
+use Rattle.match_tests.specs.Truths.{AreTruths}
 use Rattle.match_log.proofs.PendingLemmas.{fails_so}
 use Rattle.match_log.proofs.RowsLemmas.{found_in, truths_of, row_below, drop_here, take_here, all_here}
 use Rattle.watch_log.specs.Reading.{MayFollow}
 use Rattle.watch_log.specs.OnItsWay.{IsOnItsWay}
 use Rattle.stix_alerts.specs.Tasks.{IsOneLeaf}
-use Rattle.stix_alerts.specs.inner.Seeing.{AlerterState, IsReady, Sees, SeesFirst, SeesSoFar, SeesPart}
+use Rattle.stix_alerts.specs.inner.Seeing.{AlerterState, Sees}
 use Rattle.stix_alerts.proofs.SeeingLemmas.{sees-none, sees-more, ready-after, follow-after, one-truth}
 use Rattle.stix_alerts.proofs.alerter.Alerter.tell_all.Goals as goal
 

@@ -1,6 +1,5 @@
-use Rattle.std.proofs.Common.{◌≡◌, ◌+◌, Bool, true, false, List, [], ◌∷◌, Vec, ℕ, Global, Result, Err, IfOk, refl, sym, ap, subst, ◌∙◌}
+use Rattle.std.proofs.Common.{◌≡◌, ◌+◌, Bool, [], ◌∷◌, Vec, ℕ, Global, Result, Err, IfOk, refl, sym, ap, subst, ◌∙◌}
 use Rattle.flow_values.specs.declared.no_memory.NoMemory.{NoMemory}
-use Rattle.match_bindings.specs.declared.log_entry.LogEntry.{LogEntry}
 use Rattle.watch_alerts.specs.WatchState.{AnswersRow, with_row}
 use Rattle.stix_alerts.specs.inner.Seeing.{AlerterState, TakesRows, row_of}
 use Rattle.stix_alerts.proofs.SeeingLemmas.{if_ok, no-fall, takes-alert, takes-other}
@@ -23,12 +22,12 @@ returns c =
     let told = λ (r : Result (Vec ℕ Global) NoMemory). IfOk r (λ text. TakesRows (row_of o holds ∷ []) old new text.items) in
     subst (λ (s : AlerterState). IfOk c.match-take.result (λ text. TakesRows (row_of o holds ∷ []) s new text.items)) c.self.view_is
     (elim c.match-take.branch [
-      in-Ok-true w ↦ subst told (sym w.result-is) (if_ok w.line_of.result (λ line is. takes-alert old new o holds refl c.take.ensures.kept number line.items
+      | in-Ok-true w ↦ subst told (sym w.result-is) (if_ok w.line_of.result (λ line is. takes-alert old new o holds refl c.take.ensures.kept number line.items
           (λ log stands order. subst (λ (alert : Bool). AnswersRow old.watch new.watch (with_row log o.first o.last holds) alert) w.in-Ok-true.field-0-test
           (w.in-Ok-true.ensures.answers log stands order)) is) w.line_of.ensures)
-    | in-Ok-false w ↦ subst told (sym w.result-is) (subst (TakesRows (row_of o holds ∷ []) old new) (sym w.new.ensures.items)
+      | in-Ok-false w ↦ subst told (sym w.result-is) (subst (TakesRows (row_of o holds ∷ []) old new) (sym w.new.ensures.items)
           (takes-other old new o holds refl c.take.ensures.kept number
           (λ log stands order. subst (λ (alert : Bool). AnswersRow old.watch new.watch (with_row log o.first o.last holds) alert) w.in-Ok-false.field-0-test
           (w.in-Ok-false.ensures.answers log stands order))))
-    | in-Err-NoMemory w ↦ subst told (sym w.result-is) tt
+      | in-Err-NoMemory w ↦ subst told (sym w.result-is) tt
     ])
