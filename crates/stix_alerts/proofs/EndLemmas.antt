@@ -1,22 +1,19 @@
 -- What is told of the bundles of an input, and what an end of the run says of it.
-use Rattle.std.proofs.Common.{◌≡◌, ◌⊎◌, inl, inr, ℕ, ◌+◌, List, [], ◌∷◌, ◌++◌, length, Option, None, Some, refl, sym, ap, subst, ◌∙◌, arith}
+use Rattle.std.proofs.Common.{inl, inr, ℕ, List, [], ◌∷◌, ◌++◌, Option, refl, sym, subst}
 use Rattle.std.specs.declared.convert.Infallible.{Infallible}
-use Rattle.flow_edges.specs.Flow.{written_with, WritesPrefix}
+use Rattle.flow_edges.specs.Flow.{WritesPrefix}
 use Rattle.flow_edges.specs.Streams.{Streams}
 use Rattle.pattern_types.specs.declared.pattern.Pattern.{Pattern}
-use Rattle.pattern_types.specs.PlainPattern.{PlainPattern, plain_pattern}
+use Rattle.pattern_types.specs.PlainPattern.{plain_pattern}
 use Rattle.match_bindings.specs.declared.log_entry.LogEntry.{LogEntry}
-use Rattle.match_input.specs.declared.rule.InputRule.{InputRule}
 use Rattle.match_input.specs.Reading.{BundleOf}
 use Rattle.match_log.specs.Entries.{AreEntriesOf, AreEntries}
-use Rattle.watch_alerts.specs.Alert.{IsAlert}
-use Rattle.watch_alerts.specs.WatchState.{StandsFor}
-use Rattle.watch_log.specs.Watching.{SeesAll, Says, BreaksOff, WatchesWhole, WatchesBefore, WatchesTaken, StopsBetween as EndsBetween, StopsWithin as EndsWithin, AnswersWatch}
+use Rattle.watch_log.specs.Watching.{SeesAll, Says, BreaksOff, StopsWithin as EndsWithin, AnswersWatch}
 use Rattle.watch_log.specs.declared.end.WatchEnd.{WatchEnd}
 use Rattle.watch_log.specs.declared.end.WatchEnd.TheVariants.{Done, Input, ReadFault, WriteFault, Stopped, NoMemory}
-use Rattle.stix_alerts.specs.Alerts.{TellsRows, TellsLog}
+use Rattle.stix_alerts.specs.Alerts.{TellsLog}
 use Rattle.stix_alerts.specs.Telling.{TellsBundles, StopsWithin, AnswersAlerts}
-use Rattle.stix_alerts.specs.inner.Seeing.{AlerterState, IsBehind, TellsBehind, TakesRows, Sees, SeesBundle, BeginsBundle}
+use Rattle.stix_alerts.specs.inner.Seeing.{AlerterState, IsBehind, TakesRows, SeesBundle, BeginsBundle}
 use Rattle.stix_alerts.proofs.TellingLemmas.{AlertsStay, takes-none, takes-more}
 
 -- bundles were seen in turn, and this text is told of them
@@ -117,7 +114,7 @@ module _ (stay : AlertsStay) (start : AlerterState) (new : IsBehind start.watch 
       taken = taken.taken;
     }
     end-told WriteFault ends = within ends
-    end-told (Stopped never) ends = ends.within.1.0
+    end-told (Stopped never) ends = ends.within.1
     end-told NoMemory (inl between) = inl (record {
       bundles = between.bundles;
       begins = between.begins;

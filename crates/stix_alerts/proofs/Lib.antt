@@ -1,3 +1,4 @@
+mod WordsLemmas
 mod TellingLemmas
 mod SeeingLemmas
 mod EndLemmas

@@ -1,18 +1,16 @@
 -- What the status of a run says of its words and its streams.
-use Rattle.std.proofs.Common.{◌≡◌, ◌≢◌, ◌↔◌, ◌⊎◌, inl, inr, ℕ, List, [], ◌∷◌, refl, sym, ap, subst, ◌∙◌, arith}
-use Rattle.std.specs.declared.convert.Infallible.{Infallible}
+use Rattle.std.proofs.Common.{◌≡◌, ◌≢◌, ◌⊎◌, inl, inr, ℕ, List, [], ◌∷◌, refl, sym, ap, subst, ◌∙◌, arith}
 use Rattle.flow_edges.specs.Streams.{Streams}
 use Rattle.pattern_types.specs.declared.pattern.Pattern.{Pattern}
 use Rattle.pattern_types.specs.PlainPattern.{plain_pattern}
 use Rattle.pattern_reader.specs.Read.{IsReadAs}
 use Rattle.match_input.specs.Reading.{Whole, Refused}
-use Rattle.watch_log.specs.declared.end.WatchEnd.{WatchEnd}
 use Rattle.watch_log.specs.declared.end.WatchEnd.TheVariants as end
 use Rattle.stix_alerts.specs.declared.ending.AlertEnding.{AlertEnding}
 use Rattle.stix_alerts.specs.declared.ending.AlertEnding.TheVariants.{Usage, PatternRefused, NotLeaf, Ended, NoMemory}
-use Rattle.stix_alerts.specs.Tasks.{AlertTask, AskFor, AskForNothing, IsOneLeaf, IsReadAsLeaf, IsReadAsNoLeaf}
-use Rattle.stix_alerts.specs.Endings.{AskSo, EndsTask, EndsAlerts, alert_status}
-use Rattle.stix_alerts.specs.Runs.{RefusesPattern, TellsRefusals, TellsInput}
+use Rattle.stix_alerts.specs.Tasks.{AlertTask, AskFor, IsReadAsNoLeaf}
+use Rattle.stix_alerts.specs.Endings.{EndsTask, EndsAlerts, alert_status}
+use Rattle.stix_alerts.specs.Runs.{TellsRefusals, TellsInput}
 
 -- the law that a text is read as one pattern
 abbrev pub OnePattern : Type 0
@@ -43,7 +41,7 @@ module _ (words : List (List ℕ)) (before after : Streams) where
   refused-task one task (PatternRefused refusal) ends is = λ p read. ends.0.unread p read.0
   refused-task one task NotLeaf ends is = λ p read.
       let more = ends.0 in
-      more.1.1 (read.1.0, one task.pattern more.0 p more.1.0 read.0 ∙ read.1.1)
+      more.2 (read.1.0, one task.pattern more.0 p more.1 read.0 ∙ read.1.1)
   refused-task one task (Ended end.Done) ends is = absurd (omega arith)
   refused-task one task (Ended (end.Input line why)) ends is = absurd (omega arith)
   refused-task one task (Ended end.ReadFault) ends is = absurd (omega arith)

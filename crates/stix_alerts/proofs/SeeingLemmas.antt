@@ -1,8 +1,7 @@
 -- What is seen of observations, one more at a time, and what a watch then stands for.
-use Rattle.std.proofs.Common.{◌≡◌, inl, inr, ℕ, suc, ◌+◌, ◌<◌, ℤ, Bool, true, false, List, [], ◌∷◌, ◌++◌, length, take, drop, Option, Some, None, refl, sym, ap, subst, ◌∙◌, append_assoc, length-append, arith}
+use Rattle.std.proofs.Common.{◌≡◌, inl, inr, ℕ, ◌+◌, ℤ, ◌<ℤ◌, Bool, true, false, List, [], ◌∷◌, ◌++◌, length, Option, Some, Result, Ok, Err, IfOk, IfErr, IsErrAnd, refl, sym, ap, subst, ◌∙◌, append_assoc, length-append, arith}
 use Rattle.std.proofs.lemmas.List.{append-nil}
 use Rattle.serde_json.specs.Data.{Data}
-use Rattle.flow_edges.specs.Flow.{WritesPrefix}
 use Rattle.stix_bundles.specs.declared.observation.Observation.{Observation}
 use Rattle.pattern_types.specs.declared.pattern.Pattern.{Pattern}
 use Rattle.pattern_types.specs.PlainPattern.{PlainPattern, plain_pattern}
@@ -10,17 +9,30 @@ use Rattle.pattern_types.specs.Soundness.{IsSoundPattern}
 use Rattle.match_tests.specs.Truths.{AreTruths}
 use Rattle.match_bindings.specs.declared.log_entry.LogEntry.{LogEntry}
 use Rattle.match_bindings.specs.Log.{IsInOrder}
+use Rattle.match_live.specs.MatcherState.{Falls}
 use Rattle.match_input.specs.Line.{last_after}
+use Rattle.watch_log.specs.declared.see_end.SeeEnd.{SeeEnd}
+use Rattle.watch_log.specs.declared.see_end.SeeEnd.TheVariants.{WriteFault}
 use Rattle.watch_log.specs.Reading.{MayFollow}
+use Rattle.watch_log.specs.Watching.{BreaksOff, EndsSeeing}
 use Rattle.watch_log.proofs.ReadingLemmas.{last_after-append}
 use Rattle.match_log.specs.Entries.{AreEntriesOf}
 use Rattle.match_log.proofs.LogLemmas.{entries_of-more, entries_of-length}
 use Rattle.watch_alerts.specs.Alert.{IsAlert}
-use Rattle.watch_alerts.specs.WatchState.{WatchState, StandsFor, AnswersRow, with_row, last_of}
+use Rattle.watch_alerts.specs.WatchState.{StandsFor, AnswersRow, with_row, last_of}
 use Rattle.stix_alerts.specs.Tasks.{IsOneLeaf}
-use Rattle.stix_alerts.specs.Alerts.{IsLineOf, TellsRow, TellsRows}
-use Rattle.stix_alerts.specs.inner.Seeing.{AlerterState, IsBehind, IsReady, TellsBehind, TakesRows, Sees, SeesFirst, SeesSoFar, SeesPart, row_of}
+use Rattle.stix_alerts.specs.Alerts.{IsLineOf, TellsRow}
+use Rattle.stix_alerts.specs.inner.Seeing.{AlerterState, IsBehind, IsReady, TakesRows, Sees, SeesFirst, row_of}
 use Rattle.stix_alerts.proofs.TellingLemmas.{AlertsStay, row-alone, takes-none, takes-more}
+
+-- a value of which more is known
+pub if_ok : {T E : Type 0} {P Q : T → Type 0} (answer : Result T E) → ((value : T) → P value → Q value) → IfOk answer P → IfOk answer Q
+if_ok (Ok value) each fact = each value fact
+if_ok (Err refusal) each fact = tt
+
+-- times that don't fall
+pub no-fall : (before : Option ℤ) (last time now : ℤ) → ¬ (Falls before last) → before ≡ Some time → now ≡ last → ¬ (now <ℤ time)
+no-fall before last time now none is same falls = none (subst (λ (l : Option ℤ). Falls l last) (sym is) (subst (λ (t : ℤ). t <ℤ time) same falls))
 
 -- a row that the watch answered, as it tells of it
 module _ (before after : AlerterState) (o : Observation) (holds : Bool) (same : after.pattern ≡ before.pattern)
@@ -39,7 +51,7 @@ module _ (before after : AlerterState) (o : Observation) (holds : Bool) (same : 
     x_is = kept.1;
     tells = λ log behind. record {
       behind = (tells log behind).0;
-      tells = row-alone _ (length log + 1) (row_of o holds) text (tells log behind).1;
+      tells = row-alone (IsAlert before.watch.n before.watch.x (log ++ row_of o holds ∷ [])) (length log + 1) (row_of o holds) text (tells log behind).1;
     };
   }
 
@@ -112,8 +124,13 @@ pub rows-after : (objects : List Data) (observations : List Observation) (before
     → IsReady before → Sees objects observations before after text → after.watch.rows ≡ before.watch.rows + length observations
 rows-after objects observations before after text ready sees =
     let stands = (sees.takes.tells ready.log ready.behind).behind.stands in
-    omega (arith, stands.rows, ready.behind.stands.rows, length-append ready.log sees.rows,
-    entries_of-length (plain_pattern before.pattern) objects observations sees.rows sees.entries)
+    omega (
+      arith,
+      stands.rows,
+      ready.behind.stands.rows,
+      length-append ready.log sees.rows,
+      entries_of-length (plain_pattern before.pattern) objects observations sees.rows sees.entries,
+    )
 
 pub last-after : (objects : List Data) (observations : List Observation) (before after : AlerterState) (text : List ℕ)
     → IsReady before → Sees objects observations before after text → after.watch.last ≡ last_after before.watch.last observations
@@ -140,3 +157,22 @@ pub one-truth : (objects : List Data) (roots : List ℕ) (p : Pattern) (truths :
 one-truth objects roots p truths one are =
     let is = subst (λ (q : PlainPattern). AreTruths objects roots q truths) one.1 are in
     ap length is.1
+
+-- ---- what is told of a bundle is cut
+
+-- this text of all that is told was seen, and of it a prefix is written
+pub all-seen : (objects : List Data) (observations : List Observation) (before after : AlerterState) (text : List ℕ)
+    → Sees objects observations before after text → SeesFirst objects observations before text
+all-seen objects observations before after text sees = record {
+  seen = observations;
+  later = [];
+  observations_are = sym (append-nil observations);
+  after = after;
+  sees = sees;
+}
+
+-- a write failed
+pub ends-fault : {T S : Type 0} (stops : S → List ℕ → Type 0) (begins : List ℕ → Type 0) (first after : Option (List ℕ)) (answer : Result T (SeeEnd S))
+    → IsErrAnd answer (λ end. end ≡ WriteFault) → BreaksOff begins first after → IfErr answer (EndsSeeing stops begins first after)
+ends-fault stops begins first after (Ok value) is cut = absurd is
+ends-fault stops begins first after (Err end) is cut = subst (λ (e : SeeEnd _). EndsSeeing stops begins first after e) (sym is) cut

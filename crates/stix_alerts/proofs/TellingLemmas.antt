@@ -2,7 +2,6 @@
 use Rattle.std.proofs.Common.{◌≡◌, ◌↔◌, inl, inr, ℕ, suc, ◌+◌, ◌≤◌, ◌<◌, List, [], ◌∷◌, ◌++◌, length, refl, sym, ap, subst, ◌∙◌, append_assoc, length-append, arith}
 use Rattle.std.proofs.lemmas.List.{append-nil}
 use Rattle.match_bindings.specs.declared.log_entry.LogEntry.{LogEntry}
-use Rattle.match_bindings.specs.Log.{IsInOrder}
 use Rattle.watch_alerts.specs.Alert.{IsAlert}
 use Rattle.stix_alerts.specs.Alerts.{TellsRow, TellsRows}
 use Rattle.stix_alerts.specs.inner.Seeing.{AlerterState, IsBehind, TellsBehind, TakesRows}

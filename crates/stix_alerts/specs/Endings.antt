@@ -1,5 +1,5 @@
 -- What an ending says of the words, the log and what was told; its status, and its reason as a text.
-use Rattle.std.specs.Prelude.{◌≡◌, ◌⊎◌, ℕ, List, [], ◌++◌, codes}
+use Rattle.std.specs.Prelude.{◌≡◌, ◌⊎◌, ℕ, List, [], codes}
 use Rattle.flow_edges.specs.Streams.{Streams, AreUntouched}
 use Rattle.pattern_types.specs.declared.pattern.Pattern.{Pattern}
 use Rattle.match_input.specs.Texts.{IsInputRefusalText}
@@ -46,7 +46,7 @@ alert_status NotLeaf = 3
 alert_status (Ended (end.Input line why)) = 4
 alert_status (Ended end.ReadFault) = 5
 alert_status (Ended end.WriteFault) = 6
-alert_status (Ended (end.Stopped never)) = elim never []
+alert_status (Ended (end.Stopped never)) = elim never [ ]
 
 abbrev pub IsAlertReason : AlertEnding → List ℕ → Type 0
 IsAlertReason (Ended end.Done) text = text ≡ []

@@ -16,7 +16,9 @@ use std::alloc::Global;
 use std::convert::Infallible;
 use std::marker::Model;
 use stix_bundles::Observation;
+use watch_alerts::laws::alerts_stay;
 use watch_alerts::{Watch, WatchRefusal};
+use watch_log::laws::parts_on_their_way;
 use watch_log::{CutShort, Pending, SeeEnd, Watcher};
 
 /// Who tells the alerts of a log: a pattern, which is one bracket, and the watch over the rows at which it holds.
@@ -65,12 +67,15 @@ impl<'p> Alerter<'p> {
         ensures part { OnErr result (SeesPart (data_in batch.now.bundle) batch.now.observations self.old (O.written output.old) (O.written output.new)) }
         ensures causes { Counted (result ≡ Err CutShort.WriteFault) (O.faults output.old) (O.faults output.new) }
     {
+        alerts_stay();
+        parts_on_their_way();
         let observations = batch.observations.as_slice();
         let truths = leaf_truths(self.alloc, self.pattern, observations, &batch.bundle)?;
         let rows = truths.as_slice();
         for at in 0..observations.len() {
+            let observation = &observations[at];
             let holds = holds_alone(rows[at].as_slice());
-            let text = self.told_of(&observations[at], holds)?;
+            let text = self.told_of(observation, holds)?;
             pending.add(&text, output)?;
         }
         Ok(())
@@ -85,8 +90,9 @@ impl<'p> Alerter<'p> {
         requires order { ¬ (Falls self.old.watch.last observation.now.last) }
         ensures { IfOk result (λ text. TakesRows (row_of observation.now holds ∷ []) self.old self.new text.items) }
     {
+        let number = observation.number;
         match self.watch.take(observation.first, observation.last, holds) {
-            Ok(true) => line_of(self.alloc, observation.number, observation.last),
+            Ok(true) => line_of(self.alloc, number, observation.last),
             Ok(false) => Ok(Vec::new(self.alloc)),
             Err(WatchRefusal::NoMemory) => Err(NoMemory),
             Err(WatchRefusal::OutOfOrder { .. }) => unreachable!(),

@@ -15,11 +15,14 @@ use crate::words::{AlertRequest, read_request};
 use flow_edges::{Sink, Source};
 use flow_values::NoMemory;
 use match_input::{Mode, Reader};
+use pattern_reader::laws::{none_refused, one_pattern};
 use pattern_reader::{PatternRefusal, read_pattern};
 use pattern_types::Pattern;
 use std::alloc::Global;
 use std::convert::Infallible;
 use watch_alerts::Watch;
+use watch_alerts::laws::alerts_stay;
+use watch_log::laws::begins_with_none;
 use watch_log::{WatchEnd, follow};
 
 /// Tells the alerts of an input for a pattern that is one bracket.
@@ -32,12 +35,14 @@ fn watch_input<I: Source, O: Sink>(
 ) -> Result<WatchEnd<Infallible>, NoMemory>
     requires read { IsReadAsLeaf request.pattern.now pattern.now }
     requires range { IsInRange (task_of request) }
-    ensures end { IfOk result (AnswersAlerts pattern.now request.n request.seconds (streams (I.left input.old) (I.began input.old) (O.written output.old))
+    ensures end { IfOk result (AnswersAlerts pattern.now request.entry.n request.entry.seconds (streams (I.left input.old) (I.began input.old) (O.written output.old))
         (streams (I.left input.new) (I.began input.new) (O.written output.new))) }
     ensures untouched { OnErr result ((input.new ≡ input.old) × (output.new ≡ output.old)) }
     ensures input { Counted (result ≡ Ok WatchEnd.ReadFault) (I.faults input.old) (I.faults input.new) }
     ensures output { Counted (result ≡ Ok WatchEnd.WriteFault) (O.faults output.old) (O.faults output.new) }
 {
+    alerts_stay();
+    begins_with_none();
     let watch = Watch::new(alloc, request.n, request.seconds)?;
     let mut reader = Reader::new(alloc, Mode::Lines)?;
     let mut alerter = Alerter::new(alloc, pattern, watch);
@@ -55,7 +60,7 @@ fn tell_alerts<I: Source, O: Sink>(
     requires read { IsReadAs request.pattern.now pattern.now }
     requires range { IsInRange (task_of request) }
     ensures end { EndsTask (streams (I.left input.old) (I.began input.old) (O.written output.old))
-        (streams (I.left input.new) (I.began input.new) (O.written output.new)) result (task_of request) }
+        (streams (I.left input.new) (I.began input.new) (O.written output.new)) result (task_of request.entry) }
     ensures untouched { (alert_status result ≡ 2) ⊎ (alert_status result ≡ 3) → (input.new ≡ input.old) × (output.new ≡ output.old) }
     ensures input { Counted (alert_status result ≡ 5) (I.faults input.old) (I.faults input.new) }
     ensures output { Counted (alert_status result ≡ 6) (O.faults output.old) (O.faults output.new) }
@@ -76,13 +81,14 @@ fn answer<I: Source, O: Sink>(
     input: &mut I,
     output: &mut O,
 ) -> AlertEnding
-    requires range { IsInRange (task_of request.entry) }
+    requires range { IsInRange (task_of request) }
     ensures end { EndsTask (streams (I.left input.old) (I.began input.old) (O.written output.old))
         (streams (I.left input.new) (I.began input.new) (O.written output.new)) result (task_of request.entry) }
     ensures untouched { (alert_status result ≡ 2) ⊎ (alert_status result ≡ 3) → (input.new ≡ input.old) × (output.new ≡ output.old) }
     ensures input { Counted (alert_status result ≡ 5) (I.faults input.old) (I.faults input.new) }
     ensures output { Counted (alert_status result ≡ 6) (O.faults output.old) (O.faults output.new) }
 {
+    none_refused();
     match read_pattern(alloc, request.pattern) {
         Ok(pattern) => tell_alerts(alloc, &pattern, request, input, output),
         Err(PatternRefusal::NoMemory) => AlertEnding::NoMemory,
@@ -139,6 +145,7 @@ pub fn run_alerts<I: Source, O: Sink, E: Sink>(
     ensures input { Counted (result ≡ 5) (I.faults input.old) (I.faults input.new) }
     ensures output { Counted (result ≡ 6) (O.faults output.old) (O.faults output.new) }
 {
+    one_pattern();
     let ending = obey(alloc, words, input, output);
     finish(&ending, faults)
 }
