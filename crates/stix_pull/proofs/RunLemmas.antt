@@ -100,7 +100,6 @@ module _ (L : Type 0) (view : L → LinkView) (target : Target) (before : Outsid
     → IsPull v t pages turn → IsPageAt v t turn page → IsPull v t (pages ++ page ∷ []) (turn_after page.envelope))
     (joins : (t : Target) (links more : List (Lent L)) (first middle last : Option (DialState L))
     → PassThrough t links first middle → PassThrough t more middle last → PassThrough t (links ++ more) first last) where
-
   links-joined : (pages : List (Page L)) (more : List (Lent L)) (middle last : Option (DialState L))
       → PassThrough target (links_of pages ++ []) before.dial.told middle → PassThrough target more middle last
       → PassThrough target (links_of pages ++ more) before.dial.told last
@@ -109,7 +108,6 @@ module _ (L : Type 0) (view : L → LinkView) (target : Target) (before : Outsid
       (subst (λ (links : List (Lent L)). PassThrough target links before.dial.told middle) (append-nil (links_of pages)) through) then
 
   module _ (now : Outside L) (state : PullState) (skipped : ℕ) (runs : RunsSo view target before now state skipped) where
-
     pulls-more : (after : PullState) (dial : DialView L) (written : Option (List ℕ)) (entries : List Entry) (came : CameOver view state after now.dial dial entries)
         → Pulls view target before (record { dial = dial; written = written }) (runs.pages ++ came.page ∷ []) (turn_after came.page.envelope) [] (skipped + bad_in entries)
     pulls-more after dial written entries came = record {

@@ -21,10 +21,7 @@ pub(crate) fn is_host(text: &str) -> bool
 pub(crate) fn is_root(text: &str) -> bool
     ensures { IsTrue result ↔ IsRoot text.now }
 {
-    begins_with_slash(text)
-        && ends_in_slash(text)
-        && text.len() <= MAX_ROOT
-        && are_root_bytes(text)
+    begins_with_slash(text) && ends_in_slash(text) && text.len() <= MAX_ROOT && are_root_bytes(text)
 }
 
 fn is_host_byte(byte: u8) -> bool

@@ -36,12 +36,7 @@ fn answer<D: Dial, O: Sink>(
 }
 
 /// Does what the words ask for.
-fn obey<D: Dial, O: Sink>(
-    alloc: Global,
-    words: &[String],
-    dial: &mut D,
-    output: &mut O,
-) -> PullEnd
+fn obey<D: Dial, O: Sink>(alloc: Global, words: &[String], dial: &mut D, output: &mut O) -> PullEnd
     ensures end { EndsWords (link_view D.Link.left D.Link.written D.Link.Source.faults D.Link.Sink.faults) (texts words.now)
         (outside (D.told dial.old) (D.faults dial.old) (O.written output.old)) (outside (D.told dial.new) (D.faults dial.new) (O.written output.new)) result }
     ensures untouched { pull_status result.ending ≡ 2 → (dial.new ≡ dial.old) × (output.new ≡ output.old) }

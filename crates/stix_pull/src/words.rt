@@ -4,10 +4,9 @@ ghost use Rattle.std.specs.Prelude.{◌≡◌, ℕ, List, IfNone, IfOk, IfSome};
 ghost use Rattle.command_line.specs.CommandLines.{texts, IsNumberIn};
 ghost use Rattle.taxii_client.specs.declared.target.Target.{Target};
 ghost use Rattle.stix_pull.specs.Words.{AskFor, AskForNothing, IsLimitOf, IsTargetOf, target_of};
-
-use crate::forms::{is_host, is_root};
 ghost use Rattle.command_line.specs.declared.numbers.TheConstants.{MAX_PORT};
 
+use crate::forms::{is_host, is_root};
 use command_line::{MAX_PORT, number_in};
 use flow_values::{NoMemory, Text};
 use std::alloc::Global;
