@@ -19,7 +19,7 @@ use Rattle.taxii_client.specs.declared.target.Target.{Target}
 use Rattle.taxii_client.specs.declared.turn.Turn.{Turn}
 use Rattle.taxii_client.specs.declared.turn.Turn.TheVariants.{First, Over}
 use Rattle.stix_pull.specs.declared.ending.PullEnding.TheVariants.{Lost, Done}
-use Rattle.stix_pull.specs.Telling.{told_of, told_of_pages, bad_in, bad_in_pages, IsWritable}
+use Rattle.taxii_client.specs.Telling.{told_of, told_of_pages, bad_in, bad_in_pages, IsWritable}
 use Rattle.stix_pull.specs.Pulling.{Outside, links_of, Pulls, WritesPages, DialIsQuiet, LosesPage, StopsAsking, StopsBehind, StopsWriting}
 use Rattle.stix_pull.specs.Endings.{EndsPull, AreAll, AreTooFew}
 use Rattle.stix_pull.proofs.WritingLemmas.{all-writable, written-none, written-more}
@@ -209,6 +209,7 @@ module _ (L : Type 0) (view : L → LinkView) (target : Target) (before : Outsid
           };
           loses = (
             (let is = fails.fault in cc),
+            subst (λ (k : ℕ). k ≤ dial.faults) runs.quiet fails.later,
             subst (λ (k : ℕ). Rose k dial.faults) runs.quiet fails.rose,
           );
           writes = runs.writes;

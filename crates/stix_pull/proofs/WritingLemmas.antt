@@ -12,7 +12,7 @@ use Rattle.stix_json.specs.Reading.{IsEntryFor}
 use Rattle.stix_json.specs.declared.entry.Entry.{Entry}
 use Rattle.stix_json.specs.declared.entry.Entry.TheVariants.{Good, Bad}
 use Rattle.serde_json.specs.Data.{Data}
-use Rattle.stix_pull.specs.Telling.{line_of, told_of, IsWritable}
+use Rattle.taxii_client.specs.Telling.{line_of, told_of, IsWritable}
 
 -- what stands in the entries of a page can be written
 one-writable : (d : Data) (entry : Entry) → IsEntryFor d entry → IsWritable entry

@@ -1,5 +1,4 @@
 pub mod Words
-pub mod Telling
 pub mod Pulling
 pub mod Endings
 pub mod Runs

@@ -1,5 +1,5 @@
 -- What a run did outside: the pages that came, the link over which the next one didn't, and what was written.
-use Rattle.std.specs.Prelude.{◌≡◌, ℕ, List, [], ◌∷◌, ◌++◌, map, Option, Err}
+use Rattle.std.specs.Prelude.{◌≡◌, ℕ, ◌≤◌, List, [], ◌∷◌, ◌++◌, map, Option, Err}
 use Rattle.flow_edges.specs.Faults.{Rose}
 use Rattle.flow_edges.specs.Flow.{written_with, WritesPrefix}
 use Rattle.flow_links.specs.Dials.{DialState}
@@ -10,7 +10,7 @@ use Rattle.taxii_client.specs.declared.fetch_end.FetchEnd.{FetchEnd}
 use Rattle.taxii_client.specs.declared.fetch_end.FetchEnd.TheVariants as Fetch
 use Rattle.taxii_client.specs.declared.target.Target.{Target}
 use Rattle.taxii_client.specs.declared.turn.Turn.{Turn}
-use Rattle.stix_pull.specs.Telling.{told_of_pages, bad_in_pages}
+use Rattle.taxii_client.specs.Telling.{told_of_pages, bad_in_pages}
 
 -- the outside of a run: its dial, and what is written on its output
 pub record Outside (L : Type 0) : Type 0 where
@@ -42,7 +42,7 @@ DialIsQuiet before now = now.dial.faults ≡ before.dial.faults
 
 -- the page of this turn didn't come: the dial gave no link and counted that, or the fetch over one link ended so
 abbrev pub LosesPage : {L : Type 0} → (L → LinkView) → Target → Outside L → Outside L → Turn → FetchEnd → List (Lent L) → Type 0
-LosesPage view target before now turn end [] = (end ≡ Fetch.Fault) × Rose before.dial.faults now.dial.faults
+LosesPage view target before now turn end [] = (end ≡ Fetch.Fault) × (before.dial.faults ≤ now.dial.faults) × Rose before.dial.faults now.dial.faults
 LosesPage view target before now turn end (link ∷ []) = DialIsQuiet before now
     × (next : Option (List ℕ)) × Asks turn next × Fetched target next (view link.given) (view link.finished) (Err end)
 LosesPage view target before now turn end (link ∷ other ∷ links) = ⊥

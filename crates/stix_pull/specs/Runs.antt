@@ -1,10 +1,10 @@
 -- What stands when the program ended, by its status.
-use Rattle.std.specs.Prelude.{◌≡◌, ◌⊎◌, ◌↔◌, ℕ, List}
+use Rattle.std.specs.Prelude.{◌≡◌, ◌⊎◌, ℕ, ◌≤◌, List, [], ◌∷◌, ◌++◌}
 use Rattle.flow_edges.specs.Faults.{Rose}
 use Rattle.taxii_client.specs.Outside.{LinkView}
-use Rattle.taxii_client.specs.Pulls.{Lent}
+use Rattle.taxii_client.specs.Pulls.{Lent, PassThrough}
+use Rattle.taxii_client.specs.declared.target.Target.{Target}
 use Rattle.stix_pull.specs.declared.ending.PullEnd.{PullEnd}
-use Rattle.stix_pull.specs.Words.{AskForNothing}
 use Rattle.stix_pull.specs.Pulling.{Outside, StopsBehind}
 use Rattle.stix_pull.specs.Endings.{AskSo, AreAll, EndsWords, pull_status, end_reason}
 
@@ -23,7 +23,16 @@ PullsAll view words before now = AskSo words (λ target. (skipped : ℕ) × Stop
 abbrev pub LinkRose : LinkView → LinkView → Type 0
 LinkRose before now = Rose before.read_faults now.read_faults ⊎ Rose before.write_faults now.write_faults
 
--- the status 5 comes only where the dial counted a fault or a link did, and at no other status did the dial
-pub record CountsDial {L : Type 0} (view : L → LinkView) (before now : Outside L) (status : ℕ) : Type 0 where
-  pub failed : status ≡ 5 → Rose before.dial.faults now.dial.faults ⊎ ((link : Lent L) × LinkRose (view link.given) (view link.finished))
+-- the link that was dialled last, and handed back, counted a fault
+pub record LosesLink {L : Type 0} (view : L → LinkView) (target : Target) (before now : Outside L) : Type 0 where
+  pub earlier : List (Lent L)
+  pub last : Lent L
+  pub through : PassThrough target (earlier ++ last ∷ []) before.dial.told now.dial.told
+  pub rose : LinkRose (view last.given) (view last.finished)
+
+-- the dial's count never falls; the status 5 comes only where it rose or the last link that the run dialled counted a fault, and
+-- at no other status did it rise
+pub record CountsDial {L : Type 0} (view : L → LinkView) (words : List (List ℕ)) (before now : Outside L) (status : ℕ) : Type 0 where
+  pub later : before.dial.faults ≤ now.dial.faults
+  pub failed : status ≡ 5 → Rose before.dial.faults now.dial.faults ⊎ AskSo words (λ target. LosesLink view target before now)
   pub quiet : ¬ (status ≡ 5) → now.dial.faults ≡ before.dial.faults

@@ -78,7 +78,7 @@ pub fn run_pull<D: Dial, O: Sink, E: Sink>(
     ensures untouched { result ≡ 2 → (dial.new ≡ dial.old) × (output.new ≡ output.old) }
     ensures all { result ≡ 0 → PullsAll (link_view D.Link.left D.Link.written D.Link.Source.faults D.Link.Sink.faults) (texts words.now)
         (outside (D.told dial.old) (D.faults dial.old) (O.written output.old)) (outside (D.told dial.new) (D.faults dial.new) (O.written output.new)) }
-    ensures dial { CountsDial (link_view D.Link.left D.Link.written D.Link.Source.faults D.Link.Sink.faults)
+    ensures dial { CountsDial (link_view D.Link.left D.Link.written D.Link.Source.faults D.Link.Sink.faults) (texts words.now)
         (outside (D.told dial.old) (D.faults dial.old) (O.written output.old)) (outside (D.told dial.new) (D.faults dial.new) (O.written output.new)) result }
     ensures output { Counted (result ≡ 6) (O.faults output.old) (O.faults output.new) }
 {

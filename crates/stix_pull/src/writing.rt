@@ -2,7 +2,7 @@ ghost use Rattle.std.specs.Prelude.{◌≡◌, ◌++◌, [], ℕ, List, Option, 
 ghost use Rattle.flow_edges.specs.Faults.{Counted};
 ghost use Rattle.flow_edges.specs.Flow.{written_with, WritesPrefix};
 ghost use Rattle.watch_log.specs.OnItsWay.{IsOnItsWay};
-ghost use Rattle.stix_pull.specs.Telling.{line_of, told_of, bad_in, IsWritable};
+ghost use Rattle.taxii_client.specs.Telling.{line_of, told_of, bad_in, IsWritable};
 
 use flow_edges::Sink;
 use flow_values::{NoMemory, Text};

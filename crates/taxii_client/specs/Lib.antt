@@ -3,3 +3,4 @@ pub mod Refusals
 pub mod Outside
 pub mod Fetches
 pub mod Pulls
+pub mod Telling

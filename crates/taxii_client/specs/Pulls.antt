@@ -1,5 +1,5 @@
 -- A walk over the pages of a peer's collection, each fetched on a link of its own: each page asks for the one behind it.
-use Rattle.std.specs.Prelude.{◌≡◌, ◌≢◌, ◌⊎◌, ℕ, ◌+◌, ◌<◌, Bool, true, false, List, [], ◌∷◌, ◌++◌, map, Option, Some, None, Result, Ok, Err}
+use Rattle.std.specs.Prelude.{◌≡◌, ◌≢◌, ◌⊎◌, ℕ, ◌+◌, ◌<◌, ◌≤◌, Bool, true, false, List, [], ◌∷◌, ◌++◌, map, Option, Some, None, Result, Ok, Err}
 use Rattle.flow_edges.specs.Faults.{Rose}
 use Rattle.flow_links.specs.Doors.{Changes}
 use Rattle.flow_links.specs.Dials.{DialState}
@@ -88,6 +88,7 @@ pub record FetchesOver {L : Type 0} (view : L → LinkView) (target : Target) (n
 -- the dial gave no link, and counted that
 pub record FailsToDial {L : Type 0} (dial now : DialView L) (answer : Result Envelope FetchEnd) : Type 0 where
   pub same : now.told ≡ dial.told
+  pub later : dial.faults ≤ now.faults
   pub rose : Rose dial.faults now.faults
   pub fault : answer ≡ Err Fetch.Fault
 

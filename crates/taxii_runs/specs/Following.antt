@@ -10,7 +10,7 @@ use Rattle.taxii_routes.specs.Param.{name_of}
 use Rattle.taxii_routes.specs.Query.{pairs_of, values_of}
 use Rattle.taxii_rows.specs.declared.stored_row.StoredRow.{StoredRow}
 use Rattle.taxii_rows.specs.StoreState.{dates_of, RiseFrom}
-use Rattle.taxii_walks.specs.Walk.{Stop, Wanted, AsksAlike, IsWanted, rows_given, last_state}
+use Rattle.taxii_walks.specs.Walk.{Stop, Wanted, AsksAlike, IsWalk, IsWanted, rows_given, last_state}
 use Rattle.taxii_histories.specs.Visits.{Asks, answer_at}
 use Rattle.taxii_runs.specs.Runs.{Round}
 
@@ -58,6 +58,7 @@ pub record HasFollowed (wanted : Wanted) (rounds : List Round) (first : Round) (
 pub record HearsEachRow (wanted : Wanted) (fetches : List Round) : Type 0 where
   pub first : Stop
   pub others : List Stop
+  pub walk : IsWalk wanted first others
   pub answers : map (λ round. round.exchange.answer) fetches ≡ map answer_at (first ∷ others)
   pub states : map (λ round. round.exchange.before.library) fetches ≡ map (λ stop. stop.state) (first ∷ others)
   pub once : RiseFrom 1 (dates_of (rows_given first others))

@@ -1,8 +1,15 @@
 //! What follows from the definitions: the contracts are the laws, and the functions do next to nothing.
 
-ghost use Rattle.std.specs.Prelude.{◌≤◌, List, ◌∷◌};
+ghost use Rattle.std.specs.Prelude.{◌≡◌, ◌≤◌, ℕ, List, ◌∷◌, Option};
+ghost use Rattle.stix_ids.specs.declared.id.Id.{Id};
+ghost use Rattle.http_frames.specs.declared.status.Status.TheVariants.{Okay};
+ghost use Rattle.taxii_routes.specs.declared.query.Query.{Query};
 ghost use Rattle.taxii_rows.specs.declared.stored_row.TheConstants.{LAST_DATE};
 ghost use Rattle.taxii_rows.specs.StoreState.{StoreState};
+ghost use Rattle.taxii_requests.specs.declared.config.Config.{Config};
+ghost use Rattle.taxii_resources.specs.Reading.{IsPageOf, IsEnvelope};
+ghost use Rattle.taxii_histories.specs.Exchanges.{Exchange, IsExchange};
+ghost use Rattle.taxii_histories.specs.Visits.{Asks};
 ghost use Rattle.taxii_walks.specs.History.{IsDated, IsHistory};
 ghost use Rattle.taxii_walks.specs.Walk.{Wanted};
 ghost use Rattle.taxii_runs.specs.Runs.{Run, Round, GoOn, rounds_of};
@@ -19,6 +26,17 @@ pub fn runs_make_history()
     ensures { (store after : StoreState) (runs : List Run) → GoOn store runs after → IsHistory store after }
 {
     requests_make_history();
+}
+
+/// A GET of objects that was answered with 200 was answered with a page of the store as it was there.
+pub fn gets_are_paged()
+    ensures { (config : Config) (e : Exchange) (collection : ℕ) (only : Option Id) (query : Query) → IsExchange config e → e.answer.status ≡ Okay
+        → Asks config e.request collection only query → IsPageOf e.before.library.rows collection only query IsEnvelope e.answer }
+{
+    one_target();
+    one_route();
+    one_query();
+    one_identifier();
 }
 
 /// A client that sends as `next` what the answer before gave hears of each row that it wants and that is

@@ -4,7 +4,7 @@ use Rattle.flow_edges.specs.Flow.{written_with, WritesPrefix}
 use Rattle.stix_json.specs.declared.entry.Entry.{Entry}
 use Rattle.taxii_client.specs.Outside.{DialView, link_view}
 use Rattle.taxii_client.specs.Pulls.{PullState, Answers}
-use Rattle.stix_pull.specs.Telling.{told_of, bad_in, IsWritable}
+use Rattle.taxii_client.specs.Telling.{told_of, bad_in, IsWritable}
 use Rattle.stix_pull.specs.Pulling.{outside, StopsWriting}
 use Rattle.stix_pull.proofs.RunLemmas.{RunsSo, run-start, run-more, run-cut, run-end, page-writable}
 use Rattle.stix_pull.proofs.pulling.pull_all.Goals as goal

@@ -17,5 +17,5 @@ returns-clause-dial g c =
     let view = link_view g.D.Link.Source.left g.D.Link.Sink.written g.D.Link.Source.faults g.D.Link.Sink.faults in
     let before = outside (g.D.Dial.told c.args.dial.now) (g.D.Dial.faults c.args.dial.now) (g.O.Sink.written c.args.output.now) in
     let now = outside (g.D.Dial.told c.obey-end.new.dial) (g.D.Dial.faults c.obey-end.new.dial) (g.O.Sink.written c.obey-end.new.output) in
-    subst (λ (s : ℕ). CountsDial view before now s) (sym c.finish.ensures.status)
+    subst (λ (s : ℕ). CountsDial view (texts c.args.words.now) before now s) (sym c.finish.ensures.status)
     (counts-dial _ view before now (texts c.args.words.now) c.obey-end.result c.obey-end.ensures.end)

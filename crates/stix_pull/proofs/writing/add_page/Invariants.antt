@@ -1,6 +1,6 @@
 use Rattle.std.proofs.Common.{◌≡◌, take}
 use Rattle.watch_log.specs.OnItsWay.{IsOnItsWay}
-use Rattle.stix_pull.specs.Telling.{told_of}
+use Rattle.taxii_client.specs.Telling.{told_of}
 use Rattle.stix_pull.proofs.writing.add_page.Given as goal
 
 abbrev pub invariant-loop-entry : goal.invariant-loop-entry

@@ -23,6 +23,7 @@ returns c store after runs wanted first others dated within go_on followed =
     record {
       first = walk.first;
       others = walk.others;
+      walk = its;
       answers = walk.answers;
       states = walk.states;
       once = c.walks_skip_no_row.ensures.once wanted walk.first walk.others its;

@@ -1,0 +1,5 @@
+mod TextLemmas
+mod EnvelopeLemmas
+mod HeadLemmas
+mod ReplyLemmas
+mod PullLemmas

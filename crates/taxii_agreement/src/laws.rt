@@ -1,0 +1,57 @@
+//! What follows from the definitions: the contracts are the laws, and the functions do next to nothing.
+
+ghost use Rattle.std.specs.Prelude.{◌≡◌, ◌≤◌, ◌<◌, ◌^◌, ◌++◌, ℕ, Bool, List, Some, None, All, length};
+ghost use Rattle.http_frames.specs.declared.answer.Answer.{Answer};
+ghost use Rattle.http_frames.specs.declared.status.Status.TheVariants.{Okay};
+ghost use Rattle.http_frames.specs.Answers.{IsAnswerText};
+ghost use Rattle.http_replies.specs.Replies.{IsReply};
+ghost use Rattle.stix_json.specs.declared.envelope.Envelope.{Envelope};
+ghost use Rattle.stix_json.specs.Envelopes.{IsEnvelopeOf};
+ghost use Rattle.taxii_rows.specs.declared.stored_row.StoredRow.{StoredRow};
+ghost use Rattle.taxii_rows.specs.declared.stored_row.TheConstants.{LAST_DATE};
+ghost use Rattle.taxii_rows.specs.SoundRow.{IsSoundRow};
+ghost use Rattle.taxii_rows.specs.StoreState.{StoreState};
+ghost use Rattle.taxii_bodies.specs.Envelope.{envelope_text};
+ghost use Rattle.taxii_walks.specs.History.{IsDated};
+ghost use Rattle.taxii_walks.specs.Walk.{Wanted};
+ghost use Rattle.taxii_runs.specs.Runs.{Run, Round, GoOn, rounds_of};
+ghost use Rattle.taxii_client.specs.Outside.{LinkView};
+ghost use Rattle.taxii_client.specs.Pulls.{Page, IsPull};
+ghost use Rattle.taxii_client.specs.declared.target.Target.{Target};
+ghost use Rattle.taxii_client.specs.declared.turn.Turn.TheVariants.{Over};
+ghost use Rattle.taxii_agreement.specs.Reading.{IsReadAs};
+ghost use Rattle.taxii_agreement.specs.Pulling.{AreServed, WritesEachRow};
+
+use flow_links::Dial;
+use taxii_bodies::laws::envelopes_are_json;
+use taxii_pages::laws::rows_of_pages;
+use taxii_runs::laws::{clients_skip_no_row, gets_are_paged};
+
+/// Where bytes begin with a server's answer of 200 and with a reply to a client, the reply's body is the answer's.
+pub fn answers_are_replies()
+    ensures { (answer : Answer) (close : Bool) (text later reply body own rest : List ℕ) → answer.status ≡ Okay → answer.body ≡ Some own
+        → IsAnswerText answer close text → length text < 2 ^ 64 → IsReply reply body → text ++ later ≡ reply ++ rest → body ≡ own }
+{}
+
+/// A page of sound rows is read as their objects, each good, and as what tells of the next page.
+pub fn pages_are_read_back()
+    ensures { (rows : List StoredRow) (more : Bool) (envelope : Envelope) → All IsSoundRow rows
+        → IsEnvelopeOf (envelope_text rows more) envelope → IsReadAs rows more envelope }
+{
+    envelopes_are_json();
+}
+
+/// A client that pulls a collection to the end, over links on which a server answers, misses nothing: it writes the stored
+/// text of each row that it wants and that is still stored at the last page, once each, in the order of dates, whatever
+/// others add and delete between two pages, and over restarts.
+pub fn pulls_skip_no_row<D: Dial>()
+    ensures { (view : D.Link → LinkView) (target : Target) (pages : List (Page D.Link)) (store after : StoreState) (runs : List Run) (wanted : Wanted) (rounds : List Round)
+        → IsDated store → store.mark ≤ LAST_DATE → GoOn store runs after → IsPull view target pages Over
+        → AreServed view wanted pages (rounds_of runs) rounds → WritesEachRow wanted pages rounds }
+{
+    answers_are_replies();
+    pages_are_read_back();
+    rows_of_pages();
+    gets_are_paged();
+    clients_skip_no_row();
+}
