@@ -20,39 +20,10 @@ use Rattle.http_frames.specs.declared.status.Status.{Status}
 use Rattle.http_frames.specs.declared.status.Status.TheVariants.{Okay}
 use Rattle.http_frames.specs.Answers.{code_of, phrase_of, status_line, line_end, field_line, line_if_some, media_type, methods_of, body_of, head_text, IsDateText}
 use Rattle.http_frames.specs.Fields.{values_among}
+use Rattle.taxii_agreement.proofs.BytesLemmas.{passes, AreFrom, from_both, from_less, are_values, are_digits}
 use Rattle.stix_times.specs.Timestamp.{Timestamp, IsShaped, Spells, text_of, fraction_text}
 
--- ---- bytes of values
-
-passes : (test : ℕ → Bool) (bytes : List ℕ) → list_all test bytes ≡ true → AllPass test bytes
-passes test [] all = All-nil (λ b. IsTrue (test b))
-passes test (b ∷ bytes) all = by_test (test b) refl all
-  where
-    by_test : (t : Bool) → test b ≡ t → t && list_all test bytes ≡ true → AllPass test (b ∷ bytes)
-    by_test true is rest = All-cons (λ x. IsTrue (test x)) b bytes is (passes test bytes rest)
-    by_test false is rest = absurd (cc)
-
--- visible bytes and spaces
-abbrev AreShown : List ℕ → Type 0
-AreShown [] = ⊤
-AreShown (b ∷ bytes) = (32 ≤ b) × (b < 127) × AreShown bytes
-
-shown_byte : (b : ℕ) → 32 ≤ b → b < 127 → is_value_byte b ≡ true
-shown_byte b low high = rw (ne_eqb b 9 (λ is. omega (arith, is, low)), le-leb 32 b low, ne_eqb b 127 (λ is. omega (arith, is, high))) refl
-
-shown_pass : (bytes : List ℕ) → AreShown bytes → AllPass is_value_byte bytes
-shown_pass [] are = All-nil (λ b. IsTrue (is_value_byte b))
-shown_pass (b ∷ bytes) (low, high, are) = All-cons (λ x. IsTrue (is_value_byte x)) b bytes (shown_byte b low high) (shown_pass bytes are)
-
-shown_both : (first second : List ℕ) → AreShown first → AreShown second → AreShown (first ++ second)
-shown_both [] second are more = more
-shown_both (b ∷ first) second (low, high, are) more = (low, high, shown_both first second are more)
-
 -- ---- digits
-
-digits_shown : (bytes : List ℕ) → AllDigits 10 bytes → AreShown bytes
-digits_shown [] are = tt
-digits_shown (b ∷ bytes) (digit, are) = let range = digit_from_value b digit in (omega (arith, range.0), omega (arith, range.1), digits_shown bytes are)
 
 -- bytes that are no space and no tab
 abbrev is_black : ℕ → Bool
@@ -82,20 +53,20 @@ trimmed_digits bytes are =
 
 -- ---- dates
 
-two_shown : (n : ℕ) (rest : List ℕ) → n < 100 → AreShown rest → AreShown ((48 + n / 10) ∷ (48 + n % 10) ∷ rest)
+two_shown : (n : ℕ) (rest : List ℕ) → n < 100 → AreFrom 32 rest → AreFrom 32 ((48 + n / 10) ∷ (48 + n % 10) ∷ rest)
 two_shown n rest few are = (omega arith, omega (arith, few), omega arith, omega arith, are)
 
-fraction_shown : (digits : List ℕ) → All IsAsciiDigit digits → AreShown digits
+fraction_shown : (digits : List ℕ) → All IsAsciiDigit digits → AreFrom 32 digits
 fraction_shown [] are = tt
 fraction_shown (d ∷ digits) are =
     let first = All-head IsAsciiDigit d digits are in
     (omega (arith, first), omega (arith, first), fraction_shown digits (All-tail IsAsciiDigit d digits are))
 
-dotted_shown : (digits : List ℕ) → All IsAsciiDigit digits → AreShown (fraction_text digits)
+dotted_shown : (digits : List ℕ) → All IsAsciiDigit digits → AreFrom 32 (fraction_text digits)
 dotted_shown [] are = tt
 dotted_shown (d ∷ digits) are = (omega arith, omega arith, fraction_shown (d ∷ digits) are)
 
-time_shown : (t : Timestamp) → IsShaped t → AreShown (text_of t)
+time_shown : (t : Timestamp) → IsShaped t → AreFrom 32 (text_of t)
 unfolding text_of
 time_shown t is =
     two_shown (t.year / 100) _ (omega (arith, is.year))
@@ -105,7 +76,7 @@ time_shown t is =
     (omega arith, omega arith, two_shown t.hour _ (omega (arith, is.hour))
     (omega arith, omega arith, two_shown t.minute _ (omega (arith, is.minute))
     (omega arith, omega arith, two_shown t.second _ (omega (arith, is.second))
-    (shown_both (fraction_text t.fraction) (90 ∷ []) (dotted_shown t.fraction is.fraction) (omega arith, omega arith, tt))))))))
+    (from_both 32 (fraction_text t.fraction) (90 ∷ []) (dotted_shown t.fraction is.fraction) (omega arith, omega arith, tt))))))))
 
 -- a value that is told has bytes that a field may have
 abbrev IsValue : Option (List ℕ) → Type 0
@@ -116,11 +87,11 @@ date_value : (micros : Option ℕ) (text : Option (List ℕ)) → IsDateText mic
 date_value None None is = tt
 date_value None (Some text) is = absurd is
 date_value (Some micros) None is = absurd is
-date_value (Some micros) (Some text) (t, spells, parts) = subst (AllPass is_value_byte) (sym spells.spelling) (shown_pass (text_of t) (time_shown t spells.shaped))
+date_value (Some micros) (Some text) (t, spells, parts) = subst (AllPass is_value_byte) (sym spells.spelling) (are_values (text_of t) (time_shown t spells.shaped))
 
 -- ---- fields
 
-abbrev field : List ℕ → List ℕ → Field
+abbrev pub field : List ℕ → List ℕ → Field
 field name value = record { name = name; raw = 32 ∷ value; end = crlf }
 
 -- the field, where there is a value, before others
@@ -128,7 +99,7 @@ abbrev if_told : List ℕ → Option (List ℕ) → List Field → List Field
 if_told name None fields = fields
 if_told name (Some value) fields = field name value ∷ fields
 
-is_field : (name value : List ℕ) → IsToken name → AllPass is_value_byte value → IsField (field name value)
+pub is_field : (name value : List ℕ) → IsToken name → AllPass is_value_byte value → IsField (field name value)
 is_field name value token are = record { name = token; raw = All-cons (λ x. IsTrue (is_value_byte x)) 32 value refl are }
 
 all_told : (name : List ℕ) (value : Option (List ℕ)) (fields : List Field) → IsToken name → IsValue value → All IsField fields → All IsField (if_told name value fields)
@@ -180,7 +151,7 @@ allow_value (Some Get) = passes is_value_byte (codes "GET") refl
 allow_value (Some GetPost) = passes is_value_byte (codes "GET, POST") refl
 allow_value (Some GetDelete) = passes is_value_byte (codes "GET, DELETE") refl
 
-token : (name : List ℕ) → 0 < length name → list_all is_token_byte name ≡ true → IsToken name
+pub token : (name : List ℕ) → 0 < length name → list_all is_token_byte name ≡ true → IsToken name
 token name some all = (some, passes is_token_byte name all)
 
 close_all : (close : Bool) → All IsField (close_fields close)
@@ -203,7 +174,7 @@ tree_valid answer first last close first_is last_is few =
           (all_told (codes "X-TAXII-Date-Added-First") first _ (token (codes "X-TAXII-Date-Added-First") (omega arith) refl) (date_value answer.first first first_is)
           (all_told (codes "X-TAXII-Date-Added-Last") last _ (token (codes "X-TAXII-Date-Added-Last") (omega arith) refl) (date_value answer.last last last_is)
           (All-cons IsField (field (codes "Content-Length") size) (close_fields close)
-          (is_field (codes "Content-Length") size (token (codes "Content-Length") (omega arith) refl) (shown_pass size (digits_shown size digits_are)))
+          (is_field (codes "Content-Length") size (token (codes "Content-Length") (omega arith) refl) (are_values size (from_less 33 32 size (omega arith) (are_digits size digits_are))))
           (close_all close)))));
     }
 

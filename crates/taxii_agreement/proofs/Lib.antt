@@ -1,5 +1,9 @@
+mod BytesLemmas
 mod TextLemmas
 mod EnvelopeLemmas
 mod HeadLemmas
 mod ReplyLemmas
+mod QueryLemmas
+mod RequestLemmas
+mod HeardLemmas
 mod PullLemmas

@@ -1,5 +1,5 @@
 -- Pages that a server's answers are, and the walk that their rounds make.
-use Rattle.std.proofs.Common.{◌≡◌, ℕ, ◌+◌, ◌<◌, ◌≤◌, ◌^◌, Bool, true, false, List, [], ◌∷◌, ◌++◌, All, length, map, codes, Option, Some, None, option_map, Ok, inl, inr, refl, sym, ap, subst, ◌∙◌, append-nil, arith}
+use Rattle.std.proofs.Common.{◌≡◌, ℕ, ◌+◌, ◌<◌, ◌≤◌, ◌^◌, Bool, true, false, List, [], ◌∷◌, ◌++◌, All, length, map, codes, Option, Some, None, option_map, Ok, inl, inr, refl, sym, ap, subst, ◌∙◌, append_assoc, append-nil, arith}
 use Rattle.std.specs.Prelude.{⊤, ⊥, is_some, flat_map, fold}
 use Rattle.std.proofs.lemmas.List.Concat.{flat_map-append}
 use Rattle.std.proofs.lemmas.List.Elements.{All-head, All-tail, All-cons, All-nil, All-append, All-map}
@@ -14,7 +14,8 @@ use Rattle.taxii_routes.specs.declared.query.Query.{Query}
 use Rattle.taxii_rows.specs.declared.stored_row.StoredRow.{StoredRow}
 use Rattle.taxii_rows.specs.SoundRow.{IsSoundRow, IsSoundState}
 use Rattle.taxii_rows.specs.StoreState.{StoreState}
-use Rattle.taxii_bodies.specs.Envelope.{next_of, next_text, objects_text, envelope_text}
+use Rattle.hex.specs.Hex.{encode_with}
+use Rattle.taxii_bodies.specs.Envelope.{next_of, next_text, head_text, objects_text, envelope_text}
 use Rattle.taxii_walks.specs.Page.{IsPage}
 use Rattle.taxii_walks.specs.Walk.{Stop, Wanted, GoesFrom, last_date, rows_given}
 use Rattle.taxii_requests.specs.declared.config.Config.{Config}
@@ -31,10 +32,14 @@ use Rattle.taxii_client.specs.declared.target.Target.{Target}
 use Rattle.taxii_client.specs.declared.turn.Turn.{Turn}
 use Rattle.taxii_client.specs.declared.turn.Turn.TheVariants.{First, Behind, Over}
 use Rattle.taxii_agreement.specs.Reading.{lines_of, IsReadAs}
+use Rattle.taxii_agreement.specs.Asking.{IsServersOwn, IsTold, IsAnswered, wanted_of}
 use Rattle.taxii_agreement.specs.Pulling.{IsServed, ServeFrom}
+use Rattle.taxii_agreement.proofs.BytesLemmas.{AreFrom, next_seen}
 
--- the laws that a server's answers are read by, and that a GET is answered by a page of sound rows
+-- the laws: what a client writes is a fetch, a server's answers are read by the client, and a GET is answered by a page of sound rows
 pub record Laws : Type 0 where
+  pub heard : (target : Target) (next : Option (List ℕ)) (round : Round) → IsServersOwn target → IsTold next → IsAnswered target next round
+      → IsExchange round.config round.exchange → IsFetch (wanted_of target) next round
   pub replies : (answer : Answer) (close : Bool) (text later reply body own rest : List ℕ) → answer.status ≡ Okay → answer.body ≡ Some own
       → IsAnswerText answer close text → length text < 2 ^ 64 → IsReply reply body → text ++ later ≡ reply ++ rest → body ≡ own
   pub read_back : (rows : List StoredRow) (more : Bool) (envelope : Envelope) → All IsSoundRow rows → IsEnvelopeOf (envelope_text rows more) envelope
@@ -74,17 +79,24 @@ taken_from : (taken bytes : List ℕ) (left now : Option (List ℕ)) → left �
 taken_from taken bytes left None is takes = absurd (cc)
 taken_from taken bytes left (Some rest) is takes = (rest, some_is bytes (taken ++ rest) (sym is ∙ takes))
 
-module _ (L : Type 0) (view : L → LinkView) (target : Target) (wanted : Wanted) (laws : Laws) where
+all_seen : (bytes : List ℕ) → AreFrom 33 bytes → All (λ byte. (33 ≤ byte) × (byte < 127)) bytes
+all_seen [] are = All-nil (λ byte. (33 ≤ byte) × (byte < 127))
+all_seen (b ∷ bytes) (low, high, are) = All-cons (λ byte. (33 ≤ byte) × (byte < 127)) b bytes (low, high) (all_seen bytes are)
+
+module _ (L : Type 0) (view : L → LinkView) (target : Target) (laws : Laws) where
+  abbrev wanted : Wanted
+  wanted = wanted_of target
+
   -- the envelope of a page that is the answer of a round with these rows
   page_read : (turn : Turn) (next : Option (List ℕ)) (page : Page L) (round : Round) (rows : List StoredRow) (more : Bool) → IsPageAt view target turn page
-      → IsServed view wanted next page round → All IsSoundRow rows → round.exchange.answer ≡ page_answer rows (envelope_text rows more)
+      → IsServed view target next page round → All IsSoundRow rows → round.exchange.answer ≡ page_answer rows (envelope_text rows more)
       → IsReadAs rows more page.envelope
   page_read turn next page round rows more at served sound answer_is =
       let reads = at.fetched.reads in
       let rest = taken_from reads.taken (served.text ++ served.later) (view page.link.given).left (view page.link.finished).left served.bytes reads.takes in
       let body : reads.answers.body ≡ envelope_text rows more =
       laws.replies round.exchange.answer served.close served.text served.later reads.taken reads.answers.body (envelope_text rows more) rest.0
-      served.fetch.okay (ap (λ (a : Answer). a.body) answer_is) served.text_is served.size reads.answers.is_reply rest.1 in
+      served.answered.okay (ap (λ (a : Answer). a.body) answer_is) served.text_is served.size reads.answers.is_reply rest.1 in
       laws.read_back rows more page.envelope sound (subst (λ (text : List ℕ). IsEnvelopeOf text page.envelope) body reads.answers.is_envelope)
 
   -- what a round that was fetched answered
@@ -94,17 +106,17 @@ module _ (L : Type 0) (view : L → LinkView) (target : Target) (wanted : Wanted
     answer_is : round.exchange.answer ≡ page_answer rows (envelope_text rows more)
     read : IsReadAs rows more page.envelope
 
-  answered : (turn : Turn) (next : Option (List ℕ)) (page : Page L) (round : Round) → IsPageAt view target turn page → IsServed view wanted next page round
-      → Goes round → IsSoundState round.exchange.before.library → Answered page round
-  answered turn next page round at served goes sound =
-      let paged = laws.paged round.config round.exchange wanted.collection wanted.only served.fetch.query goes served.fetch.okay served.fetch.asks in
+  answered : (turn : Turn) (next : Option (List ℕ)) (page : Page L) (round : Round) → IsPageAt view target turn page → IsServed view target next page round
+      → IsFetch wanted next round → Goes round → IsSoundState round.exchange.before.library → Answered page round
+  answered turn next page round at served fetch goes sound =
+      let paged = laws.paged round.config round.exchange wanted.collection wanted.only fetch.query goes fetch.okay fetch.asks in
       let is : round.exchange.answer ≡ page_answer paged.page (envelope_text paged.page paged.more) = paged.answer_is ∙ ap (page_answer paged.page) paged.body_is in
       record {
         rows = paged.page;
         more = paged.more;
         answer_is = is;
         read = page_read turn next page round paged.page paged.more at served
-            (laws.sound round.exchange.before.library wanted.collection wanted.only served.fetch.query paged.page paged.more sound paged.page_is) is;
+            (laws.sound round.exchange.before.library wanted.collection wanted.only fetch.query paged.page paged.more sound paged.page_is) is;
       }
 
   -- ---- what the server told is what the client asks for next
@@ -119,7 +131,7 @@ module _ (L : Type 0) (view : L → LinkView) (target : Target) (wanted : Wanted
   tail_of rows = objects_text (map (λ row. row.body) rows) ++ codes "}"
 
   sixteen : (date : ℕ) → length (next_text date) ≡ 16
-  unfolding Rattle.hex.specs.Hex.encode_with
+  unfolding encode_with
   sixteen date = refl
 
   told_on : (page : Page L) (round : Round) (its : Answered page round) (date : ℕ) → next_of its.rows its.more ≡ Some date → TellsNext round.exchange.answer (next_text date)
@@ -127,14 +139,14 @@ module _ (L : Type 0) (view : L → LinkView) (target : Target) (wanted : Wanted
     sixteen date,
     codes "\"" ++ tail_of its.rows,
     ap (λ (a : Answer). a.body) its.answer_is
-        ∙ ap (λ (next : Option ℕ). Some (Rattle.taxii_bodies.specs.Envelope.head_text next ++ tail_of its.rows)) is
-        ∙ ap (λ (text : List ℕ). Some (codes "{\"more\":true,\"next\":\"" ++ text)) (Rattle.std.proofs.Common.append_assoc (next_text date) (codes "\"") (tail_of its.rows)),
+        ∙ ap (λ (next : Option ℕ). Some (head_text next ++ tail_of its.rows)) is
+        ∙ ap (λ (text : List ℕ). Some (codes "{\"more\":true,\"next\":\"" ++ text)) (append_assoc (next_text date) (codes "\"") (tail_of its.rows)),
   )
 
   told_last : (page : Page L) (round : Round) (its : Answered page round) → next_of its.rows its.more ≡ None → TellsNoMore round.exchange.answer
   told_last page round its is = (
     tail_of its.rows,
-    ap (λ (a : Answer). a.body) its.answer_is ∙ ap (λ (next : Option ℕ). Some (Rattle.taxii_bodies.specs.Envelope.head_text next ++ tail_of its.rows)) is,
+    ap (λ (a : Answer). a.body) its.answer_is ∙ ap (λ (next : Option ℕ). Some (head_text next ++ tail_of its.rows)) is,
   )
 
   -- nothing was asked for behind the last page, and so none was told
@@ -147,29 +159,36 @@ module _ (L : Type 0) (view : L → LinkView) (target : Target) (wanted : Wanted
 
   -- what was asked for behind a page is what it told
   goes_on : (page : Page L) (round : Round) (its : Answered page round) (asked : Option (List ℕ)) → Asks (turn_after page.envelope) asked
-      → (told : List ℕ) × TellsNext round.exchange.answer told × (asked ≡ Some told)
+      → (told : List ℕ) × TellsNext round.exchange.answer told × (asked ≡ Some told) × IsTold (Some told)
   goes_on page round its asked asks = by_next (next_of its.rows its.more) refl
     where
-      by_next : (next : Option ℕ) → next_of its.rows its.more ≡ next → (told : List ℕ) × TellsNext round.exchange.answer told × (asked ≡ Some told)
+      by_next : (next : Option ℕ) → next_of its.rows its.more ≡ next → (told : List ℕ) × TellsNext round.exchange.answer told × (asked ≡ Some told) × IsTold (Some told)
       by_next None is = absurd (subst (λ (turn : Turn). Asks turn asked) (turn_is its.rows its.more page.envelope None its.read is) asks)
-      by_next (Some date) is =
-          (next_text date, told_on page round its date is, subst (λ (turn : Turn). Asks turn asked) (turn_is its.rows its.more page.envelope (Some date) its.read is) asks)
+      by_next (Some date) is = (
+        next_text date,
+        told_on page round its date is,
+        subst (λ (turn : Turn). Asks turn asked) (turn_is its.rows its.more page.envelope (Some date) its.read is) asks,
+        all_seen (next_text date) (next_seen date),
+      )
 
-  pub fetches : (turn : Turn) (page : Page L) (pages : List (Page L)) (round : Round) (rounds : List Round) → InTurn view target turn (page ∷ pages) Over
-      → (serve : ServeFrom view wanted turn (page ∷ pages) (round ∷ rounds)) → All Goes (round ∷ rounds)
-      → All (λ r. IsSoundState r.exchange.before.library) (round ∷ rounds) → FetchFrom wanted serve.0 round rounds
-  fetches turn page [] round [] (at, over) (next, asks, served, rest) goes sound =
-      let its = answered turn next page round at served (All-head Goes round [] goes) (All-head (λ r. IsSoundState r.exchange.before.library) round [] sound) in
-      (served.fetch, ends page round its (sym over))
-  fetches turn page [] round (other ∷ rounds) turns (next, asks, served, rest) goes sound = absurd rest
-  fetches turn page (second ∷ pages) round [] turns (next, asks, served, rest) goes sound = absurd rest
-  fetches turn page (second ∷ pages) round (other ∷ rounds) (at, turns) (next, asks, served, rest) goes sound =
-      let its = answered turn next page round at served (All-head Goes round (other ∷ rounds) goes)
-      (All-head (λ r. IsSoundState r.exchange.before.library) round (other ∷ rounds) sound) in
+  pub fetches : (turn : Turn) (page : Page L) (pages : List (Page L)) (round : Round) (rounds : List Round) → IsServersOwn target
+      → InTurn view target turn (page ∷ pages) Over → (serve : ServeFrom view target turn (page ∷ pages) (round ∷ rounds)) → IsTold serve.0
+      → All Goes (round ∷ rounds) → All (λ r. IsSoundState r.exchange.before.library) (round ∷ rounds) → FetchFrom wanted serve.0 round rounds
+  fetches turn page [] round [] own (at, over) (next, asks, served, rest) told goes sound =
+      let own_goes : Goes round = All-head Goes round [] goes in
+      let fetch = laws.heard target next round own told served.answered own_goes in
+      let its = answered turn next page round at served fetch own_goes (All-head (λ r. IsSoundState r.exchange.before.library) round [] sound) in
+      (fetch, ends page round its (sym over))
+  fetches turn page [] round (other ∷ rounds) own turns (next, asks, served, rest) told goes sound = absurd rest
+  fetches turn page (second ∷ pages) round [] own turns (next, asks, served, rest) told goes sound = absurd rest
+  fetches turn page (second ∷ pages) round (other ∷ rounds) own (at, turns) (next, asks, served, rest) told goes sound =
+      let own_goes : Goes round = All-head Goes round (other ∷ rounds) goes in
+      let fetch = laws.heard target next round own told served.answered own_goes in
+      let its = answered turn next page round at served fetch own_goes (All-head (λ r. IsSoundState r.exchange.before.library) round (other ∷ rounds) sound) in
       let on = goes_on page round its rest.0 rest.1 in
-      let later : FetchFrom wanted rest.0 other rounds = fetches (turn_after page.envelope) second pages other rounds turns rest (All-tail Goes round (other ∷ rounds) goes)
-      (All-tail (λ r. IsSoundState r.exchange.before.library) round (other ∷ rounds) sound) in
-      (served.fetch, on.0, on.1, subst (λ (asked : Option (List ℕ)). FetchFrom wanted asked other rounds) on.2 later)
+      let later : FetchFrom wanted rest.0 other rounds = fetches (turn_after page.envelope) second pages other rounds own turns rest (subst IsTold (sym on.2) on.3)
+      (All-tail Goes round (other ∷ rounds) goes) (All-tail (λ r. IsSoundState r.exchange.before.library) round (other ∷ rounds) sound) in
+      (fetch, on.0, on.1, subst (λ (asked : Option (List ℕ)). FetchFrom wanted asked other rounds) on.2 later)
 
   -- ---- the pages are read as those of the walk
 
@@ -186,7 +205,7 @@ module _ (L : Type 0) (view : L → LinkView) (target : Target) (wanted : Wanted
 
   pub all_read : (date : Option ℕ) (turn : Turn) (pages : List (Page L)) (rounds : List Round) (stop : Stop) (stops : List Stop) → GoesFrom wanted date stop stops
       → map (λ r. r.exchange.answer) rounds ≡ map answer_at (stop ∷ stops) → map (λ r. r.exchange.before.library) rounds ≡ map (λ s. s.state) (stop ∷ stops)
-      → All (λ r. IsSoundState r.exchange.before.library) rounds → InTurn view target turn pages Over → ServeFrom view wanted turn pages rounds → AllRead pages stop stops
+      → All (λ r. IsSoundState r.exchange.before.library) rounds → InTurn view target turn pages Over → ServeFrom view target turn pages rounds → AllRead pages stop stops
   all_read date turn [] [] stop stops walk answers states sound turns serve = absurd (cc)
   all_read date turn [] (round ∷ rounds) stop stops walk answers states sound turns serve = absurd serve
   all_read date turn (page ∷ pages) [] stop stops walk answers states sound turns serve = absurd serve
@@ -199,7 +218,7 @@ module _ (L : Type 0) (view : L → LinkView) (target : Target) (wanted : Wanted
         none_left pages rounds (tails round.exchange.answer (answer_at stop) (map (λ r. r.exchange.answer) rounds) [] answers) rest,
       )
     where
-      none_left : (pages : List (Page L)) (rounds : List Round) → map (λ (r : Round). r.exchange.answer) rounds ≡ [] → ServeFrom view wanted (turn_after page.envelope) pages rounds → pages ≡ []
+      none_left : (pages : List (Page L)) (rounds : List Round) → map (λ (r : Round). r.exchange.answer) rounds ≡ [] → ServeFrom view target (turn_after page.envelope) pages rounds → pages ≡ []
       none_left [] rounds none serve = refl
       none_left (p ∷ pages) [] none serve = absurd serve
       none_left (p ∷ pages) (r ∷ rounds) none serve = absurd (cc)

@@ -8,18 +8,19 @@ use Rattle.taxii_rows.specs.StoreState.{dates_of, RiseFrom}
 use Rattle.taxii_rows.specs.SoundRow.{IsSoundState}
 use Rattle.taxii_walks.specs.Walk.{Stop, Wanted, IsWanted, rows_given, last_state}
 use Rattle.taxii_runs.specs.Runs.{Round}
-use Rattle.taxii_runs.specs.Following.{Among, IsFetch}
+use Rattle.taxii_runs.specs.Following.{Among}
 use Rattle.taxii_client.specs.Outside.{LinkView}
 use Rattle.taxii_client.specs.Pulls.{Asks, Page, turn_after}
 use Rattle.taxii_client.specs.Telling.{told_of_pages, bad_in_pages}
+use Rattle.taxii_client.specs.declared.target.Target.{Target}
 use Rattle.taxii_client.specs.declared.turn.Turn.{Turn}
 use Rattle.taxii_client.specs.declared.turn.Turn.TheVariants.{First}
+use Rattle.taxii_agreement.specs.Asking.{IsServersOwn, IsAnswered}
 use Rattle.taxii_agreement.specs.Reading.{lines_of}
 
--- the link began with the server's answer of a round, of a size that memory can have; the round asked for what is wanted, with
--- this `next`
-pub record IsServed {L : Type 0} (view : L → LinkView) (wanted : Wanted) (next : Option (List ℕ)) (page : Page L) (round : Round) : Type 0 where
-  pub fetch : IsFetch wanted next round
+-- the round answers what the client writes with this `next`, and the link began with that answer, of a size that memory can have
+pub record IsServed {L : Type 0} (view : L → LinkView) (target : Target) (next : Option (List ℕ)) (page : Page L) (round : Round) : Type 0 where
+  pub answered : IsAnswered target next round
   pub close : Bool
   pub text : List ℕ
   pub text_is : IsAnswerText round.exchange.answer close text
@@ -28,18 +29,18 @@ pub record IsServed {L : Type 0} (view : L → LinkView) (wanted : Wanted) (next
   pub bytes : (view page.link.given).left ≡ Some (text ++ later)
 
 -- page by page, each asked for with the `next` that the page before it told the client
-abbrev pub ServeFrom : {L : Type 0} → (L → LinkView) → Wanted → Turn → List (Page L) → List Round → Type 0
-ServeFrom view wanted turn [] [] = ⊤
-ServeFrom view wanted turn [] (round ∷ rounds) = ⊥
-ServeFrom view wanted turn (page ∷ pages) [] = ⊥
-ServeFrom view wanted turn (page ∷ pages) (round ∷ rounds) = (next : Option (List ℕ)) × Asks turn next × IsServed view wanted next page round
-    × ServeFrom view wanted (turn_after page.envelope) pages rounds
+abbrev pub ServeFrom : {L : Type 0} → (L → LinkView) → Target → Turn → List (Page L) → List Round → Type 0
+ServeFrom view target turn [] [] = ⊤
+ServeFrom view target turn [] (round ∷ rounds) = ⊥
+ServeFrom view target turn (page ∷ pages) [] = ⊥
+ServeFrom view target turn (page ∷ pages) (round ∷ rounds) = (next : Option (List ℕ)) × Asks turn next × IsServed view target next page round
+    × ServeFrom view target (turn_after page.envelope) pages rounds
 
--- the pages are these rounds of a server, each of which found a sound store; the first asked for the first page
-pub record AreServed {L : Type 0} (view : L → LinkView) (wanted : Wanted) (pages : List (Page L)) (all : List Round) (rounds : List Round) : Type 0 where
+-- the pages are these rounds of a server, each of which found a sound store, as every library is; the first asked for the first page
+pub record AreServed {L : Type 0} (view : L → LinkView) (target : Target) (pages : List (Page L)) (all : List Round) (rounds : List Round) : Type 0 where
+  pub own : IsServersOwn target
   pub among : Among rounds all
-  pub start : wanted.query.next ≡ None
-  pub serve : ServeFrom view wanted First pages rounds
+  pub serve : ServeFrom view target First pages rounds
   pub sound : All (λ round. IsSoundState round.exchange.before.library) rounds
 
 -- what the client writes of the pages: a line for each row of a walk over the store as it was at each page, and no entry is bad. The

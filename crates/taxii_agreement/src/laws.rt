@@ -1,6 +1,6 @@
 //! What follows from the definitions: the contracts are the laws, and the functions do next to nothing.
 
-ghost use Rattle.std.specs.Prelude.{◌≡◌, ◌≤◌, ◌<◌, ◌^◌, ◌++◌, ℕ, Bool, List, Some, None, All, length};
+ghost use Rattle.std.specs.Prelude.{◌≡◌, ◌≤◌, ◌<◌, ◌^◌, ◌++◌, ℕ, Bool, List, Option, Some, None, All, length};
 ghost use Rattle.http_frames.specs.declared.answer.Answer.{Answer};
 ghost use Rattle.http_frames.specs.declared.status.Status.TheVariants.{Okay};
 ghost use Rattle.http_frames.specs.Answers.{IsAnswerText};
@@ -13,19 +13,23 @@ ghost use Rattle.taxii_rows.specs.SoundRow.{IsSoundRow};
 ghost use Rattle.taxii_rows.specs.StoreState.{StoreState};
 ghost use Rattle.taxii_bodies.specs.Envelope.{envelope_text};
 ghost use Rattle.taxii_walks.specs.History.{IsDated};
-ghost use Rattle.taxii_walks.specs.Walk.{Wanted};
+ghost use Rattle.taxii_histories.specs.Exchanges.{IsExchange};
 ghost use Rattle.taxii_runs.specs.Runs.{Run, Round, GoOn, rounds_of};
+ghost use Rattle.taxii_runs.specs.Following.{IsFetch};
 ghost use Rattle.taxii_client.specs.Outside.{LinkView};
 ghost use Rattle.taxii_client.specs.Pulls.{Page, IsPull};
 ghost use Rattle.taxii_client.specs.declared.target.Target.{Target};
 ghost use Rattle.taxii_client.specs.declared.turn.Turn.TheVariants.{Over};
 ghost use Rattle.taxii_agreement.specs.Reading.{IsReadAs};
+ghost use Rattle.taxii_agreement.specs.Asking.{IsServersOwn, IsTold, IsAnswered, wanted_of};
 ghost use Rattle.taxii_agreement.specs.Pulling.{AreServed, WritesEachRow};
 
 use flow_links::Dial;
+use stix_ids::laws::one_uuid;
 use taxii_bodies::laws::envelopes_are_json;
 use taxii_pages::laws::rows_of_pages;
-use taxii_runs::laws::{clients_skip_no_row, gets_are_paged};
+use taxii_routes::laws::{one_route, one_target};
+use taxii_runs::laws::{answered_requests_were_done, clients_skip_no_row, gets_are_paged};
 
 /// Where bytes begin with a server's answer of 200 and with a reply to a client, the reply's body is the answer's.
 pub fn answers_are_replies()
@@ -41,14 +45,27 @@ pub fn pages_are_read_back()
     envelopes_are_json();
 }
 
+/// A round that answers with 200 the request which a server reads in what a client writes is a fetch of all objects of the
+/// collection, in all versions, with the `next` that the client sends.
+pub fn requests_are_heard()
+    ensures { (target : Target) (next : Option (List ℕ)) (round : Round) → IsServersOwn target → IsTold next → IsAnswered target next round
+        → IsExchange round.config round.exchange → IsFetch (wanted_of target) next round }
+{
+    one_target();
+    one_route();
+    one_uuid();
+    answered_requests_were_done();
+}
+
 /// A client that pulls a collection to the end, over links on which a server answers, misses nothing: it writes the stored
 /// text of each row that it wants and that is still stored at the last page, once each, in the order of dates, whatever
 /// others add and delete between two pages, and over restarts.
 pub fn pulls_skip_no_row<D: Dial>()
-    ensures { (view : D.Link → LinkView) (target : Target) (pages : List (Page D.Link)) (store after : StoreState) (runs : List Run) (wanted : Wanted) (rounds : List Round)
+    ensures { (view : D.Link → LinkView) (target : Target) (pages : List (Page D.Link)) (store after : StoreState) (runs : List Run) (rounds : List Round)
         → IsDated store → store.mark ≤ LAST_DATE → GoOn store runs after → IsPull view target pages Over
-        → AreServed view wanted pages (rounds_of runs) rounds → WritesEachRow wanted pages rounds }
+        → AreServed view target pages (rounds_of runs) rounds → WritesEachRow (wanted_of target) pages rounds }
 {
+    requests_are_heard();
     answers_are_replies();
     pages_are_read_back();
     rows_of_pages();

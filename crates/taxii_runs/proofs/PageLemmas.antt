@@ -27,6 +27,7 @@ use Rattle.taxii_state.specs.declared.state.State.{State}
 use Rattle.taxii_step.specs.Step.{Does, IsAnswerTo, IsDone, RouteStep, Step}
 use Rattle.taxii_histories.specs.Exchanges.{Course, Stepped, KeeperFailed, OutOfMemory, Exchange, Runs, IsExchange}
 use Rattle.taxii_histories.specs.Visits.{AsksForAll, AsksForOne, Asks}
+use Rattle.taxii_runs.specs.Runs.{WasDone}
 
 -- the laws of lower floors: a target has one path and one query, a path one route, pairs ask for one query, a text names one identifier
 pub record Laws : Type 0 where
@@ -157,3 +158,24 @@ runs_read laws config collection only query e its OutOfMemory wants =
 pub paged : Laws → (config : Config) (collection : ℕ) (only : Option Id) (query : Query) (e : Exchange) → IsAsked config collection only query e
     → IsExchange config e → IsPaged collection only query e
 paged laws config collection only query e its goes = runs_read laws config collection only query e its e.course goes
+
+-- ---- what was answered with 200 was done
+
+step_done : (config : Config) (e : Exchange) → e.answer.status ≡ Okay → Step config e.before e.moment e.request e.answer e.after → WasDone config e
+step_done config e okay step = elim step.outcome [
+  | inl lost ↦ absurd (problem_answered e.request.method NotFound e.answer lost.1 okay)
+  | inr found ↦ either found.0 found.1 found.2
+]
+  where
+    either : (route : Route) → IsPathOf step.path route → RouteStep config e.before e.moment e.request route (unwrap_or step.query []) e.answer e.after → WasDone config e
+    either route route_is (inl refused) = absurd (refusal_answered e.request.method refused.0 e.answer refused.2 okay)
+    either route route_is (inr done) =
+        record { path = step.path; text = step.query; target_is = step.target_is; route = route; route_is = route_is; done = done }
+
+course_done : (config : Config) (e : Exchange) → e.answer.status ≡ Okay → (course : Course) → Runs course config e → WasDone config e
+course_done config e okay Stepped step = step_done config e okay step
+course_done config e okay KeeperFailed fails = absurd (problem_answered e.request.method StoreFault e.answer fails.answer_is okay)
+course_done config e okay OutOfMemory wants = let same = okay_too e.answer no_memory_answer wants.0 okay in absurd (cc)
+
+pub was_done : (config : Config) (e : Exchange) → IsExchange config e → e.answer.status ≡ Okay → WasDone config e
+was_done config e goes okay = course_done config e okay e.course goes

@@ -12,7 +12,7 @@ ghost use Rattle.taxii_histories.specs.Exchanges.{Exchange, IsExchange};
 ghost use Rattle.taxii_histories.specs.Visits.{Asks};
 ghost use Rattle.taxii_walks.specs.History.{IsDated, IsHistory};
 ghost use Rattle.taxii_walks.specs.Walk.{Wanted};
-ghost use Rattle.taxii_runs.specs.Runs.{Run, Round, GoOn, rounds_of};
+ghost use Rattle.taxii_runs.specs.Runs.{WasDone, Run, Round, GoOn, rounds_of};
 ghost use Rattle.taxii_runs.specs.Following.{HasFollowed, HearsEachRow};
 
 use stix_ids::laws::one_identifier;
@@ -27,6 +27,11 @@ pub fn runs_make_history()
 {
     requests_make_history();
 }
+
+/// What was answered with 200 was done: nothing stood against it.
+pub fn answered_requests_were_done()
+    ensures { (config : Config) (e : Exchange) → IsExchange config e → e.answer.status ≡ Okay → WasDone config e }
+{}
 
 /// A GET of objects that was answered with 200 was answered with a page of the store as it was there.
 pub fn gets_are_paged()

@@ -1,0 +1,38 @@
+-- What a client asks of a server for a page, and that it is this which the server answers (TAXII 2.1, sections 3.4 and 5.4).
+use Rattle.std.specs.Prelude.{◌≡◌, ⊤, ℕ, ◌<◌, ◌≤◌, ◌^◌, All, codes, List, [], Option, Some, None}
+use Rattle.http_frames.specs.Frames.{GivesRequest}
+use Rattle.http_frames.specs.declared.status.Status.TheVariants.{Okay}
+use Rattle.taxii_routes.specs.declared.query.Query.{Query}
+use Rattle.taxii_walks.specs.Walk.{Wanted}
+use Rattle.taxii_runs.specs.Runs.{Round}
+use Rattle.taxii_client.specs.Requests.{request_of}
+use Rattle.taxii_client.specs.declared.target.Target.{Target}
+
+-- a collection of a server, whose API root is `/api/`; the host's bytes are visible ones
+pub record IsServersOwn (target : Target) : Type 0 where
+  pub root : target.root ≡ codes "/api/"
+  pub host : All (λ byte. (33 ≤ byte) × (byte < 127)) target.host
+  pub port : target.port < 2 ^ 16
+  pub collection : target.collection < 2 ^ 128
+  pub limit : target.limit < 2 ^ 64
+
+-- a `next` that a client was told, of visible bytes
+abbrev pub IsTold : Option (List ℕ) → Type 0
+IsTold None = ⊤
+IsTold (Some next) = All (λ byte. (33 ≤ byte) × (byte < 127)) next
+
+-- a query that asks for nothing in particular
+abbrev pub any_query : Query
+any_query = record { added_after = None; limit = None; next = None; ids = None; kinds = None; picks = None; specs = None }
+
+-- what a client wants of its target: all objects of the collection
+abbrev pub wanted_of : Target → Wanted
+wanted_of target = record { collection = target.collection; only = None; query = any_query }
+
+-- the request of the round is the one that a server reads in the bytes that the client writes, and it was answered with 200; the server's
+-- collections have numbers of 128 bits
+pub record IsAnswered (target : Target) (next : Option (List ℕ)) (round : Round) : Type 0 where
+  pub greatest_body : ℕ
+  pub heard : GivesRequest greatest_body (request_of target next) round.exchange.request []
+  pub okay : round.exchange.answer.status ≡ Okay
+  pub numbers : All (λ info. info.id < 2 ^ 128) round.config.collections
