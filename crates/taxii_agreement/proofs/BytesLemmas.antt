@@ -1,10 +1,10 @@
 -- Bytes that may stand in a head: visible ones, and spaces.
-use Rattle.std.proofs.Common.{◌≡◌, ℕ, zero, suc, ◌+◌, ◌/◌, ◌%◌, ◌<◌, ◌≤◌, Bool, true, false, ◌&&◌, List, [], ◌∷◌, ◌++◌, All, length, refl, sym, subst, arith, le-leb, lt-ltb, ne_eqb}
-use Rattle.std.specs.Prelude.{⊤, IsTrue, IsUtf8, slice_index}
+use Rattle.std.proofs.Common.{◌≡◌, ℕ, zero, suc, ◌/◌, ◌%◌, ◌<◌, ◌≤◌, Bool, true, false, ◌&&◌, List, [], ◌∷◌, ◌++◌, All, length, refl, arith, le-leb, lt-ltb, ne_eqb}
+use Rattle.std.specs.Prelude.{⊤, IsTrue, IsUtf8, slice_index, nat_le, nat_lt}
 use Rattle.std.specs.List.{list_all, AllByRecursion}
 use Rattle.std.specs.Int.{bytes_high_first, byte_at, to_be_bytes, w64}
-use Rattle.std.specs.Str.{IsAscii}
 use Rattle.std.specs.Str.Parse.{AllDigits}
+use Rattle.std.proofs.lemmas.Bool.{leb-true, ltb-true}
 use Rattle.std.proofs.lemmas.List.Elements.{All-nil, All-cons, All-head, All-tail}
 use Rattle.std.proofs.lemmas.Str.{IsUtf8-from_ascii}
 use Rattle.std.proofs.lemmas.Str.Ascii.{IsAscii-from_all}
@@ -15,16 +15,28 @@ use Rattle.taxii_bodies.specs.Envelope.{next_text}
 
 pub passes : (test : ℕ → Bool) (bytes : List ℕ) → list_all test bytes ≡ true → AllPass test bytes
 passes test [] all = All-nil (λ b. IsTrue (test b))
-passes test (b ∷ bytes) all = by_test (test b) refl all
+passes test (b ∷ bytes) all = by_test (test b) refl all (passes test bytes)
   where
-    by_test : (t : Bool) → test b ≡ t → t && list_all test bytes ≡ true → AllPass test (b ∷ bytes)
-    by_test true is rest = All-cons (λ x. IsTrue (test x)) b bytes is (passes test bytes rest)
-    by_test false is rest = absurd (cc)
+    by_test : (t : Bool) → test b ≡ t → t && list_all test bytes ≡ true → (list_all test bytes ≡ true → AllPass test bytes) → AllPass test (b ∷ bytes)
+    by_test true is rest later = All-cons (λ x. IsTrue (test x)) b bytes is (later rest)
+    by_test false is rest later = absurd (cc)
 
 -- bytes from one on, and none behind `~`
 abbrev pub AreFrom : ℕ → List ℕ → Type 0
 AreFrom least [] = ⊤
 AreFrom least (b ∷ bytes) = (least ≤ b) × (b < 127) × AreFrom least bytes
+
+-- of bytes that are written out
+pub seen : (least : ℕ) (bytes : List ℕ) → list_all (λ b. nat_le least b && nat_lt b 127) bytes ≡ true → AreFrom least bytes
+seen least [] all = tt
+seen least (b ∷ bytes) all =
+    let parts = both_true (nat_le least b) (nat_lt b 127) (list_all (λ x. nat_le least x && nat_lt x 127) bytes) all in
+    (leb-true least b parts.0, ltb-true b 127 parts.1, seen least bytes parts.2)
+  where
+    both_true : (x y z : Bool) → (x && y) && z ≡ true → (x ≡ true) × (y ≡ true) × (z ≡ true)
+    both_true true true z is = (refl, refl, is)
+    both_true true false z is = absurd (cc)
+    both_true false y z is = absurd (cc)
 
 pub from_both : (least : ℕ) (first second : List ℕ) → AreFrom least first → AreFrom least second → AreFrom least (first ++ second)
 from_both least [] second are more = more
@@ -77,10 +89,41 @@ at_each (byte ∷ bytes) are (suc i) within = at_each bytes are.1 i (omega arith
 
 table : AllByRecursion IsHexByte lower_digits
 table = (
-  (omega arith, omega arith), ((omega arith, omega arith), ((omega arith, omega arith), ((omega arith, omega arith),
-  ((omega arith, omega arith), ((omega arith, omega arith), ((omega arith, omega arith), ((omega arith, omega arith),
-  ((omega arith, omega arith), ((omega arith, omega arith), ((omega arith, omega arith), ((omega arith, omega arith),
-  ((omega arith, omega arith), ((omega arith, omega arith), ((omega arith, omega arith), ((omega arith, omega arith), tt))))))))))))))),
+  (omega arith, omega arith),
+  (
+    (omega arith, omega arith),
+    (
+      (omega arith, omega arith),
+      (
+        (omega arith, omega arith),
+        (
+          (omega arith, omega arith),
+          (
+            (omega arith, omega arith),
+            (
+              (omega arith, omega arith),
+              (
+                (omega arith, omega arith),
+                (
+                  (omega arith, omega arith),
+                  (
+                    (omega arith, omega arith),
+                    (
+                      (omega arith, omega arith),
+                      (
+                        (omega arith, omega arith),
+                        ((omega arith, omega arith), ((omega arith, omega arith), ((omega arith, omega arith), ((omega arith, omega arith), tt)))),
+                      ),
+                    ),
+                  ),
+                ),
+              ),
+            ),
+          ),
+        ),
+      ),
+    ),
+  ),
 )
 
 digit : (i : ℕ) → i < 16 → IsHexByte (slice_index lower_digits i)
@@ -95,7 +138,7 @@ hex_seen [] are = tt
 hex_seen (byte ∷ bytes) are =
     let high = digit (byte / 16) (omega (arith, are.0)) in
     let low = digit (byte % 16) (omega arith) in
-    (high.0, high.1, low.0, low.1, hex_seen bytes are.1)
+    (high.0, high.1, (low.0, low.1, hex_seen bytes are.1))
 
 byte_low : (k n : ℕ) → byte_at k n < 256
 byte_low zero n = omega arith

@@ -1,10 +1,10 @@
 -- A page of sound rows, as a client reads it.
-use Rattle.std.proofs.Common.{◌≡◌, ◌+◌, ℕ, zero, suc, Bool, true, false, List, [], ◌∷◌, ◌++◌, All, map, Option, Some, None, option_map, option_and_then, codes, refl, sym, ap, subst, ◌∙◌}
-use Rattle.std.specs.Prelude.{⊤, is_some, flat_map, count_by}
-use Rattle.std.specs.List.{AllZip, last_or}
+use Rattle.std.proofs.Common.{◌≡◌, ℕ, Bool, List, [], ◌∷◌, ◌++◌, All, Option, Some, None, option_map, codes, refl, sym, ap, subst, ◌∙◌}
+use Rattle.std.specs.Prelude.{⊤, is_some, flat_map}
+use Rattle.std.specs.List.{AllZip}
 use Rattle.std.proofs.lemmas.List.Elements.{All-head, All-tail}
 use Rattle.json.specs.Tree.{HasNumbers, ItemsHaveNumbers}
-use Rattle.serde_json.specs.Data.{Data, boolean, string, array, object, Items, no_items, item, no_members, member}
+use Rattle.serde_json.specs.Data.{Data, Items}
 use Rattle.serde_json.specs.Read.{of_json, of_items, read}
 use Rattle.serde_json.specs.View.{items_of}
 use Rattle.serde_json.specs.Written.{outline, items_outline, compact_text}
@@ -15,7 +15,7 @@ use Rattle.stix_json.specs.declared.refusal.JsonRefusal.{JsonRefusal}
 use Rattle.stix_json.specs.declared.refusal.JsonRefusal.TheVariants.{NotJson, TooDeep, NotWhole, Null, OutOfRange, NotList, NoMemory}
 use Rattle.stix_json.specs.DataOf.{data_of}
 use Rattle.stix_json.specs.Refusal.{refusal_of}
-use Rattle.stix_json.specs.Reading.{IsEntryFor, IsRefusalOf}
+use Rattle.stix_json.specs.Reading.{IsRefusalOf}
 use Rattle.stix_json.specs.Entries.{AreEntriesFor, list_under}
 use Rattle.stix_json.specs.Envelopes.{IsEnvelopeOf, more_in, next_in}
 use Rattle.stix_json.proofs.WalkLemmas.{nothing_found}
@@ -23,7 +23,7 @@ use Rattle.stix_json.proofs.DataOfLemmas.{json_signs}
 use Rattle.taxii_rows.specs.declared.stored_row.StoredRow.{StoredRow}
 use Rattle.taxii_rows.specs.SoundRow.{IsRowOf, IsSoundRow}
 use Rattle.taxii_bodies.specs.Envelope.{next_of, next_text, envelope_text, envelope_data}
-use Rattle.taxii_client.specs.Telling.{line_of, told_of, is_bad, bad_in}
+use Rattle.taxii_client.specs.Telling.{told_of, bad_in}
 use Rattle.taxii_agreement.specs.Reading.{lines_of, IsReadAs}
 use Rattle.taxii_agreement.proofs.TextLemmas.{has_numbers, read_as}
 

@@ -1,5 +1,5 @@
 -- The head of an answer of 200, by the grammar of responses.
-use Rattle.std.proofs.Common.{◌≡◌, ℕ, ◌+◌, ◌*◌, ◌/◌, ◌%◌, ◌<◌, ◌≤◌, ◌^◌, Bool, true, false, ◌&&◌, ◌||◌, ◌==◌, not, nat_le, List, [], ◌∷◌, ◌++◌, All, length, reverse, codes, decimal, map, Option, Some, None, option_map, pos, refl, sym, ap, subst, ◌∙◌, append_assoc, arith, le-leb, ne_eqb}
+use Rattle.std.proofs.Common.{◌≡◌, ℕ, ◌+◌, ◌/◌, ◌%◌, ◌<◌, ◌≤◌, ◌^◌, Bool, true, false, not, List, [], ◌∷◌, ◌++◌, All, length, reverse, codes, decimal, map, Option, Some, None, option_map, refl, sym, ap, subst, ◌∙◌, append_assoc, append-nil, arith, ne_eqb}
 use Rattle.std.specs.Prelude.{⊤, IsTrue, if◌then◌else◌, flat_map}
 use Rattle.std.specs.List.{filter, list_all}
 use Rattle.std.specs.Char.{IsAsciiDigit, digit_value}
@@ -10,18 +10,18 @@ use Rattle.std.specs.Str.Parse.{AllDigits}
 use Rattle.std.proofs.lemmas.Fmt.{decimal_is_IsNumeral}
 use Rattle.std.proofs.lemmas.List.Elements.{All-nil, All-cons, All-head, All-tail}
 use Rattle.std.proofs.lemmas.Str.Parse.{digit_from_value}
-use Rattle.httparse.specs.Grammar.{is_token_byte, is_value_byte, is_ows, skip_ows, trim_ows, AllPass, IsToken, Field, IsField, crlf, print_field, print_section, ResponseHead, IsResponseHead, print_response}
+use Rattle.httparse.specs.Grammar.{is_token_byte, is_value_byte, is_ows, skip_ows, trim_ows, AllPass, IsToken, Field, IsField, crlf, print_field, ResponseHead, IsResponseHead, print_response}
 use Rattle.httparse.specs.Spans.{name_and_value}
+use Rattle.httparse.proofs.GrammarLemmas.{print_response-append}
 use Rattle.httparse.proofs.TrimLemmas.{AllPass-reverse, trim_ows_space}
 use Rattle.http_frames.specs.declared.answer.Allow.{Allow}
 use Rattle.http_frames.specs.declared.answer.Allow.TheVariants.{Get, GetPost, GetDelete}
 use Rattle.http_frames.specs.declared.answer.Answer.{Answer}
-use Rattle.http_frames.specs.declared.status.Status.{Status}
 use Rattle.http_frames.specs.declared.status.Status.TheVariants.{Okay}
-use Rattle.http_frames.specs.Answers.{code_of, phrase_of, status_line, line_end, field_line, line_if_some, media_type, methods_of, body_of, head_text, IsDateText}
+use Rattle.http_frames.specs.Answers.{status_line, line_end, field_line, line_if_some, media_type, methods_of, body_of, head_text, IsDateText}
 use Rattle.http_frames.specs.Fields.{values_among}
 use Rattle.taxii_agreement.proofs.BytesLemmas.{passes, AreFrom, from_both, from_less, are_values, are_digits}
-use Rattle.stix_times.specs.Timestamp.{Timestamp, IsShaped, Spells, text_of, fraction_text}
+use Rattle.stix_times.specs.Timestamp.{Timestamp, IsShaped, two_digits, text_of, fraction_text}
 
 -- ---- digits
 
@@ -54,7 +54,7 @@ trimmed_digits bytes are =
 -- ---- dates
 
 two_shown : (n : ℕ) (rest : List ℕ) → n < 100 → AreFrom 32 rest → AreFrom 32 ((48 + n / 10) ∷ (48 + n % 10) ∷ rest)
-two_shown n rest few are = (omega arith, omega (arith, few), omega arith, omega arith, are)
+two_shown n rest few are = (omega arith, omega (arith, few), (omega arith, omega arith, are))
 
 fraction_shown : (digits : List ℕ) → All IsAsciiDigit digits → AreFrom 32 digits
 fraction_shown [] are = tt
@@ -66,17 +66,32 @@ dotted_shown : (digits : List ℕ) → All IsAsciiDigit digits → AreFrom 32 (f
 dotted_shown [] are = tt
 dotted_shown (d ∷ digits) are = (omega arith, omega arith, fraction_shown (d ∷ digits) are)
 
+one_shown : (b : ℕ) (rest : List ℕ) → 32 ≤ b → b < 127 → AreFrom 32 rest → AreFrom 32 (b ∷ rest)
+one_shown b rest low high are = (low, high, are)
+
 time_shown : (t : Timestamp) → IsShaped t → AreFrom 32 (text_of t)
 unfolding text_of
 time_shown t is =
-    two_shown (t.year / 100) _ (omega (arith, is.year))
-    (two_shown (t.year % 100) _ (omega arith)
-    (omega arith, omega arith, two_shown t.month _ (omega (arith, is.month.1))
-    (omega arith, omega arith, two_shown t.day _ (omega (arith, is.day.1))
-    (omega arith, omega arith, two_shown t.hour _ (omega (arith, is.hour))
-    (omega arith, omega arith, two_shown t.minute _ (omega (arith, is.minute))
-    (omega arith, omega arith, two_shown t.second _ (omega (arith, is.second))
-    (from_both 32 (fraction_text t.fraction) (90 ∷ []) (dotted_shown t.fraction is.fraction) (omega arith, omega arith, tt))))))))
+    let end = fraction_text t.fraction ++ (90 ∷ []) in
+    let second = two_digits t.second ++ end in
+    let minute = two_digits t.minute ++ (58 ∷ second) in
+    let hour = two_digits t.hour ++ (58 ∷ minute) in
+    let day = two_digits t.day ++ (84 ∷ hour) in
+    let month = two_digits t.month ++ (45 ∷ day) in
+    let year = two_digits (t.year % 100) ++ (45 ∷ month) in
+    two_shown (t.year / 100) year (omega (arith, is.year))
+    (two_shown (t.year % 100) (45 ∷ month) (omega arith)
+    (one_shown 45 month (omega arith) (omega arith)
+    (two_shown t.month (45 ∷ day) (omega (arith, is.month.1))
+    (one_shown 45 day (omega arith) (omega arith)
+    (two_shown t.day (84 ∷ hour) (omega (arith, is.day.1))
+    (one_shown 84 hour (omega arith) (omega arith)
+    (two_shown t.hour (58 ∷ minute) (omega (arith, is.hour))
+    (one_shown 58 minute (omega arith) (omega arith)
+    (two_shown t.minute (58 ∷ second) (omega (arith, is.minute))
+    (one_shown 58 second (omega arith) (omega arith)
+    (two_shown t.second end (omega (arith, is.second))
+    (from_both 32 (fraction_text t.fraction) (90 ∷ []) (dotted_shown t.fraction is.fraction) (omega arith, omega arith, tt)))))))))))))
 
 -- a value that is told has bytes that a field may have
 abbrev IsValue : Option (List ℕ) → Type 0
@@ -106,10 +121,15 @@ all_told : (name : List ℕ) (value : Option (List ℕ)) (fields : List Field) �
 all_told name None fields token is all = all
 all_told name (Some value) fields token is all = All-cons IsField (field name value) fields (is_field name value token is) all
 
+pub printed_field : (name value : List ℕ) → print_field (field name value) ≡ field_line name value
+printed_field name value =
+    append_assoc name (58 ∷ 32 ∷ value) (codes "\r\n")
+    ∙ sym (append_assoc (name ++ codes ": ") value (codes "\r\n") ∙ append_assoc name (codes ": ") (value ++ codes "\r\n"))
+
 printed_told : (name : List ℕ) (value : Option (List ℕ)) (fields : List Field)
     → flat_map print_field (if_told name value fields) ≡ line_if_some name value ++ flat_map print_field fields
 printed_told name None fields = refl
-printed_told name (Some value) fields = refl
+printed_told name (Some value) fields = ap (λ (line : List ℕ). line ++ flat_map print_field fields) (printed_field name value)
 
 values_told : (other name : List ℕ) (value : Option (List ℕ)) (fields : List Field) → str_eq_ignore_ascii_case name other ≡ false
     → values_among other (map name_and_value (if_told name value fields)) ≡ values_among other (map name_and_value fields)
@@ -179,7 +199,7 @@ tree_valid answer first last close first_is last_is few =
     }
 
 close_printed : (close : Bool) → flat_map print_field (close_fields close) ≡ (if close then field_line (codes "Connection") (codes "close") else [])
-close_printed true = refl
+close_printed true = append-nil (print_field (field (codes "Connection") (codes "close"))) ∙ printed_field (codes "Connection") (codes "close")
 close_printed false = refl
 
 fields_printed : (answer : Answer) (first last : Option (List ℕ)) (close : Bool) → flat_map print_field (fields_of answer first last close)
@@ -194,7 +214,9 @@ fields_printed answer first last close =
     let allow = option_map methods_of answer.allow in
     let size = field (codes "Content-Length") (decimal (length (body_of answer.body))) in
     let rest : flat_map print_field (size ∷ close_fields close) ≡ field_line (codes "Content-Length") (decimal (length (body_of answer.body)))
-    ++ (if close then field_line (codes "Connection") (codes "close") else []) = ap (λ (more : List ℕ). print_field size ++ more) (close_printed close) in
+    ++ (if close then field_line (codes "Connection") (codes "close") else []) =
+    ap (λ (line : List ℕ). line ++ flat_map print_field (close_fields close)) (printed_field (codes "Content-Length") (decimal (length (body_of answer.body))))
+    ∙ ap (λ (more : List ℕ). field_line (codes "Content-Length") (decimal (length (body_of answer.body))) ++ more) (close_printed close) in
     printed_told (codes "Content-Type") media _
     ∙ ap (λ (more : List ℕ). line_if_some (codes "Content-Type") media ++ more)
     (printed_told (codes "Allow") allow _
@@ -204,6 +226,10 @@ fields_printed answer first last close =
     (printed_told (codes "X-TAXII-Date-Added-Last") last _
     ∙ ap (λ (more : List ℕ). line_if_some (codes "X-TAXII-Date-Added-Last") last ++ more) rest)))
 
+-- one after the other from the left, and from the right
+from_right : (s a b c d e f g : List ℕ) → s ++ a ++ b ++ c ++ d ++ e ++ f ++ g ≡ s ++ (a ++ (b ++ (c ++ (d ++ (e ++ (f ++ g))))))
+from_right s a b c d e f g = simp append_assoc
+
 regrouped : (a b c d e f g : List ℕ) → (a ++ (b ++ (c ++ (d ++ (e ++ f))))) ++ g ≡ a ++ (b ++ (c ++ (d ++ (e ++ (f ++ g)))))
 regrouped a b c d e f g = simp append_assoc
 
@@ -211,20 +237,30 @@ first_line : decimal 200 ≡ codes "200"
 unfolding digits
 first_line = refl
 
+okay_line : status_line Okay ≡ codes "HTTP/1.1 200 OK\r\n"
+okay_line = ap (λ (code : List ℕ). codes "HTTP/1.1 " ++ code ++ codes " " ++ codes "OK" ++ line_end) first_line
+
+printed_head : (answer : Answer) (first last : Option (List ℕ)) (close : Bool)
+    → print_response (tree_of answer first last close) ≡ codes "HTTP/1.1 200 OK\r\n" ++ (flat_map print_field (fields_of answer first last close) ++ line_end)
+printed_head answer first last close =
+    sym (append-nil (print_response (tree_of answer first last close))) ∙ print_response-append (tree_of answer first last close) []
+    ∙ ap (λ (text : List ℕ). codes "HTTP/1.1 200 OK\r\n" ++ text) (append-nil (flat_map print_field (fields_of answer first last close) ++ line_end))
+
 pub tree_printed : (answer : Answer) (first last : Option (List ℕ)) (close : Bool) → answer.status ≡ Okay
     → head_text answer first last close ≡ print_response (tree_of answer first last close)
-unfolding head_text print_response
+unfolding head_text
 tree_printed answer first last close okay =
-    let rest = line_if_some (codes "Content-Type") (option_map (λ body. media_type) answer.body)
-    ++ (line_if_some (codes "Allow") (option_map methods_of answer.allow)
-    ++ (line_if_some (codes "X-TAXII-Date-Added-First") first
-    ++ (line_if_some (codes "X-TAXII-Date-Added-Last") last
-    ++ (field_line (codes "Content-Length") (decimal (length (body_of answer.body)))
-    ++ ((if close then field_line (codes "Connection") (codes "close") else []) ++ line_end))))) in
-    ap (λ (status : Status). status_line status ++ rest) okay
-    ∙ ap (λ (code : List ℕ). (codes "HTTP/1.1 " ++ (code ++ (codes " " ++ (codes "OK" ++ line_end)))) ++ rest) first_line
+    let media = line_if_some (codes "Content-Type") (option_map (λ body. media_type) answer.body) in
+    let allow = line_if_some (codes "Allow") (option_map methods_of answer.allow) in
+    let begins = line_if_some (codes "X-TAXII-Date-Added-First") first in
+    let ends = line_if_some (codes "X-TAXII-Date-Added-Last") last in
+    let size = field_line (codes "Content-Length") (decimal (length (body_of answer.body))) in
+    let closes = if close then field_line (codes "Connection") (codes "close") else [] in
+    from_right (status_line answer.status) media allow begins ends size closes line_end
+    ∙ ap (λ (line : List ℕ). line ++ (media ++ (allow ++ (begins ++ (ends ++ (size ++ (closes ++ line_end))))))) (ap status_line okay ∙ okay_line)
     ∙ ap (λ (text : List ℕ). codes "HTTP/1.1 200 OK\r\n" ++ text)
-    (sym (ap (λ (text : List ℕ). text ++ line_end) (fields_printed answer first last close) ∙ regrouped _ _ _ _ _ _ line_end))
+    (sym (ap (λ (text : List ℕ). text ++ line_end) (fields_printed answer first last close) ∙ regrouped media allow begins ends size closes line_end))
+    ∙ sym (printed_head answer first last close)
 
 -- ---- the length that it states
 

@@ -1,8 +1,8 @@
 -- A round that answered what a client wrote is a fetch of what the client wants.
-use Rattle.std.proofs.Common.{◌≡◌, ◌≢◌, inl, inr, ℕ, ◌<◌, ◌^◌, Bool, true, false, List, [], ◌∷◌, ◌++◌, All, Option, Some, None, unwrap_or, refl, sym, ap, subst, ◌∙◌}
+use Rattle.std.proofs.Common.{◌≡◌, inl, ℕ, ◌<◌, ◌^◌, Bool, true, false, List, [], ◌∷◌, All, Option, Some, unwrap_or, refl, sym, ap, subst, ◌∙◌}
 use Rattle.std.specs.Prelude.{find, if◌then◌else◌}
 use Rattle.std.specs.Str.{str_to_ascii_lowercase}
-use Rattle.std.proofs.lemmas.Bool.Decides.{Decides-bytes_eq}
+use Rattle.std.proofs.lemmas.Slice.Eq.{bytes_eq-Decides}
 use Rattle.std.proofs.lemmas.List.Elements.{All-head, All-tail}
 use Rattle.http_frames.specs.declared.method.Method.{Method}
 use Rattle.http_frames.specs.declared.method.Method.TheVariants.{Get}
@@ -10,7 +10,6 @@ use Rattle.http_frames.specs.declared.status.Status.TheVariants.{Okay}
 use Rattle.stix_ids.specs.Uuid.{uuid_text, IsUuidOf}
 use Rattle.stix_ids.proofs.UuidLemmas.{uuid_of_text}
 use Rattle.taxii_routes.specs.declared.param.Param.TheVariants.{Next}
-use Rattle.taxii_routes.specs.declared.query.Query.{Query}
 use Rattle.taxii_routes.specs.declared.route.Route.{Route}
 use Rattle.taxii_routes.specs.declared.route.Route.TheVariants.{Objects}
 use Rattle.taxii_routes.specs.Param.{name_of}
@@ -22,16 +21,15 @@ use Rattle.taxii_bodies.specs.Collections.{has_name}
 use Rattle.taxii_requests.specs.declared.config.Config.{Config}
 use Rattle.taxii_resources.specs.Finding.{Names}
 use Rattle.taxii_resources.specs.Reading.{IsReading}
-use Rattle.taxii_step.specs.Step.{Does, IsDone, RouteStep, Step}
+use Rattle.taxii_step.specs.Step.{Does, IsDone}
 use Rattle.taxii_histories.specs.Exchanges.{Exchange, IsExchange}
-use Rattle.taxii_histories.specs.Visits.{Asks}
 use Rattle.taxii_runs.specs.Runs.{WasDone, Round}
 use Rattle.taxii_runs.specs.Following.{IsFetch}
 use Rattle.taxii_client.specs.Requests.{path_of}
 use Rattle.taxii_client.specs.declared.target.Target.{Target}
 use Rattle.taxii_agreement.specs.Asking.{IsServersOwn, IsTold, IsAnswered, wanted_of}
 use Rattle.taxii_agreement.proofs.QueryLemmas.{query_for, pairs_for, pairs_are, next_values, asks_alike}
-use Rattle.taxii_agreement.proofs.RequestLemmas.{target_text, IsGetOf, is_get, own_target, own_path}
+use Rattle.taxii_agreement.proofs.RequestLemmas.{IsGetOf, is_get, own_target, own_path}
 
 -- the laws of lower floors: a target has one path and one query, a path one route, a text is one number's UUID; what was answered
 -- with 200 was done
@@ -55,13 +53,15 @@ pub record IsFoundBy (text : List ℕ) (info : CollectionInfo) : Type 0 where
 
 found_by : (text : List ℕ) (infos : List CollectionInfo) (info : CollectionInfo) → AreNumbers infos → Names text infos info → IsFoundBy text info
 found_by text [] info fit names = absurd (cc)
-found_by text (first ∷ infos) info fit names = by_test (has_name text first) refl names
+found_by text (first ∷ infos) info fit names =
+    by_test (has_name text first) refl names (λ rest. found_by text infos info (All-tail (λ (i : CollectionInfo). i.id < 2 ^ 128) first infos fit) rest)
   where
-    by_test : (t : Bool) → has_name text first ≡ t → (if t then Some first else find (has_name text) infos) ≡ Some info → IsFoundBy text info
-    by_test true is names =
+    by_test : (t : Bool) → has_name text first ≡ t → (if t then Some first else find (has_name text) infos) ≡ Some info
+        → (find (has_name text) infos ≡ Some info → IsFoundBy text info) → IsFoundBy text info
+    by_test true is names later =
         let same : first ≡ info = cc in
         subst (λ (its : CollectionInfo). IsFoundBy text its) same (record { named = is; fits = All-head (λ (i : CollectionInfo). i.id < 2 ^ 128) first infos fit })
-    by_test false is names = found_by text infos info (All-tail (λ (i : CollectionInfo). i.id < 2 ^ 128) first infos fit) names
+    by_test false is names later = later names
 
 -- a UUID names the collection of its number
 names_number : Laws → (number : ℕ) (infos : List CollectionInfo) (info : CollectionInfo) → number < 2 ^ 128 → AreNumbers infos → Names (uuid_text number) infos info
@@ -70,7 +70,7 @@ names_number laws number infos info small fit names =
     let found = found_by (uuid_text number) infos info fit names in
     let own = uuid_of_text number small in
     let its = uuid_of_text info.id found.fits in
-    let same : str_to_ascii_lowercase (uuid_text number) ≡ str_to_ascii_lowercase (uuid_text info.id) = (Decides-bytes_eq (str_to_ascii_lowercase (uuid_text number)) (str_to_ascii_lowercase (uuid_text info.id))).0 found.named in
+    let same : str_to_ascii_lowercase (uuid_text number) ≡ str_to_ascii_lowercase (uuid_text info.id) = (bytes_eq-Decides (str_to_ascii_lowercase (uuid_text number)) (str_to_ascii_lowercase (uuid_text info.id))).0 found.named in
     laws.uuid (uuid_text number) number info.id own (record { fits = found.fits; spelling = same ∙ its.spelling })
 
 -- ---- the fetch

@@ -1,6 +1,6 @@
 -- Pages that a server's answers are, and the walk that their rounds make.
-use Rattle.std.proofs.Common.{◌≡◌, ℕ, ◌+◌, ◌<◌, ◌≤◌, ◌^◌, Bool, true, false, List, [], ◌∷◌, ◌++◌, All, length, map, codes, Option, Some, None, option_map, Ok, inl, inr, refl, sym, ap, subst, ◌∙◌, append_assoc, append-nil, arith}
-use Rattle.std.specs.Prelude.{⊤, ⊥, is_some, flat_map, fold}
+use Rattle.std.proofs.Common.{◌≡◌, ℕ, ◌+◌, ◌<◌, ◌≤◌, ◌^◌, Bool, List, [], ◌∷◌, ◌++◌, All, length, map, codes, Option, Some, None, option_map, inl, inr, refl, sym, ap, subst, ◌∙◌, append_assoc, append-nil, arith}
+use Rattle.std.specs.Prelude.{is_some, fold}
 use Rattle.std.proofs.lemmas.List.Concat.{flat_map-append}
 use Rattle.std.proofs.lemmas.List.Elements.{All-head, All-tail, All-cons, All-nil, All-append, All-map}
 use Rattle.stix_ids.specs.declared.id.Id.{Id}
@@ -24,16 +24,16 @@ use Rattle.taxii_resources.specs.Reading.{IsPageOf, IsEnvelope}
 use Rattle.taxii_histories.specs.Exchanges.{Exchange, IsExchange}
 use Rattle.taxii_histories.specs.Visits.{Asks as AsksOf, answer_at}
 use Rattle.taxii_runs.specs.Runs.{Run, GoOn, Round, rounds_of}
-use Rattle.taxii_runs.specs.Following.{Among, TellsNext, TellsNoMore, IsFetch, FetchFrom}
+use Rattle.taxii_runs.specs.Following.{Among, TellsNext, TellsNoMore, IsFetch, FetchFrom, HasFollowed, HearsEachRow}
 use Rattle.taxii_client.specs.Outside.{LinkView}
-use Rattle.taxii_client.specs.Pulls.{Asks, turn_of, turn_after, Page, IsPageAt, InTurn}
+use Rattle.taxii_client.specs.Pulls.{Asks, turn_of, turn_after, Page, IsPageAt, InTurn, IsPull}
 use Rattle.taxii_client.specs.Telling.{told_of, told_of_pages, bad_in, bad_in_pages}
 use Rattle.taxii_client.specs.declared.target.Target.{Target}
 use Rattle.taxii_client.specs.declared.turn.Turn.{Turn}
 use Rattle.taxii_client.specs.declared.turn.Turn.TheVariants.{First, Behind, Over}
 use Rattle.taxii_agreement.specs.Reading.{lines_of, IsReadAs}
 use Rattle.taxii_agreement.specs.Asking.{IsServersOwn, IsTold, IsAnswered, wanted_of}
-use Rattle.taxii_agreement.specs.Pulling.{IsServed, ServeFrom}
+use Rattle.taxii_agreement.specs.Pulling.{IsServed, ServeFrom, AreServed, WritesEachRow}
 use Rattle.taxii_agreement.proofs.BytesLemmas.{AreFrom, next_seen}
 
 -- the laws: what a client writes is a fetch, a server's answers are read by the client, and a GET is answered by a page of sound rows
@@ -252,3 +252,26 @@ module _ (L : Type 0) (view : L → LinkView) (target : Target) (laws : Laws) wh
 
   pub all_good : (pages : List (Page L)) (stop : Stop) (stops : List Stop) → AllRead pages stop stops → bad_in_pages pages ≡ 0
   all_good pages stop stops read = bad_from 0 pages stop stops read
+
+  -- ---- the whole
+
+  pub whole_pull : (pages : List (Page L)) (all rounds : List Round) → ((first : Round) (others : List Round) → HasFollowed wanted all first others → HearsEachRow wanted (first ∷ others))
+      → All Goes all → IsPull view target pages Over → AreServed view target pages all rounds → WritesEachRow wanted pages rounds
+  whole_pull [] all rounds hear go pull served = absurd (cc)
+  whole_pull (page ∷ pages) all [] hear go pull served = absurd served.serve
+  whole_pull (page ∷ pages) all (first ∷ others) hear go pull served =
+      let goes = among_all Goes (first ∷ others) all served.among go in
+      let fetched : FetchFrom wanted None first others = subst (λ (next : Option (List ℕ)). FetchFrom wanted next first others) served.serve.1
+      (fetches First page pages first others served.own pull served.serve (subst IsTold (sym served.serve.1) tt) goes served.sound) in
+      let hears = hear first others (record { among = served.among; start = refl; fetches = fetched }) in
+      let read = all_read None First (page ∷ pages) (first ∷ others) hears.first hears.others hears.walk.goes hears.answers hears.states served.sound pull served.serve in
+      record {
+        first = hears.first;
+        others = hears.others;
+        states = hears.states;
+        lines = all_lines (page ∷ pages) hears.first hears.others read;
+        none_bad = all_good (page ∷ pages) hears.first hears.others read;
+        once = hears.once;
+        asked = hears.asked;
+        whole = hears.whole;
+      }

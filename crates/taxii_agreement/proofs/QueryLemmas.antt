@@ -1,15 +1,16 @@
 -- The query that a client writes: its pairs, and what they ask for.
-use Rattle.std.proofs.Common.{◌≡◌, ℕ, zero, suc, ◌+◌, ◌*◌, ◌/◌, ◌%◌, ◌<◌, ◌≤◌, ◌^◌, ◌==◌, ◌⊎◌, Bool, cond, List, [], ◌∷◌, ◌++◌, All, length, map, codes, decimal, get_or, Option, Some, None, inl, inr, refl, sym, ap, subst, ◌∙◌, append_assoc, append-nil, arith}
-use Rattle.std.specs.Prelude.{⊤, IsUtf8, IsSomeAnd, IfSome, unwrap_or}
-use Rattle.std.specs.List.{AllZip, Contains, slice_split}
+use Rattle.std.proofs.Common.{◌≡◌, ℕ, ◌+◌, ◌/◌, ◌<◌, ◌≤◌, ◌^◌, ◌==◌, ◌⊎◌, Bool, cond, List, [], ◌∷◌, ◌++◌, All, length, map, codes, decimal, get_or, Option, Some, None, inl, inr, refl, sym, ap, subst, ◌∙◌, append_assoc, append-nil, length-append, arith}
+use Rattle.std.specs.Prelude.{⊤, IsSomeAnd, IfSome, unwrap_or}
+use Rattle.std.specs.List.{AllZip, Contains}
 use Rattle.std.specs.Str.Lossy.{utf8_lossy}
 use Rattle.std.specs.Str.Parse.{AllDigits}
+use Rattle.std.proofs.lemmas.Bool.{cond-true, lt-ltb}
 use Rattle.std.proofs.lemmas.Bool.Decides.{nat_tests}
 use Rattle.std.proofs.lemmas.Fmt.{decimal_is_IsNumeral}
 use Rattle.std.proofs.lemmas.List.Elements.{All-nil, All-cons, All-head, All-tail, All-weaker}
 use Rattle.std.proofs.lemmas.Str.{utf8_lossy-IsUtf8}
 use Rattle.std.proofs.lemmas.Str.Parse.{digit_from_value}
-use Rattle.form_urlencoded.specs.Form.{raw_pairs, decode, parse, is_unchanged, IsUnchanged, byte_serialize, serialize_pair, extend_pairs}
+use Rattle.form_urlencoded.specs.Form.{raw_pairs, decode, parse, IsUnchanged, byte_serialize, serialize_pair, separator, append_pair, extend_pairs}
 use Rattle.form_urlencoded.proofs.FormLemmas.{byte_serialize-nil, byte_serialize-cons, IsSerializedByte, All-byte_serialize, IsBytePair, round_trip}
 use Rattle.form_urlencoded.proofs.OnLiterals.{form_urlencoded_on_literals}
 use Rattle.percent_encoding.specs.Percent.{percent_encode_byte}
@@ -17,19 +18,17 @@ use Rattle.percent_encoding.proofs.PercentLemmas.{IsByte}
 use Rattle.stix_ids.specs.declared.pick.Pick.{Pick}
 use Rattle.stix_ids.specs.declared.pick.Pick.TheVariants as pick
 use Rattle.stix_times.specs.Timestamp.{Timestamp, text_of}
-use Rattle.taxii_routes.specs.declared.param.Param.{Param}
 use Rattle.taxii_routes.specs.declared.param.Param.TheVariants.{AddedAfter, Limit, Next, MatchId, MatchType, MatchVersion, MatchSpec}
 use Rattle.taxii_routes.specs.declared.query.Query.{Query}
 use Rattle.taxii_routes.specs.Param.{name_of}
 use Rattle.taxii_routes.specs.Query.{Pair, pairs_of, values_of, IsQueryOf}
 use Rattle.taxii_routes.specs.Query as query
 use Rattle.taxii_routes.specs.Value.{IsLimit, IsPickText, members}
-use Rattle.taxii_walks.specs.Meeting.{picks_of}
 use Rattle.taxii_walks.specs.Walk.{AsksAlike}
-use Rattle.taxii_client.specs.Requests.{next_pair, query_of}
+use Rattle.taxii_client.specs.Requests.{next_pair}
 use Rattle.taxii_runs.specs.Following.{sent}
 use Rattle.taxii_agreement.specs.Asking.{IsTold, any_query}
-use Rattle.taxii_agreement.proofs.BytesLemmas.{AreFrom, from_all, all_low, are_text, are_digits}
+use Rattle.taxii_agreement.proofs.BytesLemmas.{AreFrom, seen, from_all, from_both, all_low, are_text, are_digits}
 
 -- ---- the pairs
 
@@ -56,20 +55,50 @@ digits_kept (b ∷ bytes) (digit, are) =
     (unchanged_digit b range.0 range.1)
     ∙ ap (λ (rest : List ℕ). b ∷ rest) (digits_kept bytes are)
 
-serialized : (limit : ℕ) (next : Option (List ℕ)) → limit < 2 ^ 64 → query_for limit next ≡ extend_pairs [] (pairs_for limit next)
+-- behind what is there already stands an `&`
+joined : (form : List ℕ) → 0 < length form → separator form ≡ 38 ∷ []
+joined form some = cond-true _ _ _ (lt-ltb 0 _ some)
+
+one_more : (form name value pair : List ℕ) → 0 < length form → serialize_pair (name, value) ≡ pair → append_pair form name value ≡ form ++ (38 ∷ pair)
+one_more form name value pair some is =
+    ap (λ (sep : List ℕ). form ++ sep ++ serialize_pair (name, value)) (joined form some)
+    ∙ append_assoc form (38 ∷ []) (serialize_pair (name, value))
+    ∙ ap (λ (its : List ℕ). form ++ (38 ∷ its)) is
+
+version_pair : serialize_pair (codes "match[version]", codes "all") ≡ codes "match%5Bversion%5D=all"
 unfolding form_urlencoded_on_literals
-serialized limit None few =
-    let kept = digits_kept (decimal limit) (decimal_is_IsNumeral limit few).0.1 in
-    ap (λ (text : List ℕ). codes "limit=" ++ (decimal limit ++ text)) (append-nil (codes "&match%5Bversion%5D=all"))
-    ∙ sym (ap (λ (text : List ℕ). (codes "limit=" ++ text) ++ codes "&match%5Bversion%5D=all") kept
-    ∙ append_assoc (codes "limit=") (decimal limit) (codes "&match%5Bversion%5D=all"))
+version_pair = refl
+
+next_pair_is : (next : List ℕ) → serialize_pair (codes "next", next) ≡ codes "next=" ++ byte_serialize next
+unfolding form_urlencoded_on_literals
+next_pair_is next = refl
+
+first_pair : (limit : ℕ) → extend_pairs [] ((codes "limit", decimal limit) ∷ []) ≡ codes "limit=" ++ byte_serialize (decimal limit)
+unfolding form_urlencoded_on_literals
+first_pair limit = refl
+
+abbrev front_for : ℕ → List ℕ
+front_for limit = codes "limit=" ++ decimal limit
+
+some_front : (limit : ℕ) → 0 < length (front_for limit)
+some_front limit = omega (arith, length-append (codes "limit=") (decimal limit))
+
+first_is : (limit : ℕ) → limit < 2 ^ 64 → extend_pairs [] ((codes "limit", decimal limit) ∷ []) ≡ front_for limit
+first_is limit few = first_pair limit ∙ ap (λ (text : List ℕ). codes "limit=" ++ text) (digits_kept (decimal limit) (decimal_is_IsNumeral limit few).0.1)
+
+both_are : (limit : ℕ) → limit < 2 ^ 64
+    → append_pair (extend_pairs [] ((codes "limit", decimal limit) ∷ [])) (codes "match[version]") (codes "all") ≡ front_for limit ++ codes "&match%5Bversion%5D=all"
+both_are limit few =
+    ap (λ (form : List ℕ). append_pair form (codes "match[version]") (codes "all")) (first_is limit few)
+    ∙ one_more (front_for limit) (codes "match[version]") (codes "all") (codes "match%5Bversion%5D=all") (some_front limit) version_pair
+
+serialized : (limit : ℕ) (next : Option (List ℕ)) → limit < 2 ^ 64 → query_for limit next ≡ extend_pairs [] (pairs_for limit next)
+serialized limit None few = append-nil (front_for limit ++ codes "&match%5Bversion%5D=all") ∙ sym (both_are limit few)
 serialized limit (Some next) few =
-    let kept = digits_kept (decimal limit) (decimal_is_IsNumeral limit few).0.1 in
-    let tail = codes "&next=" ++ byte_serialize next in
-    sym (ap (λ (text : List ℕ). ((codes "limit=" ++ text) ++ codes "&match%5Bversion%5D=all") ++ tail) kept
-    ∙ ap (λ (text : List ℕ). text ++ tail) (append_assoc (codes "limit=") (decimal limit) (codes "&match%5Bversion%5D=all"))
-    ∙ append_assoc (codes "limit=") (decimal limit ++ codes "&match%5Bversion%5D=all") tail
-    ∙ ap (λ (text : List ℕ). codes "limit=" ++ text) (append_assoc (decimal limit) (codes "&match%5Bversion%5D=all") tail))
+    let front = front_for limit ++ codes "&match%5Bversion%5D=all" in
+    sym (ap (λ (form : List ℕ). append_pair form (codes "next") next) (both_are limit few)
+    ∙ one_more front (codes "next") next (codes "next=" ++ byte_serialize next)
+    (omega (arith, length-append (front_for limit) (codes "&match%5Bversion%5D=all"))) (next_pair_is next))
 
 -- ---- they are read back
 
@@ -77,20 +106,16 @@ are_ascii : (least : ℕ) (bytes : List ℕ) → AreFrom least bytes → All IsB
 are_ascii least bytes are = All-weaker (λ b. b < 128) IsByte (λ b low. omega (arith, low)) bytes (all_low least bytes are)
 
 limit_name : AreFrom 33 (codes "limit")
-limit_name = (omega arith, omega arith, omega arith, omega arith, omega arith, omega arith, omega arith, omega arith, omega arith, omega arith, tt)
+limit_name = seen 33 (codes "limit") refl
 
 all_value : AreFrom 33 (codes "all")
-all_value = (omega arith, omega arith, omega arith, omega arith, omega arith, omega arith, tt)
+all_value = seen 33 (codes "all") refl
 
 next_name : AreFrom 33 (codes "next")
-next_name = (omega arith, omega arith, omega arith, omega arith, omega arith, omega arith, omega arith, omega arith, tt)
+next_name = seen 33 (codes "next") refl
 
 version_name : AreFrom 33 (codes "match[version]")
-version_name = (
-  omega arith, omega arith, omega arith, omega arith, omega arith, omega arith, omega arith, omega arith, omega arith, omega arith,
-  omega arith, omega arith, omega arith, omega arith, omega arith, omega arith, omega arith, omega arith, omega arith, omega arith,
-  omega arith, omega arith, omega arith, omega arith, omega arith, omega arith, omega arith, omega arith, tt,
-)
+version_name = seen 33 (codes "match[version]") refl
 
 -- both texts of a pair are visible
 abbrev IsSeen : Pair → Type 0
@@ -101,31 +126,45 @@ AreSeen [] = ⊤
 AreSeen (pair ∷ pairs) = IsSeen pair × AreSeen pairs
 
 pairs_seen : (limit : ℕ) (next : Option (List ℕ)) → limit < 2 ^ 64 → IsTold next → AreSeen (pairs_for limit next)
-pairs_seen limit None few told = ((limit_name, are_digits (decimal limit) (decimal_is_IsNumeral limit few).0.1), (version_name, all_value), tt)
+pairs_seen limit None few told = ((limit_name, are_digits (decimal limit) (decimal_is_IsNumeral limit few).0.1), ((version_name, all_value), tt))
 pairs_seen limit (Some next) few told =
-    ((limit_name, are_digits (decimal limit) (decimal_is_IsNumeral limit few).0.1), (version_name, all_value), (next_name, from_all next told), tt)
+    ((limit_name, are_digits (decimal limit) (decimal_is_IsNumeral limit few).0.1), ((version_name, all_value), ((next_name, from_all next told), tt)))
 
 all_bytes : (pairs : List Pair) → AreSeen pairs → All IsBytePair pairs
 all_bytes [] are = All-nil IsBytePair
 all_bytes (pair ∷ pairs) ((name, value), are) = All-cons IsBytePair pair pairs (are_ascii 33 pair.0 name, are_ascii 33 pair.1 value) (all_bytes pairs are)
 
-lossy_same : (pairs : List Pair) → AreSeen pairs → map (λ pair. (utf8_lossy pair.0, utf8_lossy pair.1)) pairs ≡ pairs
+abbrev lossy_pair : Pair → Pair
+lossy_pair pair = (utf8_lossy pair.0, utf8_lossy pair.1)
+
+abbrev decoded_pair : Pair → Pair
+decoded_pair pair = (decode pair.0, decode pair.1)
+
+abbrev text_pair : Pair → Pair
+text_pair pair = (query.text_of pair.0, query.text_of pair.1)
+
+abbrev paired : List ℕ → List ℕ → Pair
+paired a b = (a, b)
+
+same_pair : (a b c d : List ℕ) → a ≡ b → c ≡ d → paired a c ≡ paired b d
+same_pair a b c d first second = ap (λ (x : List ℕ). paired x c) first ∙ ap (λ (x : List ℕ). paired b x) second
+
+lossy_same : (pairs : List Pair) → AreSeen pairs → map lossy_pair pairs ≡ pairs
 lossy_same [] are = refl
 lossy_same (pair ∷ pairs) ((name, value), are) =
-    ap (λ (text : List ℕ). (text, utf8_lossy pair.1) ∷ map (λ pair. (utf8_lossy pair.0, utf8_lossy pair.1)) pairs) (utf8_lossy-IsUtf8 pair.0 (are_text 33 pair.0 name))
-    ∙ ap (λ (text : List ℕ). (pair.0, text) ∷ map (λ pair. (utf8_lossy pair.0, utf8_lossy pair.1)) pairs) (utf8_lossy-IsUtf8 pair.1 (are_text 33 pair.1 value))
+    ap (λ (its : Pair). its ∷ map lossy_pair pairs)
+    (same_pair (utf8_lossy pair.0) pair.0 (utf8_lossy pair.1) pair.1 (utf8_lossy-IsUtf8 pair.0 (are_text 33 pair.0 name)) (utf8_lossy-IsUtf8 pair.1 (are_text 33 pair.1 value)))
     ∙ ap (λ (rest : List Pair). pair ∷ rest) (lossy_same pairs are)
 
-texts_of : (raw : List Pair) → map (λ pair. (query.text_of pair.0, query.text_of pair.1)) raw
-    ≡ map (λ pair. (utf8_lossy pair.0, utf8_lossy pair.1)) (map (λ pair. (decode pair.0, decode pair.1)) raw)
+texts_of : (raw : List Pair) → map text_pair raw ≡ map lossy_pair (map decoded_pair raw)
 texts_of [] = refl
-texts_of (pair ∷ raw) = ap (λ (rest : List Pair). (query.text_of pair.0, query.text_of pair.1) ∷ rest) (texts_of raw)
+texts_of (pair ∷ raw) = ap (λ (rest : List Pair). text_pair pair ∷ rest) (texts_of raw)
 
 pub pairs_are : (limit : ℕ) (next : Option (List ℕ)) → limit < 2 ^ 64 → IsTold next → pairs_of (query_for limit next) ≡ pairs_for limit next
 pairs_are limit next few told =
     let seen = pairs_seen limit next few told in
     texts_of (raw_pairs (query_for limit next))
-    ∙ ap (map (λ pair. (utf8_lossy pair.0, utf8_lossy pair.1)))
+    ∙ ap (map lossy_pair)
     (ap parse (serialized limit next few) ∙ round_trip (pairs_for limit next) (all_bytes (pairs_for limit next) seen))
     ∙ lossy_same (pairs_for limit next) seen
 
@@ -196,6 +235,4 @@ serialized_seen (b ∷ bytes) are =
 
 pub next_pair_seen : (next : Option (List ℕ)) → AreFrom 33 (next_pair next)
 next_pair_seen None = tt
-next_pair_seen (Some next) =
-    (omega arith, omega arith, omega arith, omega arith, omega arith, omega arith, omega arith, omega arith, omega arith, omega arith, omega arith, omega arith,
-      serialized_seen (byte_serialize next) (All-byte_serialize next))
+next_pair_seen (Some next) = from_both 33 (codes "&next=") (byte_serialize next) (seen 33 (codes "&next=") refl) (serialized_seen (byte_serialize next) (All-byte_serialize next))

@@ -1,7 +1,6 @@
 -- Bytes that begin with an answer of 200 and with a reply: the reply's body is the answer's.
-use Rattle.std.proofs.Common.{◌≡◌, ℕ, ◌+◌, ◌<◌, ◌^◌, Bool, true, false, ◌&&◌, ◌||◌, ◌==◌, not, List, [], ◌∷◌, ◌++◌, length, take, codes, decimal, map, Option, Some, None, refl, sym, ap, subst, ◌∙◌, append_assoc, append-nil, length-append, arith}
+use Rattle.std.proofs.Common.{◌≡◌, ℕ, ◌<◌, ◌^◌, Bool, true, false, ◌&&◌, ◌==◌, not, List, [], ◌∷◌, ◌++◌, length, take, codes, decimal, map, Some, None, refl, sym, ap, subst, ◌∙◌, append_assoc, append-nil, length-append, arith}
 use Rattle.std.specs.Prelude.{if◌then◌else◌, nat_lt}
-use Rattle.std.specs.List.{list_all}
 use Rattle.std.specs.Str.Parse.{digits_value}
 use Rattle.std.proofs.lemmas.Fmt.{decimal_is_IsNumeral}
 use Rattle.std.proofs.lemmas.List.{take_at}
@@ -11,11 +10,11 @@ use Rattle.httparse.proofs.GrammarLemmas.{response_unique}
 use Rattle.http_frames.specs.declared.answer.Answer.{Answer}
 use Rattle.http_frames.specs.declared.status.Status.TheVariants.{Okay}
 use Rattle.http_frames.specs.Answers.{body_of, head_text, IsAnswerText}
-use Rattle.http_frames.specs.Fields.{values_among, first_length, length_of, is_length, states}
+use Rattle.http_frames.specs.Fields.{values_among, first_length, length_of, is_length}
 use Rattle.http_replies.specs.declared.refusal.HeadRefusal.{HeadRefusal}
 use Rattle.http_replies.specs.declared.refusal.HeadRefusal.TheVariants.{Status, Coding, NoLength, TooLarge}
 use Rattle.http_replies.specs.declared.refusal.TheConstants.{MAX_REPLY}
-use Rattle.http_replies.specs.Heads.{HeadParts, parts_of, codings, lengths, body_length, state_no_length, refusal_of}
+use Rattle.http_replies.specs.Heads.{HeadParts, codings, lengths, body_length, state_no_length, refusal_of}
 use Rattle.http_replies.specs.Replies.{IsReply}
 use Rattle.taxii_agreement.proofs.HeadLemmas.{tree_of, tree_valid, tree_printed, stated}
 

@@ -1,31 +1,30 @@
 -- The request that a client writes, by the grammar of requests: a GET of a collection's objects.
-use Rattle.std.proofs.Common.{◌≡◌, ◌≢◌, ℕ, zero, suc, ◌+◌, ◌-◌, ◌/◌, ◌%◌, ◌<◌, ◌≤◌, ◌^◌, Bool, true, false, List, [], ◌∷◌, ◌++◌, All, length, take, drop, codes, decimal, Option, Some, None, refl, sym, ap, subst, ◌∙◌, append_assoc, append-nil, take-append-drop, length-append, arith}
-use Rattle.std.specs.Prelude.{⊤, slice_index, slice_range, if◌then◌else◌, not, ◌&&◌, ◌==◌, nat_lt, nat_le}
-use Rattle.std.specs.List.{list_all}
+use Rattle.std.proofs.Common.{◌≡◌, ◌≢◌, ℕ, zero, suc, ◌+◌, ◌-◌, ◌/◌, ◌%◌, ◌<◌, ◌≤◌, ◌^◌, Bool, true, false, List, [], ◌∷◌, ◌++◌, All, length, take, drop, codes, decimal, Option, Some, refl, sym, ap, subst, ◌∙◌, append_assoc, append-nil, take-append-drop, length-append, arith}
+use Rattle.std.specs.Prelude.{slice_index, slice_range, if◌then◌else◌, not, ◌&&◌, ◌==◌, nat_lt}
+use Rattle.std.specs.List.{list_all, flat_map}
 use Rattle.std.specs.Int.{to_be_bytes, w128}
-use Rattle.std.proofs.lemmas.Bool.{ltb-true, ltb-false, leb-true, eqb-false}
+use Rattle.std.proofs.lemmas.Bool.{ltb-true, ltb-false, eqb-false}
 use Rattle.std.proofs.lemmas.Fmt.{decimal_is_IsNumeral}
 use Rattle.std.proofs.lemmas.List.Elements.{All-nil, All-cons, All-head, All-tail, All-append, All-weaker}
-use Rattle.httparse.specs.Grammar.{is_token_byte, is_value_byte, Field, IsField, crlf, print_field, print_section, RequestHead, IsRequestHead, ReadsRequest, print_request}
-use Rattle.httparse.proofs.GrammarLemmas.{request_unique}
-use Rattle.uuid.specs.Text.{by_index, hex_digit, nibble, digit_place, is_hyphen_place, hyphenated_text, lower}
+use Rattle.httparse.specs.Grammar.{is_token_byte, is_value_byte, Field, IsField, crlf, print_field, RequestHead, IsRequestHead, ReadsRequest, print_request}
+use Rattle.httparse.proofs.GrammarLemmas.{request_unique, print_request-append}
+use Rattle.uuid.specs.Text.{by_index, hex_digit, nibble, digit_place, is_hyphen_place, lower}
 use Rattle.uuid.proofs.TextLemmas.{by_index_length}
 use Rattle.stix_ids.specs.Uuid.{uuid_text}
 use Rattle.http_frames.specs.Answers.{line_end, field_line}
 use Rattle.http_frames.specs.Fields.{HeadParts, parts_of, method_of}
 use Rattle.http_frames.specs.Frames.{GivesRequest}
 use Rattle.http_frames.specs.Heads.{is_line_byte}
-use Rattle.http_frames.specs.declared.method.Method.{Method}
 use Rattle.http_frames.specs.declared.method.Method.TheVariants.{Get}
 use Rattle.http_frames.specs.declared.request.Request.{Request}
-use Rattle.taxii_routes.specs.Route.{IsSegment, IsPathOf, collection_path}
+use Rattle.taxii_routes.specs.Route.{IsPathOf}
 use Rattle.taxii_routes.specs.Target.{IsTargetOf}
 use Rattle.taxii_routes.specs.declared.route.Route.TheVariants.{Objects}
-use Rattle.taxii_client.specs.Requests.{next_pair, path_of, query_of, request_line, host_of, request_of}
+use Rattle.taxii_client.specs.Requests.{next_pair, path_of, query_of, host_of, request_of}
 use Rattle.taxii_client.specs.declared.target.Target.{Target}
 use Rattle.taxii_agreement.specs.Asking.{IsServersOwn}
-use Rattle.taxii_agreement.proofs.BytesLemmas.{passes, AreFrom, from_all, from_both, from_less, are_values, are_uri, are_text, are_digits}
-use Rattle.taxii_agreement.proofs.HeadLemmas.{field, is_field, token}
+use Rattle.taxii_agreement.proofs.BytesLemmas.{passes, AreFrom, seen, from_all, from_both, from_less, are_values, are_uri, are_text, are_digits}
+use Rattle.taxii_agreement.proofs.HeadLemmas.{field, is_field, printed_field, token}
 use Rattle.taxii_agreement.proofs.QueryLemmas.{query_for, next_pair_seen}
 
 -- ---- the text of a UUID
@@ -82,31 +81,29 @@ seen_uuid (b ∷ bytes) are = let first = All-head IsUuidByte b bytes are in (fi
 abbrev pub target_text : Target → Option (List ℕ) → List ℕ
 target_text target next = path_of target ++ query_of target.limit next
 
-seen : (least : ℕ) (bytes : List ℕ) → list_all (λ b. nat_le least b && nat_lt b 127) bytes ≡ true → AreFrom least bytes
-seen least [] all = tt
-seen least (b ∷ bytes) all =
-    let parts = both_true (nat_le least b) (nat_lt b 127) _ all in
-    (leb-true least b parts.0, ltb-true b 127 parts.1, seen least bytes parts.2)
-  where
-    both_true : (x y z : Bool) → (x && y) && z ≡ true → (x ≡ true) × (y ≡ true) × (z ≡ true)
-    both_true true true z is = (refl, refl, is)
-    both_true true false z is = absurd (cc)
-    both_true false y z is = absurd (cc)
+abbrev own_path_text : Target → List ℕ
+own_path_text target = codes "/api/" ++ codes "collections/" ++ uuid_text target.collection ++ codes "/objects/"
+
+path_is : (target : Target) → IsServersOwn target → path_of target ≡ own_path_text target
+path_is target own = ap (λ (root : List ℕ). root ++ codes "collections/" ++ uuid_text target.collection ++ codes "/objects/") own.root
 
 path_seen : (target : Target) → IsServersOwn target → AreFrom 33 (path_of target)
 path_seen target own =
-    subst (λ (root : List ℕ). AreFrom 33 (root ++ (codes "collections/" ++ (uuid_text target.collection ++ codes "/objects/")))) (sym own.root)
-    (from_both 33 (codes "/api/collections/") (uuid_text target.collection ++ codes "/objects/") (seen 33 (codes "/api/collections/") refl)
-    (from_both 33 (uuid_text target.collection) (codes "/objects/") (seen_uuid (uuid_text target.collection) (uuid_bytes target.collection)) (seen 33 (codes "/objects/") refl)))
+    subst (AreFrom 33) (sym (path_is target own))
+    (from_both 33 (codes "/api/collections/" ++ uuid_text target.collection) (codes "/objects/")
+    (from_both 33 (codes "/api/collections/") (uuid_text target.collection) (seen 33 (codes "/api/collections/") refl) (seen_uuid (uuid_text target.collection) (uuid_bytes target.collection)))
+    (seen 33 (codes "/objects/") refl))
 
 limit_seen : (limit : ℕ) → limit < 2 ^ 64 → AreFrom 33 (decimal limit)
 limit_seen limit few = are_digits (decimal limit) (decimal_is_IsNumeral limit few).0.1
 
 query_seen : (limit : ℕ) (next : Option (List ℕ)) → limit < 2 ^ 64 → AreFrom 33 (query_of limit next)
 query_seen limit next few =
-    from_both 33 (codes "?limit=") (decimal limit ++ (codes "&match%5Bversion%5D=all" ++ next_pair next)) (seen 33 (codes "?limit=") refl)
-    (from_both 33 (decimal limit) (codes "&match%5Bversion%5D=all" ++ next_pair next) (limit_seen limit few)
-    (from_both 33 (codes "&match%5Bversion%5D=all") (next_pair next) (seen 33 (codes "&match%5Bversion%5D=all") refl) (next_pair_seen next)))
+    from_both 33 (codes "?limit=" ++ decimal limit ++ codes "&match%5Bversion%5D=all") (next_pair next)
+    (from_both 33 (codes "?limit=" ++ decimal limit) (codes "&match%5Bversion%5D=all")
+    (from_both 33 (codes "?limit=") (decimal limit) (seen 33 (codes "?limit=") refl) (limit_seen limit few))
+    (seen 33 (codes "&match%5Bversion%5D=all") refl))
+    (next_pair_seen next)
 
 target_seen : (target : Target) (next : Option (List ℕ)) → IsServersOwn target → AreFrom 33 (target_text target next)
 target_seen target next own = from_both 33 (path_of target) (query_of target.limit next) (path_seen target own) (query_seen target.limit next own.limit)
@@ -115,8 +112,9 @@ target_seen target next own = from_both 33 (path_of target) (query_of target.lim
 
 host_seen : (target : Target) → IsServersOwn target → AreFrom 33 (host_of target)
 host_seen target own =
-    from_both 33 target.host (codes ":" ++ decimal target.port) (from_all target.host own.host)
-    (from_both 33 (codes ":") (decimal target.port) (seen 33 (codes ":") refl) (limit_seen target.port (omega (arith, own.port))))
+    from_both 33 (target.host ++ codes ":") (decimal target.port)
+    (from_both 33 target.host (codes ":") (from_all target.host own.host) (seen 33 (codes ":") refl))
+    (limit_seen target.port (omega (arith, own.port)))
 
 abbrev media : List ℕ
 media = codes "application/taxii+json;version=2.1"
@@ -135,35 +133,67 @@ tree_of target next = record {
   last = crlf;
 }
 
+some_target : (target : Target) (next : Option (List ℕ)) → 0 < length (target_text target next)
+some_target target next = omega (
+  arith,
+  length-append (path_of target) (query_of target.limit next),
+  length-append (target.root ++ codes "collections/" ++ uuid_text target.collection) (codes "/objects/"),
+)
+
 tree_valid : (target : Target) (next : Option (List ℕ)) → IsServersOwn target → IsRequestHead (tree_of target next)
 unfolding is_token_byte
 tree_valid target next own = record {
   method = token (codes "GET") (omega arith) refl;
   target = (
-    omega (arith, length-append (path_of target) (query_of target.limit next), length-append (codes "?limit=") (decimal target.limit ++ (codes "&match%5Bversion%5D=all" ++ next_pair next))),
+    some_target target next,
     are_uri (target_text target next) (target_seen target next own),
   );
   target_text = are_text 33 (target_text target next) (target_seen target next own);
   minor = omega arith;
   fields =
-      All-cons IsField (field (codes "Host") (host_of target)) _
+      All-cons IsField (field (codes "Host") (host_of target)) (field (codes "Accept") media ∷ field (codes "Connection") (codes "close") ∷ [])
       (is_field (codes "Host") (host_of target) (token (codes "Host") (omega arith) refl) (are_values (host_of target) (from_less 33 32 (host_of target) (omega arith) (host_seen target own))))
-      (All-cons IsField (field (codes "Accept") media) _ (is_field (codes "Accept") media (token (codes "Accept") (omega arith) refl) (passes is_value_byte media refl))
+      (All-cons IsField (field (codes "Accept") media) (field (codes "Connection") (codes "close") ∷ []) (is_field (codes "Accept") media (token (codes "Accept") (omega arith) refl) (passes is_value_byte media refl))
       (All-cons IsField (field (codes "Connection") (codes "close")) [] (is_field (codes "Connection") (codes "close") (token (codes "Connection") (omega arith) refl) (passes is_value_byte (codes "close") refl))
       (All-nil IsField)));
 }
 
-regrouped : (path query version host accept close end : List ℕ)
-    → (codes "GET " ++ (path ++ (query ++ version))) ++ (host ++ (accept ++ (close ++ end))) ≡ codes "GET " ++ ((path ++ query) ++ (version ++ ((host ++ (accept ++ close)) ++ end)))
-regrouped path query version host accept close end = simp append_assoc
+from_right : (path query host accept close end : List ℕ)
+    → codes "GET " ++ path ++ query ++ codes " HTTP/1.1" ++ end ++ host ++ accept ++ close ++ end
+    ≡ codes "GET " ++ (path ++ (query ++ (codes " HTTP/1.1" ++ (end ++ (host ++ (accept ++ (close ++ end)))))))
+from_right path query host accept close end = simp append_assoc
+
+regrouped : (path query version end host accept close : List ℕ)
+    → (path ++ query) ++ (version ++ (end ++ ((host ++ (accept ++ close)) ++ end))) ≡ path ++ (query ++ (version ++ (end ++ (host ++ (accept ++ (close ++ end))))))
+regrouped path query version end host accept close = simp append_assoc
+
+fields_printed : (target : Target) → flat_map print_field (fields_of target)
+    ≡ field_line (codes "Host") (host_of target) ++ (field_line (codes "Accept") media ++ field_line (codes "Connection") (codes "close"))
+fields_printed target =
+    let accept = print_field (field (codes "Accept") media) in
+    let close = print_field (field (codes "Connection") (codes "close")) in
+    ap (λ (line : List ℕ). line ++ (accept ++ (close ++ []))) (printed_field (codes "Host") (host_of target))
+    ∙ ap (λ (line : List ℕ). field_line (codes "Host") (host_of target) ++ (line ++ (close ++ []))) (printed_field (codes "Accept") media)
+    ∙ ap (λ (line : List ℕ). field_line (codes "Host") (host_of target) ++ (field_line (codes "Accept") media ++ line))
+    (append-nil close ∙ printed_field (codes "Connection") (codes "close"))
+
+printed_head : (target : Target) (next : Option (List ℕ)) → print_request (tree_of target next)
+    ≡ codes "GET " ++ (target_text target next ++ (codes " HTTP/1.1" ++ (line_end ++ (flat_map print_field (fields_of target) ++ line_end))))
+printed_head target next =
+    sym (append-nil (print_request (tree_of target next))) ∙ print_request-append (tree_of target next) []
+    ∙ ap (λ (text : List ℕ). codes "GET " ++ (target_text target next ++ (codes " HTTP/1.1" ++ (line_end ++ text)))) (append-nil (flat_map print_field (fields_of target) ++ line_end))
 
 pub tree_printed : (target : Target) (next : Option (List ℕ)) → request_of target next ≡ print_request (tree_of target next)
-unfolding request_of print_request
+unfolding request_of
 tree_printed target next =
-    regrouped (path_of target) (query_of target.limit next) (codes " HTTP/1.1\r\n") (field_line (codes "Host") (host_of target)) (field_line (codes "Accept") media) (field_line (codes "Connection") (codes "close")) line_end
-    ∙ ap (λ (close : List ℕ). codes "GET " ++ ((path_of target ++ query_of target.limit next) ++ (codes " HTTP/1.1\r\n"
-    ++ ((field_line (codes "Host") (host_of target) ++ (field_line (codes "Accept") media ++ close)) ++ line_end))))
-    (sym (append-nil (field_line (codes "Connection") (codes "close"))))
+    let host = field_line (codes "Host") (host_of target) in
+    let accept = field_line (codes "Accept") media in
+    let close = field_line (codes "Connection") (codes "close") in
+    from_right (path_of target) (query_of target.limit next) host accept close line_end
+    ∙ ap (λ (text : List ℕ). codes "GET " ++ text)
+    (sym (ap (λ (fields : List ℕ). target_text target next ++ (codes " HTTP/1.1" ++ (line_end ++ (fields ++ line_end)))) (fields_printed target)
+    ∙ regrouped (path_of target) (query_of target.limit next) (codes " HTTP/1.1") line_end host accept close))
+    ∙ sym (printed_head target next)
 
 -- ---- what a server reads
 
@@ -199,8 +229,11 @@ is_get target next greatest request rest own gives =
     its_head : ReadsRequest bytes (tree_of target next) []
     its_head = (tree_valid target next own, tree_printed target next ∙ sym (append-nil (print_request (tree_of target next))))
 
+    none_less : gives.end - 0 ≡ gives.end
+    none_less = omega arith
+
     front : take gives.end bytes ≡ print_request gives.accepts.read.tree
-    front = sym (ap (λ (from : ℕ). slice_range bytes from gives.end) start) ∙ gives.accepts.read.reads.1 ∙ append-nil (print_request gives.accepts.read.tree)
+    front = ap (λ (count : ℕ). take count bytes) (sym none_less) ∙ sym (ap (λ (from : ℕ). slice_range bytes from gives.end) start) ∙ gives.accepts.read.reads.1 ∙ append-nil (print_request gives.accepts.read.tree)
 
     read_head : ReadsRequest bytes gives.accepts.read.tree (drop gives.end bytes)
     read_head = (
@@ -213,21 +246,22 @@ is_get target next greatest request rest own gives =
 
 -- ---- its path and its route
 
-unmarked : (bytes : List ℕ) → AreFrom 33 bytes → list_all (λ b. not (b == 63)) bytes ≡ true → All (λ byte. byte ≢ 63) bytes
-unmarked [] are none = All-nil (λ byte. byte ≢ 63)
-unmarked (b ∷ bytes) (low, high, are) none = by_test (b == 63) refl none
+unmarked : (bytes : List ℕ) → list_all (λ b. not (b == 63)) bytes ≡ true → All (λ byte. byte ≢ 63) bytes
+unmarked [] none = All-nil (λ byte. byte ≢ 63)
+unmarked (b ∷ bytes) none = by_test (b == 63) refl none (unmarked bytes)
   where
-    by_test : (t : Bool) → (b == 63) ≡ t → not t && list_all (λ x. not (x == 63)) bytes ≡ true → All (λ byte. byte ≢ 63) (b ∷ bytes)
-    by_test true is rest = absurd (cc)
-    by_test false is rest = All-cons (λ byte. byte ≢ 63) b bytes (eqb-false b 63 is) (unmarked bytes are rest)
+    by_test : (t : Bool) → (b == 63) ≡ t → not t && list_all (λ x. not (x == 63)) bytes ≡ true → (list_all (λ x. not (x == 63)) bytes ≡ true → All (λ byte. byte ≢ 63) bytes)
+        → All (λ byte. byte ≢ 63) (b ∷ bytes)
+    by_test true is rest later = absurd (cc)
+    by_test false is rest later = All-cons (λ byte. byte ≢ 63) b bytes (eqb-false b 63 is) (later rest)
 
 path_unmarked : (target : Target) → IsServersOwn target → All (λ byte. byte ≢ 63) (path_of target)
 path_unmarked target own =
-    subst (λ (root : List ℕ). All (λ byte. byte ≢ 63) (root ++ (codes "collections/" ++ (uuid_text target.collection ++ codes "/objects/")))) (sym own.root)
-    (All-append (λ byte. byte ≢ 63) (codes "/api/collections/") (uuid_text target.collection ++ codes "/objects/") (unmarked (codes "/api/collections/") (seen 33 (codes "/api/collections/") refl) refl)
-    (All-append (λ byte. byte ≢ 63) (uuid_text target.collection) (codes "/objects/")
-    (All-weaker IsUuidByte (λ byte. byte ≢ 63) (λ b is. is.no_mark) (uuid_text target.collection) (uuid_bytes target.collection))
-    (unmarked (codes "/objects/") (seen 33 (codes "/objects/") refl) refl)))
+    subst (All (λ byte. byte ≢ 63)) (sym (path_is target own))
+    (All-append (λ byte. byte ≢ 63) (codes "/api/collections/" ++ uuid_text target.collection) (codes "/objects/")
+    (All-append (λ byte. byte ≢ 63) (codes "/api/collections/") (uuid_text target.collection) (unmarked (codes "/api/collections/") refl)
+    (All-weaker IsUuidByte (λ byte. byte ≢ 63) (λ b is. is.no_mark) (uuid_text target.collection) (uuid_bytes target.collection)))
+    (unmarked (codes "/objects/") refl))
 
 pub own_target : (target : Target) (next : Option (List ℕ)) → IsServersOwn target → IsTargetOf (target_text target next) (path_of target) (Some (query_for target.limit next))
 own_target target next own = record { unmarked = path_unmarked target own; spelling = refl }
@@ -238,6 +272,5 @@ own_path target own = (
     some = λ none. omega (arith, some_uuid target.collection, ap length none);
     bytes = All-weaker IsUuidByte (λ byte. byte ≢ 47) (λ b is. is.no_slash) (uuid_text target.collection) (uuid_bytes target.collection);
   },
-  ap (λ (root : List ℕ). root ++ (codes "collections/" ++ (uuid_text target.collection ++ codes "/objects/"))) own.root
-      ∙ ap (λ (text : List ℕ). codes "/api/collections/" ++ text) (sym (append_assoc (uuid_text target.collection) (codes "/") (codes "objects/"))),
+  path_is target own ∙ sym (append_assoc (codes "/api/collections/" ++ uuid_text target.collection) (codes "/") (codes "objects/")),
 )

@@ -1,5 +1,5 @@
 -- The compact text of a value that fits: what it is read as, where it is read at all.
-use Rattle.std.proofs.Common.{◌≡◌, ◌≤◌, ◌<◌, ◌+◌, ◌^◌, ℕ, suc, Bool, true, false, cond, nat_le, List, [], ◌∷◌, ◌++◌, Option, Some, None, option_map, option_and_then, pos, negsuc, refl, sym, ap, subst, ◌∙◌, append-nil, arith}
+use Rattle.std.proofs.Common.{◌≡◌, ◌≤◌, ◌+◌, ℕ, suc, Bool, true, false, cond, nat_le, List, [], ◌∷◌, ◌++◌, Option, Some, None, option_map, option_and_then, pos, negsuc, refl, sym, ap, ◌∙◌, append-nil, arith}
 use Rattle.std.proofs.lemmas.Bool.Decides.{nat_tests}
 use Rattle.json.specs.Token.{Token}
 use Rattle.json.specs.Lex.{tokens}
@@ -17,23 +17,22 @@ use Rattle.serde_json.proofs.Texts.{print-outline}
 use Rattle.stix_json.specs.Walk.{place_part}
 use Rattle.stix_json.specs.inner.Flaws.{flaw_under, number_flaw, flaw_here, first_flaw, items_flaw, members_flaw}
 use Rattle.stix_json.specs.declared.limits.TheConstants.{MAX_WHOLE}
-use Rattle.stix_json.specs.declared.flaw.Reason.TheVariants.{OutOfRange as PastRange}
 use Rattle.stix_json.proofs.FlawsLemmas.{option_or_none, option_map_none}
 use Rattle.stix_json.proofs.DataOfLemmas.{IsSigned, HasSigns, ItemsHaveSigns, MembersHaveSigns}
 
 -- ---- the numbers of a value that fits have texts
 
-in_range : (b : Bool) → flaw_here (cond b None (Some PastRange)) ≡ None → b ≡ true
-in_range true good = refl
-in_range false good = absurd (cc)
+in_range : {A B : Type 0} (f : A → B) (b : Bool) (reason : A) → option_map f (cond b None (Some reason)) ≡ None → b ≡ true
+in_range f true reason good = refl
+in_range f false reason good = absurd (cc)
 
 small : (n : ℕ) → nat_le n MAX_WHOLE ≡ true → n ≤ 9007199254740991
 small n low = grind (arith, nat_tests)
 
 number_has : (n : Num) → IsSigned n → flaw_here (number_flaw n) ≡ None → IsNumber (number_text n)
-number_has (unsigned n) signed good = let low = small n (in_range (nat_le n MAX_WHOLE) good) in IsNumber-decimal n (omega (arith, low))
+number_has (unsigned n) signed good = let low = small n (in_range _ (nat_le n MAX_WHOLE) _ good) in IsNumber-decimal n (omega (arith, low))
 number_has (negative (pos n)) signed good = absurd signed
-number_has (negative (negsuc n)) signed good = let low = small (suc n) (in_range (nat_le (suc n) MAX_WHOLE) good) in IsNumber-signed_decimal (negsuc n) (omega (arith, low))
+number_has (negative (negsuc n)) signed good = let low = small (suc n) (in_range _ (nat_le (suc n) MAX_WHOLE) _ good) in IsNumber-signed_decimal (negsuc n) (omega (arith, low))
 number_has (float x) signed good = absurd signed
 
 mutual
@@ -68,8 +67,13 @@ one_tree j k rest same =
     let most = depth j + depth k in
     let first : json.value most (json_tokens j ++ []) ≡ Some (j, []) = value-json_tokens j most [] (omega arith) in
     let second : json.value most (json_tokens k ++ rest) ≡ Some (k, rest) = value-json_tokens k most rest (omega arith) in
-    let both : Some (j, []) ≡ Some (k, rest) = sym first ∙ ap (json.value most) (append-nil (json_tokens j) ∙ same) ∙ second in
-    cc
+    first_same (j, []) (k, rest) (sym first ∙ ap (json.value most) (append-nil (json_tokens j) ∙ same) ∙ second)
+  where
+    some_same : (x y : json.Json × List Token) → Some x ≡ Some y → x ≡ y
+    some_same x y both = cc
+
+    first_same : (x y : json.Json × List Token) → Some x ≡ Some y → x.0 ≡ y.0
+    first_same x y both = ap (λ (pair : json.Json × List Token). pair.0) (some_same x y both)
 
 -- so a value's text is read as what its outline is
 pub read_as : (d read_d : Data) → HasNumbers (outline d) → read (compact_text d) ≡ Some read_d → of_json (outline d) ≡ Some read_d
