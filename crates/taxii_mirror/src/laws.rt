@@ -10,7 +10,7 @@ ghost use Rattle.taxii_mirror.specs.Absorbing.{Absorbed, Absorbs};
 ghost use Rattle.taxii_mirror.specs.Mirrored.{Mirrored};
 ghost use Rattle.taxii_mirror.specs.Standing.{Stands, GrowsOnce};
 
-use stix_objects::laws::one_id;
+use stix_objects::laws::{one_id, one_list};
 use taxii_rows::laws::one_version;
 
 /// One more page goes on with those before it.
@@ -30,6 +30,7 @@ pub fn repeats_change_nothing()
         → Contains pages page → again.entries ≡ page.entries
         → Mirrored collection state (pages ++ again ∷ rest) last → Mirrored collection state (pages ++ rest) last }
 {
+    one_list();
     one_id();
     one_version();
 }
@@ -43,6 +44,7 @@ pub fn pages_stand_once()
     ensures once { (collection : ℕ) (state last : StoreState) (pages : List Absorbed)
         → Mirrored collection state pages last → GrowsOnce state.rows last.rows }
 {
+    one_list();
     one_id();
     one_version();
 }
