@@ -1,0 +1,98 @@
+ghost use Rattle.std.specs.Prelude.{◌≡◌, ◌≤◌, ◌^◌, Err, IfOk, IfErr, IfSome};
+ghost use Rattle.flow_edges.specs.Faults.{Counted};
+ghost use Rattle.taxii_client.specs.Outside.{link_view};
+ghost use Rattle.taxii_store.specs.Loading.{IsBadAfter};
+ghost use Rattle.taxii_store.specs.declared.load_refusal.LoadRefusal.TheVariants as Unloaded;
+ghost use Rattle.stix_mirror.specs.Words.{IsHost, copying_of};
+ghost use Rattle.stix_mirror.specs.Filling.{outside};
+ghost use Rattle.stix_mirror.specs.inner.Copying.{stop_of, Opens, CopiesSo, FailsStore};
+
+use crate::ending::{CopyStop, FetchStop};
+use crate::totals::Totals;
+use crate::words::MirrorRequest;
+use flow_links::{Clock, Dial};
+use std::alloc::Global;
+use taxii_client::laws::pulls_go_on;
+use taxii_client::{PageEnd, Pull, Target};
+use taxii_mirror::Mirror;
+use taxii_mirror::laws::pages_go_on;
+use taxii_rows::Keeper;
+use taxii_store::{Library, LoadRefusal};
+
+/// Fetches the pages of a collection in turn, and absorbs each before the next one is asked for. A page that is
+/// lost is asked for again; the copy ends when so many fetches were lost.
+pub(crate) fn copy<D: Dial, K: Keeper, C: Clock>(
+    alloc: Global,
+    request: &MirrorRequest<'_>,
+    target: &Target,
+    dial: &mut D,
+    keeper: &mut K,
+    clock: &mut C,
+) -> Result<Totals, CopyStop>
+    requires target { target.now ≡ (copying_of request.now).target }
+    requires host { IsHost request.now.host.now }
+    requires tries { 1 ≤ request.now.tries }
+    ensures copies { CopiesSo (link_view D.Link.left D.Link.written D.Link.Source.faults D.Link.Sink.faults) (copying_of request.now)
+        (outside (D.told dial.old) (D.faults dial.old) (K.kept keeper.old) (C.moments clock.old))
+        (outside (D.told dial.new) (D.faults dial.new) (K.kept keeper.new) (C.moments clock.new)) result }
+    ensures causes { Counted (FailsStore result) (K.faults keeper.old) (K.faults keeper.new) }
+{
+    pulls_go_on::<D>();
+    pages_go_on();
+    let mut mirror = match open(alloc, keeper, request.file, request.collection) {
+        Ok(mirror) => mirror,
+        Err(refusal) => return Err(CopyStop::NotLoaded(refusal)),
+    };
+    let mut pull = Pull::new(alloc, target);
+    let mut lost = 0;
+    let mut totals = Totals::new();
+    'attempts: loop {
+        let entries = match pull.next_page(dial) {
+            Ok(Some(entries)) => entries,
+            Ok(None) => return Ok(totals),
+            Err(end) => {
+                if let Some(stop) = stop_for(end) {
+                    return Err(CopyStop::NotFetched(stop));
+                }
+                lost += 1;
+                if lost == request.tries {
+                    return Err(CopyStop::NotFetched(FetchStop::LinkLost));
+                }
+                continue 'attempts;
+            }
+        };
+        match mirror.absorb(keeper, clock.now(), entries) {
+            Ok(tally) => totals.add(&tally),
+            Err(refusal) => return Err(CopyStop::NotAbsorbed(refusal)),
+        }
+    }
+}
+
+/// A mirror of a collection over the rows that the keeper has in a file.
+fn open<K: Keeper>(
+    alloc: Global,
+    keeper: &mut K,
+    file: &str,
+    collection: u128,
+) -> Result<Mirror, LoadRefusal>
+    ensures ok { IfOk result (Opens file.now (K.kept keeper.old) (K.kept keeper.new)) }
+    ensures collection { IfOk result (λ mirror. mirror.collection ≡ collection) }
+    ensures bad { IfErr result (λ refusal. (after : ℕ) → refusal ≡ Unloaded.BadRow after → IfSome (K.kept keeper.old).told (λ state. IsBadAfter state after)) }
+    ensures told { (K.kept keeper.new).told ≡ (K.kept keeper.old).told }
+    ensures causes { Counted (result ≡ Err Unloaded.KeeperFault) (K.faults keeper.old) (K.faults keeper.new) }
+{
+    let library = Library::load(alloc, keeper, file)?;
+    Ok(Mirror::new(alloc, library, collection))
+}
+
+/// Why no page is asked for behind one that didn't come so; nothing where it was lost.
+fn stop_for(end: PageEnd) -> Option<FetchStop>
+    ensures { result ≡ stop_of end }
+{
+    match end {
+        PageEnd::Fault | PageEnd::Cut => None,
+        PageEnd::Refused(refusal) => Some(FetchStop::Refused(refusal)),
+        PageEnd::TooManyPages => Some(FetchStop::TooManyPages),
+        PageEnd::NoMemory => Some(FetchStop::NoMemory),
+    }
+}
