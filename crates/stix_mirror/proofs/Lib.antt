@@ -1,0 +1,2 @@
+mod AttemptLemmas
+mod CopyLemmas
