@@ -1,2 +1,3 @@
 mod AttemptLemmas
 mod CopyLemmas
+mod EndLemmas

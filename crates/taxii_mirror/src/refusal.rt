@@ -1,5 +1,4 @@
-ghost use Rattle.std.specs.Prelude.{◌≡◌};
-
+use flow_values::NoMemory;
 use std::error::Error;
 use std::fmt;
 use taxii_rows::KeeperRefusal;
@@ -28,7 +27,19 @@ impl fmt::Display for StoreRefusal {
 
 impl Error for StoreRefusal {}
 
+impl From<NoMemory> for StoreRefusal {
+    ghost use Rattle.std.specs.Prelude.{◌≡◌};
+    ghost use Rattle.taxii_mirror.specs.declared.refusal.StoreRefusal.TheVariants as StoreRefusal;
+
+    ghost from_gives = { λ _ refusal. refusal ≡ StoreRefusal.NoMemory };
+
+    fn from(_: NoMemory) -> StoreRefusal {
+        StoreRefusal::NoMemory
+    }
+}
+
 impl From<PlanRefusal> for StoreRefusal {
+    ghost use Rattle.std.specs.Prelude.{◌≡◌};
     ghost use Rattle.taxii_mirror.specs.Refusals.{for_plan};
 
     ghost from_gives = { λ plan refusal. refusal ≡ for_plan plan };
@@ -42,6 +53,7 @@ impl From<PlanRefusal> for StoreRefusal {
 }
 
 impl From<KeeperRefusal> for StoreRefusal {
+    ghost use Rattle.std.specs.Prelude.{◌≡◌};
     ghost use Rattle.taxii_mirror.specs.Refusals.{for_keeper};
 
     ghost from_gives = { λ keeper refusal. refusal ≡ for_keeper keeper };
