@@ -1,5 +1,6 @@
 -- Attempts, one more at a time: their turns, their links, their pages, and how many were lost.
 use Rattle.std.proofs.Common.{◌≡◌, ◌⊎◌, inl, inr, ℕ, ◌+◌, ◌-◌, ◌^◌, ◌≤◌, min, Bool, true, false, cond, List, [], ◌∷◌, ◌++◌, length, map, filter, filter_map, count_by, sum_by, fold, is_none, Option, None, Some, MatchOption, Result, Ok, Err, All, refl, sym, ap, subst, ◌∙◌, arith}
+use Rattle.std.specs.List.{cons_option}
 use Rattle.std.proofs.lemmas.List.{append-nil, map-append, length-append}
 use Rattle.std.proofs.lemmas.List.Elements.{All-push, All-cons, All-nil, All-head, All-tail, filter_map-append}
 use Rattle.std.proofs.lemmas.List.Sums.{sum_by-cons}
@@ -60,11 +61,7 @@ module _ {L : Type 0} where
   pub pages_same : (attempts : List (Attempt L)) (attempt : Attempt L) (end : FetchEnd) → attempt.answer ≡ Err end → pages_of (attempts ++ attempt ∷ []) ≡ pages_of attempts
   pages_same attempts attempt end is =
       filter_map-append (λ (a : Attempt L). page_over a.link a.answer) attempts (attempt ∷ [])
-      ∙ ap (λ (o : Option (Page L)). pages_of attempts ++ behind o) (no_page attempt.link attempt.answer end is) ∙ append-nil (pages_of attempts)
-    where
-      behind : Option (Page L) → List (Page L)
-      behind None = []
-      behind (Some page) = page ∷ []
+      ∙ ap (λ (o : Option (Page L)). pages_of attempts ++ cons_option o []) (no_page attempt.link attempt.answer end is) ∙ append-nil (pages_of attempts)
 
   pub entries_more : (attempts : List (Attempt L)) (link : Lent L) (envelope : Envelope)
       → entries_of (pages_of (attempts ++ over link (Ok envelope) ∷ [])) ≡ entries_of (pages_of attempts) ++ envelope.entries ∷ []
@@ -87,14 +84,10 @@ module _ {L : Type 0} where
     pages_turn start turn (attempt ∷ attempts) turns go_on =
         go attempt.link attempt.answer turns.0.fetched (pages_turn (turn_behind start attempt.answer) turn attempts turns.1 (All-tail GoesOn attempt attempts go_on))
       where
-        rest : Option (Page L) → List (Page L)
-        rest None = pages_of attempts
-        rest (Some page) = page ∷ pages_of attempts
-
         go : (link : Option (Lent L)) (answer : Result Envelope FetchEnd)
             → MatchOption link (answer ≡ Err Fetch.Fault) (λ one. Fetched target turns.0.next (view one.given) (view one.finished) answer)
             → PagesInTurn view target (turn_behind start answer) (pages_of attempts) turn
-            → PagesInTurn view target start (rest (page_over link answer)) turn
+            → PagesInTurn view target start (cons_option (page_over link answer) (pages_of attempts)) turn
         go None (Ok envelope) fault behind = absurd (cc fault)
         go None (Err end) fault behind = behind
         go (Some link) (Ok envelope) fetched behind = (record { next = turns.0.next; asks = turns.0.asks; fetched = fetched }, behind)

@@ -1,3 +1,4 @@
+mod WordLemmas
 mod AttemptLemmas
 mod CopyLemmas
 mod EndLemmas

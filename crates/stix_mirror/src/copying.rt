@@ -61,7 +61,8 @@ pub(crate) fn copy<D: Dial, K: Keeper, C: Clock>(
                 continue 'attempts;
             }
         };
-        match mirror.absorb(keeper, clock.now(), entries) {
+        let moment = clock.now();
+        match mirror.absorb(keeper, moment, entries) {
             Ok(tally) => totals.add(&tally),
             Err(refusal) => return Err(CopyStop::NotAbsorbed(refusal)),
         }

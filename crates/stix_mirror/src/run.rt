@@ -17,6 +17,7 @@ use flow_edges::Sink;
 use flow_links::{Clock, Dial};
 use flow_values::NoMemory;
 use std::alloc::Global;
+use taxii_client::laws::pulls_go_on;
 use taxii_rows::Keeper;
 
 /// Tells what was absorbed.
@@ -124,6 +125,7 @@ pub fn run_mirror<D: Dial, K: Keeper, C: Clock, O: Sink, E: Sink>(
     ensures store { Counted (result ≡ 9) (K.faults keeper.old) (K.faults keeper.new) }
     ensures output { Counted (result ≡ 6) (O.faults output.old) (O.faults output.new) }
 {
+    pulls_go_on::<D>();
     let ending = obey(alloc, words, dial, keeper, clock, output);
     finish(&ending, faults)
 }

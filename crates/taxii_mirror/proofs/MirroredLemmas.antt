@@ -9,8 +9,6 @@ use Rattle.stix_ids.specs.declared.id.Id.{Id}
 use Rattle.stix_json.specs.declared.entry.Entry.{Entry}
 use Rattle.stix_json.specs.declared.entry.Entry.TheVariants.{Good, Bad}
 use Rattle.stix_json.specs.DataOf.{data_of}
-use Rattle.stix_objects.specs.declared.rule_break.Break.{Break}
-use Rattle.stix_objects.specs.Breaks.{AreBreaksOf}
 use Rattle.stix_objects.specs.Properties.{HasId}
 use Rattle.taxii_rows.specs.declared.stored_row.StoredRow.{StoredRow}
 use Rattle.taxii_rows.specs.declared.described.Described.{Described}
@@ -22,8 +20,7 @@ use Rattle.taxii_rows.specs.StoreState.{StoreState}
 use Rattle.taxii_rows.specs.Version.{HasVersion}
 use Rattle.taxii_index.proofs.ListLemmas.{nothing, first, later, cons_cases}
 use Rattle.taxii_store.specs.Addition.{mark_after}
-use Rattle.taxii_changes.specs.Posted.{IsKept, Fails, Splits}
-use Rattle.taxii_mirror.specs.Absorbing.{Absorbed, Absorbs}
+use Rattle.taxii_mirror.specs.Absorbing.{Absorbed, Absorbs, IsKept, IsSkipped, Splits}
 use Rattle.taxii_mirror.specs.Mirrored.{Mirrored}
 use Rattle.taxii_mirror.specs.Standing.{Stands, StandOnce, GrowsOnce}
 use Rattle.taxii_mirror.proofs.StandingLemmas.{stands_behind, added_stand, none_new, added_once, once_behind}
@@ -54,7 +51,6 @@ joined collection state middle last (page ∷ pages) rest (next, its, others) be
 pub record Laws : Type 0 where
   pub id : (object : Data) (one other : Id) → HasId object one → HasId object other → one ≡ other
   pub version : (set : TypeSet) (object : Data) (one other : ℤ) → HasVersion set object one → HasVersion set object other → one ≡ other
-  pub breaks : (value : Data) (one other : List Break) → AreBreaksOf value one → AreBreaksOf value other → one ≡ other
 
 one_found : (d : Data) → Laws → (one other : Option ℤ) → FindsExactly (HasVersion Second d) one → FindsExactly (HasVersion Second d) other → one ≡ other
 one_found d laws None None its also = refl
@@ -72,10 +68,9 @@ one_kept laws (Good json) one other its also = same_described one other
     (its.1.body ∙ sym also.1.body)
 one_kept laws (Bad refusal) one other its also = absurd its
 
-kept_or_fails : Laws → (entry : Entry) (object : Described) → IsKept entry object → Fails entry → ⊥
-kept_or_fails laws (Good json) object its fails =
-    let bad : [] ≡ fails.0 ∷ fails.1.others = laws.breaks (data_of json) [] (fails.0 ∷ fails.1.others) its.0 fails.1.breaks in cc bad
-kept_or_fails laws (Bad refusal) object its fails = its
+kept_or_skipped : (entry : Entry) (object : Described) → IsKept entry object → IsSkipped entry → ⊥
+kept_or_skipped (Good json) object its skipped = skipped its.0
+kept_or_skipped (Bad refusal) object its skipped = its
 
 -- what is kept of an entry is among the objects of its page
 kept_among : Laws → (entries : List Entry) (objects : List Described) (skipped : List Entry) (entry : Entry) (object : Described)
@@ -88,7 +83,7 @@ kept_among laws (one ∷ entries) objects skipped entry object (inl (its, others
   | inr behind ↦ subst (λ (os : List Described). Contains os object) (sym is) (later its object others (kept_among laws entries others skipped entry object rest behind kept))
 ]
 kept_among laws (one ∷ entries) objects skipped entry object (inr (others, is, fails, rest)) here kept = elim (cons_cases one entry entries here) [
-  | inl same ↦ absurd (kept_or_fails laws one object (subst (λ (e : Entry). IsKept e object) (sym same) kept) fails)
+  | inl same ↦ absurd (kept_or_skipped one object (subst (λ (e : Entry). IsKept e object) (sym same) kept) fails)
   | inr behind ↦ kept_among laws entries objects others entry object rest behind kept
 ]
 

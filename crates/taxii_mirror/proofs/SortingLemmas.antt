@@ -5,7 +5,7 @@ use Rattle.std.proofs.lemmas.List.Elements.{All-append, All-cons, All-nil}
 use Rattle.stix_json.specs.declared.entry.Entry.{Entry}
 use Rattle.taxii_rows.specs.declared.described.Described.{Described}
 use Rattle.taxii_store.specs.Planned.{IsSound}
-use Rattle.taxii_changes.specs.Posted.{IsKept, Fails, Splits}
+use Rattle.taxii_mirror.specs.Absorbing.{IsKept, IsSkipped, Splits}
 use Rattle.taxii_mirror.specs.declared.sorted.Sorted.{Sorted}
 use Rattle.taxii_mirror.specs.inner.Sorting.{Sorts, SortsOne}
 
@@ -18,7 +18,7 @@ splits_object (first ∷ entries) objects skipped entry object (inr (others, is,
     inr (others, is, its, splits_object entries objects others entry object rest kept)
 
 splits_skipped : (entries : List Entry) (objects : List Described) (skipped : List Entry) (entry : Entry)
-    → Splits entries objects skipped → Fails entry → Splits (entries ++ entry ∷ []) objects (skipped ++ entry ∷ [])
+    → Splits entries objects skipped → IsSkipped entry → Splits (entries ++ entry ∷ []) objects (skipped ++ entry ∷ [])
 splits_skipped [] objects skipped entry (none, nothing) fails = inr ([], ap (λ es. es ++ entry ∷ []) nothing, fails, (none, refl))
 splits_skipped (first ∷ entries) objects skipped entry (inl (one, others, is, its, rest)) fails =
     inl (one, others, is, its, splits_skipped entries others skipped entry rest fails)

@@ -1,18 +1,19 @@
 -- What absorbing a page of a peer's collection makes of a store: its good objects are added, and the other entries are skipped.
-use Rattle.std.specs.Prelude.{◌≡◌, ⊤, ℕ, Bool, true, false, not, List, length, None, count_by}
+use Rattle.std.specs.Prelude.{◌≡◌, ◌⊎◌, ⊤, ℕ, Bool, true, false, not, List, [], ◌∷◌, length, None, count_by}
 use Rattle.stix_json.specs.declared.entry.Entry.{Entry}
 use Rattle.stix_json.specs.declared.entry.Entry.TheVariants.{Good, Bad}
 use Rattle.stix_json.specs.DataOf.{data_of}
 use Rattle.stix_json.specs.Ordered.{IsOrdered}
 use Rattle.stix_json.specs.Refusal.{refusal_of}
+use Rattle.stix_objects.specs.Breaks.{AreBreaksOf}
 use Rattle.taxii_rows.specs.declared.stored_row.StoredRow.{StoredRow}
 use Rattle.taxii_rows.specs.declared.described.Described.{Described}
+use Rattle.taxii_rows.specs.Described.{IsDescribed}
 use Rattle.taxii_rows.specs.StoreState.{StoreState}
 use Rattle.taxii_rows.specs.Keeper.{with_rows}
 use Rattle.taxii_store.specs.declared.add_outcome.AddOutcome.{AddOutcome}
 use Rattle.taxii_store.specs.declared.add_outcome.AddOutcome.TheVariants.{Added, Present}
 use Rattle.taxii_store.specs.Addition.{IsAddition, UsesUpDates, mark_after}
-use Rattle.taxii_changes.specs.Posted.{Splits}
 use Rattle.taxii_mirror.specs.declared.tally.Tally.{Tally}
 
 -- what contracts see of a mirror: the collection that it fills, and the store
@@ -24,6 +25,23 @@ pub record MirrorState : Type 0 where
 abbrev pub IsReadable : Entry → Type 0
 IsReadable (Good value) = (refusal_of (data_of value) ≡ None) × IsOrdered (data_of value)
 IsReadable (Bad refusal) = ⊤
+
+-- the entry is an object without breaks, and this is kept of it
+abbrev pub IsKept : Entry → Described → Type 0
+IsKept (Good value) object = AreBreaksOf (data_of value) [] × IsDescribed (data_of value) object
+IsKept (Bad refusal) object = ⊥
+
+-- the entry is no JSON value, or has a break
+abbrev pub IsSkipped : Entry → Type 0
+IsSkipped (Good value) = ¬ AreBreaksOf (data_of value) []
+IsSkipped (Bad refusal) = ⊤
+
+-- entries in turn: an object is kept of each, or it is skipped
+abbrev pub Splits : List Entry → List Described → List Entry → Type 0
+Splits [] objects skipped = (objects ≡ []) × (skipped ≡ [])
+Splits (entry ∷ entries) objects skipped =
+    ((object : Described) × (others : List Described) × (objects ≡ object ∷ others) × IsKept entry object × Splits entries others skipped)
+    ⊎ ((others : List Entry) × (skipped ≡ entry ∷ others) × IsSkipped entry × Splits entries objects others)
 
 -- whether the object became a new row
 abbrev pub is_added : AddOutcome → Bool

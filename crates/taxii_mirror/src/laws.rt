@@ -5,12 +5,11 @@ ghost use Rattle.std.specs.List.{Contains};
 ghost use Rattle.stix_json.specs.declared.entry.Entry.{Entry};
 ghost use Rattle.taxii_rows.specs.declared.described.Described.{Described};
 ghost use Rattle.taxii_rows.specs.StoreState.{StoreState};
-ghost use Rattle.taxii_changes.specs.Posted.{IsKept};
-ghost use Rattle.taxii_mirror.specs.Absorbing.{Absorbed, Absorbs};
+ghost use Rattle.taxii_mirror.specs.Absorbing.{Absorbed, Absorbs, IsKept};
 ghost use Rattle.taxii_mirror.specs.Mirrored.{Mirrored};
 ghost use Rattle.taxii_mirror.specs.Standing.{Stands, GrowsOnce};
 
-use stix_objects::laws::{one_id, one_list};
+use stix_objects::laws::one_id;
 use taxii_rows::laws::one_version;
 
 /// One more page goes on with those before it.
@@ -30,7 +29,6 @@ pub fn repeats_change_nothing()
         → Contains pages page → again.entries ≡ page.entries
         → Mirrored collection state (pages ++ again ∷ rest) last → Mirrored collection state (pages ++ rest) last }
 {
-    one_list();
     one_id();
     one_version();
 }
@@ -44,7 +42,6 @@ pub fn pages_stand_once()
     ensures once { (collection : ℕ) (state last : StoreState) (pages : List Absorbed)
         → Mirrored collection state pages last → GrowsOnce state.rows last.rows }
 {
-    one_list();
     one_id();
     one_version();
 }

@@ -10,7 +10,7 @@ use flow_values::NoMemory;
 use std::alloc::Global;
 use stix_json::{Entry, Json};
 use stix_objects::breaks;
-use stix_objects::laws::no_breaks;
+use stix_objects::laws::{no_breaks, one_list};
 use taxii_rows::{Described, describe};
 
 /// The entries of a page: the objects to be added, and how many others there are.
@@ -60,6 +60,7 @@ impl Sorted {
         requires room { self.old.skipped < 2 ^ 63 }
         ensures { OnOk result (SortsOne (Good value.now) self.old self.new) }
     {
+        one_list();
         let found = breaks(alloc, value)?;
         if found.is_empty() {
             self.add_object(alloc, value)

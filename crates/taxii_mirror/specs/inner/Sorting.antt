@@ -3,7 +3,7 @@ use Rattle.std.specs.Prelude.{◌≡◌, ◌⊎◌, ℕ, ◌+◌, List, [], ◌�
 use Rattle.stix_json.specs.declared.entry.Entry.{Entry}
 use Rattle.taxii_rows.specs.declared.described.Described.{Described}
 use Rattle.taxii_store.specs.Planned.{IsSound}
-use Rattle.taxii_changes.specs.Posted.{IsKept, Fails, Splits}
+use Rattle.taxii_mirror.specs.Absorbing.{IsKept, IsSkipped, Splits}
 use Rattle.taxii_mirror.specs.declared.sorted.Sorted.{Sorted}
 
 -- what some entries hold: an object is kept of each, or it is skipped and counted
@@ -22,7 +22,7 @@ pub record Keeps (entry : Entry) (old new : Sorted) : Type 0 where
 
 -- one more entry that is skipped
 pub record Skips (entry : Entry) (old new : Sorted) : Type 0 where
-  pub fails : Fails entry
+  pub fails : IsSkipped entry
   pub objects : new.objects.items ≡ old.objects.items
   pub count : new.skipped ≡ old.skipped + 1
 
