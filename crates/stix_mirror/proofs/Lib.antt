@@ -1,4 +1,5 @@
 mod WordLemmas
 mod AttemptLemmas
 mod CopyLemmas
+mod CauseLemmas
 mod EndLemmas

@@ -1,5 +1,5 @@
 -- Pages absorbed in turn: what they leave, and that a page which comes again changes nothing.
-use Rattle.std.proofs.Common.{◌≡◌, inl, inr, ℕ, ℤ, ◌+◌, List, [], ◌∷◌, ◌++◌, length, Option, Some, None, All, refl, sym, ap, subst, ◌∙◌, append_assoc}
+use Rattle.std.proofs.Common.{◌≡◌, inl, inr, ℕ, ℤ, List, [], ◌∷◌, ◌++◌, Option, Some, None, refl, sym, ap, subst, ◌∙◌, append_assoc}
 use Rattle.std.specs.List.{Contains}
 use Rattle.std.proofs.lemmas.List.{append-nil}
 use Rattle.std.proofs.lemmas.List.Elements.{All-contains}
@@ -14,7 +14,6 @@ use Rattle.taxii_rows.specs.declared.stored_row.StoredRow.{StoredRow}
 use Rattle.taxii_rows.specs.declared.described.Described.{Described}
 use Rattle.taxii_rows.specs.declared.type_set.TypeSet.{TypeSet}
 use Rattle.taxii_rows.specs.declared.type_set.TypeSet.TheVariants.{Second}
-use Rattle.taxii_rows.specs.Described.{IsDescribed}
 use Rattle.taxii_rows.specs.Keeper.{with_rows}
 use Rattle.taxii_rows.specs.StoreState.{StoreState}
 use Rattle.taxii_rows.specs.Version.{HasVersion}
@@ -140,9 +139,9 @@ pub repeat_stays : Laws → (collection : ℕ) (state before after : StoreState)
 repeat_stays laws collection state before after pages page again mirrored among same absorbs =
     absorbs.after_is ∙ same_state before absorbs.new
     (none_new collection _ before.rows absorbs.objects absorbs.outcomes absorbs.new (λ object here.
-        let found = entry_of again.entries absorbs.objects absorbs.skipped object absorbs.splits here in
-        all_present laws collection state before pages page found.0 object mirrored among
-        (subst (λ (es : List Entry). Contains es found.0) same found.1) found.2) absorbs.addition.adds)
+    let found = entry_of again.entries absorbs.objects absorbs.skipped object absorbs.splits here in
+    all_present laws collection state before pages page found.0 object mirrored among
+    (subst (λ (es : List Entry). Contains es found.0) same found.1) found.2) absorbs.addition.adds)
 
 pub repeat_out : Laws → (collection : ℕ) (state last : StoreState) (pages rest : List Absorbed) (page again : Absorbed)
     → Contains pages page → again.entries ≡ page.entries → Mirrored collection state (pages ++ again ∷ rest) last → Mirrored collection state (pages ++ rest) last

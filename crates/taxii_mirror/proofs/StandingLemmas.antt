@@ -1,5 +1,5 @@
 -- Objects that stand in a store after an addition, and rows of which none stands twice.
-use Rattle.std.proofs.Common.{◌≡◌, ◌≢◌, inl, inr, ℕ, ℤ, pos, ◌+◌, List, [], ◌∷◌, ◌++◌, Bool, true, false, Option, Some, None, MatchOption, All, is_some, unwrap_or, bytes_eq, refl, sym, ap, subst, ◌∙◌, append_assoc}
+use Rattle.std.proofs.Common.{◌≡◌, ◌≢◌, ℕ, ℤ, pos, ◌+◌, List, [], ◌∷◌, ◌++◌, Bool, true, false, Option, Some, None, MatchOption, All, is_some, unwrap_or, bytes_eq, refl, sym, ap, subst, ◌∙◌, append_assoc}
 use Rattle.std.specs.Prelude.{◌&&◌}
 use Rattle.std.specs.List.{Contains}
 use Rattle.std.specs.Ordering.{int_eq, is_eq}
@@ -19,7 +19,7 @@ use Rattle.taxii_index.proofs.RowLemmas.{find_passes, find_nothing}
 use Rattle.taxii_store.specs.declared.add_outcome.AddOutcome.{AddOutcome}
 use Rattle.taxii_store.specs.declared.add_outcome.AddOutcome.TheVariants.{Added, Present}
 use Rattle.taxii_store.specs.Addition.{Adds}
-use Rattle.taxii_mirror.specs.Standing.{Stands, AreApart, StandOnce, GrowsOnce}
+use Rattle.taxii_mirror.specs.Standing.{Stands, AreApart, StandOnce}
 
 -- ---- the row of an object
 
@@ -158,12 +158,15 @@ added_once collection date rows (object ∷ objects) outcomes new adds =
         → StandOnce rows new
     go (Some held) found (others, out, rest) again behind = again others rest
     go None found (others, more, out, is, rest) again behind =
-        subst (StandOnce rows) (sym is)
-        (All-weaker (Contains rows) (AreApart row) (λ one here. apart_from collection date object one (find_nothing (is_same collection object) rows one found here)) rows (All-contains_itself rows),
-        behind others more rest)
+        subst (StandOnce rows) (sym is) (
+          All-weaker (Contains rows) (AreApart row) (λ one here. apart_from collection date object one (find_nothing (is_same collection object) rows one found here)) rows (All-contains_itself rows),
+          behind others more rest,
+        )
 
 pub once_behind : (rows new more : List StoredRow) → StandOnce rows new → StandOnce (rows ++ new) more → StandOnce rows (new ++ more)
 once_behind rows [] more once behind = subst (λ (rs : List StoredRow). StandOnce rs more) (append-nil rows) behind
-once_behind rows (row ∷ new) more once behind =
-    (once.0, once_behind (rows ++ row ∷ []) new more once.1
-    (subst (λ (rs : List StoredRow). StandOnce rs more) (sym (append_assoc rows (row ∷ []) new)) behind))
+once_behind rows (row ∷ new) more once behind = (
+  once.0,
+  once_behind (rows ++ row ∷ []) new more once.1
+      (subst (λ (rs : List StoredRow). StandOnce rs more) (sym (append_assoc rows (row ∷ []) new)) behind),
+)

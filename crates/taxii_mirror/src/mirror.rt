@@ -60,7 +60,9 @@ impl Mirror {
         ensures causes { Counted (result ≡ Err Refused.Fault) (K.faults keeper.old) (K.faults keeper.new) }
     {
         let sorted = Sorted::of(self.alloc, entries.into_vec())?;
-        let planned = self.library.plan_add(self.collection, moment, sorted.objects)?;
+        let planned = self
+            .library
+            .plan_add(self.collection, moment, sorted.objects)?;
         let tally = Tally::of(planned.outcomes(), sorted.skipped);
         self.library.commit_add(keeper, planned)?;
         Ok(tally)
