@@ -18,16 +18,18 @@ use Rattle.taxii_mirror.specs.declared.refusal.StoreRefusal.{StoreRefusal}
 use Rattle.taxii_mirror.specs.declared.refusal.StoreRefusal.TheVariants as Store
 use Rattle.stix_mirror.specs.declared.ending.MirrorEnding.{MirrorEnding}
 use Rattle.stix_mirror.specs.declared.ending.MirrorEnding.TheVariants.{Usage, Done, WriteFault, Stopped, NoMemory}
-use Rattle.stix_mirror.specs.declared.ending.CopyStop.{CopyStop}
-use Rattle.stix_mirror.specs.declared.ending.CopyStop.TheVariants.{NotLoaded, NotFetched, NotAbsorbed}
-use Rattle.stix_mirror.specs.declared.ending.FetchStop.{FetchStop}
-use Rattle.stix_mirror.specs.declared.ending.FetchStop.TheVariants as Stop
-use Rattle.stix_mirror.specs.Words.{Copying, AskForNothing}
-use Rattle.stix_mirror.specs.Attempts.{Attempt, InTurn, losses, undialled, links_of, lost_links, pages_of, entries_of, LinkFailed, CountsDials}
-use Rattle.stix_mirror.specs.Filling.{Outside, Fills}
-use Rattle.stix_mirror.specs.Endings.{Stops, StopsBehind, StopsLost, StopsFull, StopsAt, StopsShort, StopsBefore, WhyNot, EndsFetching, EndsLoading, EndsCopy, EndsMirror, AskSo, EndsWords, stop_status, mirror_status}
+use Rattle.taxii_copy.specs.declared.stop.CopyStop.{CopyStop}
+use Rattle.taxii_copy.specs.declared.stop.CopyStop.TheVariants.{NotLoaded, NotFetched, NotAbsorbed}
+use Rattle.taxii_copy.specs.declared.stop.FetchStop.{FetchStop}
+use Rattle.taxii_copy.specs.declared.stop.FetchStop.TheVariants as Stop
+use Rattle.taxii_copy.specs.Copying.{Copying}
+use Rattle.stix_mirror.specs.Words.{AskForNothing}
+use Rattle.taxii_copy.specs.Attempts.{Attempt, InTurn, losses, undialled, links_of, lost_links, pages_of, entries_of, LinkFailed, CountsDials}
+use Rattle.taxii_copy.specs.Filling.{Outside, Fills}
+use Rattle.taxii_copy.specs.Endings.{Stops, StopsBehind, StopsLost, StopsFull, StopsAt, StopsShort, StopsBefore, WhyNot, EndsFetching, EndsLoading, EndsCopy}
+use Rattle.stix_mirror.specs.Endings.{EndsMirror, AskSo, EndsWords, stop_status, mirror_status}
 use Rattle.stix_mirror.specs.Runs.{CopiesAll, LosesAll, HoldsMirrored}
-use Rattle.stix_mirror.proofs.AttemptLemmas.{pages_turn, all_failed, lost_counts, undialled_lost, pages_same}
+use Rattle.taxii_copy.proofs.AttemptLemmas.{pages_turn, all_failed, lost_counts, undialled_lost, pages_same}
 
 -- the statuses of a copy that stopped
 stop_is : (stop : CopyStop) → (stop_status stop ≢ 0) × (stop_status stop ≢ 2) × (stop_status stop ≢ 6)

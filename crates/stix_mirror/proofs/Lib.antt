@@ -1,5 +1,3 @@
 mod WordLemmas
-mod AttemptLemmas
-mod CopyLemmas
 mod CauseLemmas
 mod EndLemmas

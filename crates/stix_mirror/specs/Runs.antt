@@ -10,10 +10,11 @@ use Rattle.taxii_client.specs.declared.turn.Turn.TheVariants.{First, Over}
 use Rattle.taxii_mirror.specs.Absorbing.{Absorbed}
 use Rattle.taxii_mirror.specs.Mirrored.{Mirrored}
 use Rattle.stix_mirror.specs.declared.ending.MirrorEnding.{MirrorEnding}
-use Rattle.stix_mirror.specs.Words.{Copying}
-use Rattle.stix_mirror.specs.Attempts.{Attempt, InTurn, losses, links_of, lost_links, pages_of, entries_of, LinkFailed}
-use Rattle.stix_mirror.specs.Filling.{Outside, Fills}
-use Rattle.stix_mirror.specs.Summary.{totals_of, summary_text}
+use Rattle.taxii_copy.specs.Copying.{Copying}
+use Rattle.taxii_copy.specs.Attempts.{Attempt, InTurn, losses, links_of, lost_links, pages_of, entries_of, LinkFailed}
+use Rattle.taxii_copy.specs.Filling.{Outside, Fills}
+use Rattle.taxii_copy.specs.Totals.{totals_of}
+use Rattle.stix_mirror.specs.Summary.{summary_text}
 use Rattle.stix_mirror.specs.Endings.{EndsWords, mirror_status, reason_of}
 
 -- the program ended in one of its ways, with that status and that reason

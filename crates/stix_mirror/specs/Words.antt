@@ -6,6 +6,7 @@ use Rattle.stix_ids.specs.Uuid.{IsUuidOf}
 use Rattle.command_line.specs.CommandLines.{IsNumberIn}
 use Rattle.command_line.specs.declared.numbers.TheConstants.{MAX_PORT}
 use Rattle.taxii_client.specs.declared.target.Target.{Target}
+use Rattle.taxii_copy.specs.Copying.{Copying}
 use Rattle.stix_mirror.specs.declared.forms.TheConstants.{MAX_ROOT}
 use Rattle.stix_mirror.specs.declared.words.TheConstants.{LIMIT, MAX_TRIES}
 use Rattle.stix_mirror.specs.declared.words.MirrorRequest.{MirrorRequest}
@@ -30,13 +31,6 @@ pub record IsRoot (text : List ℕ) : Type 0 where
   pub last : (front : List ℕ) × (text ≡ front ++ codes "/")
   pub short : length text ≤ MAX_ROOT
   pub bytes : All IsRootByte text
-
--- what is asked for: a collection of a peer, the file of the store that it is copied to, and how many fetches may be lost before the
--- program ends
-pub record Copying : Type 0 where
-  pub target : Target
-  pub file : List ℕ
-  pub tries : ℕ
 
 -- the first four words say where the collection is; a page has 100 objects at most
 pub record IsTargetOf (host port root collection : List ℕ) (target : Target) : Type 0 where

@@ -3,38 +3,15 @@ ghost use Rattle.flow_edges.specs.Faults.{Counted};
 ghost use Rattle.flow_edges.specs.Flow.{WritesWhole};
 ghost use Rattle.taxii_client.specs.Refusals.{refusal_text};
 ghost use Rattle.taxii_client.specs.declared.refusal.ReplyRefusal.TheVariants.{Status};
-ghost use Rattle.stix_mirror.specs.Endings.{bad_row_reason};
+ghost use Rattle.stix_mirror.specs.Endings.{bad_row_reason, stop_status, stop_reason};
 
-use command_reasons::{write_no_memory, write_write_fault};
 use flow_edges::{Sink, write_pieces, write_whole};
 use flow_values::Fault;
 use itoa::Buffer;
 use taxii_client::ReplyRefusal;
+use taxii_copy::{CopyStop, FetchStop};
 use taxii_mirror::StoreRefusal;
 use taxii_store::LoadRefusal;
-
-/// Why no page is asked for any more, though there is one.
-#[derive(Debug, Drop)]
-pub enum FetchStop {
-    /// As many fetches were lost as may be.
-    LinkLost,
-    /// The reply isn't a page.
-    Refused(ReplyRefusal),
-    /// As many pages came as a walk may have.
-    TooManyPages,
-    NoMemory,
-}
-
-/// Why a copy ends before all pages were absorbed.
-#[derive(Debug, Drop)]
-pub enum CopyStop {
-    /// The store wasn't read.
-    NotLoaded(LoadRefusal),
-    /// The next page didn't come.
-    NotFetched(FetchStop),
-    /// The last page that came wasn't absorbed.
-    NotAbsorbed(StoreRefusal),
-}
 
 /// How the program ends.
 #[derive(Debug, Drop)]
@@ -62,7 +39,7 @@ impl MirrorEnding {
             MirrorEnding::NoMemory => 1,
             MirrorEnding::Usage => 2,
             MirrorEnding::WriteFault => 6,
-            MirrorEnding::Stopped(stop) => stop.status(),
+            MirrorEnding::Stopped(stop) => status_of(stop),
         }
     }
 
@@ -75,55 +52,57 @@ impl MirrorEnding {
             MirrorEnding::Done => write_whole(reasons, b""),
             MirrorEnding::NoMemory => write_no_memory(reasons),
             MirrorEnding::Usage => write_usage(reasons),
-            MirrorEnding::WriteFault => write_write_fault(reasons),
-            MirrorEnding::Stopped(stop) => stop.write_reason(reasons),
+            MirrorEnding::WriteFault => write_whole(reasons, b"write fault\n"),
+            MirrorEnding::Stopped(stop) => write_stop(stop, reasons),
         }
     }
 }
 
-impl CopyStop {
-    ghost use Rattle.stix_mirror.specs.Endings.{stop_status, stop_reason};
+/// The status of a copy that stopped so.
+fn status_of(stop: &CopyStop) -> u8
+    ensures { result ≡ stop_status stop.now }
+{
+    match stop {
+        CopyStop::NotLoaded(LoadRefusal::NoMemory)
+        | CopyStop::NotFetched(FetchStop::NoMemory)
+        | CopyStop::NotAbsorbed(StoreRefusal::NoMemory) => 1,
+        CopyStop::NotFetched(FetchStop::LinkLost) => 5,
+        CopyStop::NotLoaded(LoadRefusal::KeeperFault)
+        | CopyStop::NotAbsorbed(StoreRefusal::Fault) => 9,
+        CopyStop::NotLoaded(LoadRefusal::BadRow { .. }) => 10,
+        CopyStop::NotFetched(FetchStop::Refused(_)) => 11,
+        CopyStop::NotFetched(FetchStop::TooManyPages) => 13,
+        CopyStop::NotAbsorbed(StoreRefusal::DatesUsedUp) => 14,
+    }
+}
 
-    fn status(&self) -> u8
-        ensures { result ≡ stop_status self.now }
-    {
-        match self {
-            CopyStop::NotLoaded(LoadRefusal::NoMemory)
-            | CopyStop::NotFetched(FetchStop::NoMemory)
-            | CopyStop::NotAbsorbed(StoreRefusal::NoMemory) => 1,
-            CopyStop::NotFetched(FetchStop::LinkLost) => 5,
-            CopyStop::NotLoaded(LoadRefusal::KeeperFault)
-            | CopyStop::NotAbsorbed(StoreRefusal::Fault) => 9,
-            CopyStop::NotLoaded(LoadRefusal::BadRow { .. }) => 10,
-            CopyStop::NotFetched(FetchStop::Refused(_)) => 11,
-            CopyStop::NotFetched(FetchStop::TooManyPages) => 13,
-            CopyStop::NotAbsorbed(StoreRefusal::DatesUsedUp) => 14,
+/// Writes why a copy stopped.
+fn write_stop<S: Sink>(stop: &CopyStop, reasons: &mut S) -> Result<(), Fault>
+    ensures text { WritesWhole (stop_reason stop.now) (S.written reasons.old) (S.written reasons.new) result }
+    ensures causes { Counted (IsErr result) (S.faults reasons.old) (S.faults reasons.new) }
+{
+    match stop {
+        CopyStop::NotLoaded(LoadRefusal::NoMemory)
+        | CopyStop::NotFetched(FetchStop::NoMemory)
+        | CopyStop::NotAbsorbed(StoreRefusal::NoMemory) => write_no_memory(reasons),
+        CopyStop::NotFetched(FetchStop::LinkLost) => write_whole(reasons, b"link lost\n"),
+        CopyStop::NotLoaded(LoadRefusal::KeeperFault)
+        | CopyStop::NotAbsorbed(StoreRefusal::Fault) => write_whole(reasons, b"store fault\n"),
+        CopyStop::NotLoaded(LoadRefusal::BadRow { after }) => write_bad_row(*after, reasons),
+        CopyStop::NotFetched(FetchStop::Refused(refusal)) => write_refusal(refusal, reasons),
+        CopyStop::NotFetched(FetchStop::TooManyPages) => write_whole(reasons, b"too many pages\n"),
+        CopyStop::NotAbsorbed(StoreRefusal::DatesUsedUp) => {
+            write_whole(reasons, b"date range is used up\n")
         }
     }
+}
 
-    fn write_reason<S: Sink>(&self, reasons: &mut S) -> Result<(), Fault>
-        ensures text { WritesWhole (stop_reason self.now) (S.written reasons.old) (S.written reasons.new) result }
-        ensures causes { Counted (IsErr result) (S.faults reasons.old) (S.faults reasons.new) }
-    {
-        match self {
-            CopyStop::NotLoaded(LoadRefusal::NoMemory)
-            | CopyStop::NotFetched(FetchStop::NoMemory)
-            | CopyStop::NotAbsorbed(StoreRefusal::NoMemory) => write_no_memory(reasons),
-            CopyStop::NotFetched(FetchStop::LinkLost) => write_whole(reasons, b"link lost\n"),
-            CopyStop::NotLoaded(LoadRefusal::KeeperFault)
-            | CopyStop::NotAbsorbed(StoreRefusal::Fault) => {
-                write_whole(reasons, b"store fault\n")
-            }
-            CopyStop::NotLoaded(LoadRefusal::BadRow { after }) => write_bad_row(*after, reasons),
-            CopyStop::NotFetched(FetchStop::Refused(refusal)) => write_refusal(refusal, reasons),
-            CopyStop::NotFetched(FetchStop::TooManyPages) => {
-                write_whole(reasons, b"too many pages\n")
-            }
-            CopyStop::NotAbsorbed(StoreRefusal::DatesUsedUp) => {
-                write_whole(reasons, b"date range is used up\n")
-            }
-        }
-    }
+/// Writes that memory ran out. Takes no memory.
+pub(crate) fn write_no_memory<S: Sink>(reasons: &mut S) -> Result<(), Fault>
+    ensures text { WritesWhole (codes "out of memory\n") (S.written reasons.old) (S.written reasons.new) result }
+    ensures causes { Counted (IsErr result) (S.faults reasons.old) (S.faults reasons.new) }
+{
+    write_whole(reasons, b"out of memory\n")
 }
 
 /// Writes what the words are.

@@ -2,15 +2,14 @@
 //! that is lost on its way is asked for again, and none is absorbed twice.
 #![tactic(auto)]
 
-mod copying;
 mod ending;
 mod forms;
 mod run;
-mod totals;
+mod summary;
 mod words;
 
+use crate::ending::write_no_memory;
 use command_line::program_words;
-use command_reasons::write_no_memory;
 use flow_edges::WriteSink;
 use flow_links::{SystemClock, TcpDial};
 use flow_values::NoMemory;

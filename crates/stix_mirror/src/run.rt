@@ -1,23 +1,21 @@
 ghost use Rattle.std.specs.Prelude.{◌≡◌, ◌↔◌, ◌≤◌};
 ghost use Rattle.flow_edges.specs.Faults.{Counted};
 ghost use Rattle.command_line.specs.CommandLines.{texts};
-ghost use Rattle.command_reasons.specs.Reasons.{WritesReason};
 ghost use Rattle.taxii_client.specs.Outside.{link_view};
 ghost use Rattle.stix_mirror.specs.Words.{AskForNothing, IsHost, copying_of};
-ghost use Rattle.stix_mirror.specs.Filling.{outside};
-ghost use Rattle.stix_mirror.specs.Endings.{AskSo, EndsMirror, EndsWords, mirror_status, reason_of};
-ghost use Rattle.stix_mirror.specs.inner.Copying.{Concludes};
+ghost use Rattle.taxii_copy.specs.Filling.{outside};
+ghost use Rattle.stix_mirror.specs.Endings.{AskSo, Concludes, EndsMirror, EndsWords, WritesReason, mirror_status, reason_of};
 ghost use Rattle.stix_mirror.specs.Runs.{Ends, CopiesAll, LosesAll, HoldsMirrored};
 
-use crate::copying::copy;
 use crate::ending::MirrorEnding;
-use crate::totals::{Totals, write_summary};
+use crate::summary::write_summary;
 use crate::words::{MirrorRequest, read_request};
 use flow_edges::Sink;
 use flow_links::{Clock, Dial};
 use flow_values::NoMemory;
 use std::alloc::Global;
 use taxii_client::laws::pulls_go_on;
+use taxii_copy::{Totals, copy};
 use taxii_rows::Keeper;
 
 /// Tells what was absorbed.
@@ -52,7 +50,7 @@ fn answer<D: Dial, K: Keeper, C: Clock, O: Sink>(
         Ok(target) => target,
         Err(NoMemory) => return MirrorEnding::NoMemory,
     };
-    match copy(alloc, request, &target, dial, keeper, clock) {
+    match copy(alloc, &target, request.file, request.tries, dial, keeper, clock) {
         Ok(totals) => conclude(&totals, output),
         Err(stop) => MirrorEnding::Stopped(stop),
     }

@@ -2,7 +2,7 @@ use Rattle.std.proofs.Common.{◌≡◌, ◌≢◌, ◌↔◌, ℕ, sym, subst, 
 use Rattle.command_line.specs.CommandLines.{texts}
 use Rattle.taxii_client.specs.Outside.{link_view}
 use Rattle.stix_mirror.specs.Words.{AskForNothing}
-use Rattle.stix_mirror.specs.Filling.{outside}
+use Rattle.taxii_copy.specs.Filling.{outside}
 use Rattle.stix_mirror.specs.Endings.{AskSo, mirror_status}
 use Rattle.stix_mirror.specs.Runs.{CopiesAll, LosesAll, HoldsMirrored}
 use Rattle.stix_mirror.proofs.EndLemmas.{usage_exactly, of_copy, copies_all, loses_all, holds_mirrored}

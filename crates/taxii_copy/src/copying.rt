@@ -1,15 +1,14 @@
-ghost use Rattle.std.specs.Prelude.{◌≡◌, ◌≤◌, ◌^◌, Err, IfOk, IfErr, IfSome};
+ghost use Rattle.std.specs.Prelude.{◌≡◌, ◌≤◌, ℕ, length, true, Err, IfOk, IfErr, IfSome, IsErrAnd};
 ghost use Rattle.flow_edges.specs.Faults.{Counted};
+ghost use Rattle.flow_links.specs.declared.dial.TheConstants.{MAX_HOST};
 ghost use Rattle.taxii_client.specs.Outside.{link_view};
 ghost use Rattle.taxii_store.specs.Loading.{IsBadAfter};
 ghost use Rattle.taxii_store.specs.declared.load_refusal.LoadRefusal.TheVariants as Unloaded;
-ghost use Rattle.stix_mirror.specs.Words.{IsHost, copying_of};
-ghost use Rattle.stix_mirror.specs.Filling.{outside};
-ghost use Rattle.stix_mirror.specs.inner.Copying.{stop_of, Opens, CopiesSo, FailsStore};
+ghost use Rattle.taxii_copy.specs.Filling.{outside};
+ghost use Rattle.taxii_copy.specs.Endings.{Copies, is_store_fault};
+ghost use Rattle.taxii_copy.specs.inner.Opening.{stop_of, Opens};
 
-use crate::ending::{CopyStop, FetchStop};
-use crate::totals::Totals;
-use crate::words::MirrorRequest;
+use crate::{CopyStop, FetchStop, Totals};
 use flow_links::{Clock, Dial};
 use std::alloc::Global;
 use taxii_client::laws::pulls_go_on;
@@ -19,27 +18,29 @@ use taxii_mirror::laws::pages_go_on;
 use taxii_rows::Keeper;
 use taxii_store::{Library, LoadRefusal};
 
-/// Fetches the pages of a collection in turn, and absorbs each before the next one is asked for. A page that is
-/// lost is asked for again; the copy ends when so many fetches were lost.
-pub(crate) fn copy<D: Dial, K: Keeper, C: Clock>(
+/// Fetches the pages of a collection in turn, and absorbs each at the next moment of the clock, before the next one
+/// is asked for, into the store of that name. A page that is lost is asked for again; the copy ends when `tries`
+/// fetches were lost in all.
+pub fn copy<D: Dial, K: Keeper, C: Clock>(
     alloc: Global,
-    request: &MirrorRequest<'_>,
     target: &Target,
+    file: &str,
+    tries: u32,
     dial: &mut D,
     keeper: &mut K,
     clock: &mut C,
 ) -> Result<Totals, CopyStop>
-    requires target { target.now ≡ (copying_of request.now).target }
-    requires host { IsHost request.now.host.now }
-    requires tries { 1 ≤ request.now.tries }
-    ensures copies { CopiesSo (link_view D.Link.left D.Link.written D.Link.Source.faults D.Link.Sink.faults) (copying_of request.now)
+    requires short { length target.now.host ≤ MAX_HOST }
+    requires tries { 1 ≤ tries }
+    ensures copies { Copies (link_view D.Link.left D.Link.written D.Link.Source.faults D.Link.Sink.faults)
+        (record { target = target.now; file = file.now; tries = tries })
         (outside (D.told dial.old) (D.faults dial.old) (K.kept keeper.old) (C.moments clock.old))
         (outside (D.told dial.new) (D.faults dial.new) (K.kept keeper.new) (C.moments clock.new)) result }
-    ensures causes { Counted (FailsStore result) (K.faults keeper.old) (K.faults keeper.new) }
+    ensures causes { Counted (IsErrAnd result (λ stop. is_store_fault stop ≡ true)) (K.faults keeper.old) (K.faults keeper.new) }
 {
     pulls_go_on::<D>();
     pages_go_on();
-    let mut mirror = match open(alloc, keeper, request.file, request.collection) {
+    let mut mirror = match open(alloc, keeper, file, target.collection) {
         Ok(mirror) => mirror,
         Err(refusal) => return Err(CopyStop::NotLoaded(refusal)),
     };
@@ -55,7 +56,7 @@ pub(crate) fn copy<D: Dial, K: Keeper, C: Clock>(
                     return Err(CopyStop::NotFetched(stop));
                 }
                 lost += 1;
-                if lost == request.tries {
+                if lost == tries {
                     return Err(CopyStop::NotFetched(FetchStop::LinkLost));
                 }
                 continue 'attempts;
@@ -69,7 +70,7 @@ pub(crate) fn copy<D: Dial, K: Keeper, C: Clock>(
     }
 }
 
-/// A mirror of a collection over the rows that the keeper has in a file.
+/// A mirror of a collection over the rows that the keeper has under a name.
 fn open<K: Keeper>(
     alloc: Global,
     keeper: &mut K,

@@ -25,16 +25,16 @@ use Rattle.taxii_mirror.specs.Absorbing.{Absorbed, Absorbs, MirrorState}
 use Rattle.taxii_mirror.specs.Mirrored.{Mirrored}
 use Rattle.taxii_mirror.specs.declared.refusal.StoreRefusal.{StoreRefusal}
 use Rattle.taxii_mirror.specs.declared.tally.Tally.{Tally}
-use Rattle.stix_mirror.specs.declared.ending.FetchStop.{FetchStop}
-use Rattle.stix_mirror.specs.declared.ending.FetchStop.TheVariants as Stop
-use Rattle.stix_mirror.specs.declared.totals.Totals.{Totals}
-use Rattle.stix_mirror.specs.Words.{Copying}
-use Rattle.stix_mirror.specs.Attempts.{Attempt, IsAttemptAt, InTurn, turn_behind, is_lost, losses, undialled, links_of, pages_of, entries_of, GoesOn, CountsDials}
-use Rattle.stix_mirror.specs.Filling.{Outside, GivesMoments, Fills}
-use Rattle.stix_mirror.specs.Summary.{totals_of, with_tally}
-use Rattle.stix_mirror.specs.Endings.{Stops, StopsBehind, StopsLost, StopsFull, StopsAt, StopsShort, WhyNot, EndsFetching}
-use Rattle.stix_mirror.specs.inner.Copying.{stop_of, Opens}
-use Rattle.stix_mirror.proofs.AttemptLemmas.{over, without, links_more, links_same, pages_more, pages_same, entries_more, turns_more, losses_lost, losses_came, counts_none, counts_over, counts_without, sum_more}
+use Rattle.taxii_copy.specs.declared.stop.FetchStop.{FetchStop}
+use Rattle.taxii_copy.specs.declared.stop.FetchStop.TheVariants as Stop
+use Rattle.taxii_copy.specs.declared.totals.Totals.{Totals}
+use Rattle.taxii_copy.specs.Copying.{Copying}
+use Rattle.taxii_copy.specs.Attempts.{Attempt, IsAttemptAt, InTurn, turn_behind, is_lost, losses, undialled, links_of, pages_of, entries_of, GoesOn, CountsDials}
+use Rattle.taxii_copy.specs.Filling.{Outside, GivesMoments, Fills}
+use Rattle.taxii_copy.specs.Totals.{totals_of, with_tally}
+use Rattle.taxii_copy.specs.Endings.{Stops, StopsBehind, StopsLost, StopsFull, StopsAt, StopsShort, WhyNot, EndsFetching}
+use Rattle.taxii_copy.specs.inner.Opening.{stop_of, Opens}
+use Rattle.taxii_copy.proofs.AttemptLemmas.{over, without, links_more, links_same, pages_more, pages_same, entries_more, turns_more, losses_lost, losses_came, counts_none, counts_over, counts_without, sum_more}
 
 -- ---- moments
 

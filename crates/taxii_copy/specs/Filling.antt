@@ -9,7 +9,7 @@ use Rattle.taxii_rows.specs.StoreState.{StoreState}
 use Rattle.taxii_client.specs.Outside.{DialView}
 use Rattle.taxii_mirror.specs.Absorbing.{Absorbed}
 use Rattle.taxii_mirror.specs.Mirrored.{Mirrored}
-use Rattle.stix_mirror.specs.Words.{Copying}
+use Rattle.taxii_copy.specs.Copying.{Copying}
 
 -- the outside of a run at one moment: its dial, what contracts see of the keeper, and the moments that the clock will give
 pub record Outside (L : Type 0) : Type 0 where

@@ -14,7 +14,7 @@ use Rattle.taxii_client.specs.declared.fetch_end.FetchEnd.{FetchEnd}
 use Rattle.taxii_client.specs.declared.fetch_end.FetchEnd.TheVariants as Fetch
 use Rattle.taxii_client.specs.declared.target.Target.{Target}
 use Rattle.taxii_client.specs.declared.turn.Turn.{Turn}
-use Rattle.stix_mirror.specs.Attempts.{Attempt, IsAttemptAt, InTurn, turn_behind, is_loss, is_lost, losses, undialled, links_of, lost_links, page_over, pages_of, entries_of, GoesOn, LinkRose, EndsInside, LinkFailed, CountsDials}
+use Rattle.taxii_copy.specs.Attempts.{Attempt, IsAttemptAt, InTurn, turn_behind, is_loss, is_lost, losses, undialled, links_of, lost_links, page_over, pages_of, entries_of, GoesOn, LinkRose, EndsInside, LinkFailed, CountsDials}
 
 -- ---- counts and lists, one more
 

@@ -1,49 +1,12 @@
-ghost use Rattle.std.specs.Prelude.{◌≡◌, ◌<◌, ◌^◌, OnErr, IsErr};
+ghost use Rattle.std.specs.Prelude.{OnErr, IsErr};
 ghost use Rattle.flow_edges.specs.Faults.{Counted};
 ghost use Rattle.flow_edges.specs.Flow.{WritesWhole, WritesPart};
-ghost use Rattle.stix_mirror.specs.Summary.{counts_text, summary_text, with_tally};
+ghost use Rattle.stix_mirror.specs.Summary.{counts_text, summary_text};
 
 use flow_edges::{Sink, write_pieces};
 use flow_values::Fault;
 use itoa::Buffer;
-use taxii_mirror::Tally;
-
-/// What became of the entries of all pages that were absorbed.
-#[derive(Clone, Copy, Debug)]
-pub struct Totals {
-    pub pages: u64,
-    pub added: u128,
-    pub present: u128,
-    pub skipped: u128,
-}
-
-impl Totals {
-    /// No page.
-    pub(crate) fn new() -> Totals
-        ensures { result ≡ record { pages = 0; added = 0; present = 0; skipped = 0 } }
-    {
-        Totals {
-            pages: 0,
-            added: 0,
-            present: 0,
-            skipped: 0,
-        }
-    }
-
-    /// One more page.
-    pub(crate) fn add(&mut self, tally: &Tally)
-        requires pages { self.old.pages < 2 ^ 63 }
-        requires added { self.old.added < 2 ^ 127 }
-        requires present { self.old.present < 2 ^ 127 }
-        requires skipped { self.old.skipped < 2 ^ 127 }
-        ensures { self.new ≡ with_tally tally.now self.old }
-    {
-        self.pages += 1;
-        self.added += u128::from(tally.added);
-        self.present += u128::from(tally.present);
-        self.skipped += u128::from(tally.skipped);
-    }
-}
+use taxii_copy::Totals;
 
 /// Writes what was absorbed, as `pages 1 added 3 present 0 skipped 0` and a line feed. Takes no memory.
 pub(crate) fn write_summary<O: Sink>(totals: &Totals, output: &mut O) -> Result<(), Fault>
