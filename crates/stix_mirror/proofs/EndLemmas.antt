@@ -75,7 +75,7 @@ module _ (L : Type 0) (view : L → LinkView) (before now : Outside L) (written 
   copies_all asked Usage is ends = absurd ends
   copies_all asked Done is (copied, told) =
       let stops = copied.stops in
-      let turns = subst (λ (as : List (Attempt L)). InTurn view asked.target First as stops.turn) (append-nil stops.attempts) stops.in_turn in record {
+      let turns = subst (λ (those : List (Attempt L)). InTurn view asked.target First those stops.turn) (append-nil stops.attempts) stops.in_turn in record {
         pages = pages_of stops.attempts;
         pull = subst (λ (t : Turn). PagesInTurn view asked.target First (pages_of stops.attempts) t) copied.over (pages_turn view asked.target First stops.turn stops.attempts turns stops.go_on);
         absorbed = stops.absorbed;
@@ -92,11 +92,11 @@ module _ (L : Type 0) (view : L → LinkView) (before now : Outside L) (written 
   loses asked lost =
       let stops = lost.stops in
       let attempts = stops.attempts in
-      let turns = subst (λ (as : List (Attempt L)). InTurn view asked.target First as stops.turn) (append-nil attempts) stops.in_turn in
-      let counts = subst (λ (as : List (Attempt L)). CountsDials (undialled as) before.dial.faults now.dial.faults) (append-nil attempts) stops.counts in
+      let turns = subst (λ (those : List (Attempt L)). InTurn view asked.target First those stops.turn) (append-nil attempts) stops.in_turn in
+      let counts = subst (λ (those : List (Attempt L)). CountsDials (undialled those) before.dial.faults now.dial.faults) (append-nil attempts) stops.counts in
       let all = lost_counts attempts (undialled_lost view asked.target First stops.turn attempts turns) in record {
         attempts = attempts;
-        through = subst (λ (as : List (Attempt L)). PassThrough asked.target (links_of as) before.dial.told now.dial.told) (append-nil attempts) stops.through;
+        through = subst (λ (those : List (Attempt L)). PassThrough asked.target (links_of those) before.dial.told now.dial.told) (append-nil attempts) stops.through;
         failed = all_failed view asked.target First stops.turn attempts turns;
         all = lost.all;
         bound = within before.dial.faults (undialled attempts) now.dial.faults (length (lost_links attempts)) asked.tries counts.rose (omega (arith, all, lost.all));

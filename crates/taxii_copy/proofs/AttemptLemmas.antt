@@ -28,6 +28,9 @@ sum_more f xs x = fold_more (λ (a : ℕ) y. a + f y) 0 xs x
 pub count_more : {X : Type 0} (test : X → Bool) (xs : List X) (x : X) → count_by test (xs ++ x ∷ []) ≡ count_by test xs + cond (test x) 1 0
 count_more test xs x = sum_more (λ y. cond (test y) 1 0) xs x
 
+pub counts_none : (faults : ℕ) → CountsDials 0 faults faults
+counts_none faults = record { rose = omega arith; quiet = λ none. refl }
+
 module _ {L : Type 0} where
   pub losses_lost : (attempts : List (Attempt L)) (attempt : Attempt L) → is_lost attempt ≡ true → losses (attempts ++ attempt ∷ []) ≡ losses attempts + 1
   losses_lost attempts attempt lost = count_more is_lost attempts attempt ∙ ap (λ (b : Bool). losses attempts + cond b 1 0) lost
@@ -36,10 +39,10 @@ module _ {L : Type 0} where
   losses_came attempts attempt came = count_more is_lost attempts attempt ∙ ap (λ (b : Bool). losses attempts + cond b 1 0) came ∙ omega arith
 
   -- an attempt over a link or without one
-  pub over : Lent L → Result Envelope FetchEnd → Attempt L
+  abbrev pub over : Lent L → Result Envelope FetchEnd → Attempt L
   over link answer = record { link = Some link; answer = answer }
 
-  pub without : Attempt L
+  abbrev pub without : Attempt L
   without = record { link = None; answer = Err Fetch.Fault }
 
   pub links_more : (attempts : List (Attempt L)) (link : Lent L) (answer : Result Envelope FetchEnd)
@@ -165,9 +168,6 @@ module _ {L : Type 0} where
       (undialled_lost view target (turn_behind start attempt.answer) turn attempts turns.1)
 
   -- ---- the dial's count
-
-  pub counts_none : (faults : ℕ) → CountsDials 0 faults faults
-  counts_none faults = record { rose = omega arith; quiet = λ none. refl }
 
   pub counts_over : (attempts : List (Attempt L)) (link : Lent L) (answer : Result Envelope FetchEnd) (before now after : ℕ)
       → CountsDials (undialled attempts) before now → after ≡ now → CountsDials (undialled (attempts ++ over link answer ∷ [])) before after

@@ -137,13 +137,13 @@ module _ {L : Type 0} (view : L → LinkView) (asked : Copying)
         }
 
     through_was : PassThrough asked.target (links_of so.stops.attempts) before.dial.told now.dial.told
-    through_was = subst (λ (as : List (Attempt L)). PassThrough asked.target (links_of as) before.dial.told now.dial.told) (append-nil so.stops.attempts) so.stops.through
+    through_was = subst (λ (those : List (Attempt L)). PassThrough asked.target (links_of those) before.dial.told now.dial.told) (append-nil so.stops.attempts) so.stops.through
 
     counts_was : CountsDials (undialled so.stops.attempts) before.dial.faults now.dial.faults
-    counts_was = subst (λ (as : List (Attempt L)). CountsDials (undialled as) before.dial.faults now.dial.faults) (append-nil so.stops.attempts) so.stops.counts
+    counts_was = subst (λ (those : List (Attempt L)). CountsDials (undialled those) before.dial.faults now.dial.faults) (append-nil so.stops.attempts) so.stops.counts
 
     turns_was : InTurn view asked.target First so.stops.attempts so.stops.turn
-    turns_was = subst (λ (as : List (Attempt L)). InTurn view asked.target First as so.stops.turn) (append-nil so.stops.attempts) so.stops.in_turn
+    turns_was = subst (λ (those : List (Attempt L)). InTurn view asked.target First those so.stops.turn) (append-nil so.stops.attempts) so.stops.in_turn
 
     made_here : (dial : DialView L) (answer : Result Envelope FetchEnd) → AsksFor view pull now.dial dial answer → Made view asked.target so.stops.turn now.dial dial answer
     made_here dial answer asks =
@@ -158,12 +158,12 @@ module _ {L : Type 0} (view : L → LinkView) (asked : Copying)
           attempts = attempts;
           go_on = All-push GoesOn so.stops.attempts made.attempt so.stops.go_on (inr lost_it);
           turn = so.stops.turn;
-          in_turn = subst (λ (as : List (Attempt L)). InTurn view asked.target First as so.stops.turn) (sym (append-nil attempts))
+          in_turn = subst (λ (those : List (Attempt L)). InTurn view asked.target First those so.stops.turn) (sym (append-nil attempts))
               (subst (λ (a : Result Envelope FetchEnd). InTurn view asked.target First attempts (turn_behind so.stops.turn a)) made.answer_is
               (turns_more view asked.target First so.stops.turn so.stops.attempts made.attempt turns_was made.at));
-          through = subst (λ (as : List (Attempt L)). PassThrough asked.target (links_of as) before.dial.told dial.told) (sym (append-nil attempts))
+          through = subst (λ (those : List (Attempt L)). PassThrough asked.target (links_of those) before.dial.told dial.told) (sym (append-nil attempts))
               (through_more so.stops.attempts so.stops.turn before.dial.told now.dial dial (Err end) made through_was);
-          counts = subst (λ (as : List (Attempt L)). CountsDials (undialled as) before.dial.faults dial.faults) (sym (append-nil attempts))
+          counts = subst (λ (those : List (Attempt L)). CountsDials (undialled those) before.dial.faults dial.faults) (sym (append-nil attempts))
               (counts_more so.stops.attempts so.stops.turn before.dial.faults now.dial dial (Err end) made counts_was);
           absorbed = so.stops.absorbed;
           fills = fills_still dial attempts (pages_same so.stops.attempts made.attempt end made.answer_is);
@@ -197,11 +197,15 @@ module _ {L : Type 0} (view : L → LinkView) (asked : Copying)
       fills = fills_still dial so.stops.attempts refl;
     }
 
+    still_few : losses so.stops.attempts < asked.tries
+    still_few = omega (arith, so.few, so.lost_is)
+
     -- no page was left
     pub copy_done : (after : PullState) (dial : DialView L) → Answers view pull after now.dial dial (Ok None)
         → (copied : StopsBehind view asked before (with_dial dial now)) × (totals ≡ totals_of copied.stops.absorbed)
+    unfolding stops_still
     copy_done after dial (is_over, (same, rests)) = (
-      record { stops = stops_still dial rests; over = sym so.turn_is ∙ is_over; few = omega (arith, so.few, so.lost_is) },
+      record { stops = stops_still dial rests; over = sym so.turn_is ∙ is_over; few = still_few },
       so.totals_is,
     )
 
@@ -209,6 +213,7 @@ module _ {L : Type 0} (view : L → LinkView) (asked : Copying)
     lost_by : (end : FetchEnd) (dial : DialView L) → AsksFor view pull now.dial dial (Err end) → is_lost (let a : Attempt L = record { link = None; answer = Err end } in a) ≡ true
         → (stops : Stops view asked before (with_dial dial now) [] []) × (losses stops.attempts ≡ lost + 1) × (stops.turn ≡ pull.turn)
         × (length (pages_of stops.attempts) ≡ pull.pages) × (totals ≡ totals_of stops.absorbed) × (mirror.store ≡ stops.fills.last) × (stops.turn ≢ Over)
+    unfolding stops_lost fills_still
     lost_by end dial asks loss =
         let made = made_here dial (Err end) asks in
         let lost_it : is_lost made.attempt ≡ true = ap (λ (a : Result Envelope FetchEnd). is_lost (let one : Attempt L = record { link = None; answer = a } in one)) made.answer_is ∙ loss in (
@@ -268,9 +273,10 @@ module _ {L : Type 0} (view : L → LinkView) (asked : Copying)
         record { stops = stops; wants = wants; all = count ∙ all }
 
     ends_at : (end : FetchEnd) (dial : DialView L) → AsksFor view pull now.dial dial (Err end) → StopsAt view asked before (with_dial dial now) end
+    unfolding stops_at
     ends_at end dial asks =
         let made = made_here dial (Err end) asks in
-        record { last = made.attempt; ended = made.answer_is; stops = stops_at dial end made; few = omega (arith, so.few, so.lost_is) }
+        record { last = made.attempt; ended = made.answer_is; stops = stops_at dial end made; few = still_few }
 
     some_stop : (one other : FetchStop) → Some one ≡ Some other → one ≡ other
     some_stop one other is = cc is
@@ -278,6 +284,7 @@ module _ {L : Type 0} (view : L → LinkView) (asked : Copying)
     -- no page came, and none is asked for any more
     pub copy_stops : (end : PageEnd) (stop : FetchStop) (after : PullState) (dial : DialView L) → Answers view pull after now.dial dial (Err end) → stop_of end ≡ Some stop
         → EndsFetching view asked before (with_dial dial now) stop
+    unfolding stops_still
     copy_stops End.Fault stop after dial answers is = absurd (cc is)
     copy_stops End.Cut stop after dial answers is = absurd (cc is)
     copy_stops (End.Refused refusal) stop after dial (asks, same) is =
@@ -287,7 +294,7 @@ module _ {L : Type 0} (view : L → LinkView) (asked : Copying)
           stops = stops_still dial rests;
           full = sym so.pages_is ∙ most;
           wants = λ is_over. more (so.turn_is ∙ is_over);
-          few = omega (arith, so.few, so.lost_is);
+          few = still_few;
         })
     copy_stops End.NoMemory stop after dial (asks, same) is =
         subst (EndsFetching view asked before (with_dial dial now)) (some_stop Stop.NoMemory stop is) (ends_at Fetch.NoMemory dial asks)
@@ -334,12 +341,12 @@ module _ {L : Type 0} (view : L → LinkView) (asked : Copying)
           attempts = attempts;
           go_on = All-push GoesOn so.stops.attempts (over came.link (Ok came.envelope)) so.stops.go_on (inl (came.envelope, refl));
           turn = turn_after came.envelope;
-          in_turn = subst (λ (as : List (Attempt L)). InTurn view asked.target First as (turn_after came.envelope)) (sym (append-nil attempts))
+          in_turn = subst (λ (those : List (Attempt L)). InTurn view asked.target First those (turn_after came.envelope)) (sym (append-nil attempts))
               (turns_more view asked.target First so.stops.turn so.stops.attempts (over came.link (Ok came.envelope)) turns_was came.at);
-          through = subst (λ (as : List (Attempt L)). PassThrough asked.target (links_of as) before.dial.told dial.told) (sym (append-nil attempts))
+          through = subst (λ (those : List (Attempt L)). PassThrough asked.target (links_of those) before.dial.told dial.told) (sym (append-nil attempts))
               (subst (λ (links : List (Lent L)). PassThrough asked.target links before.dial.told dial.told) (sym (links_more so.stops.attempts came.link (Ok came.envelope)))
               (joins asked.target (links_of so.stops.attempts) (came.link ∷ []) before.dial.told now.dial.told dial.told through_was came.through));
-          counts = subst (λ (as : List (Attempt L)). CountsDials (undialled as) before.dial.faults dial.faults) (sym (append-nil attempts))
+          counts = subst (λ (those : List (Attempt L)). CountsDials (undialled those) before.dial.faults dial.faults) (sym (append-nil attempts))
               (counts_over so.stops.attempts came.link (Ok came.envelope) before.dial.faults now.dial.faults dial.faults counts_was came.quiet);
           absorbed = absorbed;
           fills = fills;
@@ -366,8 +373,11 @@ module _ {L : Type 0} (view : L → LinkView) (asked : Copying)
     pub copy_short : (after : PullState) (dial : DialView L) (entries : List Entry) (kept : Kept) (moments : ℕ → Option ℕ) (moment : ℕ) (refusal : StoreRefusal) (later : MirrorState)
         → GivesPage view pull after now.dial dial entries → IsNext now.moments moment → ClockGoesOn now.moments moments → later ≡ mirror → Agrees kept later.store
         → kept.name ≡ now.kept.name → WhyNot asked refusal entries mirror.store → StopsShort view asked before (then dial kept moments) (WhyNot asked refusal)
+    unfolding stops_came
     copy_short after dial entries kept moments moment refusal later gives next goes same agrees name why =
         let came = came_by after dial entries gives in
+        let few : losses (so.stops.attempts ++ over came.link (Ok came.envelope) ∷ []) < asked.tries =
+            omega (arith, still_few, losses_came so.stops.attempts (over came.link (Ok came.envelope)) refl) in
         let fills = so.stops.fills in record {
           entries = entries;
           stops = stops_came after dial entries came kept moments (entries ∷ []) so.stops.absorbed (record {
@@ -384,7 +394,7 @@ module _ {L : Type 0} (view : L → LinkView) (asked : Copying)
             moments = moments_more before.moments now.moments moments (map (λ (p : Absorbed). p.moment) so.stops.absorbed) moment moments_was next goes;
           });
           why = subst (WhyNot asked refusal entries) so.store_is why;
-          few = omega (arith, so.few, so.lost_is, losses_came so.stops.attempts (over came.link (Ok came.envelope)) refl);
+          few = few;
         }
 
     same_totals : (absorbed : List Absorbed) (page : Absorbed) → totals_of (absorbed ++ page ∷ []) ≡ with_tally page.tally (totals_of absorbed)
@@ -403,8 +413,12 @@ module _ {L : Type 0} (view : L → LinkView) (asked : Copying)
         → kept.name ≡ now.kept.name → later.collection ≡ mirror.collection
         → Absorbs mirror.collection (record { entries = entries; moment = moment; tally = tally }) mirror.store later.store → sums ≡ with_tally tally totals
         → CopiesSoFar view asked before (then dial kept moments) after later lost sums
+    unfolding stops_came
     copy_more goes_on after dial entries kept moments moment tally later sums gives next goes agrees name collection absorbs total =
         let came = came_by after dial entries gives in
+        let page_here : Page L = record { link = came.link; envelope = came.envelope } in
+        let pages : pull.pages + 1 ≡ length (pages_of (so.stops.attempts ++ over came.link (Ok came.envelope) ∷ [])) =
+            omega (arith, so.pages_is, ap length (pages_more so.stops.attempts came.link came.envelope), length-append (pages_of so.stops.attempts) (page_here ∷ [])) in
         let fills = so.stops.fills in
         let page : Absorbed = record { entries = entries; moment = moment; tally = tally } in
         let absorbed = so.stops.absorbed ++ page ∷ [] in
@@ -427,8 +441,7 @@ module _ {L : Type 0} (view : L → LinkView) (asked : Copying)
           });
           target_is = so.target_is;
           turn_is = refl;
-          pages_is = omega (arith, so.pages_is, ap length (pages_more so.stops.attempts came.link came.envelope),
-              length-append (pages_of so.stops.attempts) ((let p : Page L = record { link = came.link; envelope = came.envelope } in p) ∷ []));
+          pages_is = pages;
           lost_is = so.lost_is ∙ sym (losses_came so.stops.attempts (over came.link (Ok came.envelope)) refl);
           few = so.few;
           collection_is = collection ∙ so.collection_is;
