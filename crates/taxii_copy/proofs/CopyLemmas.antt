@@ -1,11 +1,18 @@
 -- A copy so far, what one more attempt makes of it, and where it stops.
 use Rattle.std.proofs.Common.{◌≡◌, ◌≢◌, ◌⊎◌, inl, inr, ℕ, ◌+◌, ◌*◌, ◌-◌, ◌^◌, ◌≤◌, ◌<◌, Bool, true, false, List, [], ◌∷◌, ◌++◌, length, map, sum_by, Option, None, Some, Result, Ok, Err, All, IfSome, refl, sym, ap, subst, ◌∙◌, append_assoc, arith}
 use Rattle.std.proofs.lemmas.List.{append-nil, map-append, length-append, length-map}
-use Rattle.std.proofs.lemmas.List.Elements.{All-push, All-nil}
+use Rattle.std.proofs.lemmas.List.Elements.{All-push, All-cons, All-nil}
 use Rattle.flow_edges.specs.Faults.{Rose}
 use Rattle.flow_links.specs.Dials.{DialState}
 use Rattle.flow_links.specs.Moments.{IsNext, GoesOn as ClockGoesOn}
+use Rattle.serde_json.specs.Data.{Data, Items, no_items, item}
 use Rattle.stix_json.specs.declared.entry.Entry.{Entry}
+use Rattle.stix_json.specs.declared.entry.Entry.TheVariants.{Good, Bad}
+use Rattle.stix_json.specs.DataOf.{data_of}
+use Rattle.stix_json.specs.Entries.{AreEntriesFor}
+use Rattle.stix_json.specs.Ordered.{IsOrdered}
+use Rattle.stix_json.specs.Reading.{IsEntryFor}
+use Rattle.stix_json.specs.Refusal.{refusal_of}
 use Rattle.stix_json.specs.declared.envelope.Envelope.{Envelope}
 use Rattle.taxii_rows.specs.Keeper.{Kept}
 use Rattle.taxii_rows.specs.StoreState.{StoreState}
@@ -21,7 +28,7 @@ use Rattle.taxii_client.specs.declared.pull.TheConstants.{MAX_PAGES}
 use Rattle.taxii_client.specs.declared.target.Target.{Target}
 use Rattle.taxii_client.specs.declared.turn.Turn.{Turn}
 use Rattle.taxii_client.specs.declared.turn.Turn.TheVariants.{First, Behind, Over}
-use Rattle.taxii_mirror.specs.Absorbing.{Absorbed, Absorbs, MirrorState}
+use Rattle.taxii_mirror.specs.Absorbing.{Absorbed, Absorbs, MirrorState, IsReadable}
 use Rattle.taxii_mirror.specs.Mirrored.{Mirrored}
 use Rattle.taxii_mirror.specs.declared.refusal.StoreRefusal.{StoreRefusal}
 use Rattle.taxii_mirror.specs.declared.tally.Tally.{Tally}
@@ -240,7 +247,7 @@ module _ {L : Type 0} (view : L → LinkView) (asked : Copying)
     lost_end End.TooManyPages after dial answers none = absurd (cc none)
     lost_end End.NoMemory after dial answers none = absurd (cc none)
 
-    same_pull : (end : PageEnd) (after : PullState) (dial : DialView L) → Answers view pull after now.dial dial (Err end) → after ≡ pull
+    pub same_pull : (end : PageEnd) (after : PullState) (dial : DialView L) → Answers view pull after now.dial dial (Err end) → after ≡ pull
     same_pull End.Fault after dial (asks, same) = same
     same_pull End.Cut after dial (asks, same) = same
     same_pull (End.Refused refusal) after dial (asks, same) = same
@@ -449,6 +456,29 @@ module _ {L : Type 0} (view : L → LinkView) (asked : Copying)
           agrees = agrees;
           totals_is = total ∙ ap (with_tally tally) so.totals_is ∙ sym (same_totals so.stops.absorbed page);
         })
+
+-- ---- the entries of a page
+
+readable_one : (d : Data) (entry : Entry) → IsEntryFor d entry → IsReadable entry
+readable_one d (Good value) is = (subst (λ (v : Data). refusal_of v ≡ None) (sym is.same) is.good, subst IsOrdered (sym is.same) is.ordered)
+readable_one d (Bad refusal) is = tt
+
+readable_all : (ds : Items) (entries : List Entry) → AreEntriesFor ds entries → All IsReadable entries
+readable_all no_items [] are = All-nil IsReadable
+readable_all no_items (entry ∷ entries) are = absurd are
+readable_all (item d ds) [] are = absurd are
+readable_all (item d ds) (entry ∷ entries) are = All-cons IsReadable entry entries (readable_one d entry are.0) (readable_all ds entries are.1)
+
+-- JSON's limits take the entries of a page that came
+pub page_readable : {L : Type 0} (view : L → LinkView) (before after : PullState) (dial now : DialView L) (entries : List Entry)
+    → GivesPage view before after dial now entries → All IsReadable entries
+page_readable view before after dial now entries gives =
+    subst (All IsReadable) (sym gives.entries_are) (go gives.asks.dials)
+  where
+    go : Dials view before.target gives.asks.next dial now (Ok gives.envelope) → All IsReadable gives.envelope.entries
+    go (inl fetches) =
+        let is = fetches.fetched.reads.answers.is_envelope in readable_all is.list gives.envelope.entries is.judged
+    go (inr fails) = let no = fails.fault in absurd (cc no)
 
 -- ---- the start
 

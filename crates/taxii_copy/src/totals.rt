@@ -1,4 +1,4 @@
-ghost use Rattle.std.specs.Prelude.{◌≡◌, ◌<◌, ◌^◌};
+ghost use Rattle.std.specs.Prelude.{◌≡◌, ◌<◌, ◌+◌, ◌^◌};
 ghost use Rattle.taxii_copy.specs.Totals.{with_tally};
 
 use taxii_mirror::Tally;
@@ -34,7 +34,10 @@ impl Totals {
         requires added { self.old.added < 2 ^ 127 }
         requires present { self.old.present < 2 ^ 127 }
         requires skipped { self.old.skipped < 2 ^ 127 }
-        ensures { self.new ≡ with_tally tally.now self.old }
+        ensures sums { self.new ≡ with_tally tally.now self.old }
+        ensures few_added { self.new.added < self.old.added + 2 ^ 64 }
+        ensures few_present { self.new.present < self.old.present + 2 ^ 64 }
+        ensures few_skipped { self.new.skipped < self.old.skipped + 2 ^ 64 }
     {
         self.pages += 1;
         self.added += u128::from(tally.added);
