@@ -1,5 +1,5 @@
 -- What an ending says of the words, of the pages that came, and of what was lost.
-use Rattle.std.proofs.Common.{◌≡◌, ◌≢◌, ◌⊎◌, ◌↔◌, inl, inr, ℕ, ◌+◌, ◌-◌, ◌^◌, ◌≤◌, min, List, [], ◌∷◌, ◌++◌, length, map, Option, None, Some, Err, All, IfSome, unwrap_or, refl, sym, ap, subst, ◌∙◌, arith}
+use Rattle.std.proofs.Common.{◌≡◌, ◌≢◌, ◌⊎◌, ◌↔◌, inl, inr, ℕ, ◌+◌, ◌-◌, ◌^◌, ◌≤◌, min, List, [], ◌∷◌, ◌++◌, length, map, Option, None, Some, Ok, Err, All, IfSome, unwrap_or, refl, sym, ap, subst, ◌∙◌, arith}
 use Rattle.std.proofs.lemmas.Bool.{cases_lt}
 use Rattle.std.proofs.lemmas.List.{append-nil}
 use Rattle.stix_json.specs.declared.entry.Entry.{Entry}
@@ -26,10 +26,16 @@ use Rattle.taxii_copy.specs.Copying.{Copying}
 use Rattle.stix_mirror.specs.Words.{AskForNothing}
 use Rattle.taxii_copy.specs.Attempts.{Attempt, InTurn, losses, undialled, links_of, lost_links, pages_of, entries_of, LinkFailed, CountsDials}
 use Rattle.taxii_copy.specs.Filling.{Outside, Fills}
-use Rattle.taxii_copy.specs.Endings.{Stops, StopsBehind, StopsLost, StopsFull, StopsAt, StopsShort, StopsBefore, WhyNot, EndsFetching, EndsLoading, EndsCopy}
-use Rattle.stix_mirror.specs.Endings.{EndsMirror, AskSo, EndsWords, stop_status, mirror_status}
+use Rattle.taxii_copy.specs.Endings.{Stops, StopsBehind, StopsLost, StopsFull, StopsAt, StopsShort, StopsBefore, WhyNot, EndsFetching, EndsLoading, EndsCopy, Copies}
+use Rattle.taxii_copy.specs.declared.totals.Totals.{Totals}
+use Rattle.flow_edges.specs.Flow.{written_with, WritesPart}
+use Rattle.stix_mirror.specs.Summary.{summary_text}
+use Rattle.stix_mirror.specs.Endings.{EndsMirror, Concludes, AskSo, EndsWords, stop_status, mirror_status}
 use Rattle.stix_mirror.specs.Runs.{CopiesAll, LosesAll, HoldsMirrored}
 use Rattle.taxii_copy.proofs.AttemptLemmas.{pages_turn, all_failed, lost_counts, undialled_lost, pages_same}
+
+abbrev no_rows : StoreState
+no_rows = record { rows = []; mark = 0 }
 
 -- the statuses of a copy that stopped
 stop_is : (stop : CopyStop) → (stop_status stop ≢ 0) × (stop_status stop ≢ 2) × (stop_status stop ≢ 6)
@@ -68,6 +74,15 @@ module _ (L : Type 0) (view : L → LinkView) (before now : Outside L) (written 
   of_copy Holds words ending (inl (nothing, is, same)) other says = absurd (other (ap mirror_status is))
   of_copy Holds words ending (inr so) other says = record { asked = so.asked; words_ask = so.words_ask; holds = says so.asked so.holds }
 
+  -- what was told at the end of a copy
+  pub concluded : (asked : Copying) (totals : Totals) (ending : MirrorEnding) → Copies view asked before now (Ok totals) → Concludes totals written written_now ending
+      → EndsMirror view asked before now written written_now ending
+  concluded asked totals Usage copies concludes = absurd concludes
+  concluded asked totals Done (copied, is) concludes = (copied, concludes ∙ ap (λ (t : Totals). written_with (summary_text t) written) is)
+  concluded asked totals WriteFault (copied, is) concludes = (copied, subst (λ (t : Totals). WritesPart (summary_text t) written written_now) is concludes)
+  concluded asked totals (Stopped stop) copies concludes = absurd concludes
+  concluded asked totals NoMemory copies concludes = absurd concludes
+
   -- ---- all pages came
 
   pub copies_all : (asked : Copying) (ending : MirrorEnding) → mirror_status ending ≡ 0 → EndsMirror view asked before now written written_now ending
@@ -105,8 +120,8 @@ module _ (L : Type 0) (view : L → LinkView) (before now : Outside L) (written 
       within : (first undialled last links tries : ℕ) → min (first + undialled) (2 ^ 64 - 1) ≤ last → tries ≡ undialled + links
           → (2 ^ 64 - 1 ≤ last) ⊎ (first + tries ≤ last + links)
       within first undialled last links tries rose all = elim (cases_lt last (2 ^ 64 - 1)) [
-        | inr full ↦ inl full
         | inl below ↦ inr (omega (arith, rose, all, below))
+        | inr full ↦ inl full
       ]
 
   pub loses_all : (asked : Copying) (ending : MirrorEnding) → mirror_status ending ≡ 5 → EndsMirror view asked before now written written_now ending
@@ -170,21 +185,18 @@ module _ (L : Type 0) (view : L → LinkView) (before now : Outside L) (written 
     pages_are = refl;
     few = omega arith;
     none = λ a b c. refl;
-    first = rows before.kept.told;
+    first = unwrap_or before.kept.told no_rows;
     loaded = loaded before.kept.told;
-    last = rows before.kept.told;
+    last = unwrap_or before.kept.told no_rows;
     mirrored = refl;
-    kept = subst (λ (told : Option StoreState). IfSome told (λ state. state ≡ rows before.kept.told)) (sym stops.rows) (kept before.kept.told);
+    kept = subst (λ (told : Option StoreState). IfSome told (λ state. state ≡ unwrap_or before.kept.told no_rows)) (sym stops.rows) (kept before.kept.told);
   }
     where
-      rows : Option StoreState → StoreState
-      rows told = unwrap_or told (record { rows = []; mark = 0 })
-
-      loaded : (told : Option StoreState) → IfSome told (λ state. rows told ≡ state)
+      loaded : (told : Option StoreState) → IfSome told (λ state. unwrap_or told no_rows ≡ state)
       loaded None = tt
       loaded (Some state) = refl
 
-      kept : (told : Option StoreState) → IfSome told (λ state. state ≡ rows told)
+      kept : (told : Option StoreState) → IfSome told (λ state. state ≡ unwrap_or told no_rows)
       kept None = tt
       kept (Some state) = refl
 
