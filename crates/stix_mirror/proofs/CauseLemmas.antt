@@ -1,5 +1,5 @@
 -- Where the store failed, by the status of what stopped.
-use Rattle.std.proofs.Common.{◌≡◌, ◌≢◌, ◌↔◌, ℕ, List, Option, Bool, true, refl, ap}
+use Rattle.std.proofs.Common.{◌≡◌, ◌≢◌, ◌↔◌, ℕ, List, Option, true, refl}
 use Rattle.flow_edges.specs.Faults.{Counted}
 use Rattle.taxii_store.specs.declared.load_refusal.LoadRefusal.TheVariants as Load
 use Rattle.taxii_mirror.specs.declared.refusal.StoreRefusal.TheVariants as Store

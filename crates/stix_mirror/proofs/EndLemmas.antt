@@ -1,32 +1,27 @@
 -- What an ending says of the words, of the pages that came, and of what was lost.
-use Rattle.std.proofs.Common.{◌≡◌, ◌≢◌, ◌⊎◌, ◌↔◌, inl, inr, ℕ, ◌+◌, ◌-◌, ◌^◌, ◌≤◌, min, List, [], ◌∷◌, ◌++◌, length, map, Option, None, Some, Ok, Err, All, IfSome, unwrap_or, refl, sym, ap, subst, ◌∙◌, arith}
+use Rattle.std.proofs.Common.{◌≡◌, ◌≢◌, ◌⊎◌, ◌↔◌, inl, inr, ℕ, ◌+◌, ◌-◌, ◌^◌, ◌≤◌, min, List, [], ◌∷◌, ◌++◌, length, Option, None, Some, Ok, IfSome, unwrap_or, refl, sym, ap, subst, ◌∙◌, arith}
 use Rattle.std.proofs.lemmas.Bool.{cases_lt}
 use Rattle.std.proofs.lemmas.List.{append-nil}
 use Rattle.stix_json.specs.declared.entry.Entry.{Entry}
 use Rattle.taxii_rows.specs.StoreState.{StoreState}
 use Rattle.taxii_client.specs.Outside.{LinkView, DialView}
-use Rattle.taxii_client.specs.Pulls.{Lent, PassThrough, InTurn as PagesInTurn}
+use Rattle.taxii_client.specs.Pulls.{PassThrough, InTurn as PagesInTurn}
 use Rattle.taxii_client.specs.declared.target.Target.{Target}
 use Rattle.taxii_client.specs.declared.fetch_end.FetchEnd.{FetchEnd}
 use Rattle.taxii_client.specs.declared.turn.Turn.{Turn}
 use Rattle.taxii_client.specs.declared.turn.Turn.TheVariants.{First}
-use Rattle.taxii_store.specs.declared.load_refusal.LoadRefusal.{LoadRefusal}
 use Rattle.taxii_store.specs.declared.load_refusal.LoadRefusal.TheVariants as Load
-use Rattle.taxii_mirror.specs.Absorbing.{Absorbed}
-use Rattle.taxii_mirror.specs.Mirrored.{Mirrored}
-use Rattle.taxii_mirror.specs.declared.refusal.StoreRefusal.{StoreRefusal}
 use Rattle.taxii_mirror.specs.declared.refusal.StoreRefusal.TheVariants as Store
 use Rattle.stix_mirror.specs.declared.ending.MirrorEnding.{MirrorEnding}
 use Rattle.stix_mirror.specs.declared.ending.MirrorEnding.TheVariants.{Usage, Done, WriteFault, Stopped, NoMemory}
 use Rattle.taxii_copy.specs.declared.stop.CopyStop.{CopyStop}
 use Rattle.taxii_copy.specs.declared.stop.CopyStop.TheVariants.{NotLoaded, NotFetched, NotAbsorbed}
-use Rattle.taxii_copy.specs.declared.stop.FetchStop.{FetchStop}
 use Rattle.taxii_copy.specs.declared.stop.FetchStop.TheVariants as Stop
 use Rattle.taxii_copy.specs.Copying.{Copying}
 use Rattle.stix_mirror.specs.Words.{AskForNothing}
-use Rattle.taxii_copy.specs.Attempts.{Attempt, InTurn, losses, undialled, links_of, lost_links, pages_of, entries_of, LinkFailed, CountsDials}
-use Rattle.taxii_copy.specs.Filling.{Outside, Fills}
-use Rattle.taxii_copy.specs.Endings.{Stops, StopsBehind, StopsLost, StopsFull, StopsAt, StopsShort, StopsBefore, WhyNot, EndsFetching, EndsLoading, EndsCopy, Copies}
+use Rattle.taxii_copy.specs.Attempts.{Attempt, InTurn, undialled, links_of, lost_links, pages_of, entries_of, CountsDials}
+use Rattle.taxii_copy.specs.Filling.{Outside}
+use Rattle.taxii_copy.specs.Endings.{Stops, StopsLost, StopsAt, StopsShort, StopsBefore, WhyNot, Copies}
 use Rattle.taxii_copy.specs.declared.totals.Totals.{Totals}
 use Rattle.flow_edges.specs.Flow.{written_with, WritesPart}
 use Rattle.stix_mirror.specs.Summary.{summary_text}

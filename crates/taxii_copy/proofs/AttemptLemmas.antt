@@ -1,20 +1,19 @@
 -- Attempts, one more at a time: their turns, their links, their pages, and how many were lost.
-use Rattle.std.proofs.Common.{◌≡◌, ◌⊎◌, inl, inr, ℕ, ◌+◌, ◌-◌, ◌^◌, ◌≤◌, min, Bool, true, false, cond, List, [], ◌∷◌, ◌++◌, length, map, filter, filter_map, count_by, sum_by, fold, is_none, Option, None, Some, MatchOption, Result, Ok, Err, All, refl, sym, ap, subst, ◌∙◌, arith}
+use Rattle.std.proofs.Common.{◌≡◌, inl, inr, ℕ, ◌+◌, ◌-◌, Bool, true, false, cond, List, [], ◌∷◌, ◌++◌, length, map, filter, filter_map, count_by, sum_by, fold, is_none, Option, None, Some, MatchOption, Result, Ok, Err, All, refl, sym, ap, subst, ◌∙◌, arith}
 use Rattle.std.specs.List.{cons_option}
-use Rattle.std.proofs.lemmas.List.{append-nil, map-append, length-append}
-use Rattle.std.proofs.lemmas.List.Elements.{All-push, All-cons, All-nil, All-head, All-tail, filter_map-append}
+use Rattle.std.proofs.lemmas.List.{append-nil, map-append}
+use Rattle.std.proofs.lemmas.List.Elements.{All-cons, All-nil, All-head, All-tail, filter_map-append}
 use Rattle.std.proofs.lemmas.List.Sums.{sum_by-cons}
-use Rattle.stix_json.specs.declared.entry.Entry.{Entry}
 use Rattle.stix_json.specs.declared.envelope.Envelope.{Envelope}
 use Rattle.flow_edges.specs.Faults.{Rose}
 use Rattle.taxii_client.specs.Outside.{LinkView, DialView}
 use Rattle.taxii_client.specs.Fetches.{Fetched}
-use Rattle.taxii_client.specs.Pulls.{Asks, Lent, Page, PassThrough, IsPageAt, InTurn as PagesInTurn, AsksFor, FetchesOver, FailsToDial, Dials, turn_after}
+use Rattle.taxii_client.specs.Pulls.{Asks, Lent, Page, InTurn as PagesInTurn, FetchesOver}
 use Rattle.taxii_client.specs.declared.fetch_end.FetchEnd.{FetchEnd}
 use Rattle.taxii_client.specs.declared.fetch_end.FetchEnd.TheVariants as Fetch
 use Rattle.taxii_client.specs.declared.target.Target.{Target}
 use Rattle.taxii_client.specs.declared.turn.Turn.{Turn}
-use Rattle.taxii_copy.specs.Attempts.{Attempt, IsAttemptAt, InTurn, turn_behind, is_loss, is_lost, losses, undialled, links_of, lost_links, page_over, pages_of, entries_of, GoesOn, LinkRose, EndsInside, LinkFailed, CountsDials}
+use Rattle.taxii_copy.specs.Attempts.{Attempt, IsAttemptAt, InTurn, turn_behind, is_loss, is_lost, losses, undialled, links_of, lost_links, page_over, pages_of, entries_of, GoesOn, LinkFailed, CountsDials}
 
 -- ---- counts and lists, one more
 

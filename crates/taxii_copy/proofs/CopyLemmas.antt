@@ -1,6 +1,6 @@
 -- A copy so far, what one more attempt makes of it, and where it stops.
-use Rattle.std.proofs.Common.{◌≡◌, ◌≢◌, ◌⊎◌, inl, inr, ℕ, ◌+◌, ◌*◌, ◌-◌, ◌^◌, ◌≤◌, ◌<◌, Bool, true, false, List, [], ◌∷◌, ◌++◌, length, map, sum_by, Option, None, Some, Result, Ok, Err, All, IfSome, refl, sym, ap, subst, ◌∙◌, append_assoc, arith}
-use Rattle.std.proofs.lemmas.List.{append-nil, map-append, length-append, length-map}
+use Rattle.std.proofs.Common.{◌≡◌, ◌≢◌, ◌⊎◌, inl, inr, ℕ, ◌+◌, ◌-◌, ◌≤◌, ◌<◌, true, List, [], ◌∷◌, ◌++◌, length, map, Option, None, Some, Result, Ok, Err, All, IfSome, refl, sym, ap, subst, ◌∙◌, arith}
+use Rattle.std.proofs.lemmas.List.{append-nil, map-append, length-append}
 use Rattle.std.proofs.lemmas.List.Elements.{All-push, All-cons, All-nil}
 use Rattle.flow_edges.specs.Faults.{Rose}
 use Rattle.flow_links.specs.Dials.{DialState}
@@ -8,7 +8,6 @@ use Rattle.flow_links.specs.Moments.{IsNext, GoesOn as ClockGoesOn}
 use Rattle.serde_json.specs.Data.{Data, Items, no_items, item}
 use Rattle.stix_json.specs.declared.entry.Entry.{Entry}
 use Rattle.stix_json.specs.declared.entry.Entry.TheVariants.{Good, Bad}
-use Rattle.stix_json.specs.DataOf.{data_of}
 use Rattle.stix_json.specs.Entries.{AreEntriesFor}
 use Rattle.stix_json.specs.Ordered.{IsOrdered}
 use Rattle.stix_json.specs.Reading.{IsEntryFor}
@@ -18,8 +17,7 @@ use Rattle.taxii_rows.specs.Keeper.{Kept}
 use Rattle.taxii_rows.specs.StoreState.{StoreState}
 use Rattle.taxii_store.specs.Agreement.{Agrees}
 use Rattle.taxii_client.specs.Outside.{LinkView, DialView}
-use Rattle.taxii_client.specs.Fetches.{Fetched}
-use Rattle.taxii_client.specs.Pulls.{PullState, Lent, Page, PassThrough, Asks, turn_after, AsksFor, GivesPage, FetchesOver, FailsToDial, Dials, Answers}
+use Rattle.taxii_client.specs.Pulls.{PullState, Lent, Page, PassThrough, Asks, turn_after, AsksFor, GivesPage, Dials, Answers}
 use Rattle.taxii_client.specs.declared.fetch_end.FetchEnd.{FetchEnd}
 use Rattle.taxii_client.specs.declared.fetch_end.FetchEnd.TheVariants as Fetch
 use Rattle.taxii_client.specs.declared.page_end.PageEnd.{PageEnd}
@@ -39,7 +37,7 @@ use Rattle.taxii_copy.specs.Copying.{Copying}
 use Rattle.taxii_copy.specs.Attempts.{Attempt, IsAttemptAt, InTurn, turn_behind, is_lost, losses, undialled, links_of, pages_of, entries_of, GoesOn, CountsDials}
 use Rattle.taxii_copy.specs.Filling.{Outside, GivesMoments, Fills}
 use Rattle.taxii_copy.specs.Totals.{totals_of, with_tally}
-use Rattle.taxii_copy.specs.Endings.{Stops, StopsBehind, StopsLost, StopsFull, StopsAt, StopsShort, WhyNot, EndsFetching}
+use Rattle.taxii_copy.specs.Endings.{Stops, StopsBehind, StopsLost, StopsAt, StopsShort, WhyNot, EndsFetching}
 use Rattle.taxii_copy.specs.inner.Opening.{stop_of, Opens}
 use Rattle.taxii_copy.proofs.AttemptLemmas.{over, without, links_more, links_same, pages_more, pages_same, entries_more, turns_more, losses_lost, losses_came, counts_none, counts_over, counts_without, sum_more}
 

@@ -1,4 +1,4 @@
-use Rattle.std.proofs.Common.{◌≡◌, ◌≢◌, ◌↔◌, ℕ, sym, subst, ◌∙◌}
+use Rattle.std.proofs.Common.{◌≡◌, ◌↔◌, ℕ, sym, subst, ◌∙◌}
 use Rattle.command_line.specs.CommandLines.{texts}
 use Rattle.taxii_client.specs.Outside.{link_view}
 use Rattle.stix_mirror.specs.Words.{AskForNothing}

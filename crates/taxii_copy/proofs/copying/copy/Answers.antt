@@ -1,4 +1,4 @@
-use Rattle.std.proofs.Common.{◌≡◌, ◌≤◌, ℕ, ◌+◌, ◌*◌, ◌^◌, List, Option, Some, None, Ok, Err, refl, sym, ap, subst, ◌∙◌, arith}
+use Rattle.std.proofs.Common.{◌≡◌, ℕ, ◌+◌, List, Option, Ok, refl, sym, ap, subst, ◌∙◌, arith}
 use Rattle.stix_json.specs.declared.entry.Entry.{Entry}
 use Rattle.taxii_client.specs.Outside.{DialView, link_view}
 use Rattle.taxii_client.specs.Pulls.{PullState, Answers}
