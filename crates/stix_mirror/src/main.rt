@@ -1,15 +1,8 @@
-//! The program `stix_mirror`: a collection of a TAXII 2.1 server, copied page by page into a store in a file. A page
-//! that is lost on its way is asked for again, and none is absorbed twice.
+//! The program `stix_mirror`: a collection of a TAXII 2.1 server, copied page by page into a store in a file.
 #![tactic(auto)]
 
-mod ending;
-mod forms;
-mod run;
-mod summary;
-mod words;
-
-use crate::ending::write_no_memory;
 use command_line::program_words;
+use command_mirror::{run_mirror, write_no_memory};
 use flow_edges::WriteSink;
 use flow_links::{SystemClock, TcpDial};
 use flow_values::NoMemory;
@@ -26,7 +19,7 @@ fn main(rt: HostRuntime) -> ExitCode {
             return ExitCode::from(1);
         }
     };
-    let status = run::run_mirror(
+    let status = run_mirror(
         rt.alloc(),
         &words,
         &mut TcpDial::new(&rt),

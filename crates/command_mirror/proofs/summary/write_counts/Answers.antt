@@ -1,4 +1,4 @@
-use Rattle.stix_mirror.proofs.summary.write_counts.Goals as goal
+use Rattle.command_mirror.proofs.summary.write_counts.Goals as goal
 
 pub returns-clause-text : goal.returns-clause-text
 returns-clause-text g c =

@@ -7,9 +7,9 @@ use Rattle.command_line.specs.CommandLines.{IsNumberIn}
 use Rattle.command_line.specs.declared.numbers.TheConstants.{MAX_PORT}
 use Rattle.taxii_client.specs.declared.target.Target.{Target}
 use Rattle.taxii_copy.specs.Copying.{Copying}
-use Rattle.stix_mirror.specs.declared.forms.TheConstants.{MAX_ROOT}
-use Rattle.stix_mirror.specs.declared.words.TheConstants.{LIMIT, MAX_TRIES}
-use Rattle.stix_mirror.specs.declared.words.MirrorRequest.{MirrorRequest}
+use Rattle.command_mirror.specs.declared.forms.TheConstants.{MAX_ROOT}
+use Rattle.command_mirror.specs.declared.words.TheConstants.{LIMIT, MAX_TRIES}
+use Rattle.command_mirror.specs.declared.words.MirrorRequest.{MirrorRequest}
 
 -- a letter, a digit, `.` or `-`
 abbrev pub IsHostByte : ℕ → Type 0

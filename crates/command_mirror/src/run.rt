@@ -2,10 +2,10 @@ ghost use Rattle.std.specs.Prelude.{◌≡◌, ◌↔◌, ◌≤◌};
 ghost use Rattle.flow_edges.specs.Faults.{Counted};
 ghost use Rattle.command_line.specs.CommandLines.{texts};
 ghost use Rattle.taxii_client.specs.Outside.{link_view};
-ghost use Rattle.stix_mirror.specs.Words.{AskForNothing, IsHost, copying_of};
+ghost use Rattle.command_mirror.specs.Words.{AskForNothing, IsHost, copying_of};
 ghost use Rattle.taxii_copy.specs.Filling.{outside};
-ghost use Rattle.stix_mirror.specs.Endings.{AskSo, Concludes, EndsMirror, EndsWords, WritesReason, mirror_status, reason_of};
-ghost use Rattle.stix_mirror.specs.Runs.{Ends, CopiesAll, LosesAll, HoldsMirrored};
+ghost use Rattle.command_mirror.specs.Endings.{AskSo, Concludes, EndsMirror, EndsWords, WritesReason, mirror_status, reason_of};
+ghost use Rattle.command_mirror.specs.Runs.{Ends, CopiesAll, LosesAll, HoldsMirrored};
 
 use crate::ending::MirrorEnding;
 use crate::summary::write_summary;

@@ -1,11 +1,11 @@
 //! The words of the program: `HOST PORT ROOT COLLECTION FILE TRIES`.
 
-ghost use Rattle.std.specs.Prelude.{◌≡◌, ◌≢◌, ◌↔◌, [], ℕ, IsTrue, IfNone, IfOk, IfSome};
+ghost use Rattle.std.specs.Prelude.{◌≡◌, ℕ, IfNone, IfOk, IfSome};
 ghost use Rattle.command_line.specs.CommandLines.{texts, IsNumberIn};
 ghost use Rattle.command_line.specs.declared.numbers.TheConstants.{MAX_PORT as most_port};
-ghost use Rattle.stix_mirror.specs.declared.words.TheConstants.{MAX_TRIES as most_tries};
+ghost use Rattle.command_mirror.specs.declared.words.TheConstants.{MAX_TRIES as most_tries};
 ghost use Rattle.taxii_client.specs.declared.target.Target.{Target};
-ghost use Rattle.stix_mirror.specs.Words.{AskFor, AskForNothing, IsTargetOf, copying_of};
+ghost use Rattle.command_mirror.specs.Words.{AskFor, AskForNothing, IsTargetOf, copying_of};
 
 use crate::forms::{is_host, is_root};
 use command_line::{MAX_PORT, number_in};

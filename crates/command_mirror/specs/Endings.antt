@@ -14,10 +14,10 @@ use Rattle.taxii_copy.specs.declared.stop.CopyStop.{CopyStop}
 use Rattle.taxii_copy.specs.declared.stop.CopyStop.TheVariants.{NotLoaded, NotFetched, NotAbsorbed}
 use Rattle.taxii_copy.specs.declared.stop.FetchStop.TheVariants as Stop
 use Rattle.taxii_copy.specs.declared.totals.Totals.{Totals}
-use Rattle.stix_mirror.specs.declared.ending.MirrorEnding.{MirrorEnding}
-use Rattle.stix_mirror.specs.declared.ending.MirrorEnding.TheVariants.{Usage, Done, WriteFault, Stopped, NoMemory}
-use Rattle.stix_mirror.specs.Words.{AskFor, AskForNothing}
-use Rattle.stix_mirror.specs.Summary.{summary_text}
+use Rattle.command_mirror.specs.declared.ending.MirrorEnding.{MirrorEnding}
+use Rattle.command_mirror.specs.declared.ending.MirrorEnding.TheVariants.{Usage, Done, WriteFault, Stopped, NoMemory}
+use Rattle.command_mirror.specs.Words.{AskFor, AskForNothing}
+use Rattle.command_mirror.specs.Summary.{summary_text}
 
 -- what an ending says of a copy, and of what was written
 abbrev pub EndsMirror : {L : Type 0} → (L → LinkView) → Copying → Outside L → Outside L → Option (List ℕ) → Option (List ℕ) → MirrorEnding → Type 0

@@ -8,9 +8,9 @@ use Rattle.taxii_copy.specs.declared.stop.CopyStop.TheVariants.{NotLoaded, NotFe
 use Rattle.taxii_copy.specs.declared.stop.FetchStop.TheVariants as Stop
 use Rattle.taxii_copy.specs.Endings.{is_store_fault}
 use Rattle.taxii_copy.specs.declared.totals.Totals.{Totals}
-use Rattle.stix_mirror.specs.declared.ending.MirrorEnding.{MirrorEnding}
-use Rattle.stix_mirror.specs.declared.ending.MirrorEnding.TheVariants.{Usage, Done, WriteFault, Stopped, NoMemory}
-use Rattle.stix_mirror.specs.Endings.{Concludes, stop_status, mirror_status}
+use Rattle.command_mirror.specs.declared.ending.MirrorEnding.{MirrorEnding}
+use Rattle.command_mirror.specs.declared.ending.MirrorEnding.TheVariants.{Usage, Done, WriteFault, Stopped, NoMemory}
+use Rattle.command_mirror.specs.Endings.{Concludes, stop_status, mirror_status}
 
 pub nine_exactly : (stop : CopyStop) → (stop_status stop ≡ 9) ↔ (is_store_fault stop ≡ true)
 nine_exactly (NotLoaded Load.KeeperFault) = (λ nine. refl, λ fault. refl)

@@ -9,13 +9,13 @@ use Rattle.taxii_client.specs.declared.turn.Turn.{Turn}
 use Rattle.taxii_client.specs.declared.turn.Turn.TheVariants.{First, Over}
 use Rattle.taxii_mirror.specs.Absorbing.{Absorbed}
 use Rattle.taxii_mirror.specs.Mirrored.{Mirrored}
-use Rattle.stix_mirror.specs.declared.ending.MirrorEnding.{MirrorEnding}
+use Rattle.command_mirror.specs.declared.ending.MirrorEnding.{MirrorEnding}
 use Rattle.taxii_copy.specs.Copying.{Copying}
 use Rattle.taxii_copy.specs.Attempts.{Attempt, InTurn, losses, links_of, lost_links, pages_of, entries_of, LinkFailed}
 use Rattle.taxii_copy.specs.Filling.{Outside, Fills}
 use Rattle.taxii_copy.specs.Totals.{totals_of}
-use Rattle.stix_mirror.specs.Summary.{summary_text}
-use Rattle.stix_mirror.specs.Endings.{EndsWords, mirror_status, reason_of}
+use Rattle.command_mirror.specs.Summary.{summary_text}
+use Rattle.command_mirror.specs.Endings.{EndsWords, mirror_status, reason_of}
 
 -- the program ended in one of its ways, with that status and that reason
 pub record Ends {L : Type 0} (view : L → LinkView) (words : List (List ℕ)) (before now : Outside L) (written written_now : Option (List ℕ)) (status : ℕ)

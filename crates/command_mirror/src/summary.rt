@@ -1,7 +1,7 @@
 ghost use Rattle.std.specs.Prelude.{OnErr, IsErr};
 ghost use Rattle.flow_edges.specs.Faults.{Counted};
 ghost use Rattle.flow_edges.specs.Flow.{WritesWhole, WritesPart};
-ghost use Rattle.stix_mirror.specs.Summary.{counts_text, summary_text};
+ghost use Rattle.command_mirror.specs.Summary.{counts_text, summary_text};
 
 use flow_edges::{Sink, write_pieces};
 use flow_values::Fault;

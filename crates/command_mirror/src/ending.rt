@@ -3,7 +3,7 @@ ghost use Rattle.flow_edges.specs.Faults.{Counted};
 ghost use Rattle.flow_edges.specs.Flow.{WritesWhole};
 ghost use Rattle.taxii_client.specs.Refusals.{refusal_text};
 ghost use Rattle.taxii_client.specs.declared.refusal.ReplyRefusal.TheVariants.{Status};
-ghost use Rattle.stix_mirror.specs.Endings.{bad_row_reason, stop_status, stop_reason};
+ghost use Rattle.command_mirror.specs.Endings.{bad_row_reason, stop_status, stop_reason};
 
 use flow_edges::{Sink, write_pieces, write_whole};
 use flow_values::Fault;
@@ -28,7 +28,7 @@ pub enum MirrorEnding {
 }
 
 impl MirrorEnding {
-    ghost use Rattle.stix_mirror.specs.Endings.{mirror_status, reason_of};
+    ghost use Rattle.command_mirror.specs.Endings.{mirror_status, reason_of};
 
     /// The status that the program ends with.
     pub fn status(&self) -> u8
@@ -98,7 +98,7 @@ fn write_stop<S: Sink>(stop: &CopyStop, reasons: &mut S) -> Result<(), Fault>
 }
 
 /// Writes that memory ran out. Takes no memory.
-pub(crate) fn write_no_memory<S: Sink>(reasons: &mut S) -> Result<(), Fault>
+pub fn write_no_memory<S: Sink>(reasons: &mut S) -> Result<(), Fault>
     ensures text { WritesWhole (codes "out of memory\n") (S.written reasons.old) (S.written reasons.new) result }
     ensures causes { Counted (IsErr result) (S.faults reasons.old) (S.faults reasons.new) }
 {
