@@ -49,7 +49,7 @@ pub stop_never_six : (stop : CopyStop) → stop_status stop ≢ 6
 stop_never_six stop = (stop_is stop).2
 
 module _ (L : Type 0) (view : L → LinkView) (before now : Outside L) (written written_now : Option (List ℕ)) where
-  no_usage : (asked : Copying) (ending : MirrorEnding) → EndsMirror view asked before now written written_now ending → mirror_status ending ≢ 2
+  pub no_usage : (asked : Copying) (ending : MirrorEnding) → EndsMirror view asked before now written written_now ending → mirror_status ending ≢ 2
   no_usage asked Usage ends is = absurd ends
   no_usage asked Done ends is = cc
   no_usage asked WriteFault ends is = cc

@@ -50,7 +50,15 @@ fn answer<D: Dial, K: Keeper, C: Clock, O: Sink>(
         Ok(target) => target,
         Err(NoMemory) => return MirrorEnding::NoMemory,
     };
-    match copy(alloc, &target, request.file, request.tries, dial, keeper, clock) {
+    match copy(
+        alloc,
+        &target,
+        request.file,
+        request.tries,
+        dial,
+        keeper,
+        clock,
+    ) {
         Ok(totals) => conclude(&totals, output),
         Err(stop) => MirrorEnding::Stopped(stop),
     }
