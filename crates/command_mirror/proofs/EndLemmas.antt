@@ -57,7 +57,7 @@ module _ (L : Type 0) (view : L → LinkView) (before now : Outside L) (written 
   no_usage asked NoMemory ends is = cc
 
   pub usage_exactly : (words : List (List ℕ)) (ending : MirrorEnding) → EndsWords view words before now written written_now ending → (mirror_status ending ≡ 2) ↔ AskForNothing words
-  usage_exactly words ending (inl (nothing, is, same)) = (λ status. nothing, λ none. ap mirror_status is)
+  usage_exactly words ending (inl (nothing, is, same, told)) = (λ status. nothing, λ none. ap mirror_status is)
   usage_exactly words ending (inr so) = (
     λ status. absurd (no_usage so.asked ending so.holds status),
     λ nothing. absurd (nothing so.asked so.words_ask),
@@ -66,7 +66,7 @@ module _ (L : Type 0) (view : L → LinkView) (before now : Outside L) (written 
   -- of the ending what holds of a copy holds where the words ask for one
   pub of_copy : (Holds : Copying → Type 0) (words : List (List ℕ)) (ending : MirrorEnding) → EndsWords view words before now written written_now ending
       → mirror_status ending ≢ 2 → ((asked : Copying) → EndsMirror view asked before now written written_now ending → Holds asked) → AskSo words Holds
-  of_copy Holds words ending (inl (nothing, is, same)) other says = absurd (other (ap mirror_status is))
+  of_copy Holds words ending (inl (nothing, is, same, told)) other says = absurd (other (ap mirror_status is))
   of_copy Holds words ending (inr so) other says = record { asked = so.asked; words_ask = so.words_ask; holds = says so.asked so.holds }
 
   -- what was told at the end of a copy

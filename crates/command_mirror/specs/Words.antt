@@ -42,17 +42,27 @@ pub record IsTargetOf (host port root collection : List ℕ) (target : Target) :
   pub collection_is : IsUuidOf collection target.collection
   pub limit_is : target.limit ≡ LIMIT
 
+-- the last word is the number of tries
+abbrev pub IsTriesOf : List (List ℕ) → ℕ → Type 0
+IsTriesOf [] tries = ⊥
+IsTriesOf (text ∷ []) tries = IsNumberIn 1 MAX_TRIES text tries
+IsTriesOf (text ∷ other ∷ more) tries = ⊥
+
+-- the fifth word is the file, which has a name, and the sixth the number of tries
+abbrev pub AreFileAndTries : List (List ℕ) → List ℕ → ℕ → Type 0
+AreFileAndTries [] file tries = ⊥
+AreFileAndTries (text ∷ last) file tries = (file ≡ text) × (text ≢ []) × IsTriesOf last tries
+
 -- the words are HOST PORT ROOT COLLECTION FILE TRIES
 pub record AskFor (words : List (List ℕ)) (asked : Copying) : Type 0 where
   pub host : List ℕ
   pub port : List ℕ
   pub root : List ℕ
   pub collection : List ℕ
-  pub tries : List ℕ
-  pub words_are : words ≡ host ∷ port ∷ root ∷ collection ∷ asked.file ∷ tries ∷ []
+  pub more : List (List ℕ)
+  pub words_are : words ≡ host ∷ port ∷ root ∷ collection ∷ more
   pub target_is : IsTargetOf host port root collection asked.target
-  pub file_form : asked.file ≢ []
-  pub tries_is : IsNumberIn 1 MAX_TRIES tries asked.tries
+  pub more_are : AreFileAndTries more asked.file asked.tries
 
 -- they aren't that
 abbrev pub AskForNothing : List (List ℕ) → Type 0

@@ -1,11 +1,10 @@
 //! The words of the program: `HOST PORT ROOT COLLECTION FILE TRIES`.
 
-ghost use Rattle.std.specs.Prelude.{◌≡◌, ℕ, IfNone, IfOk, IfSome};
+ghost use Rattle.std.specs.Prelude.{◌≡◌, ◌≢◌, ℕ, List, [], IfNone, IfOk, IfSome};
 ghost use Rattle.command_line.specs.CommandLines.{texts, IsNumberIn};
 ghost use Rattle.command_line.specs.declared.numbers.TheConstants.{MAX_PORT as most_port};
-ghost use Rattle.command_mirror.specs.declared.words.TheConstants.{MAX_TRIES as most_tries};
 ghost use Rattle.taxii_client.specs.declared.target.Target.{Target};
-ghost use Rattle.command_mirror.specs.Words.{AskFor, AskForNothing, IsTargetOf, copying_of};
+ghost use Rattle.command_mirror.specs.Words.{AskFor, AskForNothing, AreFileAndTries, IsTargetOf, IsTriesOf, copying_of};
 
 use crate::forms::{is_host, is_root};
 use command_line::{MAX_PORT, number_in};
@@ -52,35 +51,69 @@ pub(crate) fn read_request<'a>(words: &'a [String]) -> Option<MirrorRequest<'a>>
     ensures some { IfSome result (λ request. AskFor (texts words.entry.now) (copying_of request)) }
     ensures none { IfNone result (AskForNothing (texts words.entry.now)) }
 {
-    let [host, port, root, collection, file, tries] = words else {
+    let [host, port, root, collection, more @ ..] = words else {
         return None;
     };
-    let tries = tries_of(tries.as_str())?;
-    if file.is_empty() {
-        return None;
-    }
+    let store = store_of(more)?;
     request_of(
         host.as_str(),
         port.as_str(),
         root.as_str(),
         collection.as_str(),
-        file.as_str(),
-        tries,
+        store,
     )
 }
 
-/// What the first four words ask for, with that file and so many tries.
+/// The store that a collection is copied to, and how often a page may be tried for.
+#[derive(Clone, Copy)]
+struct StoreWords<'a> {
+    file: &'a str,
+    tries: u32,
+}
+
+/// What the words behind the first four say.
+fn store_of<'a>(more: &'a [String]) -> Option<StoreWords<'a>>
+    ensures some { IfSome result (λ store. AreFileAndTries (texts more.entry.now) store.file.now store.tries) }
+    ensures none { IfNone result ((file : List ℕ) (tries : ℕ) → ¬ AreFileAndTries (texts more.entry.now) file tries) }
+{
+    let [file, last @ ..] = more else {
+        return None;
+    };
+    let tries = tries_of(last)?;
+    let file = file_of(file.as_str())?;
+    Some(StoreWords { file, tries })
+}
+
+/// The file of that name.
+fn file_of<'a>(text: &'a str) -> Option<&'a str>
+    ensures some { IfSome result (λ file. (file.now ≡ text.entry.now) × (text.entry.now ≢ [])) }
+    ensures none { IfNone result (text.entry.now ≡ []) }
+{
+    if text.is_empty() { None } else { Some(text) }
+}
+
+/// The number of tries, where one word says it.
+fn tries_of(last: &[String]) -> Option<u32>
+    ensures some { IfSome result (IsTriesOf (texts last.now)) }
+    ensures none { IfNone result ((tries : ℕ) → ¬ IsTriesOf (texts last.now) tries) }
+{
+    match last {
+        [tries] => number_to(tries.as_str(), MAX_TRIES),
+        _ => None,
+    }
+}
+
+/// What the first four words ask for, with that store.
 fn request_of<'a>(
     host: &'a str,
     port: &'a str,
     root: &'a str,
     collection: &'a str,
-    file: &'a str,
-    tries: u32,
+    store: StoreWords<'a>,
 ) -> Option<MirrorRequest<'a>>
     ensures some { IfSome result (λ request. IsTargetOf host.entry.now port.entry.now root.entry.now collection.entry.now (copying_of request).target) }
-    ensures file { IfSome result (λ request. request.file.now ≡ file.entry.now) }
-    ensures tries { IfSome result (λ request. request.tries ≡ tries) }
+    ensures file { IfSome result (λ request. request.file.now ≡ store.file.now) }
+    ensures tries { IfSome result (λ request. request.tries ≡ store.tries) }
     ensures none { IfNone result ((target : Target) → ¬ IsTargetOf host.entry.now port.entry.now root.entry.now collection.entry.now target) }
 {
     if !is_host(host) || !is_root(root) {
@@ -93,8 +126,8 @@ fn request_of<'a>(
         port,
         root,
         collection,
-        file,
-        tries,
+        file: store.file,
+        tries: store.tries,
     })
 }
 
@@ -105,14 +138,6 @@ fn port_of(text: &str) -> Option<u16>
 {
     let number = number_to(text, MAX_PORT)?;
     Some(number as u16)
-}
-
-/// The number of tries that a word is.
-fn tries_of(text: &str) -> Option<u32>
-    ensures some { IfSome result (IsNumberIn 1 most_tries text.now) }
-    ensures none { IfNone result ((tries : ℕ) → ¬ IsNumberIn 1 most_tries text.now tries) }
-{
-    number_to(text, MAX_TRIES)
 }
 
 /// The number from 1 to `most` that a word is.
