@@ -112,8 +112,8 @@ fn request_of<'a>(
     store: StoreWords<'a>,
 ) -> Option<MirrorRequest<'a>>
     ensures some { IfSome result (λ request. IsTargetOf host.entry.now port.entry.now root.entry.now collection.entry.now (copying_of request).target) }
-    ensures file { IfSome result (λ request. request.file.now ≡ store.file.now) }
-    ensures tries { IfSome result (λ request. request.tries ≡ store.tries) }
+    ensures file { IfSome result (λ request. request.file.now ≡ store.entry.file.now) }
+    ensures tries { IfSome result (λ request. request.tries ≡ store.entry.tries) }
     ensures none { IfNone result ((target : Target) → ¬ IsTargetOf host.entry.now port.entry.now root.entry.now collection.entry.now target) }
 {
     if !is_host(host) || !is_root(root) {
