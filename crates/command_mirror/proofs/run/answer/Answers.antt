@@ -1,7 +1,6 @@
-use Rattle.std.proofs.Common.{◌≡◌, Ok, refl, ap, subst, arith}
+use Rattle.std.proofs.Common.{Ok, refl, subst, arith}
 use Rattle.taxii_client.specs.Outside.{link_view}
 use Rattle.taxii_client.specs.declared.target.Target.{Target}
-use Rattle.taxii_copy.specs.Copying.{Copying}
 use Rattle.taxii_copy.specs.Filling.{outside}
 use Rattle.taxii_copy.specs.Endings.{Copies, EndsCopy}
 use Rattle.command_mirror.specs.Words.{copying_of}
