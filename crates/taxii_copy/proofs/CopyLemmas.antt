@@ -382,7 +382,7 @@ module _ {L : Type 0} (view : L → LinkView) (asked : Copying)
     copy_short after dial entries kept moments moment refusal later gives next goes same agrees name why =
         let came = came_by after dial entries gives in
         let few : losses (so.stops.attempts ++ over came.link (Ok came.envelope) ∷ []) < asked.tries =
-            omega (arith, still_few, losses_came so.stops.attempts (over came.link (Ok came.envelope)) refl) in
+        omega (arith, still_few, losses_came so.stops.attempts (over came.link (Ok came.envelope)) refl) in
         let fills = so.stops.fills in record {
           entries = entries;
           stops = stops_came after dial entries came kept moments (entries ∷ []) so.stops.absorbed (record {
@@ -423,7 +423,7 @@ module _ {L : Type 0} (view : L → LinkView) (asked : Copying)
         let came = came_by after dial entries gives in
         let page_here : Page L = record { link = came.link; envelope = came.envelope } in
         let pages : pull.pages + 1 ≡ length (pages_of (so.stops.attempts ++ over came.link (Ok came.envelope) ∷ [])) =
-            omega (arith, so.pages_is, ap length (pages_more so.stops.attempts came.link came.envelope), length-append (pages_of so.stops.attempts) (page_here ∷ [])) in
+        omega (arith, so.pages_is, ap length (pages_more so.stops.attempts came.link came.envelope), length-append (pages_of so.stops.attempts) (page_here ∷ [])) in
         let fills = so.stops.fills in
         let page : Absorbed = record { entries = entries; moment = moment; tally = tally } in
         let absorbed = so.stops.absorbed ++ page ∷ [] in
