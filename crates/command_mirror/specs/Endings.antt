@@ -1,0 +1,99 @@
+-- What an ending says of what was asked for and of the outside; its status, and its reason.
+use Rattle.std.specs.Prelude.{◌≡◌, ◌⊎◌, ℕ, List, [], ◌++◌, codes, decimal, Option}
+use Rattle.flow_edges.specs.Faults.{Rose}
+use Rattle.flow_edges.specs.Flow.{written_with, WritesPrefix, WritesPart}
+use Rattle.taxii_client.specs.Outside.{LinkView}
+use Rattle.taxii_client.specs.Refusals.{refusal_text}
+use Rattle.taxii_store.specs.declared.load_refusal.LoadRefusal.TheVariants as Load
+use Rattle.taxii_mirror.specs.declared.refusal.StoreRefusal.TheVariants as Store
+use Rattle.taxii_copy.specs.Copying.{Copying}
+use Rattle.taxii_copy.specs.Filling.{Outside}
+use Rattle.taxii_copy.specs.Totals.{totals_of}
+use Rattle.taxii_copy.specs.Endings.{StopsBehind, EndsCopy}
+use Rattle.taxii_copy.specs.declared.stop.CopyStop.{CopyStop}
+use Rattle.taxii_copy.specs.declared.stop.CopyStop.TheVariants.{NotLoaded, NotFetched, NotAbsorbed}
+use Rattle.taxii_copy.specs.declared.stop.FetchStop.TheVariants as Stop
+use Rattle.taxii_copy.specs.declared.totals.Totals.{Totals}
+use Rattle.command_mirror.specs.declared.ending.MirrorEnding.{MirrorEnding}
+use Rattle.command_mirror.specs.declared.ending.MirrorEnding.TheVariants.{Usage, Done, WriteFault, Stopped, NoMemory}
+use Rattle.command_mirror.specs.Words.{AskFor, AskForNothing}
+use Rattle.command_mirror.specs.Summary.{summary_text}
+
+-- what an ending says of a copy, and of what was written
+abbrev pub EndsMirror : {L : Type 0} → (L → LinkView) → Copying → Outside L → Outside L → Option (List ℕ) → Option (List ℕ) → MirrorEnding → Type 0
+EndsMirror view asked before now written written_now Usage = ⊥
+EndsMirror view asked before now written written_now Done =
+    (copied : StopsBehind view asked before now) × (written_now ≡ written_with (summary_text (totals_of copied.stops.absorbed)) written)
+EndsMirror view asked before now written written_now WriteFault =
+    (copied : StopsBehind view asked before now) × WritesPart (summary_text (totals_of copied.stops.absorbed)) written written_now
+EndsMirror view asked before now written written_now (Stopped stop) = EndsCopy view asked before now stop × (written_now ≡ written)
+EndsMirror view asked before now written written_now NoMemory = (now ≡ before) × (written_now ≡ written)
+
+-- the words ask for a copy, of which that holds
+pub record AskSo (words : List (List ℕ)) (Holds : Copying → Type 0) : Type 0 where
+  pub asked : Copying
+  pub words_ask : AskFor words asked
+  pub holds : Holds asked
+
+-- the words ask for nothing, and that is the ending; or they ask for a copy, of which it says that
+abbrev pub EndsWords : {L : Type 0} → (L → LinkView) → List (List ℕ) → Outside L → Outside L → Option (List ℕ) → Option (List ℕ) → MirrorEnding → Type 0
+EndsWords view words before now written written_now ending =
+    (AskForNothing words × (ending ≡ Usage) × (now ≡ before) × (written_now ≡ written))
+    ⊎ AskSo words (λ asked. EndsMirror view asked before now written written_now ending)
+
+-- ---- statuses and reasons
+
+abbrev pub stop_status : CopyStop → ℕ
+stop_status (NotLoaded Load.NoMemory) = 1
+stop_status (NotFetched Stop.NoMemory) = 1
+stop_status (NotAbsorbed Store.NoMemory) = 1
+stop_status (NotFetched Stop.LinkLost) = 5
+stop_status (NotLoaded Load.KeeperFault) = 9
+stop_status (NotAbsorbed Store.Fault) = 9
+stop_status (NotLoaded (Load.BadRow after)) = 10
+stop_status (NotFetched (Stop.Refused refusal)) = 11
+stop_status (NotFetched Stop.TooManyPages) = 13
+stop_status (NotAbsorbed Store.DatesUsedUp) = 14
+
+abbrev pub mirror_status : MirrorEnding → ℕ
+mirror_status Done = 0
+mirror_status NoMemory = 1
+mirror_status Usage = 2
+mirror_status WriteFault = 6
+mirror_status (Stopped stop) = stop_status stop
+
+-- store refused: row after DATE
+abbrev pub bad_row_reason : ℕ → List ℕ
+bad_row_reason date = codes "store refused: row after " ++ (decimal date ++ codes "\n")
+
+abbrev pub stop_reason : CopyStop → List ℕ
+stop_reason (NotLoaded Load.NoMemory) = codes "out of memory\n"
+stop_reason (NotFetched Stop.NoMemory) = codes "out of memory\n"
+stop_reason (NotAbsorbed Store.NoMemory) = codes "out of memory\n"
+stop_reason (NotFetched Stop.LinkLost) = codes "link lost\n"
+stop_reason (NotLoaded Load.KeeperFault) = codes "store fault\n"
+stop_reason (NotAbsorbed Store.Fault) = codes "store fault\n"
+stop_reason (NotLoaded (Load.BadRow after)) = bad_row_reason after
+stop_reason (NotFetched (Stop.Refused refusal)) = codes "peer refused: " ++ (refusal_text refusal ++ codes "\n")
+stop_reason (NotFetched Stop.TooManyPages) = codes "too many pages\n"
+stop_reason (NotAbsorbed Store.DatesUsedUp) = codes "date range is used up\n"
+
+abbrev pub reason_of : MirrorEnding → List ℕ
+reason_of Done = []
+reason_of NoMemory = codes "out of memory\n"
+reason_of Usage = codes "usage: stix_mirror HOST PORT ROOT COLLECTION FILE TRIES\n"
+reason_of WriteFault = codes "write fault\n"
+reason_of (Stopped stop) = stop_reason stop
+
+-- the text was written, or a prefix of it where the sink's count of faults rose
+abbrev pub WritesReason : List ℕ → Option (List ℕ) → Option (List ℕ) → ℕ → ℕ → Type 0
+WritesReason text written written_now faults faults_now =
+    (written_now ≡ written_with text written) ⊎ (WritesPrefix text written written_now × Rose faults faults_now)
+
+-- For private clauses: what the end of a copy says of what was written alone.
+abbrev pub Concludes : Totals → Option (List ℕ) → Option (List ℕ) → MirrorEnding → Type 0
+Concludes totals written written_now Usage = ⊥
+Concludes totals written written_now Done = written_now ≡ written_with (summary_text totals) written
+Concludes totals written written_now WriteFault = WritesPart (summary_text totals) written written_now
+Concludes totals written written_now (Stopped stop) = ⊥
+Concludes totals written written_now NoMemory = ⊥

@@ -1,0 +1,4 @@
+pub mod Words
+pub mod Summary
+pub mod Endings
+pub mod Runs

@@ -1,0 +1,163 @@
+ghost use Rattle.std.specs.Prelude.{◌≡◌, ◌++◌, codes, IsErr};
+ghost use Rattle.flow_edges.specs.Faults.{Counted};
+ghost use Rattle.flow_edges.specs.Flow.{WritesWhole};
+ghost use Rattle.taxii_client.specs.Refusals.{refusal_text};
+ghost use Rattle.taxii_client.specs.declared.refusal.ReplyRefusal.TheVariants.{Status};
+ghost use Rattle.command_mirror.specs.Endings.{bad_row_reason, stop_status, stop_reason};
+
+use flow_edges::{Sink, write_pieces, write_whole};
+use flow_values::Fault;
+use itoa::Buffer;
+use taxii_client::ReplyRefusal;
+use taxii_copy::{CopyStop, FetchStop};
+use taxii_mirror::StoreRefusal;
+use taxii_store::LoadRefusal;
+
+/// How the program ends.
+#[derive(Debug, Drop)]
+pub enum MirrorEnding {
+    /// The words ask for nothing.
+    Usage,
+    /// All pages were absorbed, and that was told.
+    Done,
+    /// All pages were absorbed, and that wasn't told whole.
+    WriteFault,
+    Stopped(CopyStop),
+    /// Memory ran out before the store was read.
+    NoMemory,
+}
+
+impl MirrorEnding {
+    ghost use Rattle.command_mirror.specs.Endings.{mirror_status, reason_of};
+
+    /// The status that the program ends with.
+    pub fn status(&self) -> u8
+        ensures { result ≡ mirror_status self.now }
+    {
+        match self {
+            MirrorEnding::Done => 0,
+            MirrorEnding::NoMemory => 1,
+            MirrorEnding::Usage => 2,
+            MirrorEnding::WriteFault => 6,
+            MirrorEnding::Stopped(stop) => status_of(stop),
+        }
+    }
+
+    /// Writes why the program ends so, in one line, or nothing where all was done. Takes no memory.
+    pub fn write_reason<S: Sink>(&self, reasons: &mut S) -> Result<(), Fault>
+        ensures text { WritesWhole (reason_of self.now) (S.written reasons.old) (S.written reasons.new) result }
+        ensures causes { Counted (IsErr result) (S.faults reasons.old) (S.faults reasons.new) }
+    {
+        match self {
+            MirrorEnding::Done => write_whole(reasons, b""),
+            MirrorEnding::NoMemory => write_no_memory(reasons),
+            MirrorEnding::Usage => write_usage(reasons),
+            MirrorEnding::WriteFault => write_whole(reasons, b"write fault\n"),
+            MirrorEnding::Stopped(stop) => write_stop(stop, reasons),
+        }
+    }
+}
+
+/// The status of a copy that stopped so.
+fn status_of(stop: &CopyStop) -> u8
+    ensures { result ≡ stop_status stop.now }
+{
+    match stop {
+        CopyStop::NotLoaded(LoadRefusal::NoMemory)
+        | CopyStop::NotFetched(FetchStop::NoMemory)
+        | CopyStop::NotAbsorbed(StoreRefusal::NoMemory) => 1,
+        CopyStop::NotFetched(FetchStop::LinkLost) => 5,
+        CopyStop::NotLoaded(LoadRefusal::KeeperFault)
+        | CopyStop::NotAbsorbed(StoreRefusal::Fault) => 9,
+        CopyStop::NotLoaded(LoadRefusal::BadRow { .. }) => 10,
+        CopyStop::NotFetched(FetchStop::Refused(_)) => 11,
+        CopyStop::NotFetched(FetchStop::TooManyPages) => 13,
+        CopyStop::NotAbsorbed(StoreRefusal::DatesUsedUp) => 14,
+    }
+}
+
+/// Writes why a copy stopped.
+fn write_stop<S: Sink>(stop: &CopyStop, reasons: &mut S) -> Result<(), Fault>
+    ensures text { WritesWhole (stop_reason stop.now) (S.written reasons.old) (S.written reasons.new) result }
+    ensures causes { Counted (IsErr result) (S.faults reasons.old) (S.faults reasons.new) }
+{
+    match stop {
+        CopyStop::NotLoaded(LoadRefusal::NoMemory)
+        | CopyStop::NotFetched(FetchStop::NoMemory)
+        | CopyStop::NotAbsorbed(StoreRefusal::NoMemory) => write_no_memory(reasons),
+        CopyStop::NotFetched(FetchStop::LinkLost) => write_whole(reasons, b"link lost\n"),
+        CopyStop::NotLoaded(LoadRefusal::KeeperFault)
+        | CopyStop::NotAbsorbed(StoreRefusal::Fault) => write_whole(reasons, b"store fault\n"),
+        CopyStop::NotLoaded(LoadRefusal::BadRow { after }) => write_bad_row(*after, reasons),
+        CopyStop::NotFetched(FetchStop::Refused(refusal)) => write_refusal(refusal, reasons),
+        CopyStop::NotFetched(FetchStop::TooManyPages) => write_whole(reasons, b"too many pages\n"),
+        CopyStop::NotAbsorbed(StoreRefusal::DatesUsedUp) => {
+            write_whole(reasons, b"date range is used up\n")
+        }
+    }
+}
+
+/// Writes that memory ran out. Takes no memory.
+pub fn write_no_memory<S: Sink>(reasons: &mut S) -> Result<(), Fault>
+    ensures text { WritesWhole (codes "out of memory\n") (S.written reasons.old) (S.written reasons.new) result }
+    ensures causes { Counted (IsErr result) (S.faults reasons.old) (S.faults reasons.new) }
+{
+    write_whole(reasons, b"out of memory\n")
+}
+
+/// Writes what the words are.
+fn write_usage<S: Sink>(reasons: &mut S) -> Result<(), Fault>
+    ensures text { WritesWhole (codes "usage: stix_mirror HOST PORT ROOT COLLECTION FILE TRIES\n") (S.written reasons.old) (S.written reasons.new) result }
+    ensures causes { Counted (IsErr result) (S.faults reasons.old) (S.faults reasons.new) }
+{
+    write_whole(
+        reasons,
+        b"usage: stix_mirror HOST PORT ROOT COLLECTION FILE TRIES\n",
+    )
+}
+
+/// Writes behind which date a row is bad, as `store refused: row after 7` and a line feed.
+fn write_bad_row<S: Sink>(after: u64, reasons: &mut S) -> Result<(), Fault>
+    ensures text { WritesWhole (bad_row_reason after) (S.written reasons.old) (S.written reasons.new) result }
+    ensures causes { Counted (IsErr result) (S.faults reasons.old) (S.faults reasons.new) }
+{
+    let mut buffer = Buffer::new();
+    let after = buffer.format(after);
+    write_date(after, reasons)
+}
+
+/// The same, of the date's text.
+fn write_date<S: Sink>(after: &str, reasons: &mut S) -> Result<(), Fault>
+    ensures text { WritesWhole (codes "store refused: row after " ++ (after.now ++ codes "\n")) (S.written reasons.old) (S.written reasons.new) result }
+    ensures causes { Counted (IsErr result) (S.faults reasons.old) (S.faults reasons.new) }
+{
+    write_pieces(
+        reasons,
+        &[b"store refused: row after ", after.as_bytes(), b"\n"],
+    )
+}
+
+/// Writes why a reply is refused, as `peer refused: Status 404` and a line feed.
+fn write_refusal<S: Sink>(refusal: &ReplyRefusal, reasons: &mut S) -> Result<(), Fault>
+    ensures text { WritesWhole (codes "peer refused: " ++ (refusal_text refusal.now ++ codes "\n")) (S.written reasons.old) (S.written reasons.new) result }
+    ensures causes { Counted (IsErr result) (S.faults reasons.old) (S.faults reasons.new) }
+{
+    match refusal {
+        ReplyRefusal::BadHead => write_whole(reasons, b"peer refused: BadHead\n"),
+        ReplyRefusal::Status { code } => write_status(*code, reasons),
+        ReplyRefusal::Coding => write_whole(reasons, b"peer refused: Coding\n"),
+        ReplyRefusal::NoLength => write_whole(reasons, b"peer refused: NoLength\n"),
+        ReplyRefusal::TooLarge => write_whole(reasons, b"peer refused: TooLarge\n"),
+        ReplyRefusal::NotEnvelope => write_whole(reasons, b"peer refused: NotEnvelope\n"),
+    }
+}
+
+/// The same for a status.
+fn write_status<S: Sink>(code: u16, reasons: &mut S) -> Result<(), Fault>
+    ensures text { WritesWhole (codes "peer refused: " ++ (refusal_text (Status code) ++ codes "\n")) (S.written reasons.old) (S.written reasons.new) result }
+    ensures causes { Counted (IsErr result) (S.faults reasons.old) (S.faults reasons.new) }
+{
+    let mut buffer = Buffer::new();
+    let code = buffer.format(code);
+    write_pieces(reasons, &[b"peer refused: Status ", code.as_bytes(), b"\n"])
+}

@@ -1,0 +1,12 @@
+//! The mirror: a collection of a TAXII 2.1 server copied page by page into a store, as words ask for it. A page that
+//! is lost on its way is asked for again, and none is absorbed twice.
+#![tactic(auto)]
+
+mod ending;
+mod forms;
+mod run;
+mod summary;
+mod words;
+
+pub use ending::{MirrorEnding, write_no_memory};
+pub use run::run_mirror;

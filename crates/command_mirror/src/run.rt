@@ -1,0 +1,146 @@
+ghost use Rattle.std.specs.Prelude.{◌≡◌, ◌↔◌, ◌≤◌};
+ghost use Rattle.flow_edges.specs.Faults.{Counted};
+ghost use Rattle.command_line.specs.CommandLines.{texts};
+ghost use Rattle.taxii_client.specs.Outside.{link_view};
+ghost use Rattle.command_mirror.specs.Words.{AskForNothing, IsHost, copying_of};
+ghost use Rattle.taxii_copy.specs.Filling.{outside};
+ghost use Rattle.command_mirror.specs.Endings.{AskSo, Concludes, EndsMirror, EndsWords, WritesReason, mirror_status, reason_of};
+ghost use Rattle.command_mirror.specs.Runs.{Ends, CopiesAll, LosesAll, HoldsMirrored};
+
+use crate::ending::MirrorEnding;
+use crate::summary::write_summary;
+use crate::words::{MirrorRequest, read_request};
+use flow_edges::Sink;
+use flow_links::{Clock, Dial};
+use flow_values::NoMemory;
+use std::alloc::Global;
+use taxii_client::laws::pulls_go_on;
+use taxii_copy::{Totals, copy};
+use taxii_rows::Keeper;
+
+/// Tells what was absorbed.
+fn conclude<O: Sink>(totals: &Totals, output: &mut O) -> MirrorEnding
+    ensures concludes { Concludes totals.now (O.written output.old) (O.written output.new) result }
+    ensures output { Counted (mirror_status result ≡ 6) (O.faults output.old) (O.faults output.new) }
+{
+    match write_summary(totals, output) {
+        Ok(()) => MirrorEnding::Done,
+        Err(_) => MirrorEnding::WriteFault,
+    }
+}
+
+/// Copies what is asked for, and tells what was absorbed.
+fn answer<D: Dial, K: Keeper, C: Clock, O: Sink>(
+    alloc: Global,
+    request: &MirrorRequest<'_>,
+    dial: &mut D,
+    keeper: &mut K,
+    clock: &mut C,
+    output: &mut O,
+) -> MirrorEnding
+    requires host { IsHost request.now.host.now }
+    requires tries { 1 ≤ request.now.tries }
+    ensures ends { EndsMirror (link_view D.Link.left D.Link.written D.Link.Source.faults D.Link.Sink.faults) (copying_of request.now)
+        (outside (D.told dial.old) (D.faults dial.old) (K.kept keeper.old) (C.moments clock.old))
+        (outside (D.told dial.new) (D.faults dial.new) (K.kept keeper.new) (C.moments clock.new)) (O.written output.old) (O.written output.new) result }
+    ensures store { Counted (mirror_status result ≡ 9) (K.faults keeper.old) (K.faults keeper.new) }
+    ensures output { Counted (mirror_status result ≡ 6) (O.faults output.old) (O.faults output.new) }
+{
+    let target = match request.target(alloc) {
+        Ok(target) => target,
+        Err(NoMemory) => return MirrorEnding::NoMemory,
+    };
+    match copy(
+        alloc,
+        &target,
+        request.file,
+        request.tries,
+        dial,
+        keeper,
+        clock,
+    ) {
+        Ok(totals) => conclude(&totals, output),
+        Err(stop) => MirrorEnding::Stopped(stop),
+    }
+}
+
+/// Does what the words ask for.
+fn obey<D: Dial, K: Keeper, C: Clock, O: Sink>(
+    alloc: Global,
+    words: &[String],
+    dial: &mut D,
+    keeper: &mut K,
+    clock: &mut C,
+    output: &mut O,
+) -> MirrorEnding
+    ensures ends { EndsWords (link_view D.Link.left D.Link.written D.Link.Source.faults D.Link.Sink.faults) (texts words.now)
+        (outside (D.told dial.old) (D.faults dial.old) (K.kept keeper.old) (C.moments clock.old))
+        (outside (D.told dial.new) (D.faults dial.new) (K.kept keeper.new) (C.moments clock.new)) (O.written output.old) (O.written output.new) result }
+    ensures untouched { mirror_status result ≡ 2 → (dial.new ≡ dial.old) × (keeper.new ≡ keeper.old) × (clock.new ≡ clock.old) × (output.new ≡ output.old) }
+    ensures store { Counted (mirror_status result ≡ 9) (K.faults keeper.old) (K.faults keeper.new) }
+    ensures output { Counted (mirror_status result ≡ 6) (O.faults output.old) (O.faults output.new) }
+{
+    match read_request(words) {
+        Some(request) => answer(alloc, &request, dial, keeper, clock, output),
+        None => MirrorEnding::Usage,
+    }
+}
+
+/// The program: copies the collection that the words after its name ask for into the store of a file, page by page,
+/// and answers its status.
+///
+/// | Status | Comes |
+/// |---|---|
+/// | 0 | the last page came, all were absorbed, and that was told |
+/// | 1 | memory ran out |
+/// | 2 | exactly where the words ask for nothing |
+/// | 5 | exactly where as many fetches were lost as the words say |
+/// | 6 | only where the output counted a fault, and at each fault of it |
+/// | 9 | only where the keeper counted a fault, and at each fault of it |
+/// | 10 | exactly where a row of the file is bad |
+/// | 11 | exactly where a reply is refused |
+/// | 13 | exactly where 1,000,000 pages came, and the last has more behind it |
+/// | 14 | exactly where fewer dates are left than a page has new objects |
+///
+/// A fetch is lost where the dial gives no link, where the link fails, and where its bytes end inside the reply. The
+/// reason is told on `faults`; a failing write there changes nothing else.
+pub fn run_mirror<D: Dial, K: Keeper, C: Clock, O: Sink, E: Sink>(
+    alloc: Global,
+    words: &[String],
+    dial: &mut D,
+    keeper: &mut K,
+    clock: &mut C,
+    output: &mut O,
+    faults: &mut E,
+) -> u8
+    ensures ends { Ends (link_view D.Link.left D.Link.written D.Link.Source.faults D.Link.Sink.faults) (texts words.now)
+        (outside (D.told dial.old) (D.faults dial.old) (K.kept keeper.old) (C.moments clock.old))
+        (outside (D.told dial.new) (D.faults dial.new) (K.kept keeper.new) (C.moments clock.new)) (O.written output.old) (O.written output.new) result
+        (λ reason. WritesReason reason (E.written faults.old) (E.written faults.new) (E.faults faults.old) (E.faults faults.new)) }
+    ensures refusals { (result ≡ 2) ↔ AskForNothing (texts words.now) }
+    ensures untouched { result ≡ 2 → (dial.new ≡ dial.old) × (keeper.new ≡ keeper.old) × (clock.new ≡ clock.old) × (output.new ≡ output.old) }
+    ensures all { result ≡ 0 → AskSo (texts words.now) (CopiesAll (link_view D.Link.left D.Link.written D.Link.Source.faults D.Link.Sink.faults)
+        (outside (D.told dial.old) (D.faults dial.old) (K.kept keeper.old) (C.moments clock.old))
+        (outside (D.told dial.new) (D.faults dial.new) (K.kept keeper.new) (C.moments clock.new)) (O.written output.old) (O.written output.new)) }
+    ensures lost { result ≡ 5 → AskSo (texts words.now) (LosesAll (link_view D.Link.left D.Link.written D.Link.Source.faults D.Link.Sink.faults)
+        (outside (D.told dial.old) (D.faults dial.old) (K.kept keeper.old) (C.moments clock.old))
+        (outside (D.told dial.new) (D.faults dial.new) (K.kept keeper.new) (C.moments clock.new))) }
+    ensures mirrored { ¬ (result ≡ 2) → AskSo (texts words.now) (HoldsMirrored (link_view D.Link.left D.Link.written D.Link.Source.faults D.Link.Sink.faults)
+        (outside (D.told dial.old) (D.faults dial.old) (K.kept keeper.old) (C.moments clock.old))
+        (outside (D.told dial.new) (D.faults dial.new) (K.kept keeper.new) (C.moments clock.new)) result) }
+    ensures store { Counted (result ≡ 9) (K.faults keeper.old) (K.faults keeper.new) }
+    ensures output { Counted (result ≡ 6) (O.faults output.old) (O.faults output.new) }
+{
+    pulls_go_on::<D>();
+    let ending = obey(alloc, words, dial, keeper, clock, output);
+    finish(&ending, faults)
+}
+
+/// Tells why the program ends so, and answers its status.
+fn finish<E: Sink>(ending: &MirrorEnding, faults: &mut E) -> u8
+    ensures status { result ≡ mirror_status ending.now }
+    ensures reason { WritesReason (reason_of ending.now) (E.written faults.old) (E.written faults.new) (E.faults faults.old) (E.faults faults.new) }
+{
+    let _ = ending.write_reason(faults);
+    ending.status()
+}

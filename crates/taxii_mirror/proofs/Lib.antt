@@ -1,0 +1,4 @@
+mod NamedLemmas
+mod SortingLemmas
+mod StandingLemmas
+mod MirroredLemmas

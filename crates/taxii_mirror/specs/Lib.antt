@@ -1,0 +1,5 @@
+pub mod Absorbing
+pub mod Mirrored
+pub mod Refusals
+pub mod Standing
+pub mod inner

@@ -1,0 +1,28 @@
+-- What stands in a store: an object that is there, and rows none of which stands twice.
+use Rattle.std.specs.Prelude.{◌≡◌, ◌≢◌, ⊤, ℕ, true, false, List, [], ◌∷◌, ◌++◌, All}
+use Rattle.std.specs.List.{Contains}
+use Rattle.taxii_rows.specs.declared.stored_row.StoredRow.{StoredRow}
+use Rattle.taxii_rows.specs.declared.described.Described.{Described}
+use Rattle.taxii_index.specs.Presence.{is_same}
+
+-- one of the rows makes the object present in the collection
+pub record Stands (collection : ℕ) (object : Described) (rows : List StoredRow) : Type 0 where
+  pub row : StoredRow
+  pub among : Contains rows row
+  pub same : is_same collection object row ≡ true
+
+-- rows of one object of one collection differ: in their versions where both tell one, and in their texts where neither does
+pub record AreApart (row other : StoredRow) : Type 0 where
+  pub dated : row.collection ≡ other.collection → row.id ≡ other.id → row.dated ≡ true → other.dated ≡ true → row.version ≢ other.version
+  pub undated : row.collection ≡ other.collection → row.id ≡ other.id → row.dated ≡ false → other.dated ≡ false → row.body ≢ other.body
+
+-- behind these rows each new one is apart from every row before it
+abbrev pub StandOnce : List StoredRow → List StoredRow → Type 0
+StandOnce rows [] = ⊤
+StandOnce rows (row ∷ new) = All (AreApart row) rows × StandOnce (rows ++ row ∷ []) new
+
+-- behind the rows of a store stand others, each of them once
+pub record GrowsOnce (before after : List StoredRow) : Type 0 where
+  pub new : List StoredRow
+  pub rows_are : after ≡ before ++ new
+  pub once : StandOnce before new
