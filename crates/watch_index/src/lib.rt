@@ -5,6 +5,15 @@
 //! look at each of the others.
 #![tactic(auto)]
 
+mod finder;
+mod guard;
+mod guarding;
 mod index;
+mod key;
+mod paths;
+mod rows;
+mod sorting;
+mod table;
+mod walk;
 
 pub use index::Index;
