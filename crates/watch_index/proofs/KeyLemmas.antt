@@ -1,0 +1,55 @@
+-- Look-ups that are alike are equal to the methods that are derived for them, and the other way round.
+use Rattle.std.proofs.Common.{arith, ◌≡◌, ℕ, ℤ, List, Bool, true, false, ◌&&◌, eqb, refl, subst}
+use Rattle.std.specs.declared.cmp.Ordering.TheVariants.{Equal}
+use Rattle.std.specs.Ordering.{nat_cmp, int_cmp}
+use Rattle.std.specs.Cmp.Lexicographic.{slice_cmp}
+use Rattle.std.proofs.lemmas.Bool.{false≢true, eqb-true}
+use Rattle.std.proofs.lemmas.Bool.Decides.{Decides-int_eq}
+use Rattle.std.proofs.lemmas.Slice.Eq.{bytes_eq-Decides}
+use Rattle.std.proofs.lemmas.Cmp.{tied_itself, nat_cmp_total, int_cmp_total, nat_list_cmp_total}
+use Rattle.watch_index.specs.declared.key.Key.{Key}
+use Rattle.watch_index.specs.declared.key.Key.TheVariants.{Any, Integer, Text}
+use Rattle.watch_index.specs.declared.paths.Lookup.{Lookup}
+use Rattle.watch_index.specs.inner.Keys.{AreSame}
+use Rattle.watch_index.specs.inner.Finding.{AreAlike}
+use Rattle.watch_index.specs.contracts.key.KeyOrd.TheImpl as key_order
+use Rattle.watch_index.specs.contracts.key.KeyPartialEq.TheImpl as key_equality
+use Rattle.watch_index.specs.contracts.paths.LookupOrd.TheImpl as lookup_order
+use Rattle.watch_index.specs.contracts.paths.LookupPartialEq.TheImpl as lookup_equality
+
+key_tied : (one other : Key) → AreSame one other → (key_order.ghosts).cmp one other ≡ Equal
+key_tied Any Any same = refl
+key_tied (Integer whole) (Integer other) same = subst (λ (n : ℤ). int_cmp whole n ≡ Equal) same (tied_itself int_cmp_total whole)
+key_tied (Text text) (Text other) same = subst (λ (t : List ℕ). slice_cmp nat_cmp text.now t ≡ Equal) same (tied_itself nat_list_cmp_total text.now)
+key_tied Any (Integer other) same = absurd same
+key_tied Any (Text other) same = absurd same
+key_tied (Integer whole) Any same = absurd same
+key_tied (Integer whole) (Text other) same = absurd same
+key_tied (Text text) Any same = absurd same
+key_tied (Text text) (Integer other) same = absurd same
+
+pub alike_tied : (lookup other : Lookup) → AreAlike lookup other → (lookup_order.ghosts).cmp lookup other ≡ Equal
+alike_tied lookup other alike =
+    let paths : nat_cmp lookup.path other.path ≡ Equal = subst (λ (n : ℕ). nat_cmp lookup.path n ≡ Equal) alike.path (tied_itself nat_cmp_total lookup.path) in
+    let keys = key_tied lookup.key other.key alike.key in
+    rw paths keys
+
+key_same : (one other : Key) → (key_equality.ghosts).eq one other ≡ true → AreSame one other
+key_same Any Any is = tt
+key_same (Integer whole) (Integer other) is = grind (arith, is, Decides-int_eq)
+key_same (Text text) (Text other) is = grind (arith, is, bytes_eq-Decides)
+key_same Any (Integer other) is = absurd (false≢true is)
+key_same Any (Text other) is = absurd (false≢true is)
+key_same (Integer whole) Any is = absurd (false≢true is)
+key_same (Integer whole) (Text other) is = absurd (false≢true is)
+key_same (Text text) Any is = absurd (false≢true is)
+key_same (Text text) (Integer other) is = absurd (false≢true is)
+
+both_true : (a b : Bool) → (a && b) ≡ true → (a ≡ true) × (b ≡ true)
+both_true true b is = (refl, is)
+both_true false b is = absurd (false≢true is)
+
+pub alike_equal : (lookup other : Lookup) → (lookup_equality.ghosts).eq lookup other ≡ true → AreAlike lookup other
+alike_equal lookup other is =
+    let both = both_true (eqb lookup.path other.path) ((key_equality.ghosts).eq lookup.key other.key) is in
+    record { path = eqb-true lookup.path other.path both.0; key = key_same lookup.key other.key both.1 }

@@ -1,0 +1,10 @@
+mod ListLemmas
+mod GuardLemmas
+mod PartsLemmas
+mod RowsLemmas
+mod PathsLemmas
+mod FinderLemmas
+mod KeyLemmas
+mod LookupLemmas
+mod TableLemmas
+mod PlacesLemmas

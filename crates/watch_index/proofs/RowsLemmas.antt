@@ -1,0 +1,90 @@
+-- The rows of many brackets, one bracket more.
+use Rattle.std.proofs.Common.{arith, ◌≡◌, ◌⊎◌, inl, inr, ℕ, ◌+◌, ◌<◌, List, [], ◌∷◌, ◌++◌, map, Some, slice_get, refl, sym, ap, subst, ◌∙◌}
+use Rattle.std.specs.Prelude.{All, Contains}
+use Rattle.std.proofs.lemmas.List.{append-nil}
+use Rattle.std.proofs.lemmas.List.Elements.{All-nil, All-cons, All-map, All-append, All-weaker, Contains-append_left, Contains-append_right, Contains-push}
+use Rattle.std.proofs.lemmas.Option.{same_Some}
+use Rattle.pattern_types.specs.declared.leaf.Leaf.{Leaf}
+use Rattle.pattern_types.specs.PlainLeaf.{plain_leaf}
+use Rattle.match_tests.specs.Tests.{HoldsAt}
+use Rattle.watch_index.specs.declared.guard.Guard.{Guard}
+use Rattle.watch_index.specs.declared.rows.Row.{Row}
+use Rattle.watch_index.specs.declared.rows.Rows.{Rows}
+use Rattle.watch_index.specs.inner.Guards.{AreGuards}
+use Rattle.watch_index.proofs.ListLemmas.{in_map}
+use Rattle.watch_index.specs.inner.Rows.{AreAmong, IsCovered, Adds, AddsBracket, AreRowsOf}
+
+-- a guard beside its place
+abbrev pub row_of : ℕ → Guard → Row
+row_of place guard = record { guard = guard; place = place }
+
+pub adds_none : {A : Type 0} (Own : A → Type 0) (old new : List A) → new ≡ old → Adds Own old new
+adds_none Own old new is = record { more = []; is = is ∙ sym (append-nil old); own = All-nil Own }
+
+pub adds_one : {A : Type 0} (Own : A → Type 0) (old new : List A) (x : A) → new ≡ old ++ x ∷ [] → Own x → Adds Own old new
+adds_one Own old new x is own = record { more = x ∷ []; is = is; own = All-cons Own x [] own (All-nil Own) }
+
+contains_row : (place : ℕ) (guards : List Guard) → AreAmong (map (row_of place) guards) place guards
+contains_row place guards guard has = in_map (row_of place) guards guard has
+
+placed : (place : ℕ) (guards : List Guard) → All (λ (row : Row). row.place ≡ place) (map (row_of place) guards)
+placed place guards = All-map (λ (row : Row). row.place ≡ place) (row_of place) guards (λ k d below. refl)
+
+-- a bracket with guards
+pub adds_guards : (leaf : Leaf) (place : ℕ) (guards : List Guard) (old new : Rows) → AreGuards (λ objects root. HoldsAt objects root (plain_leaf leaf)) guards
+    → new.guarded.items ≡ old.guarded.items ++ map (row_of place) guards → new.always.items ≡ old.always.items → AddsBracket leaf place old new
+adds_guards leaf place guards old new own is same = record {
+  covered = inr (record {
+    guards = guards;
+    own = own;
+    among = λ guard has. subst (λ (rows : List Row). Contains rows (row_of place guard)) (sym is)
+        (Contains-append_right old.guarded.items (map (row_of place) guards) (row_of place guard) (contains_row place guards guard has));
+  });
+  guarded = record { more = map (row_of place) guards; is = is; own = placed place guards };
+  always = adds_none (λ (n : ℕ). n ≡ place) old.always.items new.always.items same;
+}
+
+-- and one without
+pub adds_place : (leaf : Leaf) (place : ℕ) (old new : Rows) → new.guarded.items ≡ old.guarded.items → new.always.items ≡ old.always.items ++ place ∷ []
+    → AddsBracket leaf place old new
+adds_place leaf place old new same is = record {
+  covered = inl (subst (λ (l : List ℕ). Contains l place) (sym is) (Contains-push old.always.items place));
+  guarded = adds_none (λ (row : Row). row.place ≡ place) old.guarded.items new.guarded.items same;
+  always = adds_one (λ (n : ℕ). n ≡ place) old.always.items new.always.items place is refl;
+}
+
+still_there : {A : Type 0} (Own : A → Type 0) (old new : List A) → Adds Own old new → (x : A) → Contains old x → Contains new x
+still_there Own old new adds x has = subst (λ (xs : List _). Contains xs x) (sym adds.is) (Contains-append_left old adds.more x has)
+
+all_still : {A : Type 0} (Own P : A → Type 0) (old new : List A) → Adds Own old new → ((x : A) → Own x → P x) → All P old → All P new
+all_still Own P old new adds follows all =
+    subst (λ (xs : List _). All P xs) (sym adds.is) (All-append P old adds.more all (All-weaker Own P follows adds.more adds.own))
+
+still_covered : (leaf other : Leaf) (place at : ℕ) (old new : Rows) → AddsBracket leaf place old new → IsCovered old other at → IsCovered new other at
+still_covered leaf other place at old new adds covered = elim covered [
+  | inl always ↦ inl (still_there (λ (n : ℕ). n ≡ place) old.always.items new.always.items adds.always at always)
+  | inr guarded ↦ inr (record {
+    guards = guarded.guards;
+    own = guarded.own;
+    among = λ guard has. still_there (λ (row : Row). row.place ≡ place) old.guarded.items new.guarded.items adds.guarded (row_of at guard) (guarded.among guard has);
+  })
+]
+
+before_or_last : (at count : ℕ) → at < count + 1 → (at < count) ⊎ (at ≡ count)
+before_or_last at count below = grind arith
+
+-- one bracket more
+pub rows_next : (brackets : List Leaf) (count : ℕ) (leaf : Leaf) (old new : Rows) → slice_get brackets count ≡ Some leaf → AreRowsOf brackets count old
+    → AddsBracket leaf count old new → AreRowsOf brackets (count + 1) new
+rows_next brackets count leaf old new there rows adds = record {
+  covered = λ place other below is. elim (before_or_last place count below) [
+    | inl before ↦ still_covered leaf other count place old new adds (rows.covered place other before is)
+    | inr last ↦
+        let same : leaf ≡ other = same_Some leaf other (sym there ∙ ap (slice_get brackets) (sym last) ∙ is) in
+        subst (λ (l : Leaf). IsCovered new l place) same (subst (IsCovered new leaf) (sym last) adds.covered)
+  ];
+  guarded = all_still (λ (row : Row). row.place ≡ count) (λ (row : Row). row.place < count + 1) old.guarded.items new.guarded.items adds.guarded
+      (λ row is. omega arith) (All-weaker (λ (row : Row). row.place < count) (λ (row : Row). row.place < count + 1) (λ row below. omega arith) old.guarded.items rows.guarded);
+  always = all_still (λ (n : ℕ). n ≡ count) (λ (n : ℕ). n < count + 1) old.always.items new.always.items adds.always
+      (λ n is. omega arith) (All-weaker (λ (n : ℕ). n < count) (λ (n : ℕ). n < count + 1) (λ n below. omega arith) old.always.items rows.always);
+}

@@ -1,0 +1,43 @@
+use Rattle.std.proofs.Common.{◌≡◌, ◌∙◌, List, [], ◌∷◌, Some, None, length, slice_get, refl, sym, ap, subst}
+use Rattle.std.specs.Prelude.{Contains}
+use Rattle.std.proofs.lemmas.Option.{same_Some, none-some, slice_get_read}
+use Rattle.std.proofs.lemmas.List.Elements.{Contains-append_left, Contains-push}
+use Rattle.stix_json.specs.DataOf.{data_of}
+use Rattle.stix_bundles.specs.Objects.{data_in}
+use Rattle.watch_index.specs.declared.guard.Guard.{Guard}
+use Rattle.watch_index.specs.declared.key.Key.{Key}
+use Rattle.watch_index.specs.declared.key.Key.TheVariants.{Any}
+use Rattle.watch_index.specs.declared.paths.Lookup.{Lookup}
+use Rattle.watch_index.proofs.LookupLemmas.{asks_value}
+use Rattle.watch_index.proofs.finder.Finder.add_by_path.Goals as goal
+
+pub returns-in_ok-push-2-clause-asks : goal.returns-in_ok-push-2-clause-asks
+returns-in_ok-push-2-clause-asks c =
+    let paths = c.args.self.now.paths.items in
+    let number = c.args.path in
+    let guard = c.in-Some.guard.now in
+    let key = c.in-Some-key_in.key in
+    let there : Some guard ≡ slice_get paths number =
+    sym (slice_get_read c.deref.result.now (length c.deref.result.now) number guard refl c.in-Some.ensures.lookup.3.0 c.in-Some.ensures.lookup.1)
+    ∙ ap (λ (l : List Guard). slice_get l number) c.deref.ensures.value in
+    let any : Lookup = record { path = number; key = Any } in
+    let own : Lookup = record { path = number; key = key } in
+    let first = subst (λ (l : List Lookup). Contains l any) (sym c.in_ok-push.ensures.items) (Contains-push c.args.lookups.now.items any) in
+    let has_any = subst (λ (l : List Lookup). Contains l any) (sym c.in_ok-push-2.ensures.items) (Contains-append_left c.push.new.self.items (own ∷ []) any first) in
+    let has_own = subst (λ (l : List Lookup). Contains l own) (sym c.in_ok-push-2.ensures.items) (Contains-push c.push.new.self.items own) in
+    asks_value paths (data_in c.args.bundle.now) (data_of c.args.object.now) number guard there c.push-in-Some-key_in.new.self.items (data_of c.in-Some-value_behind.value.now) (Some key)
+    c.in-Some-value_behind.ensures c.in-Some-key_in.ensures has_any
+    (λ other is. subst (λ (k : Key). Contains c.push-in-Some-key_in.new.self.items (record { path = number; key = k })) (same_Some key other is) has_own)
+
+pub returns-in_default-key_in-clause-asks : goal.returns-in_default-key_in-clause-asks
+returns-in_default-key_in-clause-asks c =
+    let paths = c.args.self.now.paths.items in
+    let number = c.args.path in
+    let guard = c.in-Some.guard.now in
+    let there : Some guard ≡ slice_get paths number =
+    sym (slice_get_read c.deref.result.now (length c.deref.result.now) number guard refl c.in-Some.ensures.lookup.3.0 c.in-Some.ensures.lookup.1)
+    ∙ ap (λ (l : List Guard). slice_get l number) c.deref.ensures.value in
+    let any : Lookup = record { path = number; key = Any } in
+    let has_any = subst (λ (l : List Lookup). Contains l any) (sym c.in_ok-push.ensures.items) (Contains-push c.args.lookups.now.items any) in
+    asks_value paths (data_in c.args.bundle.now) (data_of c.args.object.now) number guard there c.push.new.self.items (data_of c.in-Some-value_behind.value.now) None
+    c.in-Some-value_behind.ensures c.in_default-key_in.ensures has_any (λ other is. absurd (none-some other is))

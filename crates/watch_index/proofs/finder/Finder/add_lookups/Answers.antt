@@ -1,0 +1,11 @@
+use Rattle.stix_json.specs.DataOf.{data_of}
+use Rattle.stix_bundles.specs.Objects.{data_in}
+use Rattle.watch_index.proofs.ListLemmas.{on_follows}
+use Rattle.watch_index.proofs.LookupLemmas.{asks_root}
+use Rattle.watch_index.proofs.finder.Finder.add_lookups.Goals as goal
+
+pub returns-clause-asks : goal.returns-clause-asks
+returns-clause-asks c =
+    on_follows c.add_by_paths.result
+    (λ asks. asks_root c.args.self.now (data_in c.args.bundle.now) c.args.root (data_of c.in-Some.object.now) c.in-Some-kind_of.kind c.find-paths.result.now c.add_by_paths.new.lookups.items
+    c.in-Some.ensures.value c.in-Some-kind_of.ensures c.find-paths.ensures.all asks) c.add_by_paths.ensures.asks

@@ -1,0 +1,43 @@
+use Rattle.std.proofs.Common.{◌≡◌, ℕ, ◌≤◌, ◌∙◌, List, length, sym, subst}
+use Rattle.std.specs.Prelude.{Contains}
+use Rattle.pattern_types.specs.declared.constant.Constant.{Constant}
+use Rattle.pattern_types.specs.declared.check.Check.{Check}
+use Rattle.pattern_types.specs.declared.path.Step.{Step}
+use Rattle.match_tests.specs.Tests.{Meets, last_of}
+use Rattle.watch_index.specs.declared.key.Key.TheVariants.{Any}
+use Rattle.watch_index.specs.inner.Keys.{Fits}
+use Rattle.watch_index.specs.inner.Guards.{HasGuard, StandsFor}
+use Rattle.watch_index.proofs.ListLemmas.{ok_follows}
+use Rattle.watch_index.proofs.GuardLemmas.{front_guards, value_guards, whole_front, weaker}
+use Rattle.watch_index.proofs.guarding.guards_of_test.Goals as goal
+
+pub returns-then-front-steps : goal.returns-then-front-steps
+returns-then-front-steps c =
+    let front = c.plain_front-front.result.now in
+    let rest = c.plain_front-front.ensures.front in
+    ok_follows c.one_guard-then-front-steps.result
+    (λ guards has. front_guards c.args.test.now c.if-test.false front rest.0 guards (sym c.as_slice-steps.ensures ∙ rest.1) c.plain_front-front.ensures.plain
+    (subst (λ (kind : List ℕ). HasGuard kind front (λ own. own ≡ Any) guards) c.as_str-kind.ensures has)) c.one_guard-then-front-steps.ensures
+
+pub returns-in-Differ : goal.returns-in-Differ
+returns-in-Differ c =
+    let front = c.plain_front-front.result.now in
+    let rest = c.plain_front-front.ensures.front in
+    ok_follows c.one_guard-in-Differ.result
+    (λ guards has. front_guards c.args.test.now c.if-test.false front rest.0 guards (sym c.as_slice-steps.ensures ∙ rest.1) c.plain_front-front.ensures.plain
+    (subst (λ (kind : List ℕ). HasGuard kind front (λ own. own ≡ Any) guards) c.as_str-kind.ensures has)) c.one_guard-in-Differ.ensures
+
+pub returns-in-Among : goal.returns-in-Among
+returns-in-Among c =
+    let test = c.args.test.now in
+    let front = c.plain_front-front.result.now in
+    let rest = c.plain_front-front.ensures.front in
+    let long = subst (λ (steps : List Step). length steps ≤ length front) c.as_slice-steps.ensures c.if-front-steps.false in
+    let whole = whole_front test.path.steps front rest.0 (sym c.as_slice-steps.ensures ∙ rest.1) long in
+    ok_follows c.guards_by_value.result
+    (λ guards all. value_guards test c.if-test.false front guards whole c.plain_front-front.ensures.plain
+    (λ value meets.
+    let some = subst (λ (check : Check). Meets (last_of test.path) value check) c.in-Among.is meets in
+    let has = all some.0 (subst (λ (l : List Constant). Contains l some.0) (sym c.as_slice.ensures) some.1) in
+    weaker test.path.kind front (StandsFor some.0) (λ own. Fits own value) guards (λ own stands. stands (last_of test.path) value some.2)
+    (subst (λ (kind : List ℕ). HasGuard kind front (StandsFor some.0) guards) c.as_str-kind.ensures has))) c.guards_by_value.ensures

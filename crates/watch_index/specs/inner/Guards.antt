@@ -1,0 +1,55 @@
+-- For private clauses: the guards of a bracket, one of which is met where it holds.
+use Rattle.std.specs.Prelude.{◌≡◌, ⊤, ℕ, List, All, Contains, Option, MatchOption, None}
+use Rattle.std.specs.declared.cmp.Ordering.TheVariants.{Equal}
+use Rattle.serde_json.specs.Data.{Data}
+use Rattle.pattern_types.specs.declared.constant.Constant.{Constant}
+use Rattle.pattern_types.specs.declared.path.Step.{Step}
+use Rattle.pattern_types.specs.declared.path.Step.TheVariants.{Name, Place, Each}
+use Rattle.match_paths.specs.Selection.{IsRoot, Reaches}
+use Rattle.match_tests.specs.Tests.{Compares}
+use Rattle.watch_index.specs.declared.key.Key.{Key}
+use Rattle.watch_index.specs.declared.guard.Guard.{Guard}
+use Rattle.watch_index.specs.inner.Keys.{Fits}
+
+-- the step isn't `[*]`
+abbrev pub IsPlain : Step → Type 0
+IsPlain (Name name) = ⊤
+IsPlain (Place n) = ⊤
+IsPlain Each = ⊥
+
+-- and so each of the steps
+abbrev pub ArePlain : List Step → Type 0
+ArePlain steps = All IsPlain steps
+
+-- the root has the type, and the steps lead to a value that the key stands for
+pub record IsMet (objects : List Data) (root : ℕ) (guard : Guard) : Type 0 where
+  pub plain : ArePlain guard.steps.now
+  pub object : Data
+  pub is_root : IsRoot objects root guard.kind.now object
+  pub value : Data
+  pub reached : Reaches objects None guard.steps.now object value
+  pub fits : Fits guard.key value
+
+-- one of the guards is met
+abbrev pub SomeMet : List Data → ℕ → List Guard → Type 0
+SomeMet objects root guards = (guard : Guard) × Contains guards guard × IsMet objects root guard
+
+-- where the fact holds of a root, one of the guards is met
+abbrev pub AreGuards : (List Data → ℕ → Type 0) → List Guard → Type 0
+AreGuards Fact guards = (objects : List Data) (root : ℕ) → Fact objects root → SomeMet objects root guards
+
+-- the same, where there are guards
+abbrev pub Guards : (List Data → ℕ → Type 0) → Option (List Guard) → Type 0
+Guards Fact found = MatchOption found ⊤ (AreGuards Fact)
+
+-- one of the guards has that path, and a key of which the fact holds
+pub record HasGuard (kind : List ℕ) (steps : List Step) (Fact : Key → Type 0) (guards : List Guard) : Type 0 where
+  pub guard : Guard
+  pub among : Contains guards guard
+  pub kind_is : guard.kind.now ≡ kind
+  pub steps_are : guard.steps.now ≡ steps
+  pub key : Fact guard.key
+
+-- the key stands for each value that equals the constant
+abbrev pub StandsFor : Constant → Key → Type 0
+StandsFor constant key = (last : Option (List ℕ)) (value : Data) → Compares last value constant Equal → Fits key value

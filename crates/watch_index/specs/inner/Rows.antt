@@ -1,0 +1,41 @@
+-- For private clauses: the guards of many brackets, beside their places.
+use Rattle.std.specs.Prelude.{◌≡◌, ◌⊎◌, ℕ, ◌<◌, List, ◌++◌, All, Contains, Some, slice_get}
+use Rattle.pattern_types.specs.declared.leaf.Leaf.{Leaf}
+use Rattle.pattern_types.specs.PlainLeaf.{plain_leaf}
+use Rattle.match_tests.specs.Tests.{HoldsAt}
+use Rattle.watch_index.specs.declared.guard.Guard.{Guard}
+use Rattle.watch_index.specs.declared.rows.Row.{Row}
+use Rattle.watch_index.specs.declared.rows.Rows.{Rows}
+use Rattle.watch_index.specs.inner.Guards.{AreGuards}
+
+-- each of the guards stands among the rows, beside the place
+abbrev pub AreAmong : List Row → ℕ → List Guard → Type 0
+AreAmong rows place guards = (guard : Guard) → Contains guards guard → Contains rows (record { guard = guard; place = place })
+
+-- a bracket has its guards among the rows, beside its place
+pub record IsGuarded (rows : List Row) (leaf : Leaf) (place : ℕ) : Type 0 where
+  pub guards : List Guard
+  pub own : AreGuards (λ objects root. HoldsAt objects root (plain_leaf leaf)) guards
+  pub among : AreAmong rows place guards
+
+-- or its place is one that is always looked at
+abbrev pub IsCovered : Rows → Leaf → ℕ → Type 0
+IsCovered rows leaf place = Contains rows.always.items place ⊎ IsGuarded rows.guarded.items leaf place
+
+-- more was added at the end, of each of which the fact holds
+pub record Adds {A : Type 0} (Own : A → Type 0) (old new : List A) : Type 0 where
+  pub more : List A
+  pub is : new ≡ old ++ more
+  pub own : All Own more
+
+-- a bracket at a place was added
+pub record AddsBracket (leaf : Leaf) (place : ℕ) (old new : Rows) : Type 0 where
+  pub covered : IsCovered new leaf place
+  pub guarded : Adds (λ (row : Row). row.place ≡ place) old.guarded.items new.guarded.items
+  pub always : Adds (λ (n : ℕ). n ≡ place) old.always.items new.always.items
+
+-- these are the rows of the first so many brackets
+pub record AreRowsOf (brackets : List Leaf) (count : ℕ) (rows : Rows) : Type 0 where
+  pub covered : (place : ℕ) (leaf : Leaf) → place < count → slice_get brackets place ≡ Some leaf → IsCovered rows leaf place
+  pub guarded : All (λ (row : Row). row.place < count) rows.guarded.items
+  pub always : All (λ (n : ℕ). n < count) rows.always.items

@@ -1,0 +1,12 @@
+ghost use Rattle.std.specs.Prelude.{◌↔◌, ℕ, Contains};
+ghost use Rattle.std.specs.List.Sorted.{IsStrictlyIncreasing};
+
+/// The same numbers in order, each once.
+pub(crate) fn each_once(mut numbers: Vec<u32>) -> Vec<u32>
+    ensures rise { IsStrictlyIncreasing result.items }
+    ensures same { (n : ℕ) → Contains result.items n ↔ Contains numbers.items n }
+{
+    numbers.sort_unstable();
+    numbers.dedup();
+    numbers
+}
