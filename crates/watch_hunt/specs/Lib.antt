@@ -1,0 +1,4 @@
+pub mod EngineLog
+pub mod EngineState
+pub mod EngineAnswer
+pub mod inner
