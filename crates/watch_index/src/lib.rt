@@ -1,0 +1,10 @@
+//! Which brackets of many can hold for an observation.
+//!
+//! A feed has a great many indicators, nearly all of one comparison, and few of them concern an
+//! observation. An `Index` of their brackets finds those few by what the observation says, without a
+//! look at each of the others.
+#![tactic(auto)]
+
+mod index;
+
+pub use index::Index;
