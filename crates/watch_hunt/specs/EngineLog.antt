@@ -11,6 +11,9 @@ pub record Row : Type 0 where
   pub observation : Observation
   pub objects : List Data
 
+abbrev pub row_of : Observation → List Data → Row
+row_of observation objects = record { observation = observation; objects = objects }
+
 -- what a row is to a pattern: its span of time, and a truth for each bracket
 pub record IsEntry (p : PlainPattern) (row : Row) (entry : LogEntry) : Type 0 where
   pub first : entry.first ≡ row.observation.first

@@ -1,15 +1,19 @@
 //! One pattern of many, as it follows the log.
 
-ghost use Rattle.std.specs.Prelude.{◌≡◌, ◌<◌, ◌≤◌, ◌^◌, ◌++◌, ◌+◌, [], List, Err, IfOk, OnOk, map};
+ghost use Rattle.std.specs.Prelude.{◌≡◌, ◌<◌, ◌≤◌, ◌≤ℤ◌, ◌^◌, ◌++◌, ◌+◌, [], List, length, Some, None, Err, IfOk, OnOk, map};
+ghost use Rattle.std.specs.Option.{option_map};
 ghost use Rattle.pattern_types.specs.declared.pattern.Pattern.{Pattern};
 ghost use Rattle.pattern_types.specs.Leaves.{leaves};
 ghost use Rattle.match_bindings.specs.declared.log_entry.LogEntry.{LogEntry};
 ghost use Rattle.match_bindings.specs.BindTree.{tree_of};
 ghost use Rattle.match_bindings.specs.NumberedPattern.{numbered_pattern};
-ghost use Rattle.match_live.specs.Answer.{IsCrowded};
+ghost use Rattle.match_bindings.specs.Log.{IsInOrder};
+ghost use Rattle.match_live.specs.MatcherState.{StandsFor};
+ghost use Rattle.match_live.specs.Answer.{AnswersRow, IsCrowded};
+ghost use Rattle.match_live.specs.Passing.{GoesOnQuietly};
 ghost use Rattle.watch_hunt.specs.declared.refusal.FollowerRefusal.TheVariants as refused;
-ghost use Rattle.watch_hunt.specs.EngineState.{Follows};
-ghost use Rattle.watch_hunt.specs.inner.Following.{EndsAt, FollowsSome, CatchesUp, TakesRow, log_with, GoesOn};
+ghost use Rattle.watch_hunt.specs.FollowerState.{MatchesFor, Follows};
+ghost use Rattle.watch_hunt.specs.inner.Following.{EndsAt, FollowsSome, CatchesUp, TakesRow, log_with, GoesOn, alone_at};
 
 use crate::next_row::NextRow;
 use crate::refusal::FollowerRefusal;
@@ -31,14 +35,12 @@ pub(crate) struct Follower<'p> {
 }
 
 impl<'p> Model for Follower<'p> {
-    ghost use Rattle.std.specs.Coded.{codes};
-    ghost use Rattle.std.specs.Prelude.{Option};
-    ghost use Rattle.watch_hunt.specs.EngineState.{FollowerState};
-    ghost use Rattle.watch_hunt.specs.inner.Seen.{held_matcher};
+    ghost use Rattle.std.specs.Option.{option_map};
+    ghost use Rattle.watch_hunt.specs.FollowerState.{FollowerState};
 
     ghost Value = { FollowerState };
 
-    ghost view = { λ follower. record { matcher = held_matcher follower.matcher; seen = follower.seen } };
+    ghost view = { λ follower. record { matcher = option_map (λ held. held.value) follower.matcher; seen = follower.seen } };
 }
 
 impl<'p> Follower<'p> {
@@ -53,6 +55,11 @@ impl<'p> Follower<'p> {
     {
         let matcher = matcher_of(alloc, pattern, cap)?;
         Ok(Follower { matcher, seen: 0 })
+    }
+
+    /// Whether it has a matcher.
+    pub(crate) fn has_matcher(&self) -> bool {
+        self.matcher.is_some()
     }
 
     /// Passes the rows that the matcher missed: none of its brackets holds there.
@@ -107,10 +114,89 @@ fn matcher_of(
     pattern: &Pattern,
     cap: u64,
 ) -> Result<Option<Box<Matcher<'_>>>, NoMemory>
+    requires { leaves pattern.now < 2 ^ 32 }
+    ensures { IfOk result (λ matcher. MatchesFor pattern.now cap [] 0 (option_map (λ held. held.value) matcher)) }
 {
     match pattern {
         Pattern::Leaf(_) => Ok(None),
-        Pattern::Both(_, _) | Pattern::Either(_, _) | Pattern::Then(_, _) | Pattern::Within(_, _) => boxed(alloc, pattern, cap),
-        Pattern::Between(_, _, _) | Pattern::Repeats(_, _) => boxed(alloc, pattern, cap),
+        Pattern::Both(_, _)
+        | Pattern::Either(_, _)
+        | Pattern::Then(_, _)
+        | Pattern::Within(_, _)
+        | Pattern::Between(_, _, _)
+        | Pattern::Repeats(_, _) => {
+            let matcher = boxed_matcher(alloc, pattern, cap)?;
+            Ok(Some(matcher))
+        }
     }
+}
+
+/// A matcher that saw no row yet.
+fn boxed_matcher(
+    alloc: Global,
+    pattern: &Pattern,
+    cap: u64,
+) -> Result<Box<Matcher<'_>>, NoMemory>
+    requires { leaves pattern.now < 2 ^ 32 }
+    ensures { IfOk result (λ matcher. MatchesFor pattern.now cap [] 0 (Some matcher.value)) }
+{
+    let matcher = Matcher::new(alloc, pattern, cap)?;
+    Ok(Box::new(alloc, matcher)?)
+}
+
+/// Passes rows at which no bracket of the pattern holds, in order, so that none is refused.
+fn pass_rows(matcher: &mut Matcher<'_>, rows: u64, last: Instant) -> Result<(), NoMemory>
+    requires some { 1 ≤ rows }
+    requires room { matcher.old.ended ≡ None → matcher.old.rows + rows < 2 ^ 64 }
+    ensures stands { (log quiet : List LogEntry) → StandsFor matcher.old log → GoesOnQuietly log quiet rows last
+        → OnOk result (StandsFor matcher.new (log ++ quiet)) }
+    ensures kept { (matcher.new.pattern ≡ matcher.old.pattern) × (matcher.new.cap ≡ matcher.old.cap) }
+{
+    match matcher.pass(rows, last) {
+        Ok(()) => Ok(()),
+        Err(_) => Err(NoMemory),
+    }
+}
+
+/// Takes the next row, which is in order, so that only want of memory or of room refuses it.
+fn take_row(
+    matcher: &mut Matcher<'_>,
+    row: &NextRow,
+    truths: &[bool],
+) -> Result<Items<Bind>, FollowerRefusal>
+    requires span { row.now.first ≤ℤ row.now.last }
+    requires room { matcher.old.ended ≡ None → matcher.old.rows + 1 < 2 ^ 64 }
+    ensures answers { (log : List LogEntry) → StandsFor matcher.old log → IsInOrder log
+        → IfOk result (λ binds. AnswersRow matcher.old matcher.new (log_with row.now truths.now log) (map tree_of binds)) }
+    ensures crowded { (log : List LogEntry) → StandsFor matcher.old log → IsInOrder log
+        → result ≡ Err refused.Crowded → IsCrowded (numbered_pattern matcher.old.pattern) (log_with row.now truths.now log) matcher.old.cap }
+    ensures kept { (matcher.new.pattern ≡ matcher.old.pattern) × (matcher.new.cap ≡ matcher.old.cap) }
+{
+    match matcher.take(row.first, row.last, truths) {
+        Ok(binds) => Ok(binds),
+        Err(MatchRefusal::Stopped(Ending::Crowded { .. })) => Err(FollowerRefusal::Crowded),
+        Err(MatchRefusal::Stopped(Ending::OutOfOrder { .. } | Ending::NoMemory)) => Err(FollowerRefusal::NoMemory),
+        Err(MatchRefusal::Ended(_)) => Err(FollowerRefusal::NoMemory),
+    }
+}
+
+/// What ends at the row of a number for a pattern of one bracket: the row, where the bracket holds.
+fn take_alone(
+    alloc: Global,
+    number: u64,
+    cap: u64,
+    truths: &[bool],
+) -> Result<Items<Bind>, FollowerRefusal>
+    ensures answers { IfOk result (λ binds. map tree_of binds ≡ alone_at number truths.now) }
+    ensures roomy { IfOk result (λ binds. length binds ≤ cap) }
+    ensures crowded { result ≡ Err refused.Crowded → cap < length (alone_at number truths.now) }
+{
+    let mut binds = Items::new(alloc);
+    if truths.first().copied().unwrap_or(false) {
+        if cap == 0 {
+            return Err(FollowerRefusal::Crowded);
+        }
+        binds.push(Bind::One(number))?;
+    }
+    Ok(binds)
 }

@@ -6,10 +6,14 @@
 //! section 9, of patterns; the bindings are those of `match_bindings`).
 #![tactic(auto)]
 
+mod brackets;
+mod engine;
 mod follower;
+mod followers;
 mod found;
 mod next_row;
 mod refusal;
 
+pub use engine::Engine;
 pub use found::Found;
 pub use refusal::EngineRefusal;

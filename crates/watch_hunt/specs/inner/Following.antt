@@ -1,13 +1,13 @@
 -- For private clauses: what a follower does with the next row of its log.
-use Rattle.std.specs.Prelude.{◌≡◌, ◌≤ℤ◌, ℕ, ⊤, ℤ, Bool, Option, Some, None, List, length}
+use Rattle.std.specs.Prelude.{◌≡◌, ◌≤ℤ◌, ℕ, ⊤, ℤ, Bool, true, false, Option, Some, None, List, [], ◌∷◌, length}
 use Rattle.pattern_types.specs.declared.pattern.Pattern.{Pattern}
 use Rattle.match_bindings.specs.declared.log_entry.LogEntry.{LogEntry}
 use Rattle.match_bindings.specs.NumberedPattern.{numbered_pattern}
-use Rattle.match_bindings.specs.BindTree.{BindTree}
+use Rattle.match_bindings.specs.BindTree.{BindTree, One}
 use Rattle.match_live.specs.MatcherState.{MatcherState, StandsFor, last_of, with_row, Falls}
 use Rattle.match_live.specs.Answer.{IsAnswer}
 use Rattle.watch_hunt.specs.declared.next_row.NextRow.{NextRow}
-use Rattle.watch_hunt.specs.EngineState.{FollowerState, Follows}
+use Rattle.watch_hunt.specs.FollowerState.{FollowerState, Follows}
 
 -- a log has so many rows, and its last row this last time
 pub record EndsAt (log : List LogEntry) (rows : ℕ) (last : Option ℤ) : Type 0 where
@@ -40,3 +40,8 @@ log_with row truths log = with_row log row.first row.last truths
 pub record GoesOn (row : NextRow) : Type 0 where
   pub span : row.first ≤ℤ row.last
   pub order : ¬ (Falls row.before row.last)
+
+-- what ends at the row of a number for a pattern of one bracket
+abbrev pub alone_at : ℕ → List Bool → List BindTree
+alone_at number (true ∷ truths) = One number ∷ []
+alone_at number _ = []

@@ -1,0 +1,2 @@
+mod QuietLemmas
+mod AloneLemmas
