@@ -1,2 +1,10 @@
 mod QuietLemmas
 mod AloneLemmas
+mod FollowLemmas
+mod RowLemmas
+mod TruthLemmas
+mod PlaceLemmas
+mod TableLemmas
+mod RoundLemmas
+mod JudgeLemmas
+mod StepLemmas
