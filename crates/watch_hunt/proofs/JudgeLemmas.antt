@@ -1,8 +1,7 @@
 -- One candidate more is judged; and what is judged once all are.
 use Rattle.std.proofs.Common.{◌≡◌, ℕ, zero, suc, ◌+◌, ◌≤◌, ◌<◌, List, [], ◌∷◌, ◌++◌, length, set, refl, sym, ◌∙◌, ap, subst, arith, inl, inr, length-append}
-use Rattle.std.specs.Prelude.{◌⊎◌, ◌↔◌, Bool, true, false, nat_eq, Some, Contains, slice_get}
+use Rattle.std.specs.Prelude.{◌⊎◌, ◌↔◌, Bool, true, false, Some, Contains, slice_get}
 use Rattle.std.proofs.lemmas.List.{length-set}
-use Rattle.std.proofs.lemmas.Bool.{eqb-true, eq-eqb}
 use Rattle.std.proofs.lemmas.Option.{slice_get_within}
 use Rattle.std.proofs.lemmas.List.Elements.{Contains-append_left, Contains-push}
 use Rattle.serde_json.specs.Data.{Data}
@@ -11,8 +10,7 @@ use Rattle.match_tests.specs.Tests.{LeafHolds}
 use Rattle.watch_index.specs.Candidates.{IsRising, AreCandidates}
 use Rattle.watch_hunt.specs.EngineAnswer.{NeverFalls}
 use Rattle.watch_hunt.specs.inner.Judging.{AreClear, Judged, JudgedSoFar, AddsPlace}
-use Rattle.watch_hunt.proofs.PlaceLemmas.{seam, get_one, get_set, get_set_other}
-use Rattle.watch_hunt.proofs.RoundLemmas.{got, contained}
+use Rattle.watch_hunt.proofs.PlaceLemmas.{same_or_other, got, contained, seam, get_one, get_set, get_set_other}
 
 -- a number below the next one is below this one or is it
 pub below_or_at : (j i : ℕ) → j < i + 1 → (j < i) ⊎ (j ≡ i)
@@ -23,13 +21,6 @@ below_or_at (suc j) (suc i) h = up (below_or_at j i (omega arith)) where
   up : (j < i) ⊎ (j ≡ i) → (suc j < suc i) ⊎ (suc j ≡ suc i)
   up (inl k) = inl (omega arith)
   up (inr k) = inr (ap suc k)
-
--- two places are one or not
-pub same_or_other : (a b : ℕ) → (a ≡ b) ⊎ (a ≡ b → ⊥)
-same_or_other a b = by (nat_eq a b) refl where
-  by : (t : Bool) → nat_eq a b ≡ t → (a ≡ b) ⊎ (a ≡ b → ⊥)
-  by true e = inl (eqb-true a b e)
-  by false e = inr (λ k. let yes_it_is = eq-eqb a b k in cc)
 
 -- ---- the places
 
@@ -74,8 +65,8 @@ module _ (objects : List Data) (roots : List ℕ) (leaves : List PlainLeaf) (own
   pub least : IsRising candidates → NeverFalls owners → (place : ℕ) → slice_get owners at ≡ Some place → (k other : ℕ) → slice_get touched k ≡ Some other → other ≤ place
   least rise falls place of_at k other there =
       let o = far.owned k other there in
-      let less = rise o.0 i o.1.0 at o.1.1.0 o.1.1.1.0 at_is in
-      falls o.1.0 at other place (omega (arith, less)) o.1.1.1.1 of_at
+      let less = rise o.0 i o.1 at o.2 o.3 at_is in
+      falls o.1 at other place (omega (arith, less)) o.4 of_at
 
   -- the candidate doesn't hold
   pub left_out : ¬ (LeafHolds objects roots leaf) → JudgedSoFar objects roots leaves owners candidates (i + 1) marks touched
@@ -85,7 +76,7 @@ module _ (objects : List Data) (roots : List ℕ) (leaves : List PlainLeaf) (own
     all = λ j b other h of_j of_b holds. by j b other of_j of_b holds (below_or_at j i h);
     rise = far.rise;
     there = far.there;
-    owned = λ k place there. let o = far.owned k place there in let less = o.1.1.0 in (o.0, o.1.0, omega (arith, less), o.1.1.1.0, o.1.1.1.1);
+    owned = λ k place there. let o = far.owned k place there in let less = o.2 in (o.0, o.1, omega (arith, less), o.3, o.4);
   } where
     by : (j b : ℕ) (other : PlainLeaf) → slice_get candidates j ≡ Some b → slice_get leaves b ≡ Some other → LeafHolds objects roots other → (j < i) ⊎ (j ≡ i) → slice_get marks b ≡ Some true
     by j b other of_j of_b holds (inl h) = far.all j b other h of_j of_b holds
@@ -126,7 +117,7 @@ module _ (objects : List Data) (roots : List ℕ) (leaves : List PlainLeaf) (own
     there b other mark own (inr e) = adds.stays other (far.there b other (sym (get_set_other marks at b true e) ∙ mark) own)
 
     owned : (k other : ℕ) → (slice_get touched k ≡ Some other) ⊎ (other ≡ place) → (j b : ℕ) × (j < i + 1) × (slice_get candidates j ≡ Some b) × (slice_get owners b ≡ Some other)
-    owned k other (inl h) = let o = far.owned k other h in let less = o.1.1.0 in (o.0, o.1.0, omega (arith, less), o.1.1.1.0, o.1.1.1.1)
+    owned k other (inl h) = let o = far.owned k other h in let less = o.2 in (o.0, o.1, omega (arith, less), o.3, o.4)
     owned k other (inr e) = (i, at, omega arith, at_is, place_is ∙ ap Some (sym e))
 
 -- before the first one
@@ -152,5 +143,5 @@ judged_all objects roots leaves owners candidates marks touched are far = record
   );
   rise = far.rise;
   there = far.there;
-  owned = λ k place h. let o = far.owned k place h in (o.1.0, o.1.1.1.1);
+  owned = λ k place h. let o = far.owned k place h in (o.1, o.4);
 }

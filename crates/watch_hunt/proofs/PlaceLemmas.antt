@@ -1,6 +1,8 @@
 -- What stands at a place of a list: behind a seam, after a write, and in a list of one number.
 use Rattle.std.proofs.Common.{◌≡◌, ℕ, zero, suc, ◌+◌, ◌≤◌, ◌<◌, List, [], ◌∷◌, ◌++◌, length, set, refl, sym, ◌∙◌, ap, arith, inl, inr}
-use Rattle.std.specs.Prelude.{◌⊎◌, Option, Some, None, slice_get}
+use Rattle.std.specs.Prelude.{◌⊎◌, Bool, true, false, nat_eq, Option, Some, None, Contains, slice_get}
+use Rattle.std.proofs.lemmas.Bool.{eqb-true, eq-eqb}
+use Rattle.std.proofs.lemmas.Option.{slice_get_within, slice_get_read, get_or_from_slice_get}
 use Rattle.watch_hunt.specs.inner.Table.{repeated}
 
 -- an item of two lists is one of the first or of the second
@@ -12,7 +14,7 @@ seam (y ∷ xs) ys (suc k) x h = up (seam xs ys k x h) where
   up : ((k < length xs) × (slice_get xs k ≡ Some x)) ⊎ ((j : ℕ) × (k ≡ length xs + j) × (slice_get ys j ≡ Some x)) →
       ((suc k < suc (length xs)) × (slice_get xs k ≡ Some x)) ⊎ ((j : ℕ) × (suc k ≡ suc (length xs) + j) × (slice_get ys j ≡ Some x))
   up (inl h) = let below = h.0 in inl (omega (arith, below), h.1)
-  up (inr h) = let e = h.1.0 in inr (h.0, omega (arith, e), h.1.1)
+  up (inr h) = let e = h.1 in inr (h.0, omega (arith, e), h.2)
 
 pub get_left : {A : Type 0} (xs ys : List A) (k : ℕ) (x : A) → slice_get xs k ≡ Some x → slice_get (xs ++ ys) k ≡ Some x
 get_left [] ys k x h = absurd (cc)
@@ -59,3 +61,22 @@ get_set_other (y ∷ xs) zero zero x h = absurd (h refl)
 get_set_other (y ∷ xs) zero (suc k) x h = refl
 get_set_other (y ∷ xs) (suc i) zero x h = refl
 get_set_other (y ∷ xs) (suc i) (suc k) x h = get_set_other xs i k x (λ e. h (ap suc e))
+
+-- what a list contains stands in it
+pub got : (xs : List ℕ) (n : ℕ) → Contains xs n → (k : ℕ) × (slice_get xs k ≡ Some n)
+got xs n (k, inside, is) = (k, slice_get_read xs (length xs) k n refl inside (sym is))
+
+pub contained : (xs : List ℕ) (k n : ℕ) → slice_get xs k ≡ Some n → Contains xs n
+contained xs k n h = (k, slice_get_within xs k n h, get_or_from_slice_get xs k n n h)
+
+pub there : {A : Type 0} (xs : List A) (k : ℕ) → k < length xs → (x : A) × (slice_get xs k ≡ Some x)
+there [] k h = absurd (omega arith)
+there (x ∷ xs) zero h = (x, refl)
+there (x ∷ xs) (suc k) h = there xs k (omega arith)
+
+-- two places are one or not
+pub same_or_other : (a b : ℕ) → (a ≡ b) ⊎ (a ≡ b → ⊥)
+same_or_other a b = by (nat_eq a b) refl where
+  by : (t : Bool) → nat_eq a b ≡ t → (a ≡ b) ⊎ (a ≡ b → ⊥)
+  by true e = inl (eqb-true a b e)
+  by false e = inr (λ k. let yes_it_is : nat_eq a b ≡ true = eq-eqb a b k in let no : true ≡ false = sym yes_it_is ∙ e in cc)

@@ -38,7 +38,7 @@ holds_none rule o now store none = record {
   no (a_side p) x m = let yes_it_is : is_binding o p x ≡ true = (rule o p x).1 m in let it_isnt = none p x in cc
   no (a_level p j) x m = let yes_it_is : is_binding o (Repeats p j) x ≡ true = (rule o (Repeats p j) x).1 m in let it_isnt = none (Repeats p j) x in cc
 
-no_contents : List Store → List (List PieceTree)
+abbrev no_contents : List Store → List (List PieceTree)
 no_contents [] = []
 no_contents (store ∷ stores) = [] ∷ no_contents stores
 
@@ -72,15 +72,16 @@ roomy_at_first rule p cap = roomy_without rule p [] cap nothing
 quiet_holds : (log : List LogEntry) (r : LogEntry) → IsQuiet r → (k : ℕ) → (observed_in (log ++ r ∷ [])).holds k (suc (length log)) ≡ false
 quiet_holds log r quiet k = ap (λ z. truth z k) (get_seam log r) ∙ quiet k
 
+and_is : (b : Bool) → b ≡ (b && true)
+and_is true = refl
+and_is false = refl
+
 -- so that the longer log goes on in itself
 goes_on_itself : (o : Observed) (n : ℕ) → ((k : ℕ) → o.holds k n ≡ false) → GoesOn o o n
 goes_on_itself o n none = record { holds = holds; first = λ k i h. refl; last = λ k i h. refl } where
   by : (k i : ℕ) (b : Bool) → nat_eq n i ≡ b → o.holds k i ≡ (o.holds k i && not (nat_eq n i))
   by k i true e = let at : n ≡ i = eqb-true n i e in let no : o.holds k i ≡ false = ap (o.holds k) (sym at) ∙ none k in rw (no) refl
-  by k i false e = rw e (and_true (o.holds k i)) where
-    and_true : (b : Bool) → b ≡ (b && true)
-    and_true true = refl
-    and_true false = refl
+  by k i false e = rw e (and_is (o.holds k i))
 
   holds : (k i : ℕ) → o.holds k i ≡ (o.holds k i && not (nat_eq n i))
   holds k i = by k i (nat_eq n i) refl
@@ -88,11 +89,13 @@ goes_on_itself o n none = record { holds = holds; first = λ k i h. refl; last =
 -- no binding has its number
 not_new : (log : List LogEntry) (r : LogEntry) → IsQuiet r → (p : NumberedPattern) (x : BindTree) → is_binding (observed_in (log ++ r ∷ [])) p x ≡ true → has (suc (length log)) x ≡ false
 not_new log r quiet p x h = by (has (suc (length log)) x) refl where
-  same_log = lasting (observed_in (log ++ r ∷ [])) (observed_in (log ++ r ∷ [])) (suc (length log)) (goes_on_itself (observed_in (log ++ r ∷ [])) (suc (length log)) (quiet_holds log r quiet)) p x
-
   by : (b : Bool) → has (suc (length log)) x ≡ b → has (suc (length log)) x ≡ false
   by false e = e
-  by true e = absurd (let k : is_binding (observed_in (log ++ r ∷ [])) p x ≡ false = rw e at (rw h at same_log) in cc)
+  by true e = absurd (
+      let o = observed_in (log ++ r ∷ []) in
+      let same_log : is_binding o p x ≡ (is_binding o p x && not (has (suc (length log)) x)) = lasting o o (suc (length log)) (goes_on_itself o (suc (length log)) (quiet_holds log r quiet)) p x in
+      let k : is_binding o p x ≡ (true && not true) = same_log ∙ ap (λ z. z && not (has (suc (length log)) x)) h ∙ ap (λ z. true && not z) e in
+      let no : true ≡ false = sym h ∙ k in cc)
 
 -- and the bindings are those of before
 same_bindings : (log : List LogEntry) (r : LogEntry) → IsQuiet r → (p : NumberedPattern) (x : BindTree) → is_binding (observed_in log) p x ≡ is_binding (observed_in (log ++ r ∷ [])) p x
@@ -112,9 +115,10 @@ quiet_answer rule p log r quiet = record {
       let o = observed_in (log ++ r ∷ []) in
       let more = length_more log r in
       let at : nat_eq (greatest x) (suc (length log)) ≡ true = eq-eqb (greatest x) (suc (length log)) (e ∙ more) in
-      let both = ends_at o (suc (length log)) (λ k i h. subst (λ (m : ℕ). i ≤ m) more (holds_inside (log ++ r ∷ []) k i h)) p x in
-      let it_isnt = not_new log r quiet p x b in
-      let k : false ≡ true = rw at at (rw it_isnt at (rw b at both)) in cc
+      let both : (is_binding o p x && has (suc (length log)) x) ≡ (is_binding o p x && nat_eq (greatest x) (suc (length log))) = ends_at o (suc (length log)) (λ k i h. subst (λ (m : ℕ). i ≤ m) more (holds_inside (log ++ r ∷ []) k i h)) p x in
+      let it_isnt : has (suc (length log)) x ≡ false = not_new log r quiet p x b in
+      let k : (true && false) ≡ (true && true) = sym (ap (λ z. z && has (suc (length log)) x) b ∙ ap (λ z. true && z) it_isnt) ∙ both ∙ ap (λ z. z && nat_eq (greatest x) (suc (length log))) b ∙ ap (λ z. true && z) at in
+      let no : false ≡ true = k in cc
 
 -- ---- what is live
 
@@ -135,13 +139,10 @@ one_bits true c c' h = h refl
 
 drop_bits : (b h l : Bool) → (b ≡ true → h ≡ false) → ((b && l) && not h) ≡ (b && l)
 drop_bits false h l k = refl
-drop_bits true h l k = rw (k refl) (and_true l) where
-  and_true : (b : Bool) → (b && true) ≡ b
-  and_true true = refl
-  and_true false = refl
+drop_bits true h l k = rw (k refl) (sym (and_is l))
 
 -- what a store may hold are the bindings of a pattern
-part_pattern : Part → NumberedPattern
+abbrev part_pattern : Part → NumberedPattern
 part_pattern (a_side p) = p
 part_pattern (a_level p j) = Repeats p j
 
@@ -150,38 +151,54 @@ may_is o (a_side p) x = refl
 may_is o (a_level p j) x = refl
 
 -- a store holds for the longer log what it held and what still lives
-quiet_store : Rule → (log : List LogEntry) (r : LogEntry) → IsQuiet r → time_of log ≤ℤ r.last → (store : Store) (held : List PieceTree) →
-    HoldsLive (observed_in log) (time_of log) store held → HoldsLive (observed_in (log ++ r ∷ [])) r.last store (kept store.window r.last held)
-quiet_store rule log r quiet order store held live =
-    from_held o' r.last store (may_hold o' store.part) (may_rule rule o' store.part) (kept v r.last held)
-    (held_same o' (λ x. (f' x && lives v (earliest o'.first x) r.last) && not (has n x)) (λ x. may_hold o' store.part x && lives v (earliest o'.first x) r.last) (kept v r.last held)
-    (λ x. drop_bits (f' x) (has n x) (lives v (earliest o'.first x) r.last) (not_new log r quiet q x) ∙ ap (λ z. z && lives v (earliest o'.first x) r.last) (sym (may_is o' store.part x)))
-    (kept_law o' v (time_of log) r.last n f' held order (longer (to_held o (time_of log) store (may_hold o store.part) (may_rule rule o store.part) held live)))) where
+module _ (rule : Rule) (log : List LogEntry) (r : LogEntry) (quiet : IsQuiet r) (store : Store) where
+  abbrev o : Observed
   o = observed_in log
+
+  abbrev o' : Observed
   o' = observed_in (log ++ r ∷ [])
+
+  abbrev n : ℕ
   n = suc (length log)
-  v = store.window
+
+  abbrev q : NumberedPattern
   q = part_pattern store.part
-  f = is_binding o q
-  f' = is_binding o' q
+
+  abbrev early : BindTree → Bool
+  early x = lives store.window (earliest o.first x) (time_of log)
+
+  abbrev early' : BindTree → Bool
+  early' x = lives store.window (earliest o'.first x) (time_of log)
+
+  abbrev late : BindTree → Bool
+  late x = lives store.window (earliest o'.first x) r.last
 
   may_times : (x : BindTree) → may_hold o store.part x ≡ true → SameTimes o o' x
   may_times x h = same_times o o' n (goes_on log r) q x (sym (may_is o store.part x) ∙ h)
 
-  same_bits : (x : BindTree) → (may_hold o store.part x && lives v (earliest o.first x) (time_of log)) ≡ ((f' x && not (has n x)) && lives v (earliest o'.first x) (time_of log))
+  same_bits : (x : BindTree) → (may_hold o store.part x && early x) ≡ ((is_binding o' q x && not (has n x)) && early' x)
   same_bits x =
-      one_bits (may_hold o store.part x) (lives v (earliest o.first x) (time_of log)) (lives v (earliest o'.first x) (time_of log)) (λ h. ap (λ z. lives v z (time_of log)) (may_times x h).0)
-      ∙ ap (λ z. z && lives v (earliest o'.first x) (time_of log)) (may_is o store.part x ∙ lasting o o' n (goes_on log r) q x)
+      one_bits (may_hold o store.part x) (early x) (early' x) (λ h. ap (λ z. lives store.window z (time_of log)) (may_times x h).0)
+      ∙ ap (λ z. z && early' x) (may_is o store.part x ∙ lasting o o' n (goes_on log r) q x)
 
-  longer : AreHeld o (λ x. may_hold o store.part x && lives v (earliest o.first x) (time_of log)) held → AreHeld o' (λ x. (f' x && not (has n x)) && lives v (earliest o'.first x) (time_of log)) held
-  longer (xs, is, each) = (
+  longer : (held : List PieceTree) → AreHeld o (λ x. may_hold o store.part x && early x) held → AreHeld o' (λ x. (is_binding o' q x && not (has n x)) && early' x) held
+  longer held (xs, is, each) = (
     xs,
-    is ∙ map_same (hold o) (hold o') xs (λ x k.
-        same_hold o o' x (may_times x (and_parts _ _ (bit_positive (may_hold o store.part x && lives v (earliest o.first x) (time_of log)) (count x xs) (each x) k)).0)),
-    exactly_same (λ x. may_hold o store.part x && lives v (earliest o.first x) (time_of log)) (λ x. (f' x && not (has n x)) && lives v (earliest o'.first x) (time_of log)) xs same_bits each,
+    is ∙ map_same (hold o) (hold o') xs (λ x k. same_hold o o' x (may_times x (and_parts _ _ (bit_positive (may_hold o store.part x && early x) (count x xs) (each x) k)).0)),
+    exactly_same (λ x. may_hold o store.part x && early x) (λ x. (is_binding o' q x && not (has n x)) && early' x) xs same_bits each,
   )
 
-kept_in : ℤ → List Store → List (List PieceTree) → List (List PieceTree)
+  late_bits : (x : BindTree) → ((is_binding o' q x && late x) && not (has n x)) ≡ (may_hold o' store.part x && late x)
+  late_bits x = drop_bits (is_binding o' q x) (has n x) (late x) (not_new log r quiet q x) ∙ ap (λ z. z && late x) (sym (may_is o' store.part x))
+
+  quiet_store : time_of log ≤ℤ r.last → (held : List PieceTree) → HoldsLive o (time_of log) store held → HoldsLive o' r.last store (kept store.window r.last held)
+  quiet_store order held live =
+      from_held o' r.last store (may_hold o' store.part) (may_rule rule o' store.part) (kept store.window r.last held)
+      (held_same o' (λ x. (is_binding o' q x && late x) && not (has n x)) (λ x. may_hold o' store.part x && late x) (kept store.window r.last held) late_bits
+      (kept_law o' store.window (time_of log) r.last n (is_binding o' q) held order
+      (longer held (to_held o (time_of log) store (may_hold o store.part) (may_rule rule o store.part) held live))))
+
+abbrev kept_in : ℤ → List Store → List (List PieceTree) → List (List PieceTree)
 kept_in t (store ∷ stores) (held ∷ contents) = kept store.window t held ∷ kept_in t stores contents
 kept_in t _ _ = []
 
@@ -189,7 +206,7 @@ quiet_stores : Rule → (log : List LogEntry) (r : LogEntry) → IsQuiet r → t
     AreLive (observed_in log) (time_of log) stores contents → AreLive (observed_in (log ++ r ∷ [])) r.last stores (kept_in r.last stores contents)
 quiet_stores rule log r quiet order [] [] live = tt
 quiet_stores rule log r quiet order (store ∷ stores) (held ∷ contents) live =
-    (quiet_store rule log r quiet order store held live.0, quiet_stores rule log r quiet order stores contents live.1)
+    (quiet_store rule log r quiet store order held live.0, quiet_stores rule log r quiet order stores contents live.1)
 quiet_stores rule log r quiet order [] (held ∷ contents) live = absurd live
 quiet_stores rule log r quiet order (store ∷ stores) [] live = absurd live
 
@@ -222,8 +239,8 @@ quiet_count rule p log r cap quiet order (n, live_count, at_most) =
 
 -- no row is later than the next one
 time_before : (log : List LogEntry) (x r : LogEntry) → IsInOrder (x ∷ log ++ r ∷ []) → time_of (x ∷ log) ≤ℤ r.last
-time_before [] x r h = h.1.0
-time_before (y ∷ log) x r h = time_before log y r h.1.1
+time_before [] x r h = h.1
+time_before (y ∷ log) x r h = time_before log y r h.2
 
 -- a quiet row leaves room where there was room
 pub quiet_roomy : Rule → (p : NumberedPattern) (log : List LogEntry) (r : LogEntry) (cap : ℕ) → IsQuiet r → IsInOrder (log ++ r ∷ []) → IsRoomy p log cap → IsRoomy p (log ++ r ∷ []) cap

@@ -2,7 +2,7 @@
 use Rattle.std.proofs.Common.{◌≡◌, ℕ, zero, suc, ◌+◌, ◌≤◌, ◌<◌, List, [], ◌∷◌, ◌++◌, length, set, refl, sym, ◌∙◌, ap, subst, arith, inl, inr, append-nil, map-append}
 use Rattle.std.specs.Prelude.{◌⊎◌, Bool, true, false, nat_eq, cond, Some, Contains, map, slice_get}
 use Rattle.std.proofs.lemmas.List.{length-set, length-map}
-use Rattle.std.proofs.lemmas.Bool.{eqb-true, eq-eqb, ne_eqb}
+use Rattle.std.proofs.lemmas.Bool.{eq-eqb, ne_eqb}
 use Rattle.match_bindings.specs.declared.bind.Bind.{Bind}
 use Rattle.match_bindings.specs.BindTree.{BindTree, tree_of}
 use Rattle.watch_index.specs.Candidates.{IsRising}
@@ -14,8 +14,8 @@ use Rattle.watch_hunt.specs.EngineAnswer.{binds_at, NeverFalls}
 use Rattle.watch_hunt.specs.inner.Table.{part_of}
 use Rattle.watch_hunt.specs.inner.Judging.{AreClear}
 use Rattle.watch_hunt.specs.inner.Round.{Takes, TookSome, found_of}
-use Rattle.watch_hunt.proofs.PlaceLemmas.{seam, get_set, get_set_other}
-use Rattle.watch_hunt.proofs.JudgeLemmas.{below_or_at, same_or_other}
+use Rattle.watch_hunt.proofs.PlaceLemmas.{same_or_other, seam, get_set, get_set_other}
+use Rattle.watch_hunt.proofs.JudgeLemmas.{below_or_at}
 
 -- ---- what is found
 
@@ -57,7 +57,7 @@ module _ (row : NextRow) (cap : ℕ) (stretches : List Stretch) (marks : List Bo
     (before after : FollowerState) (before_is : slice_get now place ≡ Some before) (inside : place < length now) (stretch : Stretch) (stretch_is : slice_get stretches place ≡ Some stretch)
     (binds : List Bind) (takes : Takes row cap (part_of stretch marks) before after (map tree_of binds)) where
 
-  new_found : List Found
+  abbrev new_found : List Found
   new_found = found ++ map (found_of place) binds
 
   -- the place isn't one of those before
@@ -102,7 +102,7 @@ module _ (row : NextRow) (cap : ℕ) (stretches : List Stretch) (marks : List Bo
 
   early_then : (k n : ℕ) → ((k < length (map (λ f. f.hunted) found)) × (slice_get (map (λ f. f.hunted) found) k ≡ Some n)) ⊎ ((j : ℕ) × (k ≡ length (map (λ f. f.hunted) found) + j) × (slice_get (map (λ f. f.hunted) (map (found_of place) binds)) j ≡ Some n)) →
       (j : ℕ) × (j < i + 1) × (slice_get touched j ≡ Some n)
-  early_then k n (inl h) = let e = took.early k n h.1 in let less = e.1.0 in (e.0, omega (arith, less), e.1.1)
+  early_then k n (inl h) = let e = took.early k n h.1 in let less = e.1 in (e.0, omega (arith, less), e.2)
   early_then k n (inr (j, e, h)) = (i, omega arith, place_is ∙ ap Some (sym (own_place place binds j n h)))
 
   rise_then : (j k m n : ℕ) → j ≤ k →
@@ -111,11 +111,11 @@ module _ (row : NextRow) (cap : ℕ) (stretches : List Stretch) (marks : List Bo
       m ≤ n
   rise_then j k m n h (inl a) (inl b) = took.rise j k m n h a.1 b.1
   rise_then j k m n h (inl a) (inr (l, e, b)) =
-      let f = took.early j m a.1 in let less = rise f.0 i m place f.1.0 f.1.1 place_is in let same = own_place place binds l n b in omega (arith, less, same)
+      let f = took.early j m a.1 in let less = rise f.0 i m place f.1 f.2 place_is in let same = own_place place binds l n b in omega (arith, less, same)
   rise_then j k m n h (inr (l, e, a)) (inl b) = let f = b.0 in absurd (omega (arith, h, e, f))
   rise_then j k m n h (inr (l, e, a)) (inr (x, f, b)) = let one = own_place place binds l m a in let two = own_place place binds x n b in omega (arith, one, two)
 
-  pub took_more : TookSome row cap stretches marks touched (i + 1) old (set now place after) new_found
+  pub took_more : TookSome row cap stretches marks touched (i + 1) old (set now place after) (found ++ map (found_of place) binds)
   took_more = record {
     count = length-set now place after ∙ took.count;
     took = λ k other s b a h of_k of_s of_b of_a. took_one k other s b a of_k of_s of_b of_a (below_or_at k i h);

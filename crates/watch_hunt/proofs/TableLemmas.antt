@@ -25,10 +25,10 @@ old_part stretch xs ys h =
     ∙ take-append-le stretch.count (drop stretch.first xs) ys (let l = length-drop stretch.first xs in omega (arith, l))
 
 module _ (patterns : List PlainPattern) (leaves : List PlainLeaf) (owners : List ℕ) (stretches : List Stretch) (table : IsTable patterns leaves owners stretches) (p : PlainPattern) where
-  stretch : Stretch
+  abbrev stretch : Stretch
   stretch = record { first = length leaves; count = length (leaf_list p) }
 
-  owners_more : List ℕ
+  abbrev owners_more : List ℕ
   owners_more = owners ++ repeated (length stretches) (length (leaf_list p))
 
   brackets_more : (place : ℕ) (q : PlainPattern) (s : Stretch) →
@@ -86,7 +86,7 @@ module _ (patterns : List PlainPattern) (leaves : List PlainLeaf) (owners : List
   rise_more j k m n h (inr (i, e, of_j)) (inr (l, f, of_k)) =
       let g = (get_repeated (length stretches) (length (leaf_list p)) i m of_j).1 in let g' = (get_repeated (length stretches) (length (leaf_list p)) l n of_k).1 in omega (arith, g, g')
 
-  pub table_more : IsTable (patterns ++ p ∷ []) (leaves ++ leaf_list p) (owners ++ repeated (length stretches) (length (leaf_list p))) (stretches ++ stretch ∷ [])
+  pub table_more : IsTable (patterns ++ p ∷ []) (leaves ++ leaf_list p) (owners ++ repeated (length stretches) (length (leaf_list p))) (stretches ++ record { first = length leaves; count = length (leaf_list p) } ∷ [])
   table_more = record {
     owned = let e = table.owned in omega (arith, e, length-append leaves (leaf_list p), length-append owners (repeated (length stretches) (length (leaf_list p))), length_repeated (length stretches) (length (leaf_list p)));
     told = let e = table.told in omega (arith, e, length-append stretches (stretch ∷ []), length-append patterns (p ∷ []));

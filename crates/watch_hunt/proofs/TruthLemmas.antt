@@ -43,7 +43,7 @@ zip_split : (objects : List Data) (roots : List ℕ) (xs ys : List PlainLeaf) (m
 zip_split objects roots [] ys marks z = ([], marks, tt, z, refl)
 zip_split objects roots (x ∷ xs) ys [] z = absurd z
 zip_split objects roots (x ∷ xs) ys (mark ∷ marks) z =
-    let rest = zip_split objects roots xs ys marks z.1 in (mark ∷ rest.0, rest.1.0, (z.0, rest.1.1.0), rest.1.1.1.0, ap (λ l. mark ∷ l) rest.1.1.1.1)
+    let rest = zip_split objects roots xs ys marks z.1 in (mark ∷ rest.0, rest.1, (z.0, rest.2), rest.3, ap (λ l. mark ∷ l) rest.4)
 
 -- ---- truths
 
@@ -53,7 +53,7 @@ of_both : (objects : List Data) (roots : List ℕ) (p q : PlainPattern) (marks :
     AllZip (Tells objects roots) (leaf_list p ++ leaf_list q) marks → AreOfBoth (AreTruths objects roots p) (AreTruths objects roots q) marks
 of_both objects roots p q marks left right z =
     let parts = zip_split objects roots (leaf_list p) (leaf_list q) marks z in
-    (parts.0, parts.1.0, left parts.0 parts.1.1.0, right parts.1.0 parts.1.1.1.0, parts.1.1.1.1)
+    (parts.0, parts.1, left parts.0 parts.2, right parts.1 parts.3, parts.4)
 
 pub truths_from : (objects : List Data) (roots : List ℕ) (p : PlainPattern) (marks : List Bool) → AllZip (Tells objects roots) (leaf_list p) marks → AreTruths objects roots p marks
 truths_from objects roots (a_leaf leaf) [] z = absurd z

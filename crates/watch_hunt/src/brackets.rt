@@ -43,7 +43,8 @@ pub(crate) struct Brackets<'p> {
 impl<'p> Brackets<'p> {
     /// The brackets of no pattern. Takes no memory.
     pub(crate) fn new(alloc: Global) -> Brackets<'p>
-        ensures { IsTable [] (map plain_leaf (map (λ leaf. leaf.now) result.leaves.items)) result.owners.items result.stretches.items }
+        ensures table { IsTable [] (map plain_leaf (map (λ leaf. leaf.now) result.leaves.items)) result.owners.items result.stretches.items }
+        ensures none { result.leaves.items ≡ [] }
     {
         Brackets {
             leaves: Vec::new(alloc),

@@ -1,11 +1,15 @@
-ghost use Rattle.std.specs.Prelude.{◌≡◌, ◌×◌, ◌≤ℤ◌, ◌<◌, ◌+◌, ◌^◌, ◌++◌, ◌∷◌, ◌↔◌, ℕ, [], List, All, true, Err, length, map, slice_get, IfOk, OnOk, OnErr};
+ghost use Rattle.std.specs.Prelude.{◌≡◌, ◌×◌, ◌≤ℤ◌, ◌<◌, ◌+◌, ◌^◌, ◌++◌, ◌∷◌, ◌↔◌, ℕ, [], List, All, true, Some, Err, length, map, slice_get, IfOk, OnOk, OnErr};
 ghost use Rattle.stix_bundles.specs.Objects.{data_in};
 ghost use Rattle.pattern_types.specs.Leaves.{leaves};
 ghost use Rattle.pattern_types.specs.PlainPattern.{plain_pattern};
-ghost use Rattle.pattern_types.specs.Soundness.{IsSoundPattern};
+ghost use Rattle.pattern_types.specs.Soundness.{IsSoundLeaf, IsSoundPattern};
 ghost use Rattle.match_live.specs.MatcherState.{Falls};
 ghost use Rattle.watch_hunt.specs.declared.refusal.EngineRefusal.TheVariants as refusal;
+ghost use Rattle.pattern_types.specs.declared.pattern.Pattern.{Pattern};
+ghost use Rattle.pattern_types.specs.PlainLeaf.{plain_leaf};
 ghost use Rattle.watch_hunt.specs.EngineLog.{Row, row_of};
+ghost use Rattle.watch_hunt.specs.FollowerState.{FollowerState, Follows};
+ghost use Rattle.watch_hunt.specs.inner.Table.{IsTable};
 ghost use Rattle.watch_hunt.specs.EngineState.{EngineStandsFor, IsReady};
 ghost use Rattle.watch_hunt.specs.EngineAnswer.{TellsRow, IsFirstCrowded};
 
@@ -20,7 +24,7 @@ use std::marker::Model;
 use stix_bundles::{Bundle, Observation};
 use stix_times::Instant;
 use watch_index::Index;
-use watch_indicators::Hunted;
+use crate::Hunted;
 
 /// Many patterns over one log. Contracts see the patterns of the hunted list, how much may be live of each, how
 /// many rows it took, the last time of the last of them, whether it has ended, and who follows the log for each
@@ -50,10 +54,13 @@ impl<'p> Model for Engine<'p> {
     ghost use Rattle.std.specs.Prelude.{map};
     ghost use Rattle.std.specs.Coded.{codes};
     ghost use Rattle.pattern_types.specs.contracts.pattern.Pattern as held;
+    ghost use Rattle.match_live.specs.inner.TreeCode.{tree_code};
     ghost use Rattle.watch_hunt.specs.EngineState.{EngineState};
     ghost use Rattle.watch_hunt.specs.inner.Built.{IsBuilt};
 
     ghost Value = { EngineState };
+
+    ghost coded = { Prim.hlevel (codes, held.the_row.coded, tree_code) };
 
     ghost view = { λ engine. record {
       patterns = map (λ h. h.pattern) engine.hunted.now;
@@ -82,17 +89,9 @@ impl<'p> Engine<'p> {
         ensures patterns { IfOk result (λ engine. engine.patterns ≡ map (λ h. h.pattern) hunted.now) }
         ensures cap { IfOk result (λ engine. engine.cap ≡ cap) }
     {
-        let mut brackets = Brackets::new(alloc);
-        let mut followers = Vec::new(alloc);
-        let mut turns = Vec::new(alloc);
-        for (place, indicator) in hunted.iter().enumerate() {
-            brackets.add(&indicator.pattern)?;
-            let follower = Follower::new(alloc, &indicator.pattern, cap)?;
-            if follower.has_matcher() {
-                turns.push(place as u32)?;
-            }
-            followers.push(follower)?;
-        }
+        let brackets = brackets_of(alloc, hunted)?;
+        let followers = followers_of(alloc, hunted, cap)?;
+        let turns = turns_of(alloc, followers.as_slice())?;
         let index = Index::new(alloc, brackets.leaves.as_slice())?;
         let marks = vec![in alloc; false; brackets.leaves.len()]?;
         Ok(Engine {
@@ -174,4 +173,52 @@ impl<'p> Engine<'p> {
         self.ended = false;
         Ok(found)
     }
+}
+
+/// The brackets of the patterns of a hunted list.
+fn brackets_of<'p>(alloc: Global, hunted: &'p [Hunted]) -> Result<Brackets<'p>, NoMemory>
+    requires few { length hunted.now < 2 ^ 32 }
+    requires sound { All (λ h. IsSoundPattern (plain_pattern h.pattern)) hunted.now }
+    ensures table { IfOk result (λ brackets. IsTable (map plain_pattern (map (λ h. h.pattern) hunted.now)) (map plain_leaf (map (λ leaf. leaf.now) brackets.leaves.items))
+        brackets.owners.items brackets.stretches.items) }
+    ensures sound { IfOk result (λ brackets. All IsSoundLeaf (map plain_leaf (map (λ leaf. leaf.now) brackets.leaves.items))) }
+    ensures few { IfOk result (λ brackets. length brackets.leaves.items < 2 ^ 32) }
+{
+    let mut brackets = Brackets::new(alloc);
+    for indicator in hunted {
+        brackets.add(&indicator.pattern)?;
+    }
+    Ok(brackets)
+}
+
+/// Who follows the log for each pattern of a hunted list.
+fn followers_of<'p>(
+    alloc: Global,
+    hunted: &'p [Hunted],
+    cap: u64,
+) -> Result<Vec<Follower<'p>>, NoMemory>
+    requires narrow { All (λ h. leaves h.pattern < 2 ^ 32) hunted.now }
+    ensures count { IfOk result (λ followers. length followers.items ≡ length hunted.now) }
+    ensures each { IfOk result (λ followers. (place : ℕ) (p : Pattern) (follower : FollowerState) → slice_get (map (λ h. h.pattern) hunted.now) place ≡ Some p
+        → slice_get followers.items place ≡ Some follower → Follows p cap [] follower) }
+{
+    let mut followers = Vec::new(alloc);
+    for indicator in hunted {
+        let follower = Follower::new(alloc, &indicator.pattern, cap)?;
+        followers.push(follower)?;
+    }
+    Ok(followers)
+}
+
+/// The places of the followers that have a matcher.
+fn turns_of(alloc: Global, followers: &[Follower<'_>]) -> Result<Vec<u32>, NoMemory>
+    requires { length followers.now < 2 ^ 32 }
+{
+    let mut turns = Vec::new(alloc);
+    for (place, follower) in followers.iter().enumerate() {
+        if follower.has_matcher() {
+            turns.push(place as u32)?;
+        }
+    }
+    Ok(turns)
 }

@@ -35,10 +35,15 @@ pub(crate) struct Follower<'p> {
 }
 
 impl<'p> Model for Follower<'p> {
+    ghost use Rattle.std.specs.Coded.{codes};
     ghost use Rattle.std.specs.Option.{option_map};
+    ghost use Rattle.pattern_types.specs.contracts.pattern.Pattern as held;
+    ghost use Rattle.match_live.specs.inner.TreeCode.{tree_code};
     ghost use Rattle.watch_hunt.specs.FollowerState.{FollowerState};
 
     ghost Value = { FollowerState };
+
+    ghost coded = { Prim.hlevel (codes, held.the_row.coded, tree_code) };
 
     ghost view = { λ follower. record { matcher = option_map (λ held. held.value) follower.matcher; seen = follower.seen } };
 }
