@@ -1,17 +1,14 @@
 -- Which brackets are looked at for an observation, so that none that holds is missed.
 use Rattle.std.specs.Prelude.{◌≡◌, ℕ, ◌<◌, List, length, All, Contains, Some, slice_get}
+use Rattle.std.specs.List.Sorted.{IsStrictlyIncreasing}
 use Rattle.serde_json.specs.Data.{Data}
 use Rattle.pattern_types.specs.PlainLeaf.{PlainLeaf}
 use Rattle.match_tests.specs.Tests.{LeafHolds}
 
--- each number is less than the ones behind it
-abbrev pub IsRising : List ℕ → Type 0
-IsRising numbers = (j k m n : ℕ) → j < k → slice_get numbers j ≡ Some m → slice_get numbers k ≡ Some n → m < n
-
 -- places of brackets, in order and each once, among which each bracket stands that holds for the observation of those
 -- roots
 pub record AreCandidates (objects : List Data) (roots : List ℕ) (brackets : List PlainLeaf) (places : List ℕ) : Type 0 where
-  pub rise : IsRising places
+  pub rise : IsStrictlyIncreasing places
   pub there : All (λ (place : ℕ). place < length brackets) places
   pub all : (place : ℕ) (leaf : PlainLeaf) → slice_get brackets place ≡ Some leaf → LeafHolds objects roots leaf
       → Contains places place
