@@ -194,3 +194,20 @@ follows_first rule p cap matcher matches = record { order = tt; roomy = roomy_at
 
 pub matches_first : (p : Pattern) (cap : ℕ) (matcher : MatcherState) → StandsFor matcher [] → matcher.pattern ≡ p → matcher.cap ≡ cap → MatchesFor p cap [] 0 (Some matcher)
 matches_first p cap matcher stands e f = (e, f, stands_lags [] 0 matcher stands refl)
+
+-- the law of a pass, at whatever rows were missed
+pub pass_law : (p : Pattern) (cap : ℕ) (log : List LogEntry) (before : FollowerState) (old new : MatcherState) (rows : ℕ) (last : ℤ) → Follows p cap log before → before.matcher ≡ Some old →
+    EndsAt log rows (Some last) → before.seen < rows → ((l q : List LogEntry) → StandsFor old l → GoesOnQuietly l q (rows - before.seen) last → StandsFor new (l ++ q)) →
+    (new.pattern ≡ old.pattern) × (new.cap ≡ old.cap) → CatchesUp p cap log (record { matcher = Some new; seen = rows })
+pass_law p cap log before old new rows last follows is ends less law kept =
+    let lags = (subst (λ (m : Option MatcherState). MatchesFor p cap log before.seen m) is follows.matcher).2 in
+    let stands = law lags.before lags.quiet lags.stands (missed log before.seen old rows last lags follows.order ends less) in
+    passed p cap log before old new rows follows is kept (subst (λ (l : List LogEntry). StandsFor new l) (sym lags.log_is) stands) (sym ends.rows_are)
+
+-- nothing is missed where there is no last time
+pub no_last : (p : Pattern) (cap : ℕ) (log : List LogEntry) (follower : FollowerState) (matcher : MatcherState) (rows : ℕ) → follower.matcher ≡ Some matcher → Follows p cap log follower → EndsAt log rows None → CatchesUp p cap log follower
+no_last p cap log follower matcher rows is follows ends = up_to_date p cap log follower matcher is follows (let none = no_rows log ends.last_is in omega (arith, none))
+
+-- what is caught up stands for the log
+pub stands_now : (p : Pattern) (cap : ℕ) (log : List LogEntry) (follower : FollowerState) (matcher : MatcherState) → CatchesUp p cap log follower → follower.matcher ≡ Some matcher → StandsFor matcher log × (follower.seen ≡ length log)
+stands_now p cap log follower matcher up is = subst (λ (m : Option MatcherState). IsCaughtUp log follower m) is up.caught_up

@@ -1,15 +1,16 @@
 -- One candidate more is judged; and what is judged once all are.
-use Rattle.std.proofs.Common.{◌≡◌, ℕ, zero, suc, ◌+◌, ◌≤◌, ◌<◌, List, [], ◌∷◌, ◌++◌, length, set, refl, sym, ◌∙◌, ap, subst, arith, inl, inr, length-append}
+use Rattle.std.proofs.Common.{◌≡◌, ℕ, zero, suc, ◌+◌, ◌-◌, ◌≤◌, ◌<◌, List, [], ◌∷◌, ◌++◌, length, set, get_or, refl, sym, ◌∙◌, ap, subst, arith, inl, inr, length-append}
 use Rattle.std.specs.Prelude.{◌⊎◌, ◌↔◌, Bool, true, false, Some, Contains, slice_get}
 use Rattle.std.proofs.lemmas.List.{length-set}
-use Rattle.std.proofs.lemmas.Option.{slice_get_within}
+use Rattle.std.proofs.lemmas.Option.{slice_get_within, get_or_from_slice_get}
 use Rattle.std.proofs.lemmas.List.Elements.{Contains-append_left, Contains-push}
 use Rattle.serde_json.specs.Data.{Data}
 use Rattle.pattern_types.specs.PlainLeaf.{PlainLeaf}
 use Rattle.match_tests.specs.Tests.{LeafHolds}
-use Rattle.watch_index.specs.Candidates.{IsRising, AreCandidates}
+use Rattle.std.specs.List.Sorted.{IsStrictlyIncreasing}
+use Rattle.watch_index.specs.Candidates.{AreCandidates}
 use Rattle.watch_hunt.specs.EngineAnswer.{NeverFalls}
-use Rattle.watch_hunt.specs.inner.Judging.{AreClear, Judged, JudgedSoFar, AddsPlace}
+use Rattle.watch_hunt.specs.inner.Judging.{IsRising, AreClear, Judged, JudgedSoFar, AddsPlace}
 use Rattle.watch_hunt.proofs.PlaceLemmas.{same_or_other, got, contained, seam, get_one, get_set, get_set_other}
 
 -- a number below the next one is below this one or is it
@@ -21,6 +22,25 @@ below_or_at (suc j) (suc i) h = up (below_or_at j i (omega arith)) where
   up : (j < i) ⊎ (j ≡ i) → (suc j < suc i) ⊎ (suc j ≡ suc i)
   up (inl k) = inl (omega arith)
   up (inr k) = inr (ap suc k)
+
+-- what rises from each number to the next rises
+rise_by : (xs : List ℕ) → IsStrictlyIncreasing xs → (d j : ℕ) → j + suc d < length xs → get_or xs j 0 < get_or xs (j + suc d) 0
+rise_by xs h zero j inside = h j inside
+rise_by xs h (suc d) j inside =
+    let one = rise_by xs h d j (omega arith) in
+    let two = h (j + suc d) (omega arith) in
+    let e : j + suc d + 1 ≡ j + suc (suc d) = omega arith in
+    let three = subst (λ (n : ℕ). get_or xs (j + suc d) 0 < get_or xs n 0) e two in
+    omega (arith, one, three)
+
+pub rising_from : (xs : List ℕ) → IsStrictlyIncreasing xs → IsRising xs
+rising_from xs h j k m n less at_j at_k =
+    let a : get_or xs j 0 ≡ m = get_or_from_slice_get xs j m 0 at_j in
+    let b : get_or xs k 0 ≡ n = get_or_from_slice_get xs k n 0 at_k in
+    let inside = slice_get_within xs k n at_k in
+    let e : j + suc (k - suc j) ≡ k = omega (arith, less) in
+    let between = subst (λ (i : ℕ). get_or xs j 0 < get_or xs i 0) e (rise_by xs h (k - suc j) j (omega (arith, e, inside))) in
+    omega (arith, a, b, between)
 
 -- ---- the places
 

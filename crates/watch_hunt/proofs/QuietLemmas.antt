@@ -45,7 +45,9 @@ no_contents (store ∷ stores) = [] ∷ no_contents stores
 nothing_live : Rule → (o : Observed) (now : ℤ) → ((q : NumberedPattern) (x : BindTree) → is_binding o q x ≡ false) → (stores : List Store) →
     AreLive o now stores (no_contents stores) × (held_count (no_contents stores) ≡ 0)
 nothing_live rule o now none [] = (tt, refl)
-nothing_live rule o now none (store ∷ stores) = let rest = nothing_live rule o now none stores in ((holds_none rule o now store none, rest.0), rest.1)
+nothing_live rule o now none (store ∷ stores) =
+    let rest = nothing_live rule o now none stores in let count : held_count (no_contents stores) ≡ 0 = rest.1 in
+    ((holds_none rule o now store none, rest.0), (let e : 0 + held_count (no_contents stores) ≡ 0 = omega (arith, count) in e))
 
 -- without bindings there is room under every cap
 pub roomy_without : Rule → (p : NumberedPattern) (log : List LogEntry) (cap : ℕ) → ((q : NumberedPattern) (x : BindTree) → is_binding (observed_in log) q x ≡ false) → IsRoomy p log cap
@@ -213,10 +215,10 @@ quiet_stores rule log r quiet order (store ∷ stores) [] live = absurd live
 -- and that is no more
 fewer_kept : (store : Store) (t : ℤ) (held : List PieceTree) → length (kept store.window t held) ≤ length held
 fewer_kept store t [] = omega arith
-fewer_kept store t (x ∷ held) = by (lives store.window x.earliest t) refl where
-  by : (b : Bool) → lives store.window x.earliest t ≡ b → length (kept store.window t (x ∷ held)) ≤ length (x ∷ held)
-  by true e = rw e (let rest = fewer_kept store t held in omega (arith, rest))
-  by false e = rw e (let rest = fewer_kept store t held in omega (arith, rest))
+fewer_kept store t (x ∷ held) = by (lives store.window x.earliest t) refl (fewer_kept store t held) where
+  by : (b : Bool) → lives store.window x.earliest t ≡ b → length (kept store.window t held) ≤ length held → length (kept store.window t (x ∷ held)) ≤ length (x ∷ held)
+  by true e rest = rw e (omega (arith, rest))
+  by false e rest = rw e (omega (arith, rest))
 
 fewer_in : (t : ℤ) (stores : List Store) (contents : List (List PieceTree)) → held_count (kept_in t stores contents) ≤ held_count contents
 fewer_in t [] [] = omega arith

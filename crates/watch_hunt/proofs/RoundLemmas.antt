@@ -15,7 +15,6 @@ use Rattle.match_live.specs.MatcherState.{last_of}
 use Rattle.match_live.specs.Answer.{IsAnswer}
 use Rattle.match_live.specs.Passing.{IsQuiet}
 use Rattle.match_live.proofs.ShapeLemmas.{Rule}
-use Rattle.watch_index.specs.Candidates.{IsRising}
 use Rattle.watch_hunt.specs.declared.found.Found.{Found}
 use Rattle.watch_hunt.specs.declared.next_row.NextRow.{NextRow}
 use Rattle.watch_hunt.specs.declared.brackets.Stretch.{Stretch}
@@ -25,7 +24,7 @@ use Rattle.watch_hunt.specs.EngineState.{FollowsRows}
 use Rattle.watch_hunt.specs.EngineAnswer.{binds_at, TellsRow, IsCrowdedOver, IsRoomyOver, IsFirstCrowded}
 use Rattle.watch_hunt.specs.inner.Following.{EndsAt, TakesRow, log_with, GoesOn}
 use Rattle.watch_hunt.specs.inner.Table.{leaf_list, part_of, IsTable}
-use Rattle.watch_hunt.specs.inner.Judging.{Judged}
+use Rattle.watch_hunt.specs.inner.Judging.{IsRising, Judged}
 use Rattle.watch_hunt.specs.inner.Round.{TookSome, CrowdsAt, StillFollow}
 use Rattle.watch_hunt.proofs.PlaceLemmas.{same_or_other, got, there}
 use Rattle.watch_hunt.proofs.QuietLemmas.{quiet_answer}

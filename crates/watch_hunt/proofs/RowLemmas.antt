@@ -47,10 +47,10 @@ same_of_both left right a b (xs, ys, l, r, e) (xs', ys', l', r', e') = append_le
 same_truths : (objects : List Data) (roots : List ℕ) (p : PlainPattern) (a b : List Bool) → AreTruths objects roots p a → AreTruths objects roots p b → a ≡ b
 same_truths objects roots (a_leaf leaf) a b (t, e, is) (u, f, is') =
     e ∙ ap (λ z. z ∷ []) (both_ways t u (λ h. is'.1 (is.0 h)) (λ h. is.1 (is'.0 h))) ∙ sym f
-same_truths objects roots (a_both p q) a b = same_of_both (same_truths objects roots p) (same_truths objects roots q) a b
-same_truths objects roots (an_either p q) a b = same_of_both (same_truths objects roots p) (same_truths objects roots q) a b
-same_truths objects roots (a_then p q) a b = same_of_both (same_truths objects roots p) (same_truths objects roots q) a b
-same_truths objects roots (a_limited p limit) a b = same_truths objects roots p a b
+same_truths objects roots (a_both p q) a b ia ib = same_of_both (same_truths objects roots p) (same_truths objects roots q) a b ia ib
+same_truths objects roots (an_either p q) a b ia ib = same_of_both (same_truths objects roots p) (same_truths objects roots q) a b ia ib
+same_truths objects roots (a_then p q) a b ia ib = same_of_both (same_truths objects roots p) (same_truths objects roots q) a b ia ib
+same_truths objects roots (a_limited p limit) a b ia ib = same_truths objects roots p a b ia ib
 
 same_entry : (p : PlainPattern) (row : Row) (a b : LogEntry) → IsEntry p row a → IsEntry p row b → a ≡ b
 same_entry p row a b ia ib =

@@ -1,18 +1,17 @@
 -- One follower more takes the row; and the marks taken off again.
-use Rattle.std.proofs.Common.{◌≡◌, ℕ, zero, suc, ◌+◌, ◌≤◌, ◌<◌, List, [], ◌∷◌, ◌++◌, length, set, refl, sym, ◌∙◌, ap, subst, arith, inl, inr, append-nil, map-append}
+use Rattle.std.proofs.Common.{◌≡◌, ℕ, zero, suc, ◌+◌, ◌≤◌, ◌<◌, List, [], ◌∷◌, ◌++◌, length, set, refl, sym, ◌∙◌, ap, subst, arith, inl, inr, append-nil}
 use Rattle.std.specs.Prelude.{◌⊎◌, Bool, true, false, nat_eq, cond, Some, Contains, map, slice_get}
-use Rattle.std.proofs.lemmas.List.{length-set, length-map}
+use Rattle.std.proofs.lemmas.List.{length-set, map-append}
 use Rattle.std.proofs.lemmas.Bool.{eq-eqb, ne_eqb}
 use Rattle.match_bindings.specs.declared.bind.Bind.{Bind}
 use Rattle.match_bindings.specs.BindTree.{BindTree, tree_of}
-use Rattle.watch_index.specs.Candidates.{IsRising}
 use Rattle.watch_hunt.specs.declared.found.Found.{Found}
 use Rattle.watch_hunt.specs.declared.next_row.NextRow.{NextRow}
 use Rattle.watch_hunt.specs.declared.brackets.Stretch.{Stretch}
 use Rattle.watch_hunt.specs.FollowerState.{FollowerState}
 use Rattle.watch_hunt.specs.EngineAnswer.{binds_at, NeverFalls}
 use Rattle.watch_hunt.specs.inner.Table.{part_of}
-use Rattle.watch_hunt.specs.inner.Judging.{AreClear}
+use Rattle.watch_hunt.specs.inner.Judging.{IsRising, AreClear}
 use Rattle.watch_hunt.specs.inner.Round.{Takes, TookSome, found_of}
 use Rattle.watch_hunt.proofs.PlaceLemmas.{same_or_other, seam, get_set, get_set_other}
 use Rattle.watch_hunt.proofs.JudgeLemmas.{below_or_at}
@@ -21,10 +20,10 @@ use Rattle.watch_hunt.proofs.JudgeLemmas.{below_or_at}
 
 binds_append : (place : ℕ) (xs ys : List Found) → binds_at place (xs ++ ys) ≡ binds_at place xs ++ binds_at place ys
 binds_append place [] ys = refl
-binds_append place (f ∷ xs) ys = by (nat_eq f.hunted place) refl where
-  by : (b : Bool) → nat_eq f.hunted place ≡ b → binds_at place (f ∷ xs ++ ys) ≡ binds_at place (f ∷ xs) ++ binds_at place ys
-  by true e = rw e (ap (λ l. tree_of f.bind ∷ l) (binds_append place xs ys))
-  by false e = rw e (binds_append place xs ys)
+binds_append place (f ∷ xs) ys = by (nat_eq f.hunted place) refl (binds_append place xs ys) where
+  by : (b : Bool) → nat_eq f.hunted place ≡ b → binds_at place (xs ++ ys) ≡ binds_at place xs ++ binds_at place ys → binds_at place (f ∷ xs ++ ys) ≡ binds_at place (f ∷ xs) ++ binds_at place ys
+  by true e rest = rw e (ap (λ l. tree_of f.bind ∷ l) rest)
+  by false e rest = rw e rest
 
 own_binds : (place : ℕ) (binds : List Bind) → binds_at place (map (found_of place) binds) ≡ map tree_of binds
 own_binds place [] = refl

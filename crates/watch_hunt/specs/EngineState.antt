@@ -27,8 +27,8 @@ FollowsRows p cap rows follower = (log : List LogEntry) × IsLogOf (plain_patter
 -- an engine that hasn't ended stands for rows where each pattern's log of them is followed
 pub record EngineStandsFor (state : EngineState) (rows : List Row) : Type 0 where
   pub runs : state.ended ≡ false
-  pub rows : state.rows ≡ length rows
-  pub last : state.last ≡ last_of_rows rows
+  pub rows_are : state.rows ≡ length rows
+  pub last_is : state.last ≡ last_of_rows rows
   pub count : length state.followers ≡ length state.patterns
   pub each : (place : ℕ) (p : Pattern) (follower : FollowerState) → slice_get state.patterns place ≡ Some p
       → slice_get state.followers place ≡ Some follower → FollowsRows p state.cap rows follower

@@ -5,11 +5,11 @@ ghost use Rattle.stix_bundles.specs.Objects.{data_in};
 ghost use Rattle.pattern_types.specs.PlainLeaf.{plain_leaf};
 ghost use Rattle.pattern_types.specs.PlainPattern.{PlainPattern, plain_pattern};
 ghost use Rattle.pattern_types.specs.Soundness.{IsSoundLeaf};
-ghost use Rattle.watch_index.specs.Candidates.{IsRising, AreCandidates};
+ghost use Rattle.watch_index.specs.Candidates.{AreCandidates};
 ghost use Rattle.watch_hunt.specs.EngineAnswer.{NeverFalls};
 ghost use Rattle.watch_hunt.specs.declared.brackets.Stretch.{Stretch};
 ghost use Rattle.watch_hunt.specs.inner.Table.{leaf_list, part_of, repeated, IsTable};
-ghost use Rattle.watch_hunt.specs.inner.Judging.{AreClear, Judged, AddsPlace};
+ghost use Rattle.watch_hunt.specs.inner.Judging.{IsRising, AreClear, Judged, AddsPlace};
 
 use flow_values::{Items, NoMemory};
 use match_tests::leaf_holds;

@@ -13,12 +13,13 @@ ghost use Rattle.match_live.specs.Answer.{AnswersRow, IsCrowded};
 ghost use Rattle.match_live.specs.Passing.{GoesOnQuietly};
 ghost use Rattle.watch_hunt.specs.declared.refusal.FollowerRefusal.TheVariants as refused;
 ghost use Rattle.watch_hunt.specs.FollowerState.{MatchesFor, Follows};
-ghost use Rattle.watch_hunt.specs.inner.Following.{EndsAt, FollowsSome, CatchesUp, TakesRow, log_with, GoesOn, alone_at};
+ghost use Rattle.watch_hunt.specs.inner.Following.{EndsAt, FollowsSome, CatchesUp, TakesRow, log_with, GoesOn, IsAlone, alone_at};
 
 use crate::next_row::NextRow;
 use crate::refusal::FollowerRefusal;
 use flow_values::{Items, NoMemory};
 use match_bindings::Bind;
+use match_bindings::laws::test_is_the_rule;
 use match_live::{Ending, MatchRefusal, Matcher};
 use pattern_types::Pattern;
 use std::alloc::Global;
@@ -58,6 +59,7 @@ impl<'p> Follower<'p> {
         requires { leaves pattern.now < 2 ^ 32 }
         ensures { IfOk result (Follows pattern.now cap []) }
     {
+        test_is_the_rule();
         let matcher = matcher_of(alloc, pattern, cap)?;
         Ok(Follower { matcher, seen: 0 })
     }
@@ -107,9 +109,13 @@ impl<'p> Follower<'p> {
         let Some(matcher) = &mut self.matcher else {
             return take_alone(alloc, row.rows + 1, cap, truths);
         };
-        let binds = take_row(matcher, row, truths)?;
-        self.seen = row.rows + 1;
-        Ok(binds)
+        match take_row(matcher, row, truths) {
+            Ok(binds) => {
+                self.seen = row.rows + 1;
+                Ok(binds)
+            }
+            Err(refusal) => Err(refusal),
+        }
     }
 }
 
@@ -192,8 +198,7 @@ fn take_alone(
     cap: u64,
     truths: &[bool],
 ) -> Result<Items<Bind>, FollowerRefusal>
-    ensures answers { IfOk result (λ binds. map tree_of binds ≡ alone_at number truths.now) }
-    ensures roomy { IfOk result (λ binds. length binds ≤ cap) }
+    ensures answers { IfOk result (λ binds. IsAlone cap number truths.now (map tree_of binds)) }
     ensures crowded { result ≡ Err refused.Crowded → cap < length (alone_at number truths.now) }
 {
     let mut binds = Items::new(alloc);

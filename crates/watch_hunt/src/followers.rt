@@ -2,10 +2,10 @@
 
 ghost use Rattle.std.specs.Prelude.{◌≡◌, ◌≢◌, ◌≤◌, ◌<◌, ◌+◌, ◌^◌, ◌++◌, ℕ, All, Err, Some, length, map, slice_get, IfOk, OnOk};
 ghost use Rattle.match_bindings.specs.BindTree.{tree_of};
-ghost use Rattle.watch_index.specs.Candidates.{IsRising};
 ghost use Rattle.watch_hunt.specs.declared.brackets.Stretch.{Stretch};
 ghost use Rattle.watch_hunt.specs.declared.refusal.EngineRefusal.TheVariants as refusal;
 ghost use Rattle.watch_hunt.specs.inner.Following.{GoesOn};
+ghost use Rattle.watch_hunt.specs.inner.Judging.{IsRising};
 ghost use Rattle.watch_hunt.specs.inner.Round.{AllFollow, TookSome, CrowdsAt, StillFollow, found_of};
 
 use crate::brackets::Brackets;

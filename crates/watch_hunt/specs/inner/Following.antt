@@ -1,5 +1,5 @@
 -- For private clauses: what a follower does with the next row of its log.
-use Rattle.std.specs.Prelude.{◌≡◌, ◌≤ℤ◌, ℕ, ⊤, ℤ, Bool, true, false, Option, Some, None, List, [], ◌∷◌, length}
+use Rattle.std.specs.Prelude.{◌≡◌, ◌≤ℤ◌, ◌≤◌, ℕ, ⊤, ℤ, Bool, true, false, Option, Some, None, List, [], ◌∷◌, length}
 use Rattle.pattern_types.specs.declared.pattern.Pattern.{Pattern}
 use Rattle.match_bindings.specs.declared.log_entry.LogEntry.{LogEntry}
 use Rattle.match_bindings.specs.NumberedPattern.{numbered_pattern}
@@ -45,3 +45,8 @@ pub record GoesOn (row : NextRow) : Type 0 where
 abbrev pub alone_at : ℕ → List Bool → List BindTree
 alone_at number (true ∷ truths) = One number ∷ []
 alone_at number _ = []
+
+-- these end there, and no more than the cap allows
+pub record IsAlone (cap number : ℕ) (truths : List Bool) (binds : List BindTree) : Type 0 where
+  pub told : binds ≡ alone_at number truths
+  pub room : length binds ≤ cap

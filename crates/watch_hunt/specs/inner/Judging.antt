@@ -4,7 +4,10 @@ use Rattle.std.specs.List.{AllZip}
 use Rattle.serde_json.specs.Data.{Data}
 use Rattle.pattern_types.specs.PlainLeaf.{PlainLeaf}
 use Rattle.match_tests.specs.Tests.{LeafHolds}
-use Rattle.watch_index.specs.Candidates.{IsRising}
+
+-- each number is less than the ones behind it
+abbrev pub IsRising : List ℕ → Type 0
+IsRising numbers = (j k m n : ℕ) → j < k → slice_get numbers j ≡ Some m → slice_get numbers k ≡ Some n → m < n
 
 -- none of the brackets is marked
 abbrev pub AreClear : List Bool → Type 0

@@ -1,0 +1,38 @@
+-- The row at a follower that is caught up: by its matcher, or by the row alone.
+use Rattle.std.proofs.Common.{◌≡◌, ◌+◌, ◌<◌, ℕ, refl, sym, ap, subst, arith, length}
+use Rattle.std.specs.Prelude.{Some, None, map, Option}
+use Rattle.std.specs.Option.{option_map}
+use Rattle.std.proofs.lemmas.Result.{IfOk_then}
+use Rattle.match_bindings.specs.BindTree.{tree_of}
+use Rattle.match_live.specs.MatcherState.{MatcherState, StandsFor}
+use Rattle.watch_hunt.specs.FollowerState.{FollowerState}
+use Rattle.watch_hunt.specs.inner.Following.{CatchesUp}
+use Rattle.watch_hunt.proofs.FollowLemmas.{stands_now, takes_matched, crowds_matched, takes_alone, crowds_alone}
+use Rattle.watch_hunt.proofs.follower.Follower.take.Goals as goal
+
+pub returns-in_default-clause-took : goal.returns-in_default-clause-took
+returns-in_default-clause-took c = λ p log follows ends.
+    let up = subst (λ (f : FollowerState). CatchesUp p c.args.cap log f) (sym c.self.view_is) (c.in_ok-catch_up.ensures p log follows ends) in
+    let is = ap (option_map (λ held. held.value)) c.in_default.is in
+    IfOk_then c.take_alone.result c.take_alone.ensures.answers (λ binds alone.
+    takes_alone p c.args.cap log c.args.row.now c.args.truths.now (record { matcher = option_map (λ held. held.value) c.self.inside.matcher; seen = c.self.inside.seen }) (c.args.row.now.rows + 1) (map tree_of binds)
+    up.follows is ends c.requires.goes_on refl alone.told alone.room)
+
+pub returns-in_default-clause-crowded : goal.returns-in_default-clause-crowded
+returns-in_default-clause-crowded c = λ p log follows ends over.
+    let up = subst (λ (f : FollowerState). CatchesUp p c.args.cap log f) (sym c.self.view_is) (c.in_ok-catch_up.ensures p log follows ends) in
+    let is = ap (option_map (λ held. held.value)) c.in_default.is in
+    crowds_alone p c.args.cap log c.args.row.now c.args.truths.now (record { matcher = option_map (λ held. held.value) c.self.inside.matcher; seen = c.self.inside.seen }) (c.args.row.now.rows + 1)
+    up.follows is ends refl (c.take_alone.ensures.crowded over)
+
+pub take_row-requires-clause-room : goal.take_row-requires-clause-room
+take_row-requires-clause-room c = λ _.
+    let f = c.requires.follows in
+    let up = subst (λ (z : FollowerState). CatchesUp f.0 c.args.cap f.1 z) (sym c.self.view_is) (c.in_ok-catch_up.ensures f.0 f.1 f.2 f.3) in
+    let is = ap (option_map (λ held. held.value)) c.in-Some.is in
+    let value : c.in-Some.matcher.value ≡ c.deref_mut.result.now = cc in
+    let now = stands_now f.0 c.args.cap f.1 (record { matcher = option_map (λ held. held.value) c.self.inside.matcher; seen = c.self.inside.seen }) c.in-Some.matcher.value up is in
+    let rows : c.deref_mut.result.now.rows ≡ length f.1 = (subst (λ (m : MatcherState). StandsFor m f.1) value now.0).rows in
+    let many = f.3.rows_are in
+    let room = c.requires.room in
+    omega (arith, rows, many, room)
