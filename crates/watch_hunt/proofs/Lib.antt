@@ -8,3 +8,4 @@ mod TableLemmas
 mod RoundLemmas
 mod JudgeLemmas
 mod StepLemmas
+mod SoundLemmas

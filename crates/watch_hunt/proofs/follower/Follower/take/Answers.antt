@@ -1,12 +1,12 @@
 -- The row at a follower that is caught up: by its matcher, or by the row alone.
-use Rattle.std.proofs.Common.{◌≡◌, ◌+◌, ◌<◌, ℕ, refl, sym, ap, subst, arith, length}
+use Rattle.std.proofs.Common.{◌≡◌, ◌+◌, ◌<◌, ℕ, [], ◌∷◌, refl, sym, ◌∙◌, ap, subst, arith, length, length-append}
 use Rattle.std.specs.Prelude.{Some, None, map, Option}
 use Rattle.std.specs.Option.{option_map}
-use Rattle.std.proofs.lemmas.Result.{IfOk_then}
+use Rattle.std.proofs.lemmas.Result.{IfOk-weaker}
 use Rattle.match_bindings.specs.BindTree.{tree_of}
 use Rattle.match_live.specs.MatcherState.{MatcherState, StandsFor}
 use Rattle.watch_hunt.specs.FollowerState.{FollowerState}
-use Rattle.watch_hunt.specs.inner.Following.{CatchesUp}
+use Rattle.watch_hunt.specs.inner.Following.{CatchesUp, TakesRow, IsAlone, log_with}
 use Rattle.watch_hunt.proofs.FollowLemmas.{stands_now, takes_matched, crowds_matched, takes_alone, crowds_alone}
 use Rattle.watch_hunt.proofs.follower.Follower.take.Goals as goal
 
@@ -14,9 +14,11 @@ pub returns-in_default-clause-took : goal.returns-in_default-clause-took
 returns-in_default-clause-took c = λ p log follows ends.
     let up = subst (λ (f : FollowerState). CatchesUp p c.args.cap log f) (sym c.self.view_is) (c.in_ok-catch_up.ensures p log follows ends) in
     let is = ap (option_map (λ held. held.value)) c.in_default.is in
-    IfOk_then c.take_alone.result c.take_alone.ensures.answers (λ binds alone.
-    takes_alone p c.args.cap log c.args.row.now c.args.truths.now (record { matcher = option_map (λ held. held.value) c.self.inside.matcher; seen = c.self.inside.seen }) (c.args.row.now.rows + 1) (map tree_of binds)
-    up.follows is ends c.requires.goes_on refl alone.told alone.room)
+    let f : FollowerState = record { matcher = option_map (λ held. held.value) c.self.inside.matcher; seen = c.self.inside.seen } in
+    IfOk-weaker c.take_alone.result (λ binds. IsAlone c.args.cap (c.args.row.now.rows + 1) c.args.truths.now (map tree_of binds))
+    (λ binds. TakesRow p c.args.cap (log_with c.args.row.now c.args.truths.now log) f (map tree_of binds))
+    (λ binds alone. takes_alone p c.args.cap log c.args.row.now c.args.truths.now f (c.args.row.now.rows + 1) (map tree_of binds) up.follows is ends c.requires.goes_on refl alone.told alone.room)
+    c.take_alone.ensures.answers
 
 pub returns-in_default-clause-crowded : goal.returns-in_default-clause-crowded
 returns-in_default-clause-crowded c = λ p log follows ends over.
@@ -36,3 +38,27 @@ take_row-requires-clause-room c = λ _.
     let many = f.3.rows_are in
     let room = c.requires.room in
     omega (arith, rows, many, room)
+
+pub returns-in-Ok-clause-took : goal.returns-in-Ok-clause-took
+returns-in-Ok-clause-took c = λ p log follows ends.
+    let up = subst (λ (f : FollowerState). CatchesUp p c.args.cap log f) (sym c.self.view_is) (c.in_ok-catch_up.ensures p log follows ends) in
+    let is = ap (option_map (λ held. held.value)) c.in-Some.is in
+    let value : c.in-Some.matcher.value ≡ c.deref_mut.result.now = cc in
+    let f : FollowerState = record { matcher = option_map (λ held. held.value) c.self.inside.matcher; seen = c.self.inside.seen } in
+    let now = stands_now p c.args.cap log f c.in-Some.matcher.value up is in
+    let stands = subst (λ (m : MatcherState). StandsFor m log) value now.0 in
+    let answers = c.in-Ok.ensures.answers log stands up.follows.order in
+    let many = ends.rows_are in
+    takes_matched p c.args.cap log (log_with c.args.row.now c.args.truths.now log) f c.deref_mut.result.now c.take_row.new.matcher (c.args.row.now.rows + 1) (map tree_of c.in-Ok.binds) up.follows (is ∙ ap Some value)
+    c.in-Ok.ensures.kept answers (let e : c.args.row.now.rows + 1 ≡ length (log_with c.args.row.now c.args.truths.now log) = omega (arith, many, length-append log (record { first = c.args.row.now.first; last = c.args.row.now.last; truths = c.args.truths.now } ∷ [])) in e)
+
+pub returns-in-Err-clause-crowded : goal.returns-in-Err-clause-crowded
+returns-in-Err-clause-crowded c = λ p log follows ends e.
+    let up = subst (λ (f : FollowerState). CatchesUp p c.args.cap log f) (sym c.self.view_is) (c.in_ok-catch_up.ensures p log follows ends) in
+    let is = ap (option_map (λ held. held.value)) c.in-Some.is in
+    let value : c.in-Some.matcher.value ≡ c.deref_mut.result.now = cc in
+    let f : FollowerState = record { matcher = option_map (λ held. held.value) c.self.inside.matcher; seen = c.self.inside.seen } in
+    let now = stands_now p c.args.cap log f c.in-Some.matcher.value up is in
+    let stands = subst (λ (m : MatcherState). StandsFor m log) value now.0 in
+    crowds_matched p c.args.cap log (log_with c.args.row.now c.args.truths.now log) f c.deref_mut.result.now up.follows (is ∙ ap Some value)
+    (c.in-Err.ensures.crowded log stands up.follows.order e)
