@@ -90,7 +90,7 @@ module _ (objects : List Data) (roots : List ℕ) (leaves : List PlainLeaf) (own
 
   -- the candidate doesn't hold
   pub left_out : ¬ (LeafHolds objects roots leaf) → JudgedSoFar objects roots leaves owners candidates (i + 1) marks touched
-  left_out no = record {
+  left_out fails = record {
     count = far.count;
     marked = far.marked;
     all = λ j b other h of_j of_b holds. by j b other of_j of_b holds (below_or_at j i h);
@@ -103,7 +103,7 @@ module _ (objects : List Data) (roots : List ℕ) (leaves : List PlainLeaf) (own
     by j b other of_j of_b holds (inr e) =
         let same : b ≡ at = cc in
         let own : other ≡ leaf = (let f : slice_get leaves at ≡ Some other = ap (slice_get leaves) (sym same) ∙ of_b in cc) in
-        absurd (no (subst (λ (l : PlainLeaf). LeafHolds objects roots l) own holds))
+        absurd (fails (subst (λ (l : PlainLeaf). LeafHolds objects roots l) own holds))
 
   -- the candidate holds
   pub marked_with : LeafHolds objects roots leaf → at < length marks → (place : ℕ) → slice_get owners at ≡ Some place → (more : List ℕ) → AddsPlace touched place more →

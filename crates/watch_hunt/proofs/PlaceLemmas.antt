@@ -1,8 +1,10 @@
 -- What stands at a place of a list: behind a seam, after a write, and in a list of one number.
-use Rattle.std.proofs.Common.{◌≡◌, ℕ, zero, suc, ◌+◌, ◌≤◌, ◌<◌, List, [], ◌∷◌, ◌++◌, length, set, refl, sym, ◌∙◌, ap, arith, inl, inr}
-use Rattle.std.specs.Prelude.{◌⊎◌, Bool, true, false, nat_eq, Option, Some, None, Contains, slice_get}
+use Rattle.std.proofs.Common.{◌≡◌, ℕ, zero, suc, ◌+◌, ◌≤◌, ◌<◌, List, [], ◌∷◌, ◌++◌, length, set, get_or, refl, sym, ◌∙◌, ap, subst, arith, inl, inr, append_assoc}
+use Rattle.std.specs.Prelude.{◌⊎◌, Bool, true, false, nat_eq, Option, Some, None, All, Contains, map, slice_get}
+use Rattle.std.specs.Option.{option_map}
+use Rattle.std.proofs.lemmas.List.Elements.{All-get_or}
 use Rattle.std.proofs.lemmas.Bool.{eqb-true, eq-eqb}
-use Rattle.std.proofs.lemmas.Option.{slice_get_within, slice_get_read, get_or_from_slice_get}
+use Rattle.std.proofs.lemmas.Option.{slice_get-map, slice_get-get_or, slice_get_within, slice_get_read, get_or_from_slice_get}
 use Rattle.watch_hunt.specs.inner.Table.{repeated}
 
 -- an item of two lists is one of the first or of the second
@@ -80,3 +82,25 @@ same_or_other a b = by (nat_eq a b) refl where
   by : (t : Bool) → nat_eq a b ≡ t → (a ≡ b) ⊎ (a ≡ b → ⊥)
   by true e = inl (eqb-true a b e)
   by false e = inr (λ k. let yes_it_is : nat_eq a b ≡ true = eq-eqb a b k in let no : true ≡ false = sym yes_it_is ∙ e in cc)
+
+-- one owner more
+pub owner_more : (xs ys zs : List ℕ) (n c : ℕ) → ys ≡ xs ++ repeated n c → zs ≡ ys ++ n ∷ [] → zs ≡ xs ++ repeated n (c + 1)
+owner_more xs ys zs n c e f =
+    let suc_is : suc c ≡ c + 1 = omega arith in
+    f ∙ ap (λ l. l ++ n ∷ []) e ∙ append_assoc xs (repeated n c) (n ∷ []) ∙ ap (λ l. xs ++ l) (repeated_more n c) ∙ ap (λ k. xs ++ repeated n k) suc_is
+
+-- an item that is read, in a list that is mapped
+pub get_map : {A B : Type 0} (xs : List A) (f : A → B) (i : ℕ) (x : A) → i < length xs → x ≡ get_or xs i x → slice_get (map f xs) i ≡ Some (f x)
+get_map xs f i x h is = slice_get-map f xs i ∙ ap (option_map f) (slice_get_read xs (length xs) i x refl h is)
+
+pub get_map_twice : {A B C : Type 0} (xs : List A) (f : A → B) (g : B → C) (i : ℕ) (x : A) → i < length xs → x ≡ get_or xs i x → slice_get (map g (map f xs)) i ≡ Some (g (f x))
+get_map_twice xs f g i x h is = slice_get-map g (map f xs) i ∙ ap (option_map g) (get_map xs f i x h is)
+
+pub get_read : {A : Type 0} (xs : List A) (i : ℕ) (x : A) → i < length xs → x ≡ get_or xs i x → slice_get xs i ≡ Some x
+get_read xs i x h is = slice_get_read xs (length xs) i x refl h is
+
+pub get_number : (xs : List ℕ) (i : ℕ) → i < length xs → slice_get xs i ≡ Some (get_or xs i 0)
+get_number xs i h = slice_get-get_or xs i 0 h
+
+pub all_at : {A : Type 0} (P : A → Type 0) (xs : List A) (i : ℕ) (x : A) → All P xs → slice_get xs i ≡ Some x → P x
+all_at P xs i x all at = subst P (get_or_from_slice_get xs i x x at) (All-get_or P xs i x (slice_get_within xs i x at) all)

@@ -1,19 +1,23 @@
 -- One follower more takes the row; and the marks taken off again.
-use Rattle.std.proofs.Common.{◌≡◌, ℕ, zero, suc, ◌+◌, ◌≤◌, ◌<◌, List, [], ◌∷◌, ◌++◌, length, set, refl, sym, ◌∙◌, ap, subst, arith, inl, inr, append-nil}
-use Rattle.std.specs.Prelude.{◌⊎◌, Bool, true, false, nat_eq, cond, Some, Contains, map, slice_get}
+use Rattle.std.proofs.Common.{◌≡◌, ℕ, zero, suc, ◌+◌, ◌≤◌, ◌<◌, ℤ, List, [], ◌∷◌, ◌++◌, length, set, refl, sym, ◌∙◌, ap, subst, arith, inl, inr, append-nil}
+use Rattle.std.specs.Prelude.{◌⊎◌, Bool, true, false, nat_eq, cond, Option, Some, Contains, map, slice_get}
 use Rattle.std.proofs.lemmas.List.{length-set, map-append}
 use Rattle.std.proofs.lemmas.Bool.{eq-eqb, ne_eqb}
+use Rattle.std.proofs.lemmas.Option.{slice_get_within}
+use Rattle.pattern_types.specs.declared.pattern.Pattern.{Pattern}
+use Rattle.match_bindings.specs.declared.log_entry.LogEntry.{LogEntry}
 use Rattle.match_bindings.specs.declared.bind.Bind.{Bind}
 use Rattle.match_bindings.specs.BindTree.{BindTree, tree_of}
 use Rattle.watch_hunt.specs.declared.found.Found.{Found}
 use Rattle.watch_hunt.specs.declared.next_row.NextRow.{NextRow}
 use Rattle.watch_hunt.specs.declared.brackets.Stretch.{Stretch}
-use Rattle.watch_hunt.specs.FollowerState.{FollowerState}
+use Rattle.watch_hunt.specs.FollowerState.{FollowerState, Follows}
 use Rattle.watch_hunt.specs.EngineAnswer.{binds_at, NeverFalls}
 use Rattle.watch_hunt.specs.inner.Table.{part_of}
 use Rattle.watch_hunt.specs.inner.Judging.{IsRising, AreClear}
-use Rattle.watch_hunt.specs.inner.Round.{Takes, TookSome, found_of}
-use Rattle.watch_hunt.proofs.PlaceLemmas.{same_or_other, seam, get_set, get_set_other}
+use Rattle.watch_hunt.specs.inner.Following.{EndsAt}
+use Rattle.watch_hunt.specs.inner.Round.{Takes, TookSome, StillFollow, found_of}
+use Rattle.watch_hunt.proofs.PlaceLemmas.{same_or_other, seam, get_one, get_set, get_set_other}
 use Rattle.watch_hunt.proofs.JudgeLemmas.{below_or_at}
 
 -- ---- what is found
@@ -124,6 +128,48 @@ module _ (row : NextRow) (cap : ℕ) (stretches : List Stretch) (marks : List Bo
         (seam (map (λ f. f.hunted) found) (map (λ f. f.hunted) (map (found_of place) binds)) k n (sym (ap (λ l. slice_get l k) places_are) ∙ b));
     early = λ k n h. early_then k n (seam (map (λ f. f.hunted) found) (map (λ f. f.hunted) (map (found_of place) binds)) k n (sym (ap (λ l. slice_get l k) places_are) ∙ h));
   }
+
+-- a place whose turn it is wasn't touched before
+pub untouched : (row : NextRow) (cap : ℕ) (stretches : List Stretch) (marks : List Bool) (touched : List ℕ) (i : ℕ) (old now : List FollowerState) (found : List Found) →
+    TookSome row cap stretches marks touched i old now found → IsRising touched → (place : ℕ) → slice_get touched i ≡ Some place → slice_get now place ≡ slice_get old place
+untouched row cap stretches marks touched i old now found took rise place at = (took.others place (λ k h is. let less = rise k i place place h is at in omega (arith, less))).0
+
+-- ---- a follower caught up
+
+pub still_same : (cap rows : ℕ) (last : Option ℤ) (xs : List FollowerState) → StillFollow cap rows last xs xs
+still_same cap rows last xs = record {
+  count = refl;
+  follow = λ place before after p log a b follows ends. subst (λ (f : FollowerState). Follows p cap log f) (let e : Some before ≡ Some after = sym a ∙ b in cc) follows;
+}
+
+pub still_set : (cap rows : ℕ) (last : Option ℤ) (xs : List FollowerState) (i : ℕ) (old new : FollowerState) → slice_get xs i ≡ Some old →
+    ((p : Pattern) (log : List LogEntry) → Follows p cap log old → EndsAt log rows last → Follows p cap log new) → StillFollow cap rows last xs (set xs i new)
+still_set cap rows last xs i old new at law = record {
+  count = length-set xs i new;
+  follow = λ place before after p log a b follows ends. by place before after p log a b follows ends (same_or_other i place);
+} where
+  by : (place : ℕ) (before after : FollowerState) (p : Pattern) (log : List LogEntry) → slice_get xs place ≡ Some before → slice_get (set xs i new) place ≡ Some after → Follows p cap log before → EndsAt log rows last →
+      (i ≡ place) ⊎ (i ≡ place → ⊥) → Follows p cap log after
+  by place before after p log a b follows ends (inl e) =
+      let was : before ≡ old = (let f : Some before ≡ Some old = sym a ∙ ap (slice_get xs) (sym e) ∙ at in cc) in
+      let is : new ≡ after = (let f : Some new ≡ Some after = sym (get_set xs i new (slice_get_within xs i old at)) ∙ ap (slice_get (set xs i new)) e ∙ b in cc) in
+      subst (λ (f : FollowerState). Follows p cap log f) is (law p log (subst (λ (f : FollowerState). Follows p cap log f) was follows) ends)
+  by place before after p log a b follows ends (inr apart) =
+      subst (λ (f : FollowerState). Follows p cap log f) (let e : Some before ≡ Some after = sym a ∙ sym (get_set_other xs i place new apart) ∙ b in cc) follows
+
+-- ---- the followers of the empty log
+
+pub one_more : (patterns : List Pattern) (cap : ℕ) (xs : List FollowerState) (f : FollowerState) (q : Pattern) → slice_get patterns (length xs) ≡ Some q → Follows q cap [] f →
+    ((place : ℕ) (p : Pattern) (g : FollowerState) → slice_get patterns place ≡ Some p → slice_get xs place ≡ Some g → Follows p cap [] g) →
+    (place : ℕ) (p : Pattern) (g : FollowerState) → slice_get patterns place ≡ Some p → slice_get (xs ++ f ∷ []) place ≡ Some g → Follows p cap [] g
+one_more patterns cap xs f q of_q follows each place p g of_p of_g = by (seam xs (f ∷ []) place g of_g) where
+  by : ((place < length xs) × (slice_get xs place ≡ Some g)) ⊎ ((j : ℕ) × (place ≡ length xs + j) × (slice_get (f ∷ []) j ≡ Some g)) → Follows p cap [] g
+  by (inl h) = each place p g of_p h.1
+  by (inr (j, e, h)) =
+      let one = get_one f g j h in let zero_is = one.0 in
+      let at : place ≡ length xs = omega (arith, e, zero_is) in
+      let own : q ≡ p = (let k : Some q ≡ Some p = sym of_q ∙ ap (slice_get patterns) (sym at) ∙ of_p in cc) in
+      subst (λ (z : Pattern). Follows z cap [] g) own (subst (λ (z : FollowerState). Follows q cap [] z) (sym one.1) follows)
 
 -- ---- the marks off again
 

@@ -69,10 +69,11 @@ impl<'p> Brackets<'p> {
         if end > MAX_BRACKETS {
             return Err(NoMemory);
         }
-        add_owner(&mut self.owners, place, end)?;
+        let count = end - first;
+        add_owner(&mut self.owners, place, count)?;
         self.stretches.push(Stretch {
             first: first as u32,
-            count: (end - first) as u32,
+            count: count as u32,
         })?;
         Ok(())
     }
@@ -110,13 +111,11 @@ fn add_leaves<'p>(leaves: &mut Vec<&'p Leaf>, pattern: &'p Pattern) -> Result<()
     }
 }
 
-/// Makes a place the owner of the brackets from the first that has none to before that one.
-fn add_owner(owners: &mut Vec<u32>, place: u32, end: usize) -> Result<(), NoMemory>
-    requires { length owners.old.items ≤ end }
-    ensures { OnOk result (owners.new.items ≡ owners.old.items ++ repeated place (end - length owners.old.items)) }
+/// Makes a place the owner of so many brackets more.
+fn add_owner(owners: &mut Vec<u32>, place: u32, count: usize) -> Result<(), NoMemory>
+    ensures { OnOk result (owners.new.items ≡ owners.old.items ++ repeated place count) }
 {
-    let first = owners.len();
-    for _ in first..end {
+    for _ in 0..count {
         owners.push(place)?;
     }
     Ok(())
