@@ -9,3 +9,4 @@ mod RoundLemmas
 mod JudgeLemmas
 mod StepLemmas
 mod SoundLemmas
+mod EngineLemmas

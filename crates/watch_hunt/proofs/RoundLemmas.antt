@@ -1,10 +1,10 @@
 -- All followers at one row: each pattern's log with the row is followed, touched or not, and what was found for it ends there.
-use Rattle.std.proofs.Common.{◌≡◌, ℕ, zero, suc, ◌+◌, ◌≤◌, ◌<◌, ℤ, List, [], ◌∷◌, ◌++◌, length, refl, sym, ◌∙◌, ap, subst, arith, inl, inr, length-append}
-use Rattle.std.specs.Prelude.{◌⊎◌, Bool, true, false, Option, Some, None, map, slice_get}
+use Rattle.std.proofs.Common.{◌≡◌, ℕ, zero, suc, ◌+◌, ◌≤◌, ◌<◌, ℤ, List, [], ◌∷◌, ◌++◌, length, get_or, refl, sym, ◌∙◌, ap, subst, arith, inl, inr, length-append}
+use Rattle.std.specs.Prelude.{◌⊎◌, Bool, true, false, Option, Some, None, Contains, map, slice_get}
 use Rattle.std.specs.Option.{option_map}
 use Rattle.std.proofs.lemmas.Bool.{cases_order}
 use Rattle.std.proofs.lemmas.List.{length-map}
-use Rattle.std.proofs.lemmas.Option.{slice_get-map, slice_get_within}
+use Rattle.std.proofs.lemmas.Option.{slice_get-map, slice_get_within, get_or_from_slice_get}
 use Rattle.pattern_types.specs.declared.pattern.Pattern.{Pattern}
 use Rattle.pattern_types.specs.PlainLeaf.{PlainLeaf}
 use Rattle.pattern_types.specs.PlainPattern.{PlainPattern, plain_pattern}
@@ -15,21 +15,23 @@ use Rattle.match_live.specs.MatcherState.{last_of}
 use Rattle.match_live.specs.Answer.{IsAnswer}
 use Rattle.match_live.specs.Passing.{IsQuiet}
 use Rattle.match_live.proofs.ShapeLemmas.{Rule}
+use Rattle.serde_json.specs.Data.{Data}
+use Rattle.watch_index.specs.Candidates.{AreCandidates}
 use Rattle.watch_hunt.specs.declared.found.Found.{Found}
 use Rattle.watch_hunt.specs.declared.next_row.NextRow.{NextRow}
 use Rattle.watch_hunt.specs.declared.brackets.Stretch.{Stretch}
 use Rattle.watch_hunt.specs.EngineLog.{Row, IsEntry, IsLogOf, last_of_rows}
 use Rattle.watch_hunt.specs.FollowerState.{FollowerState, Follows}
-use Rattle.watch_hunt.specs.EngineState.{FollowsRows}
+use Rattle.watch_hunt.specs.EngineState.{EngineState, FollowsRows, EngineStandsFor}
 use Rattle.watch_hunt.specs.EngineAnswer.{binds_at, TellsRow, IsCrowdedOver, IsRoomyOver, IsFirstCrowded}
 use Rattle.watch_hunt.specs.inner.Following.{EndsAt, TakesRow, log_with, GoesOn}
 use Rattle.watch_hunt.specs.inner.Table.{leaf_list, part_of, IsTable}
 use Rattle.watch_hunt.specs.inner.Judging.{IsRising, Judged}
-use Rattle.watch_hunt.specs.inner.Round.{TookSome, CrowdsAt, StillFollow}
+use Rattle.watch_hunt.specs.inner.Round.{AllFollow, TookSome, CrowdsAt, StillFollow}
 use Rattle.watch_hunt.proofs.PlaceLemmas.{same_or_other, got, there}
 use Rattle.watch_hunt.proofs.QuietLemmas.{quiet_answer}
 use Rattle.watch_hunt.proofs.FollowLemmas.{order_more, quiet_follows}
-use Rattle.watch_hunt.proofs.RowLemmas.{log_length, log_last, log_more}
+use Rattle.watch_hunt.proofs.RowLemmas.{log_length, log_last, log_more, last_more}
 use Rattle.watch_hunt.proofs.TruthLemmas.{part_truths, no_truth}
 
 -- ---- lists
@@ -206,3 +208,69 @@ module _ (rule : Rule) (patterns : List Pattern) (cap : ℕ) (rows : List Row) (
       (place : ℕ) (p : Pattern) (follower : FollowerState) → slice_get patterns place ≡ Some p → slice_get new place ≡ Some follower → FollowsRows p cap (rows ++ r ∷ []) follower
   row_follows new found took place p follower of_p of_f =
       let settled = all_settle new found took place p of_p follower of_f in (settled.0, settled.1, settled.2.follows)
+
+-- ---- the engine's own words
+
+-- each follower of an engine follows some log of its rows
+pub all_follow : (state : EngineState) (rows : List Row) (row : NextRow) → EngineStandsFor state rows → row.rows ≡ state.rows → row.before ≡ state.last → AllFollow state.cap row state.followers
+all_follow state rows row st e f place follower of_f =
+    let inside = slice_get_within state.followers place follower of_f in let count = st.count in
+    let p = there state.patterns place (omega (arith, inside, count)) in
+    let follows = st.each place p.0 follower p.1 of_f in
+    (p.0, follows.0, follows.2, record {
+      rows_are = log_length (plain_pattern p.0) rows follows.0 follows.1 ∙ sym st.rows_are ∙ sym e;
+      last_is = log_last (plain_pattern p.0) rows follows.0 follows.1 ∙ sym st.last_is ∙ sym f;
+    })
+
+-- and so when they were swept
+pub still_all : (cap : ℕ) (row : NextRow) (old new : List FollowerState) → StillFollow cap row.rows row.before old new → AllFollow cap row old → AllFollow cap row new
+still_all cap row old new still all place follower of_f =
+    let inside = slice_get_within new place follower of_f in let count = still.count in
+    let f = there old place (omega (arith, inside, count)) in
+    let some = all place f.0 f.1 in
+    (some.0, some.1, still.follow place f.0 follower some.0 some.1 f.1 of_f some.2 some.3, some.3)
+
+-- the places that are touched are those of followers
+pub touched_inside : (patterns : List PlainPattern) (leaves : List PlainLeaf) (owners : List ℕ) (stretches : List Stretch) (objects : List Data) (roots : List ℕ) (marks : List Bool) (touched : List ℕ) (n : ℕ) →
+    IsTable patterns leaves owners stretches → Judged objects roots leaves owners marks touched → length patterns ≡ n → (k d : ℕ) → k < length touched → get_or touched k d < n
+touched_inside patterns leaves owners stretches objects roots marks touched n table judged e k d h =
+    let t = there touched k h in let o = judged.owned k t.0 t.1 in let v = table.valid o.0 t.0 o.1 in
+    let same = get_or_from_slice_get touched k t.0 d t.1 in omega (arith, v, same, e)
+
+-- what is marked is a candidate
+pub marked_there : (objects : List Data) (roots : List ℕ) (leaves : List PlainLeaf) (owners : List ℕ) (marks : List Bool) (touched candidates : List ℕ) → Judged objects roots leaves owners marks touched →
+    AreCandidates objects roots leaves candidates → (at : ℕ) → slice_get marks at ≡ Some true → Contains candidates at
+marked_there objects roots leaves owners marks touched candidates judged are at mark =
+    let inside = slice_get_within marks at true mark in let count = judged.count in
+    let leaf = there leaves at (omega (arith, inside, count)) in are.all at leaf.0 leaf.1 ((judged.marks_hold at leaf.0 leaf.1).0 mark)
+
+-- what is given at a row
+pub at_row : (state : EngineState) (rows : List Row) (r : Row) (row : NextRow) (leaves : List PlainLeaf) (owners : List ℕ) (stretches : List Stretch) (marks : List Bool) (touched : List ℕ) (swept : List FollowerState) →
+    EngineStandsFor state rows → row.rows ≡ state.rows → row.before ≡ state.last → row.first ≡ r.observation.first → row.last ≡ r.observation.last → GoesOn row →
+    StillFollow state.cap row.rows row.before state.followers swept → IsTable (map plain_pattern state.patterns) leaves owners stretches → Judged r.objects r.observation.roots leaves owners marks touched →
+    AtRow state.patterns state.cap rows r row leaves owners stretches marks touched state.followers swept
+at_row state rows r row leaves owners stretches marks touched swept st e f g h goes still table judged = record {
+  each = st.each;
+  count = st.count;
+  rows_are = e ∙ st.rows_are;
+  before_is = f ∙ st.last_is;
+  first_is = g;
+  last_is = h;
+  goes = goes;
+  still = still;
+  table = table;
+  judged = judged;
+}
+
+-- the engine with the row
+pub stands_with : (state after : EngineState) (rows : List Row) (r : Row) → EngineStandsFor state rows → after.ended ≡ false → after.rows ≡ state.rows + 1 → after.last ≡ Some r.observation.last →
+    length after.followers ≡ length after.patterns →
+    ((place : ℕ) (p : Pattern) (follower : FollowerState) → slice_get after.patterns place ≡ Some p → slice_get after.followers place ≡ Some follower → FollowsRows p after.cap (rows ++ r ∷ []) follower) →
+    EngineStandsFor after (rows ++ r ∷ [])
+stands_with state after rows r st runs count last many each = record {
+  runs = runs;
+  rows_are = let e = st.rows_are in (let g : after.rows ≡ length (rows ++ r ∷ []) = omega (arith, e, count, length-append rows (r ∷ [])) in g);
+  last_is = last ∙ sym (last_more rows r);
+  count = many;
+  each = each;
+}

@@ -19,6 +19,7 @@ use crate::followers::{sweep, take_all};
 use crate::next_row::NextRow;
 use crate::{EngineRefusal, Found};
 use flow_values::{Items, NoMemory};
+use match_bindings::laws::test_is_the_rule;
 use std::alloc::Global;
 use std::marker::Model;
 use stix_bundles::{Bundle, Observation};
@@ -136,6 +137,7 @@ impl<'p> Engine<'p> {
         ensures unchanged { self.old.ended ≡ true → self.new ≡ self.old }
         ensures kept { (self.new.patterns ≡ self.old.patterns) × (self.new.cap ≡ self.old.cap) }
     {
+        test_is_the_rule();
         if self.ended {
             return Err(EngineRefusal::Ended);
         }
@@ -158,7 +160,7 @@ impl<'p> Engine<'p> {
             candidates.as_slice(),
             self.marks.as_mut_slice(),
         )?;
-        let found = take_all(
+        let found = match take_all(
             self.alloc,
             self.followers.as_mut_slice(),
             &self.brackets,
@@ -166,7 +168,10 @@ impl<'p> Engine<'p> {
             touched.as_slice(),
             &row,
             self.cap,
-        )?;
+        ) {
+            Ok(found) => found,
+            Err(refusal) => return Err(refusal),
+        };
         clear(candidates.as_slice(), self.marks.as_mut_slice());
         self.rows = row.rows + 1;
         self.last = Some(row.last);

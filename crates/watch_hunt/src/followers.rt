@@ -88,8 +88,10 @@ pub(crate) fn sweep(
     let Some(place) = turns.get(turn) else {
         return Ok(0);
     };
-    if let Some(follower) = followers.get_mut(*place as usize) {
-        follower.catch_up(row.rows, row.before, cap)?;
+    let at = *place as usize;
+    if at >= followers.len() {
+        return Ok(0);
     }
+    followers[at].catch_up(row.rows, row.before, cap)?;
     Ok(turn + 1)
 }
