@@ -1,7 +1,7 @@
 -- What is given at a row of an engine, by what it keeps.
-use Rattle.std.proofs.Common.{◌≡◌, ◌+◌, ◌<◌, ℕ, List, length, get_or, refl, sym, ◌∙◌, ap, subst, arith}
+use Rattle.std.proofs.Common.{◌≡◌, ◌+◌, ◌<◌, ◌≤◌, ◌++◌, ◌∷◌, [], ℕ, List, length, take, drop, get_or, refl, sym, ◌∙◌, ap, subst, arith}
 use Rattle.std.specs.Prelude.{Bool, false, true, Some, Contains, map, slice_get}
-use Rattle.std.proofs.lemmas.List.{length-map}
+use Rattle.std.proofs.lemmas.List.{length-map, take-append-le}
 use Rattle.stix_bundles.specs.declared.observation.Observation.{Observation}
 use Rattle.pattern_types.specs.PlainLeaf.{PlainLeaf, plain_leaf}
 use Rattle.pattern_types.specs.PlainPattern.{plain_pattern}
@@ -74,3 +74,26 @@ given_at m rows r marks marks' touched touched' first swept now built st goes ju
     built.table
     (subst (λ (l : List Bool). Judged r.objects r.observation.roots (leaves_of m) m.brackets.owners.items l touched') (sym a)
     (subst (λ (l : List ℕ). Judged r.objects r.observation.roots (leaves_of m) m.brackets.owners.items marks l) (sym b) judged))
+
+-- ---- what is written into a list of the same length is what the list then has
+
+take_length : {A : Type 0} (xs : List A) → take (length xs) xs ≡ xs
+take_length [] = refl
+take_length (x ∷ xs) = ap (λ l. x ∷ l) (take_length xs)
+
+take_whole : {A : Type 0} (n : ℕ) (ws : List A) → n ≡ length ws → take n ws ≡ ws
+take_whole n ws e = ap (λ k. take k ws) e ∙ take_length ws
+
+pub same_items : {A : Type 0} (ws xs : List A) (n : ℕ) → n ≡ length ws → take n (ws ++ drop (length ws) xs) ≡ ws
+same_items ws xs n e = take-append-le n ws (drop (length ws) xs) (omega (arith, e)) ∙ take_whole n ws e
+
+pub followers_written : (m : Inside) (first swept : List FollowerState) → first ≡ m.followers.items → length first ≡ m.followers.len → StillFollow m.cap m.rows m.last first swept →
+    take m.followers.len (swept ++ drop (length swept) m.followers.items) ≡ swept
+followers_written m first swept e len still = same_items swept m.followers.items m.followers.len (sym len ∙ sym still.count)
+
+pub marks_written : (m : Inside) (r : Row) (first marks : List Bool) (touched : List ℕ) → IsBuilt m → Judged r.objects r.observation.roots (leaves_of m) m.brackets.owners.items marks touched → first ≡ m.marks.items → length first ≡ m.marks.len →
+    take m.marks.len (marks ++ drop (length marks) m.marks.items) ≡ marks
+marks_written m r first marks touched built judged e len =
+    let count = judged.count in let are = built.marks_are in let one : length first ≡ length m.marks.items = ap length e in
+    let long = length-map m.brackets.leaves.items (λ leaf. leaf.now) in let long' = length-map (map (λ leaf. leaf.now) m.brackets.leaves.items) plain_leaf in
+    same_items marks m.marks.items m.marks.len (let g : m.marks.len ≡ length marks = omega (arith, count, are, one, len, long, long') in g)
