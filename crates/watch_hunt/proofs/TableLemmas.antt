@@ -96,3 +96,16 @@ module _ (patterns : List PlainPattern) (leaves : List PlainLeaf) (owners : List
     valid = λ at place of_at. valid_more at place (seam owners (repeated (length stretches) (length (leaf_list p))) at place of_at);
     rise = λ j k m n h of_j of_k. rise_more j k m n h (seam owners (repeated (length stretches) (length (leaf_list p))) j m of_j) (seam owners (repeated (length stretches) (length (leaf_list p))) k n of_k);
   }
+
+-- what was added is what is asked
+pub add_law : (patterns : List PlainPattern) (leaves leaves' : List PlainLeaf) (owners owners' : List ℕ) (stretches stretches' : List Stretch) (p : PlainPattern) (place count : ℕ) (s : Stretch) →
+    IsTable patterns leaves owners stretches → leaves' ≡ leaves ++ leaf_list p → owners' ≡ owners ++ repeated place count → stretches' ≡ stretches ++ s ∷ [] →
+    (place ≡ length stretches) × (count ≡ length (leaf_list p)) × (s.first ≡ length leaves) × (s.count ≡ length (leaf_list p)) → IsTable (patterns ++ p ∷ []) leaves' owners' stretches'
+add_law patterns leaves leaves' owners owners' stretches stretches' p place count s table e f g (a, b, d, h) =
+    let own : s ≡ record { first = length leaves; count = length (leaf_list p) } = λ i. record { first = d i; count = h i } in
+    let one : owners' ≡ owners ++ repeated (length stretches) (length (leaf_list p)) = f ∙ ap (λ n. owners ++ repeated n count) a ∙ ap (λ n. owners ++ repeated (length stretches) n) b in
+    let two : stretches' ≡ stretches ++ record { first = length leaves; count = length (leaf_list p) } ∷ [] = g ∙ ap (λ z. stretches ++ z ∷ []) own in
+    subst (λ (l : List PlainLeaf). IsTable (patterns ++ p ∷ []) l owners' stretches') (sym e)
+    (subst (λ (l : List ℕ). IsTable (patterns ++ p ∷ []) (leaves ++ leaf_list p) l stretches') (sym one)
+    (subst (λ (l : List Stretch). IsTable (patterns ++ p ∷ []) (leaves ++ leaf_list p) (owners ++ repeated (length stretches) (length (leaf_list p))) l) (sym two)
+    (table_more patterns leaves owners stretches table p)))
