@@ -1,12 +1,11 @@
 -- A pattern of one bracket: what ends at a row is the row, where the bracket holds.
-use Rattle.std.proofs.Common.{◌≡◌, ℕ, zero, suc, ◌+◌, ◌≤◌, ℤ, List, [], ◌∷◌, ◌++◌, length, refl, sym, ◌∙◌, ap, subst, arith}
-use Rattle.std.specs.Prelude.{Bool, true, false, nat_eq, Some}
-use Rattle.std.proofs.lemmas.Bool.{eqb-true, eq-eqb, ne_eqb}
+use Rattle.std.proofs.Common.{◌≡◌, ℕ, suc, ◌+◌, ℤ, List, [], ◌∷◌, length, refl, sym, ◌∙◌, ap, subst, arith}
+use Rattle.std.specs.Prelude.{Bool, true, false, Some}
 use Rattle.match_bindings.specs.declared.log_entry.LogEntry.{LogEntry}
-use Rattle.match_bindings.specs.NumberedPattern.{NumberedPattern, Leaf}
+use Rattle.match_bindings.specs.NumberedPattern.{Leaf}
 use Rattle.match_bindings.specs.BindTree.{BindTree, One, Pair, First, Second, Empty, Single, More}
 use Rattle.match_bindings.specs.Log.{truth, observed_in}
-use Rattle.match_bindings.specs.Once.{bit, same, count}
+use Rattle.match_bindings.specs.Once.{same, count}
 use Rattle.match_live.specs.MatcherState.{with_row}
 use Rattle.match_live.specs.Answer.{EndsAtLast, IsAnswer, IsLiveCount}
 use Rattle.match_live.proofs.LogLemmas.{get_seam, length_more}

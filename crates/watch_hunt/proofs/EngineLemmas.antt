@@ -1,5 +1,5 @@
 -- What is given at a row of an engine, by what it keeps.
-use Rattle.std.proofs.Common.{◌≡◌, ◌+◌, ◌<◌, ◌≤◌, ◌++◌, ◌∷◌, [], ℕ, List, length, take, drop, get_or, refl, sym, ◌∙◌, ap, subst, arith}
+use Rattle.std.proofs.Common.{◌≡◌, ◌<◌, ◌++◌, ◌∷◌, [], ℕ, List, length, take, drop, get_or, refl, sym, ◌∙◌, ap, subst, arith}
 use Rattle.std.specs.Prelude.{Bool, false, true, Some, Contains, map, slice_get}
 use Rattle.std.proofs.lemmas.List.{length-map, take-append-le}
 use Rattle.stix_bundles.specs.declared.observation.Observation.{Observation}

@@ -1,11 +1,11 @@
 -- A follower at a row: where no bracket holds it follows the log with the row untouched.
-use Rattle.std.proofs.Common.{◌≡◌, ℕ, suc, ◌+◌, ◌-◌, ◌≤◌, ◌<◌, ℤ, ◌≤ℤ◌, List, [], ◌∷◌, ◌++◌, length, refl, sym, ◌∙◌, ap, subst, arith, append_assoc, append-nil, length-append}
+use Rattle.std.proofs.Common.{◌≡◌, ℕ, suc, ◌+◌, ◌-◌, ◌≤◌, ◌<◌, ℤ, List, [], ◌∷◌, ◌++◌, length, refl, sym, ◌∙◌, ap, subst, arith, append_assoc, append-nil, length-append}
 use Rattle.std.specs.Prelude.{Bool, Option, Some, None}
 use Rattle.pattern_types.specs.declared.pattern.Pattern.{Pattern}
 use Rattle.match_bindings.specs.declared.log_entry.LogEntry.{LogEntry}
 use Rattle.match_bindings.specs.NumberedPattern.{NumberedPattern, Leaf, numbered_pattern}
 use Rattle.match_bindings.specs.BindTree.{BindTree}
-use Rattle.match_bindings.specs.Log.{IsInOrder, LastIsBy}
+use Rattle.match_bindings.specs.Log.{IsInOrder}
 use Rattle.match_bindings.proofs.LogLemmas.{in_order_more}
 use Rattle.match_live.specs.MatcherState.{MatcherState, StandsFor, Falls, last_of}
 use Rattle.match_live.specs.Answer.{IsAnswer, IsLiveCount, IsRoomy, IsCrowded, AnswersRow}

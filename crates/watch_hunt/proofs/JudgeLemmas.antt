@@ -1,6 +1,6 @@
 -- One candidate more is judged; and what is judged once all are.
-use Rattle.std.proofs.Common.{◌≡◌, ℕ, zero, suc, ◌+◌, ◌-◌, ◌≤◌, ◌<◌, List, [], ◌∷◌, ◌++◌, length, set, get_or, refl, sym, ◌∙◌, ap, subst, arith, inl, inr, length-append}
-use Rattle.std.specs.Prelude.{◌⊎◌, ◌↔◌, Bool, true, false, Some, Contains, slice_get}
+use Rattle.std.proofs.Common.{◌≡◌, ℕ, zero, suc, ◌+◌, ◌-◌, ◌≤◌, ◌<◌, List, [], ◌∷◌, ◌++◌, length, set, get_or, refl, sym, ◌∙◌, ap, subst, arith, inl, inr}
+use Rattle.std.specs.Prelude.{◌⊎◌, Bool, true, Some, Contains, slice_get}
 use Rattle.std.proofs.lemmas.List.{length-set}
 use Rattle.std.proofs.lemmas.Option.{slice_get_within, get_or_from_slice_get}
 use Rattle.std.proofs.lemmas.List.Elements.{Contains-append_left, Contains-push}
@@ -80,7 +80,6 @@ is_added before place rise less = record {
 
 module _ (objects : List Data) (roots : List ℕ) (leaves : List PlainLeaf) (owners candidates : List ℕ) (i : ℕ) (marks : List Bool) (touched : List ℕ)
     (far : JudgedSoFar objects roots leaves owners candidates i marks touched) (at : ℕ) (at_is : slice_get candidates i ≡ Some at) (leaf : PlainLeaf) (leaf_is : slice_get leaves at ≡ Some leaf) where
-
   -- no place that is there is behind that of the next candidate
   pub least : IsRising candidates → NeverFalls owners → (place : ℕ) → slice_get owners at ≡ Some place → (k other : ℕ) → slice_get touched k ≡ Some other → other ≤ place
   least rise falls place of_at k other there =

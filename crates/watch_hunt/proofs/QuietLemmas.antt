@@ -1,24 +1,22 @@
 -- A row at which no bracket of a pattern holds: nothing ends there, and what is live was live before.
-use Rattle.std.proofs.Common.{◌≡◌, ℕ, zero, suc, ◌+◌, ◌≤◌, ◌<◌, ℤ, ◌≤ℤ◌, List, [], ◌∷◌, ◌++◌, length, refl, sym, ◌∙◌, ap, subst, arith}
-use Rattle.std.specs.Prelude.{Bool, true, false, ◌&&◌, not, nat_eq, map, filter, cond}
+use Rattle.std.proofs.Common.{◌≡◌, ℕ, suc, ◌+◌, ◌≤◌, ◌<◌, ℤ, ◌≤ℤ◌, List, [], ◌∷◌, ◌++◌, length, refl, sym, ◌∙◌, ap, subst, arith}
+use Rattle.std.specs.Prelude.{Bool, true, false, ◌&&◌, not, nat_eq, map}
 use Rattle.std.proofs.lemmas.Bool.{eqb-true, eq-eqb, and_parts}
 use Rattle.match_bindings.specs.declared.log_entry.LogEntry.{LogEntry}
-use Rattle.match_bindings.specs.NumberedPattern.{NumberedPattern, Leaf, Repeats}
+use Rattle.match_bindings.specs.NumberedPattern.{NumberedPattern, Repeats}
 use Rattle.match_bindings.specs.BindTree.{BindTree, has, greatest}
-use Rattle.match_bindings.specs.Log.{Observed, IsInOrder, LastIsBy, observed_in, truth}
+use Rattle.match_bindings.specs.Log.{Observed, IsInOrder, observed_in, truth}
 use Rattle.match_bindings.specs.Span.{earliest, latest}
 use Rattle.match_bindings.specs.Test.{is_binding}
 use Rattle.match_bindings.specs.Once.{same, count}
 use Rattle.match_bindings.proofs.OnceLemmas.{same_self}
 use Rattle.match_windows.specs.Stores.{Part, a_side, a_level, Store, stores_of}
 use Rattle.match_live.specs.PieceTree.{PieceTree, hold}
-use Rattle.match_live.specs.LivePart.{MayHold, HoldsLive, AreLive, IsLivePart, time_of, held_count}
-use Rattle.match_live.specs.Answer.{IsAnswer, IsLiveCount, IsRoomy}
+use Rattle.match_live.specs.LivePart.{MayHold, HoldsLive, AreLive, time_of, held_count}
+use Rattle.match_live.specs.Answer.{IsAnswer, IsRoomy}
 use Rattle.match_live.specs.Passing.{IsQuiet}
 use Rattle.match_live.specs.inner.Lives.{lives}
 use Rattle.match_live.specs.inner.Steps.{kept}
-use Rattle.match_live.proofs.LivesLemmas.{le_trans}
-use Rattle.match_live.proofs.AliveLemmas.{lives_before}
 use Rattle.match_live.proofs.StoreLemmas.{AreHeld, held_same, exactly_same, bit_positive, kept_law}
 use Rattle.match_live.proofs.LastingLemmas.{GoesOn, SameTimes, same_times, lasting}
 use Rattle.match_live.proofs.LogLemmas.{get_seam, holds_inside, length_more, goes_on, time_new, nothing}
@@ -52,18 +50,21 @@ nothing_live rule o now none (store ∷ stores) =
 -- without bindings there is room under every cap
 pub roomy_without : Rule → (p : NumberedPattern) (log : List LogEntry) (cap : ℕ) → ((q : NumberedPattern) (x : BindTree) → is_binding (observed_in log) q x ≡ false) → IsRoomy p log cap
 roomy_without rule p log cap none =
-    let live = nothing_live rule (observed_in log) (time_of log) none (stores_of p) in
-    (0, record {
-      contents = no_contents (stores_of p);
-      answer = [];
-      live = live.0;
-      ending = record {
-        each_once = λ x e. absurd (let yes_it_is : is_binding (observed_in log) p x ≡ true = (rule (observed_in log) p x).1 e.0 in let it_isnt = none p x in cc);
-        no_other = λ x _. refl;
-        rises = tt;
-      };
-      sum = sym live.1 ∙ (let e : held_count (no_contents (stores_of p)) ≡ held_count (no_contents (stores_of p)) + 0 = omega arith in e);
-    }, omega arith)
+    let live = nothing_live rule (observed_in log) (time_of log) none (stores_of p) in (
+      0,
+      record {
+        contents = no_contents (stores_of p);
+        answer = [];
+        live = live.0;
+        ending = record {
+          each_once = λ x e. absurd (let yes_it_is : is_binding (observed_in log) p x ≡ true = (rule (observed_in log) p x).1 e.0 in let it_isnt = none p x in cc);
+          no_other = λ x _. refl;
+          rises = tt;
+        };
+        sum = sym live.1 ∙ (let e : held_count (no_contents (stores_of p)) ≡ held_count (no_contents (stores_of p)) + 0 = omega arith in e);
+      },
+      omega arith,
+    )
 
 pub roomy_at_first : Rule → (p : NumberedPattern) (cap : ℕ) → IsRoomy p [] cap
 roomy_at_first rule p cap = roomy_without rule p [] cap nothing
@@ -230,14 +231,17 @@ quiet_count : Rule → (p : NumberedPattern) (log : List LogEntry) (r : LogEntry
 quiet_count rule p log r cap quiet order (n, live_count, at_most) =
     let contents = kept_in r.last (stores_of p) live_count.contents in
     let fewer = fewer_in r.last (stores_of p) live_count.contents in
-    let sum = live_count.sum in
-    (held_count contents, record {
-      contents = contents;
-      answer = [];
-      live = subst (λ (t : ℤ). AreLive (observed_in (log ++ r ∷ [])) t (stores_of p) contents) (sym (time_new log r)) (quiet_stores rule log r quiet order (stores_of p) live_count.contents live_count.live);
-      ending = quiet_answer rule p log r quiet;
-      sum = omega arith;
-    }, omega (arith, fewer, sum, at_most))
+    let sum = live_count.sum in (
+      held_count contents,
+      record {
+        contents = contents;
+        answer = [];
+        live = subst (λ (t : ℤ). AreLive (observed_in (log ++ r ∷ [])) t (stores_of p) contents) (sym (time_new log r)) (quiet_stores rule log r quiet order (stores_of p) live_count.contents live_count.live);
+        ending = quiet_answer rule p log r quiet;
+        sum = omega arith;
+      },
+      omega (arith, fewer, sum, at_most),
+    )
 
 -- no row is later than the next one
 time_before : (log : List LogEntry) (x r : LogEntry) → IsInOrder (x ∷ log ++ r ∷ []) → time_of (x ∷ log) ≤ℤ r.last

@@ -1,6 +1,6 @@
 -- All followers at one row: each pattern's log with the row is followed, touched or not, and what was found for it ends there.
-use Rattle.std.proofs.Common.{◌≡◌, ℕ, zero, suc, ◌+◌, ◌≤◌, ◌<◌, ℤ, List, [], ◌∷◌, ◌++◌, length, get_or, refl, sym, ◌∙◌, ap, subst, arith, inl, inr, length-append}
-use Rattle.std.specs.Prelude.{◌⊎◌, Bool, true, false, Option, Some, None, Contains, map, slice_get}
+use Rattle.std.proofs.Common.{◌≡◌, ℕ, zero, suc, ◌+◌, ◌<◌, List, [], ◌∷◌, ◌++◌, length, get_or, sym, ◌∙◌, ap, subst, arith, inl, inr, length-append}
+use Rattle.std.specs.Prelude.{◌⊎◌, Bool, true, false, Some, None, Contains, map, slice_get}
 use Rattle.std.specs.Option.{option_map}
 use Rattle.std.proofs.lemmas.Bool.{cases_order}
 use Rattle.std.proofs.lemmas.List.{length-map}
@@ -11,7 +11,6 @@ use Rattle.pattern_types.specs.PlainPattern.{PlainPattern, plain_pattern}
 use Rattle.match_bindings.specs.declared.log_entry.LogEntry.{LogEntry}
 use Rattle.match_bindings.specs.NumberedPattern.{numbered_pattern}
 use Rattle.match_bindings.specs.BindTree.{BindTree}
-use Rattle.match_live.specs.MatcherState.{last_of}
 use Rattle.match_live.specs.Answer.{IsAnswer}
 use Rattle.match_live.specs.Passing.{IsQuiet}
 use Rattle.match_live.proofs.ShapeLemmas.{Rule}
@@ -23,9 +22,9 @@ use Rattle.watch_hunt.specs.declared.brackets.Stretch.{Stretch}
 use Rattle.watch_hunt.specs.EngineLog.{Row, IsEntry, IsLogOf, last_of_rows}
 use Rattle.watch_hunt.specs.FollowerState.{FollowerState, Follows}
 use Rattle.watch_hunt.specs.EngineState.{EngineState, FollowsRows, EngineStandsFor}
-use Rattle.watch_hunt.specs.EngineAnswer.{binds_at, TellsRow, IsCrowdedOver, IsRoomyOver, IsFirstCrowded}
+use Rattle.watch_hunt.specs.EngineAnswer.{binds_at, TellsRow, IsFirstCrowded}
 use Rattle.watch_hunt.specs.inner.Following.{EndsAt, TakesRow, log_with, GoesOn}
-use Rattle.watch_hunt.specs.inner.Table.{leaf_list, part_of, IsTable}
+use Rattle.watch_hunt.specs.inner.Table.{part_of, IsTable}
 use Rattle.watch_hunt.specs.inner.Judging.{IsRising, Judged}
 use Rattle.watch_hunt.specs.inner.Round.{AllFollow, TookSome, CrowdsAt, StillFollow}
 use Rattle.watch_hunt.proofs.PlaceLemmas.{same_or_other, got, there}
@@ -90,7 +89,6 @@ pub record Before (p : Pattern) (cap : ℕ) (rows : List Row) (row : NextRow) (s
 
 module _ (rule : Rule) (patterns : List Pattern) (cap : ℕ) (rows : List Row) (r : Row) (row : NextRow) (leaves : List PlainLeaf) (owners : List ℕ) (stretches : List Stretch) (marks : List Bool) (touched : List ℕ) (old swept : List FollowerState)
     (at : AtRow patterns cap rows r row leaves owners stretches marks touched old swept) where
-
   abbrev entry_of : Stretch → LogEntry
   entry_of stretch = record { first = row.first; last = row.last; truths = part_of stretch marks }
 
@@ -216,11 +214,15 @@ pub all_follow : (state : EngineState) (rows : List Row) (row : NextRow) → Eng
 all_follow state rows row st e f place follower of_f =
     let inside = slice_get_within state.followers place follower of_f in let count = st.count in
     let p = there state.patterns place (omega (arith, inside, count)) in
-    let follows = st.each place p.0 follower p.1 of_f in
-    (p.0, follows.0, follows.2, record {
-      rows_are = log_length (plain_pattern p.0) rows follows.0 follows.1 ∙ sym st.rows_are ∙ sym e;
-      last_is = log_last (plain_pattern p.0) rows follows.0 follows.1 ∙ sym st.last_is ∙ sym f;
-    })
+    let follows = st.each place p.0 follower p.1 of_f in (
+      p.0,
+      follows.0,
+      follows.2,
+      record {
+        rows_are = log_length (plain_pattern p.0) rows follows.0 follows.1 ∙ sym st.rows_are ∙ sym e;
+        last_is = log_last (plain_pattern p.0) rows follows.0 follows.1 ∙ sym st.last_is ∙ sym f;
+      },
+    )
 
 -- and so when they were swept
 pub still_all : (cap : ℕ) (row : NextRow) (old new : List FollowerState) → StillFollow cap row.rows row.before old new → AllFollow cap row old → AllFollow cap row new

@@ -1,5 +1,5 @@
 -- The brackets of a sound pattern are sound.
-use Rattle.std.specs.Prelude.{All, [], ◌∷◌}
+use Rattle.std.specs.Prelude.{All, []}
 use Rattle.std.proofs.lemmas.List.Elements.{All-nil, All-cons, All-append}
 use Rattle.pattern_types.specs.PlainPattern.{PlainPattern, a_leaf, a_both, an_either, a_then, a_limited}
 use Rattle.pattern_types.specs.Soundness.{IsSoundLeaf, IsSoundPattern}

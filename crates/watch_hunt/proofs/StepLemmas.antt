@@ -1,6 +1,6 @@
 -- One follower more takes the row; and the marks taken off again.
 use Rattle.std.proofs.Common.{◌≡◌, ℕ, zero, suc, ◌+◌, ◌≤◌, ◌<◌, ℤ, List, [], ◌∷◌, ◌++◌, length, set, refl, sym, ◌∙◌, ap, subst, arith, inl, inr, append-nil}
-use Rattle.std.specs.Prelude.{◌⊎◌, Bool, true, false, nat_eq, cond, Option, Some, Contains, map, slice_get}
+use Rattle.std.specs.Prelude.{◌⊎◌, Bool, true, false, nat_eq, Option, Some, map, slice_get}
 use Rattle.std.proofs.lemmas.List.{length-set, map-append}
 use Rattle.std.proofs.lemmas.Bool.{eq-eqb, ne_eqb}
 use Rattle.std.proofs.lemmas.Option.{slice_get_within}
@@ -14,7 +14,7 @@ use Rattle.watch_hunt.specs.declared.brackets.Stretch.{Stretch}
 use Rattle.watch_hunt.specs.FollowerState.{FollowerState, Follows}
 use Rattle.watch_hunt.specs.EngineAnswer.{binds_at, NeverFalls}
 use Rattle.watch_hunt.specs.inner.Table.{part_of}
-use Rattle.watch_hunt.specs.inner.Judging.{IsRising, AreClear}
+use Rattle.watch_hunt.specs.inner.Judging.{IsRising}
 use Rattle.watch_hunt.specs.inner.Following.{EndsAt}
 use Rattle.watch_hunt.specs.inner.Round.{Takes, TookSome, StillFollow, found_of}
 use Rattle.watch_hunt.proofs.PlaceLemmas.{same_or_other, seam, get_one, get_set, get_set_other}
@@ -59,7 +59,6 @@ module _ (row : NextRow) (cap : ℕ) (stretches : List Stretch) (marks : List Bo
     (took : TookSome row cap stretches marks touched i old now found) (rise : IsRising touched) (place : ℕ) (place_is : slice_get touched i ≡ Some place)
     (before after : FollowerState) (before_is : slice_get now place ≡ Some before) (inside : place < length now) (stretch : Stretch) (stretch_is : slice_get stretches place ≡ Some stretch)
     (binds : List Bind) (takes : Takes row cap (part_of stretch marks) before after (map tree_of binds)) where
-
   abbrev new_found : List Found
   new_found = found ++ map (found_of place) binds
 

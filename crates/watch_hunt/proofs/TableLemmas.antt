@@ -1,12 +1,10 @@
 -- One pattern more in the table of brackets.
-use Rattle.std.proofs.Common.{◌≡◌, ℕ, zero, suc, ◌+◌, ◌-◌, ◌≤◌, ◌<◌, List, [], ◌∷◌, ◌++◌, length, take, drop, refl, sym, ◌∙◌, ap, subst, arith, inl, inr, length-append, append-nil}
+use Rattle.std.proofs.Common.{◌≡◌, ℕ, ◌+◌, ◌-◌, ◌≤◌, ◌<◌, List, [], ◌∷◌, ◌++◌, length, take, drop, refl, sym, ◌∙◌, ap, subst, arith, inl, inr, length-append}
 use Rattle.std.specs.Prelude.{◌⊎◌, Some, slice_get}
 use Rattle.std.proofs.lemmas.List.{take-append-le, drop-append-le, length-drop}
-use Rattle.std.proofs.lemmas.Option.{slice_get_within}
 use Rattle.pattern_types.specs.PlainLeaf.{PlainLeaf}
 use Rattle.pattern_types.specs.PlainPattern.{PlainPattern}
 use Rattle.watch_hunt.specs.declared.brackets.Stretch.{Stretch}
-use Rattle.watch_hunt.specs.EngineAnswer.{NeverFalls}
 use Rattle.watch_hunt.specs.inner.Table.{leaf_list, part_of, repeated, IsTable}
 use Rattle.watch_hunt.proofs.PlaceLemmas.{seam, get_left, get_right, get_one, get_repeated, repeated_get, length_repeated}
 
@@ -65,7 +63,7 @@ module _ (patterns : List PlainPattern) (leaves : List PlainLeaf) (owners : List
       let place_is : length stretches ≡ place = omega (arith, f, zero_is) in
       sym (ap (slice_get owners_more) at_is)
       ∙ get_right owners (repeated (length stretches) (length (leaf_list p))) (at - length owners) (length stretches)
-        (repeated_get (length stretches) (length (leaf_list p)) (at - length owners) (omega (arith, first, count, low, high, owned)))
+      (repeated_get (length stretches) (length (leaf_list p)) (at - length owners) (omega (arith, first, count, low, high, owned)))
       ∙ ap Some place_is
 
   valid_more : (at place : ℕ) →

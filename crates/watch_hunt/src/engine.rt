@@ -17,7 +17,7 @@ use crate::brackets::{Brackets, clear, judge};
 use crate::follower::Follower;
 use crate::followers::{sweep, take_all};
 use crate::next_row::NextRow;
-use crate::{EngineRefusal, Found};
+use crate::{EngineRefusal, Found, Hunted};
 use flow_values::{Items, NoMemory};
 use match_bindings::laws::test_is_the_rule;
 use std::alloc::Global;
@@ -25,7 +25,6 @@ use std::marker::Model;
 use stix_bundles::{Bundle, Observation};
 use stix_times::Instant;
 use watch_index::Index;
-use crate::Hunted;
 
 /// Many patterns over one log. Contracts see the patterns of the hunted list, how much may be live of each, how
 /// many rows it took, the last time of the last of them, whether it has ended, and who follows the log for each
@@ -78,11 +77,7 @@ impl<'p> Model for Engine<'p> {
 impl<'p> Engine<'p> {
     /// An engine for the patterns of a hunted list, that took no row yet. More than `cap` may never be live of
     /// one pattern. So many brackets as a u32 doesn't count take more memory than there is.
-    pub fn new(
-        alloc: Global,
-        hunted: &'p [Hunted],
-        cap: u64,
-    ) -> Result<Engine<'p>, NoMemory>
+    pub fn new(alloc: Global, hunted: &'p [Hunted], cap: u64) -> Result<Engine<'p>, NoMemory>
         requires few { length hunted.now < 2 ^ 32 }
         requires sound { All (λ h. IsSoundPattern (plain_pattern h.pattern)) hunted.now }
         requires narrow { All (λ h. leaves h.pattern < 2 ^ 32) hunted.now }

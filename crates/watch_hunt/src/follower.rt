@@ -70,7 +70,12 @@ impl<'p> Follower<'p> {
     }
 
     /// Passes the rows that the matcher missed: none of its brackets holds there.
-    pub(crate) fn catch_up(&mut self, rows: u64, last: Option<Instant>, cap: u64) -> Result<(), NoMemory>
+    pub(crate) fn catch_up(
+        &mut self,
+        rows: u64,
+        last: Option<Instant>,
+        cap: u64,
+    ) -> Result<(), NoMemory>
         requires follows { FollowsSome cap rows last self.old }
         requires room { rows < 2 ^ 63 }
         ensures { (p : Pattern) (log : List LogEntry) → Follows p cap log self.old → EndsAt log rows last
@@ -143,11 +148,7 @@ fn matcher_of(
 }
 
 /// A matcher that saw no row yet.
-fn boxed_matcher(
-    alloc: Global,
-    pattern: &Pattern,
-    cap: u64,
-) -> Result<Box<Matcher<'_>>, NoMemory>
+fn boxed_matcher(alloc: Global, pattern: &Pattern, cap: u64) -> Result<Box<Matcher<'_>>, NoMemory>
     requires { leaves pattern.now < 2 ^ 32 }
     ensures { IfOk result (λ matcher. MatchesFor pattern.now cap [] 0 (Some matcher.value)) }
 {
@@ -186,7 +187,9 @@ fn take_row(
     match matcher.take(row.first, row.last, truths) {
         Ok(binds) => Ok(binds),
         Err(MatchRefusal::Stopped(Ending::Crowded { .. })) => Err(FollowerRefusal::Crowded),
-        Err(MatchRefusal::Stopped(Ending::OutOfOrder { .. } | Ending::NoMemory)) => Err(FollowerRefusal::NoMemory),
+        Err(MatchRefusal::Stopped(Ending::OutOfOrder { .. } | Ending::NoMemory)) => Err(
+            FollowerRefusal::NoMemory,
+        ),
         Err(MatchRefusal::Ended(_)) => Err(FollowerRefusal::NoMemory),
     }
 }

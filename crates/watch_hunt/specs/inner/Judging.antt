@@ -1,6 +1,5 @@
 -- For private clauses: which brackets hold at a row, and which patterns they are of.
-use Rattle.std.specs.Prelude.{◌≡◌, ◌↔◌, ◌⊎◌, ℕ, ◌<◌, ◌≤◌, Bool, true, false, IsTrue, List, All, Contains, Some, length, slice_get}
-use Rattle.std.specs.List.{AllZip}
+use Rattle.std.specs.Prelude.{◌≡◌, ◌↔◌, ◌⊎◌, ℕ, ◌<◌, Bool, true, List, Contains, Some, length, slice_get}
 use Rattle.serde_json.specs.Data.{Data}
 use Rattle.pattern_types.specs.PlainLeaf.{PlainLeaf}
 use Rattle.match_tests.specs.Tests.{LeafHolds}

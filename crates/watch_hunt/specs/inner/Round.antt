@@ -1,5 +1,5 @@
 -- For private clauses: what all followers do at one row.
-use Rattle.std.specs.Prelude.{◌≡◌, ℕ, ℤ, Option, ◌+◌, ◌<◌, ◌≤◌, Bool, List, [], Contains, Some, map, length, slice_get}
+use Rattle.std.specs.Prelude.{◌≡◌, ℕ, ℤ, Option, ◌+◌, ◌<◌, Bool, List, [], Some, map, length, slice_get}
 use Rattle.pattern_types.specs.declared.pattern.Pattern.{Pattern}
 use Rattle.match_bindings.specs.declared.log_entry.LogEntry.{LogEntry}
 use Rattle.match_bindings.specs.declared.bind.Bind.{Bind}

@@ -1,9 +1,7 @@
 -- For private clauses: where the brackets of each pattern stand among those of all.
-use Rattle.std.specs.Prelude.{◌≡◌, ℕ, zero, suc, ◌+◌, ◌≤◌, ◌<◌, List, [], ◌∷◌, ◌++◌, All, Some, map, length, take, drop, slice_get}
-use Rattle.pattern_types.specs.declared.leaf.Leaf.{Leaf}
-use Rattle.pattern_types.specs.PlainLeaf.{PlainLeaf, plain_leaf}
+use Rattle.std.specs.Prelude.{◌≡◌, ℕ, zero, suc, ◌+◌, ◌≤◌, ◌<◌, List, [], ◌∷◌, ◌++◌, Some, length, take, drop, slice_get}
+use Rattle.pattern_types.specs.PlainLeaf.{PlainLeaf}
 use Rattle.pattern_types.specs.PlainPattern.{PlainPattern, a_leaf, a_both, an_either, a_then, a_limited}
-use Rattle.pattern_types.specs.Soundness.{IsSoundLeaf}
 use Rattle.watch_hunt.specs.declared.brackets.Stretch.{Stretch}
 use Rattle.watch_hunt.specs.EngineAnswer.{NeverFalls}
 

@@ -6,7 +6,6 @@ use Rattle.std.proofs.lemmas.List.Elements.{All-get_or}
 use Rattle.stix_bundles.specs.Objects.{data_in}
 use Rattle.pattern_types.specs.PlainLeaf.{PlainLeaf, plain_leaf}
 use Rattle.pattern_types.specs.Soundness.{IsSoundLeaf}
-use Rattle.match_tests.specs.Tests.{LeafHolds}
 use Rattle.watch_hunt.specs.inner.Judging.{Judged, JudgedSoFar}
 use Rattle.watch_hunt.proofs.PlaceLemmas.{get_map_twice, get_read, get_number, all_at}
 use Rattle.watch_hunt.proofs.JudgeLemmas.{least, left_out, marked_with, judged_all, rising_from}
@@ -52,7 +51,7 @@ loop-bracket-preserved c =
     let at_is = get_number c.args.candidates.now i (omega arith) in
     let leaf_is = get_map_twice items (λ leaf. leaf.now) plain_leaf at c.index.result.now (omega (arith, h, long, long')) c.index.ensures in
     elim c.if-branch.branch [
-      then-branch+in_ok-add_place w ↦
+      | then-branch+in_ok-add_place w ↦
           let place = w.index-then-branch.result.now in
           let next = marked_with (data_in c.args.bundle.now) c.args.observation.now.roots leaves owners c.args.candidates.now i c.loop-bracket.marks c.loop-bracket.touched.items c.loop-bracket.invariant
           at at_is (plain_leaf c.index.result.now.now) leaf_is (c.in_ok-leaf_holds.ensures.0 w.if-branch.true) (omega (arith, h, count)) place

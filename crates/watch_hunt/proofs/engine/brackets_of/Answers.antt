@@ -31,5 +31,5 @@ loop-indicator-preserved c =
           (c.in_ok-add.ensures.table (map plain_pattern (map (λ k. k.pattern) (take i hunted))) c.loop-indicator.invariant.table);
       sound = subst (λ (l : List PlainLeaf). All IsSoundLeaf l) (sym c.in_ok-add.ensures.leaves)
           (All-append IsSoundLeaf leaves (leaf_list (plain_pattern h.pattern)) c.loop-indicator.invariant.sound (sound_leaves (plain_pattern h.pattern) sound));
-      few = c.in_ok-add.ensures.few
+      few = c.in_ok-add.ensures.few;
     }

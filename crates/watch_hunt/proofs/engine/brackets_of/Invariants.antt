@@ -10,5 +10,5 @@ abbrev pub invariant-loop-indicator : goal.invariant-loop-indicator
 invariant-loop-indicator l = record {
   table : IsTable (map plain_pattern (map (λ h. h.pattern) (take l.indicator-index l.hunted))) (map plain_leaf (map (λ leaf. leaf.now) l.brackets.leaves.items)) l.brackets.owners.items l.brackets.stretches.items;
   sound : All IsSoundLeaf (map plain_leaf (map (λ leaf. leaf.now) l.brackets.leaves.items));
-  few : length l.brackets.leaves.items < 2 ^ 32
+  few : length l.brackets.leaves.items < 2 ^ 32;
 }

@@ -1,8 +1,6 @@
 -- One follower more.
-use Rattle.std.proofs.Common.{◌≡◌, ◌+◌, ℕ, [], ◌∷◌, ◌++◌, List, length, arith, ap, sym, ◌∙◌, subst, length-append}
-use Rattle.std.specs.Prelude.{Some, map, slice_get}
-use Rattle.pattern_types.specs.declared.pattern.Pattern.{Pattern}
-use Rattle.watch_hunt.specs.FollowerState.{FollowerState, Follows}
+use Rattle.std.proofs.Common.{◌≡◌, ◌+◌, [], ◌∷◌, ◌++◌, length, arith, ap, sym, ◌∙◌, length-append}
+use Rattle.std.specs.Prelude.{map, slice_get}
 use Rattle.watch_hunt.proofs.PlaceLemmas.{get_map}
 use Rattle.watch_hunt.proofs.StepLemmas.{one_more}
 use Rattle.watch_hunt.proofs.engine.followers_of.Goals as goal
@@ -18,5 +16,5 @@ loop-indicator-preserved c =
       count = ap length pushed ∙ (let e : length (xs ++ f ∷ []) ≡ c.loop-indicator.indicator-index + 1 = omega (arith, count, length-append xs (f ∷ [])) in e);
       each = λ place p g of_p of_g. one_more patterns c.args.cap xs f c.indicator-item.result.pattern
           (ap (slice_get patterns) count ∙ get_map c.args.hunted.now (λ h. h.pattern) c.loop-indicator.indicator-index c.indicator-item.result (omega arith) is)
-          c.in_ok-follower.ensures c.loop-indicator.invariant.each place p g of_p (ap (λ l. slice_get l place) (sym pushed) ∙ of_g)
+          c.in_ok-follower.ensures c.loop-indicator.invariant.each place p g of_p (ap (λ l. slice_get l place) (sym pushed) ∙ of_g);
     }

@@ -7,5 +7,5 @@ use Rattle.watch_hunt.proofs.engine.followers_of.Given as goal
 abbrev pub invariant-loop-indicator : goal.invariant-loop-indicator
 invariant-loop-indicator l = record {
   count : length l.followers.items ≡ l.indicator-index;
-  each : (place : ℕ) (p : Pattern) (follower : FollowerState) → slice_get (map (λ h. h.pattern) l.hunted) place ≡ Some p → slice_get l.followers.items place ≡ Some follower → Follows p l.cap [] follower
+  each : (place : ℕ) (p : Pattern) (follower : FollowerState) → slice_get (map (λ h. h.pattern) l.hunted) place ≡ Some p → slice_get l.followers.items place ≡ Some follower → Follows p l.cap [] follower;
 }

@@ -1,5 +1,5 @@
 -- The follower whose turn it is is caught up.
-use Rattle.std.proofs.Common.{◌≡◌, ℕ, get_or, sym, arith}
+use Rattle.std.proofs.Common.{get_or, arith}
 use Rattle.std.proofs.lemmas.Option.{slice_get-get_or}
 use Rattle.watch_hunt.proofs.StepLemmas.{still_set}
 use Rattle.watch_hunt.proofs.followers.sweep.Goals as goal

@@ -3,17 +3,13 @@ use Rattle.std.proofs.Common.{◌≡◌, ◌<◌, ◌+◌, ℕ, get_or, set, len
 use Rattle.std.specs.Prelude.{Bool, All, Some, map, slice_get}
 use Rattle.std.proofs.lemmas.List.Elements.{All-get_or}
 use Rattle.std.proofs.lemmas.Option.{slice_get-get_or}
-use Rattle.pattern_types.specs.declared.pattern.Pattern.{Pattern}
-use Rattle.match_bindings.specs.declared.log_entry.LogEntry.{LogEntry}
 use Rattle.match_bindings.specs.BindTree.{tree_of}
 use Rattle.match_bindings.specs.NumberedPattern.{numbered_pattern}
 use Rattle.match_live.specs.Answer.{IsCrowded}
 use Rattle.watch_hunt.specs.declared.found.Found.{Found}
-use Rattle.watch_hunt.specs.declared.brackets.Stretch.{Stretch}
 use Rattle.watch_hunt.specs.FollowerState.{FollowerState, Follows}
 use Rattle.watch_hunt.specs.inner.Following.{TakesRow, log_with}
-use Rattle.watch_hunt.specs.inner.Table.{part_of}
-use Rattle.watch_hunt.specs.inner.Round.{TookSome, CrowdsAt}
+use Rattle.watch_hunt.specs.inner.Round.{TookSome}
 use Rattle.watch_hunt.proofs.PlaceLemmas.{get_number, there}
 use Rattle.watch_hunt.proofs.StepLemmas.{untouched, took_more}
 use Rattle.watch_hunt.proofs.followers.take_all.Goals as goal
@@ -47,9 +43,9 @@ returns-in-Err-Crowded-clause-crowded c = λ place' number named e.
       crowds = λ stretch before of_stretch of_before p log follows ends.
           let truths = c.truths-truths.ensures stretch (ap (slice_get c.args.brackets.now.stretches.items) place_is ∙ of_stretch) in
           let same : Some before ≡ Some (get_or c.loop-place.followers place c.index-followers-at.result) =
-              sym of_before ∙ ap (slice_get c.args.followers.now) (sym place_is)
-              ∙ sym (untouched c.args.row.now c.args.cap c.args.brackets.now.stretches.items c.args.marks.now touched i c.args.followers.now c.loop-place.followers c.loop-place.found.items c.loop-place.invariant c.requires.rise place at_is)
-              ∙ slice_get-get_or c.loop-place.followers place c.index-followers-at.result (omega (arith, within, count)) in
+          sym of_before ∙ ap (slice_get c.args.followers.now) (sym place_is)
+          ∙ sym (untouched c.args.row.now c.args.cap c.args.brackets.now.stretches.items c.args.marks.now touched i c.args.followers.now c.loop-place.followers c.loop-place.found.items c.loop-place.invariant c.requires.rise place at_is)
+          ∙ slice_get-get_or c.loop-place.followers place c.index-followers-at.result (omega (arith, within, count)) in
           let is : before ≡ get_or c.loop-place.followers place c.index-followers-at.result = cc in
           subst (λ (t : List Bool). IsCrowded (numbered_pattern p) (log_with c.args.row.now t log) c.args.cap) truths
           (c.in-Err-Crowded.ensures.crowded p log (subst (λ (f : FollowerState). Follows p c.args.cap log f) is follows) ends (cc));

@@ -1,12 +1,11 @@
 -- The row at an engine that stands for rows: swept, judged, taken and cleared.
-use Rattle.std.proofs.Common.{◌≡◌, ◌+◌, ◌<◌, ◌++◌, ◌∷◌, [], ℕ, List, length, take, drop, refl, sym, ◌∙◌, ap, subst, arith}
-use Rattle.std.specs.Prelude.{Bool, Some, map, false}
-use Rattle.std.proofs.lemmas.List.{length-map}
+use Rattle.std.proofs.Common.{◌≡◌, ◌+◌, ◌++◌, ◌∷◌, [], List, length, take, drop, refl, sym, ◌∙◌, ap, subst, arith}
+use Rattle.std.specs.Prelude.{Some, map, false}
 use Rattle.stix_bundles.specs.Objects.{data_in}
 use Rattle.match_live.specs.MatcherState.{Falls}
 use Rattle.watch_hunt.specs.EngineLog.{Row, row_of}
 use Rattle.watch_hunt.specs.EngineState.{EngineState, EngineStandsFor}
-use Rattle.watch_hunt.specs.EngineAnswer.{TellsRow, IsFirstCrowded}
+use Rattle.watch_hunt.specs.EngineAnswer.{TellsRow}
 use Rattle.watch_hunt.specs.FollowerState.{FollowerState}
 use Rattle.watch_hunt.proofs.RoundLemmas.{stands_with, row_tells, row_follows, first_crowded}
 use Rattle.watch_hunt.proofs.EngineLemmas.{state_of, row_at, leaves_of, ready, follow_first, follow_then, places_inside, marked_inside, given_at, same_items, followers_written, marks_written}

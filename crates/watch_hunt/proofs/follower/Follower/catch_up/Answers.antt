@@ -1,9 +1,8 @@
 -- What was missed is passed; where there is no last time nothing was.
-use Rattle.std.proofs.Common.{◌≡◌, ◌<◌, sym, ap, subst, arith, Option}
-use Rattle.std.specs.Prelude.{Some, ℤ}
+use Rattle.std.proofs.Common.{◌≡◌, ap, subst, arith, Option}
+use Rattle.std.specs.Prelude.{ℤ}
 use Rattle.std.specs.Option.{option_map}
 use Rattle.match_live.specs.MatcherState.{MatcherState, StandsFor}
-use Rattle.watch_hunt.specs.FollowerState.{FollowerState}
 use Rattle.watch_hunt.specs.inner.Following.{EndsAt, CatchesUp}
 use Rattle.watch_hunt.proofs.FollowLemmas.{pass_law, no_last}
 use Rattle.watch_hunt.proofs.follower.Follower.catch_up.Goals as goal

@@ -1,5 +1,4 @@
 -- What was made for the pattern follows the empty log.
-use Rattle.match_live.proofs.ShapeLemmas.{Rule}
 use Rattle.std.specs.Option.{option_map}
 use Rattle.watch_hunt.proofs.FollowLemmas.{follows_first}
 use Rattle.watch_hunt.proofs.follower.Follower.new.Goals as goal
