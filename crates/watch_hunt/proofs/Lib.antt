@@ -1,0 +1,12 @@
+mod QuietLemmas
+mod AloneLemmas
+mod FollowLemmas
+mod RowLemmas
+mod TruthLemmas
+mod PlaceLemmas
+mod TableLemmas
+mod RoundLemmas
+mod JudgeLemmas
+mod StepLemmas
+mod SoundLemmas
+mod EngineLemmas

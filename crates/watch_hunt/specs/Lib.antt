@@ -1,0 +1,5 @@
+pub mod EngineLog
+pub mod FollowerState
+pub mod EngineState
+pub mod EngineAnswer
+pub mod inner
