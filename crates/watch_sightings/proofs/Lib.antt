@@ -1,0 +1,4 @@
+mod BreakLemmas
+mod RoundingLemmas
+mod KindLemmas
+mod SightingLemmas

@@ -1,0 +1,21 @@
+ghost use Rattle.watch_sightings.specs.Sightings.{IsModifiedAt};
+ghost use Rattle.stix_times.specs.Writing.{IsWhole};
+
+use stix_times::{Instant, from_nanos, nanos};
+
+const NANOS_PER_MILLI: i128 = 1_000_000;
+
+/// When a sighting is modified that is made at a moment: then, rounded down to milliseconds, but not
+/// before it was created.
+pub(crate) fn modified_at(created: Instant, moment: Instant) -> Instant
+    requires { IsWhole 1000 created }
+    ensures modified { IsModifiedAt created moment result }
+    ensures whole { IsWhole 1000 result }
+{
+    let rounded = nanos(moment).div_euclid(NANOS_PER_MILLI) * NANOS_PER_MILLI;
+    if nanos(created) < rounded {
+        from_nanos(rounded).unwrap()
+    } else {
+        created
+    }
+}
