@@ -12,7 +12,7 @@ use Rattle.stix_objects.specs.Forms.{JudgesValue, JudgesForm}
 use Rattle.stix_objects.specs.Breaks.{JudgesRows, AreBreaksBy}
 use Rattle.stix_objects.specs.Sound.{MeetsAll}
 
-nothing : List Row → List (Option BreakAt)
+abbrev nothing : List Row → List (Option BreakAt)
 nothing [] = []
 nothing (row ∷ rows) = None ∷ nothing rows
 

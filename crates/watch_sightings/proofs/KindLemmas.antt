@@ -6,10 +6,7 @@ use Rattle.std.proofs.lemmas.List.Elements.{All-nil, All-cons, All-weaker, All-g
 use Rattle.stix_ids.specs.Kind.{IsKindByte, IsKind}
 
 letters : All IsAsciiLowercase (codes "sighting")
-letters =
-    All-cons IsAsciiLowercase 115 _ (search rules) (All-cons IsAsciiLowercase 105 _ (search rules) (All-cons IsAsciiLowercase 103 _ (search rules)
-    (All-cons IsAsciiLowercase 104 _ (search rules) (All-cons IsAsciiLowercase 116 _ (search rules) (All-cons IsAsciiLowercase 105 _ (search rules)
-    (All-cons IsAsciiLowercase 110 _ (search rules) (All-cons IsAsciiLowercase 103 _ (search rules) (All-nil IsAsciiLowercase))))))))
+letters = All-cons IsAsciiLowercase 115 (105 ∷ 103 ∷ 104 ∷ 116 ∷ 105 ∷ 110 ∷ 103 ∷ []) (search rules) (All-cons IsAsciiLowercase 105 (103 ∷ 104 ∷ 116 ∷ 105 ∷ 110 ∷ 103 ∷ []) (search rules) (All-cons IsAsciiLowercase 103 (104 ∷ 116 ∷ 105 ∷ 110 ∷ 103 ∷ []) (search rules) (All-cons IsAsciiLowercase 104 (116 ∷ 105 ∷ 110 ∷ 103 ∷ []) (search rules) (All-cons IsAsciiLowercase 116 (105 ∷ 110 ∷ 103 ∷ []) (search rules) (All-cons IsAsciiLowercase 105 (110 ∷ 103 ∷ []) (search rules) (All-cons IsAsciiLowercase 110 (103 ∷ []) (search rules) (All-cons IsAsciiLowercase 103 ([]) (search rules) (All-nil IsAsciiLowercase))))))))
 
 pub sighting_kind : IsKind (codes "sighting")
 sighting_kind = record {

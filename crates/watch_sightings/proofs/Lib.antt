@@ -1,3 +1,4 @@
+mod AnswerLemmas
 mod BreakLemmas
 mod RoundingLemmas
 mod KindLemmas

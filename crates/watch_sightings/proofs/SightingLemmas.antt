@@ -1,6 +1,6 @@
 -- A sighting breaks no rule.
-use Rattle.std.proofs.Common.{arith, ◌≡◌, ℕ, ◌≤◌, ℤ, pos, List, [], ◌∷◌, Some, None, refl, sym, ap, subst, ◌∙◌}
-use Rattle.std.specs.Prelude.{◌≤ℤ◌, ◌<ℤ◌, codes}
+use Rattle.std.proofs.Common.{arith, ◌≡◌, ℕ, Bool, true, false, ◌≤◌, ℤ, pos, List, [], ◌∷◌, Some, None, refl, sym, ap, subst, ◌∙◌}
+use Rattle.std.specs.Prelude.{◌≤ℤ◌, ◌<ℤ◌, ◌%◌, ◌==◌, unsigned_abs, codes, if◌then◌else◌}
 use Rattle.std.proofs.lemmas.Int.{ints}
 use Rattle.std.proofs.lemmas.Option.{same_Some}
 use Rattle.serde_json.specs.Data.{Data, number, string}
@@ -12,7 +12,7 @@ use Rattle.stix_objects.specs.declared.form.Precision.TheVariants.{Any, Millis}
 use Rattle.stix_objects.specs.Form.{kind, version, timestamp, any_reference, integer_in}
 use Rattle.stix_objects.specs.Conditions.{SecondIsEarlier}
 use Rattle.stix_objects.specs.Breaks.{AreBreaksOf, rows_for, type_of}
-use Rattle.watch_sightings.specs.Sightings.{sighting_data}
+use Rattle.watch_sightings.specs.Sightings.{sighting_data, version_digits}
 use Rattle.watch_sightings.proofs.BreakLemmas.{no_breaks, value_met}
 use Rattle.watch_sightings.proofs.KindLemmas.{sighting_kind}
 
@@ -20,8 +20,23 @@ use Rattle.watch_sightings.proofs.KindLemmas.{sighting_kind}
 abbrev pub OneInstant : Type 0
 OneInstant = (text : List ℕ) (first second : ℤ) → IsTimeOf text first → IsTimeOf text second → first ≡ second
 
+-- a version has three digits of a second, or six
+digits_many : (short : Bool) → 3 ≤ (if short then 3 else 6)
+digits_many true = omega arith
+digits_many false = omega arith
+
+digits_few : (short : Bool) → (if short then 3 else 6) ≤ 6
+digits_few true = omega arith
+digits_few false = omega arith
+
+pub many_digits : (instant : ℤ) → 3 ≤ version_digits instant
+many_digits instant = digits_many (unsigned_abs instant % 1_000_000 == 0)
+
+pub few_digits : (instant : ℤ) → version_digits instant ≤ 6
+few_digits instant = digits_few (unsigned_abs instant % 1_000_000 == 0)
+
 millis_time : (text : List ℕ) (instant : ℤ) → IsMillisOf text instant → IsTimeOf text instant
-millis_time text instant h = (h.0, h.1, h.2, h.4)
+millis_time text instant h = (h.0, h.1, (h.2.0, h.2.2))
 
 not_earlier : (a b from to : ℤ) → a ≤ℤ b → from ≡ a → to ≡ b → ¬ (to <ℤ from)
 not_earlier a b from to order is_from is_to earlier = omega (arith, ints, order, earlier, is_from, is_to)
@@ -47,20 +62,5 @@ module _ (one : OneInstant) (count : ℕ) (few : count ≤ 999999999) (created f
       not_earlier first_at last_at early.from early.to seen_in_order from to early.earlier
 
   pub breaks_none : AreBreaksOf (sighting_data count created first id last modified of) []
-  breaks_none = no_breaks (rows_for (type_of (sighting_data count created first id last modified of))) (sighting_data count created first id last modified of) (
-    (None, (None, sighting_kind, refl), refl),
-    (None, (None, refl, refl), refl),
-    (None, (None, (own, is_id), refl), refl),
-    (λ no. no),
-    (None, (None, (None, (created_at, millis_time created created_at is_created), (created_at, is_created)), refl), refl),
-    (None, (None, (None, (modified_at, millis_time modified modified_at is_modified), (modified_at, is_modified)), refl), refl),
-    order,
-    (λ no. no), (λ no. no), (λ no. no), (λ no. no), (λ no. no), (λ no. no), (λ no. no), (λ no. no), (λ no. no), (λ no. no),
-    (None, (None, (indicator, is_of), refl), refl),
-    (None, (None, (omega (arith, ints), omega (arith, ints, few)), refl), refl),
-    (None, (None, (first_at, is_first), refl), refl),
-    (None, (None, (last_at, is_last), refl), refl),
-    seen_order,
-    (λ no. no), (λ no. no), (λ no. no),
-    tt,
-  )
+  breaks_none = no_breaks (rows_for (type_of (sighting_data count created first id last modified of))) (sighting_data count created first id last modified of)
+      ((None, (None, sighting_kind, refl), refl), ((None, (None, refl, refl), refl), ((None, (None, (own, is_id), refl), refl), ((λ no. no), ((None, (None, (None, (created_at, millis_time created created_at is_created), (created_at, is_created)), refl), refl), ((None, (None, (None, (modified_at, millis_time modified modified_at is_modified), (modified_at, is_modified)), refl), refl), (order, ((λ no. no), ((λ no. no), ((λ no. no), ((λ no. no), ((λ no. no), ((λ no. no), ((λ no. no), ((λ no. no), ((λ no. no), ((λ no. no), ((None, (None, (indicator, is_of), refl), refl), ((None, (None, (omega (arith, ints), omega (arith, ints, few)), refl), refl), ((None, (None, (first_at, is_first), refl), refl), ((None, (None, (last_at, is_last), refl), refl), (seen_order, ((λ no. no), ((λ no. no), ((λ no. no), tt)))))))))))))))))))))))))

@@ -5,8 +5,7 @@ use Rattle.serde_json.specs.Data.{Data, number, string, object}
 use Rattle.serde_json.specs.Find.{of_integer}
 use Rattle.serde_json.specs.Written.{compact_text}
 use Rattle.stix_ids.specs.declared.id.Id.{Id}
-use Rattle.stix_ids.specs.Kind.{IsKind}
-use Rattle.stix_ids.specs.Identifier.{canonical_text}
+use Rattle.stix_ids.specs.Identifier.{IsCanonicalTextOf as IsCanonicalIdOf}
 use Rattle.stix_json.specs.DataOf.{Member, members_of}
 use Rattle.stix_times.specs.Writing.{IsCanonicalTextOf, IsTextOfDigits, IsWhole}
 use Rattle.watch_sightings.specs.declared.seen.Seen.{Seen}
@@ -59,9 +58,9 @@ sighting_data count created first id last modified of = object (members_of (
     ∷ text_member (codes "type") (codes "sighting")
     ∷ []))
 
--- the identifier of a sighting with that number
-abbrev pub sighting_id : ℕ → List ℕ
-sighting_id number = canonical_text (record { kind = codes "sighting"; number = number })
+-- the identifier of the sighting of an indicator
+abbrev pub sighting_id : Id → Id
+sighting_id indicator = record { kind = codes "sighting"; number = indicator.number }
 
 -- the sighting that is made at the moment of what was seen
 pub record IsSightingOf (moment : ℤ) (seen : Seen) (d : Data) : Type 0 where
@@ -75,7 +74,11 @@ pub record IsSightingOf (moment : ℤ) (seen : Seen) (d : Data) : Type 0 where
   pub first_is : IsCanonicalTextOf first seen.first
   pub last : List ℕ
   pub last_is : IsCanonicalTextOf last seen.last
-  pub is : d ≡ sighting_data (min seen.count MAX_COUNT) created first (sighting_id seen.indicator.now.number) last modified (canonical_text seen.indicator.now)
+  pub id : List ℕ
+  pub id_is : IsCanonicalIdOf id (sighting_id seen.indicator.now)
+  pub of : List ℕ
+  pub of_is : IsCanonicalIdOf of seen.indicator.now
+  pub is : d ≡ sighting_data (min seen.count MAX_COUNT) created first id last modified of
 
 -- its text
 pub record IsSightingText (moment : ℤ) (seen : Seen) (text : List ℕ) : Type 0 where

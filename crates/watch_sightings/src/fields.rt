@@ -5,7 +5,7 @@ ghost use Rattle.serde_json.specs.Data.{number as whole, object};
 ghost use Rattle.serde_json.specs.Find.{of_integer};
 ghost use Rattle.stix_json.specs.DataOf.{data_of, field_data, members_of};
 ghost use Rattle.stix_ids.specs.Kind.{IsKind};
-ghost use Rattle.stix_ids.specs.Identifier.{canonical_text};
+ghost use Rattle.stix_ids.specs.Identifier.{IsCanonicalTextOf as IsCanonicalIdOf};
 ghost use Rattle.stix_times.specs.Writing.{IsCanonicalTextOf, IsWhole};
 ghost use Rattle.watch_sightings.specs.Sightings.{IsVersionText, text_member};
 ghost use Rattle.watch_sightings.specs.inner.Adding.{AddsText};
@@ -51,7 +51,12 @@ impl Fields {
     }
 
     /// Adds a field of a whole number.
-    pub(crate) fn add_count(&mut self, alloc: Global, name: &str, count: u32) -> Result<(), NoMemory>
+    pub(crate) fn add_count(
+        &mut self,
+        alloc: Global,
+        name: &str,
+        count: u32,
+    ) -> Result<(), NoMemory>
         ensures { OnOk result (map field_data self.new.fields.items
             ≡ map field_data self.old.fields.items ++ record { name = name.now; value = whole (of_integer (pos count)) } ∷ []) }
     {
@@ -76,14 +81,19 @@ impl Fields {
     /// Adds a field of an identifier.
     pub(crate) fn add_id(&mut self, alloc: Global, name: &str, id: &Id) -> Result<(), NoMemory>
         requires { IsKind id.now.kind }
-        ensures { OnOk result (map field_data self.new.fields.items ≡ map field_data self.old.fields.items ++ text_member name.now (canonical_text id.now) ∷ []) }
+        ensures { OnOk result (AddsText (λ text. IsCanonicalIdOf text id.now) name.now (map field_data self.old.fields.items) (map field_data self.new.fields.items)) }
     {
         let text = write_id(alloc, id)?;
         self.add_text(alloc, name, text)
     }
 
     /// Adds a field of the time of a version.
-    pub(crate) fn add_version(&mut self, alloc: Global, name: &str, instant: Instant) -> Result<(), NoMemory>
+    pub(crate) fn add_version(
+        &mut self,
+        alloc: Global,
+        name: &str,
+        instant: Instant,
+    ) -> Result<(), NoMemory>
         requires { IsWhole 1000 instant }
         ensures { OnOk result (AddsText (IsVersionText instant) name.now (map field_data self.old.fields.items) (map field_data self.new.fields.items)) }
     {
@@ -92,7 +102,12 @@ impl Fields {
     }
 
     /// Adds a field of a time.
-    pub(crate) fn add_time(&mut self, alloc: Global, name: &str, instant: Instant) -> Result<(), NoMemory>
+    pub(crate) fn add_time(
+        &mut self,
+        alloc: Global,
+        name: &str,
+        instant: Instant,
+    ) -> Result<(), NoMemory>
         ensures { OnOk result (AddsText (λ text. IsCanonicalTextOf text instant) name.now (map field_data self.old.fields.items) (map field_data self.new.fields.items)) }
     {
         let text = time_text(alloc, instant)?;

@@ -1,4 +1,4 @@
-ghost use Rattle.watch_sightings.specs.Sightings.{IsModifiedAt};
+ghost use Rattle.watch_sightings.specs.Sightings.{IsModifiedAt, IsRoundedDown};
 ghost use Rattle.stix_times.specs.Writing.{IsWhole};
 
 use stix_times::{Instant, from_nanos, nanos};
@@ -12,10 +12,17 @@ pub(crate) fn modified_at(created: Instant, moment: Instant) -> Instant
     ensures modified { IsModifiedAt created moment result }
     ensures whole { IsWhole 1000 result }
 {
-    let rounded = nanos(moment).div_euclid(NANOS_PER_MILLI) * NANOS_PER_MILLI;
+    let rounded = rounded_down(moment);
     if nanos(created) < rounded {
         from_nanos(rounded).unwrap()
     } else {
         created
     }
+}
+
+/// The last whole number of milliseconds that isn't later than an instant, in nanoseconds.
+fn rounded_down(instant: Instant) -> i128
+    ensures { IsRoundedDown instant result }
+{
+    nanos(instant).div_euclid(NANOS_PER_MILLI) * NANOS_PER_MILLI
 }
