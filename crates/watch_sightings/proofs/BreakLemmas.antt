@@ -1,8 +1,7 @@
 -- An object that meets each row of its type breaks no rule, and how properties meet their rows.
-use Rattle.std.proofs.Common.{◌≡◌, ℕ, List, [], ◌∷◌, Option, Some, None, option_map, refl, sym, ap, subst, ◌∙◌}
-use Rattle.std.specs.Prelude.{⊤, filter_map}
+use Rattle.std.proofs.Common.{◌≡◌, ℕ, List, [], ◌∷◌, Option, Some, None, option_map, refl}
+use Rattle.std.specs.Prelude.{filter_map}
 use Rattle.serde_json.specs.Data.{Data}
-use Rattle.stix_objects.specs.declared.rule.Rule.{Rule}
 use Rattle.stix_objects.specs.declared.rule_break.Break.{Break}
 use Rattle.stix_objects.specs.BreakAt.{BreakAt, break_of}
 use Rattle.stix_objects.specs.Row.{Row}

@@ -1,5 +1,5 @@
 -- The kind of a sighting.
-use Rattle.std.proofs.Common.{arith, rules, ◌≡◌, ℕ, ◌<◌, ◌≤◌, ◌+◌, inl, List, [], ◌∷◌, length, get_or}
+use Rattle.std.proofs.Common.{arith, rules, inl, [], ◌∷◌}
 use Rattle.std.specs.Prelude.{All, codes}
 use Rattle.std.specs.Char.{IsAsciiLowercase}
 use Rattle.std.proofs.lemmas.List.Elements.{All-nil, All-cons, All-weaker, All-get_or}

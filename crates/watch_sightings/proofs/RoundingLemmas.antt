@@ -1,6 +1,6 @@
 -- An instant rounded down to milliseconds.
-use Rattle.std.proofs.Common.{arith, ◌≡◌, ℕ, suc, ◌<◌, ◌+◌, ◌*◌, ◌/◌, ◌%◌, ℤ, pos, refl, sym, ap, subst, ◌∙◌}
-use Rattle.std.specs.Prelude.{unsigned_abs, negsuc, neg_ℤ, ◌*ℤ◌, ◌+ℤ◌, ◌≤ℤ◌, ◌<ℤ◌}
+use Rattle.std.proofs.Common.{arith, ℕ, ◌/◌, ◌%◌, ℤ, pos, ap, ◌∙◌}
+use Rattle.std.specs.Prelude.{unsigned_abs, negsuc, ◌*ℤ◌}
 use Rattle.std.specs.Int.{int_div_euclid}
 use Rattle.std.proofs.lemmas.Int.{ints, unsigned_abs-mul}
 use Rattle.std.proofs.Math.IntN.{pos-*ℤ-pos, negsuc-*ℤ-pos}

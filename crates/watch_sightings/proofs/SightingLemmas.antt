@@ -1,19 +1,16 @@
 -- A sighting breaks no rule.
-use Rattle.std.proofs.Common.{arith, ◌≡◌, ℕ, Bool, true, false, ◌≤◌, ℤ, pos, List, [], ◌∷◌, Some, None, refl, sym, ap, subst, ◌∙◌}
+use Rattle.std.proofs.Common.{arith, ◌≡◌, ℕ, Bool, true, false, ◌≤◌, ℤ, List, [], None, refl, subst}
 use Rattle.std.specs.Prelude.{◌≤ℤ◌, ◌<ℤ◌, ◌%◌, ◌==◌, unsigned_abs, codes, if◌then◌else◌}
 use Rattle.std.proofs.lemmas.Int.{ints}
 use Rattle.std.proofs.lemmas.Option.{same_Some}
-use Rattle.serde_json.specs.Data.{Data, number, string}
-use Rattle.serde_json.specs.Find.{of_integer}
 use Rattle.stix_times.specs.Reading.{IsTextOf as IsTimeOf, IsMillisTextOf as IsMillisOf}
 use Rattle.stix_ids.specs.declared.id.Id.{Id}
 use Rattle.stix_ids.specs.Identifier.{IsTextOf}
 use Rattle.stix_objects.specs.declared.form.Precision.TheVariants.{Any, Millis}
-use Rattle.stix_objects.specs.Form.{kind, version, timestamp, any_reference, integer_in}
 use Rattle.stix_objects.specs.Conditions.{SecondIsEarlier}
 use Rattle.stix_objects.specs.Breaks.{AreBreaksOf, rows_for, type_of}
 use Rattle.watch_sightings.specs.Sightings.{sighting_data, version_digits}
-use Rattle.watch_sightings.proofs.BreakLemmas.{no_breaks, value_met}
+use Rattle.watch_sightings.proofs.BreakLemmas.{no_breaks}
 use Rattle.watch_sightings.proofs.KindLemmas.{sighting_kind}
 
 -- a text names one instant

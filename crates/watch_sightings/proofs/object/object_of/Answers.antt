@@ -1,9 +1,9 @@
-use Rattle.std.proofs.Common.{◌≡◌, ◌∙◌, ℕ, pos, List, [], ◌∷◌, ◌++◌, map, sym, ap, subst}
+use Rattle.std.proofs.Common.{◌≡◌, ◌∙◌, ℕ, pos, List, [], ◌∷◌, ◌++◌, ap, subst}
 use Rattle.std.specs.Prelude.{codes}
-use Rattle.serde_json.specs.Data.{Data, number, object}
+use Rattle.serde_json.specs.Data.{number, object}
 use Rattle.serde_json.specs.Find.{of_integer}
 use Rattle.stix_ids.specs.Identifier.{IsCanonicalTextOf}
-use Rattle.stix_json.specs.DataOf.{Member, members_of, field_data}
+use Rattle.stix_json.specs.DataOf.{Member, members_of}
 use Rattle.watch_sightings.specs.Sightings.{text_member, sighting_data}
 use Rattle.watch_sightings.proofs.object.object_of.Goals as goal
 

@@ -1,11 +1,9 @@
 use Rattle.std.proofs.Common.{arith, ℤ, List, ℕ, [], sym, subst}
 use Rattle.std.specs.Prelude.{min}
 use Rattle.serde_json.specs.Data.{Data}
-use Rattle.stix_json.specs.DataOf.{data_of}
-use Rattle.stix_times.specs.Reading.{IsMillisTextOf}
 use Rattle.stix_objects.specs.Breaks.{AreBreaksOf}
 use Rattle.watch_sightings.specs.declared.seen.TheConstants.{MAX_COUNT}
-use Rattle.watch_sightings.specs.Sightings.{IsVersionText, IsSightingOf, version_digits}
+use Rattle.watch_sightings.specs.Sightings.{IsVersionText, version_digits}
 use Rattle.watch_sightings.proofs.AnswerLemmas.{ok_follows}
 use Rattle.watch_sightings.proofs.SightingLemmas.{few_digits, many_digits, breaks_none}
 use Rattle.watch_sightings.proofs.object.sighting.Goals as goal
