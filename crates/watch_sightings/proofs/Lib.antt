@@ -3,3 +3,5 @@ mod BreakLemmas
 mod RoundingLemmas
 mod KindLemmas
 mod SightingLemmas
+mod EnvelopeLemmas
+mod WholeLemmas

@@ -7,6 +7,7 @@
 #![tactic(auto)]
 
 mod fields;
+pub mod laws;
 mod moment;
 mod object;
 mod seen;
