@@ -1,0 +1,7 @@
+mod AnswerLemmas
+mod BreakLemmas
+mod RoundingLemmas
+mod KindLemmas
+mod SightingLemmas
+mod EnvelopeLemmas
+mod WholeLemmas

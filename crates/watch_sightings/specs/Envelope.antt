@@ -1,0 +1,26 @@
+-- Many sightings as one text: an object whose one property `objects` is their list. It is written piece by piece.
+use Rattle.std.specs.Prelude.{ℕ, List, [], ◌∷◌, ◌++◌, codes}
+use Rattle.serde_json.specs.Data.{Data, array, object, no_members, member}
+use Rattle.serde_json.specs.View.{items_of}
+
+-- texts, each behind a comma
+abbrev pub behind : List (List ℕ) → List ℕ
+behind [] = []
+behind (text ∷ texts) = codes "," ++ (text ++ behind texts)
+
+-- texts with a comma between each two
+abbrev pub listed : List (List ℕ) → List ℕ
+listed [] = []
+listed (text ∷ texts) = text ++ behind texts
+
+-- the envelope up to the last of these texts
+abbrev pub opened : List (List ℕ) → List ℕ
+opened texts = codes "{\"objects\":[" ++ listed texts
+
+-- the envelope of these texts
+abbrev pub envelope_text : List (List ℕ) → List ℕ
+envelope_text texts = opened texts ++ codes "]}"
+
+-- the envelope of these objects, as a value
+abbrev pub envelope_data : List Data → Data
+envelope_data objects = object (member (codes "objects") (array (items_of objects)) no_members)

@@ -1,0 +1,3 @@
+pub mod Sightings
+pub mod Envelope
+pub mod inner
