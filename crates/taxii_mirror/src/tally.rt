@@ -1,4 +1,4 @@
-ghost use Rattle.std.specs.Prelude.{◌≡◌, ◌+◌, ◌^◌, ◌<◌, not, count_by, length};
+ghost use Rattle.std.specs.Prelude.{◌≡◌, not, count_by};
 ghost use Rattle.taxii_mirror.specs.Absorbing.{is_added};
 
 use taxii_store::AddOutcome;
