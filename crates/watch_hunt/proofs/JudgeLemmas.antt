@@ -1,6 +1,6 @@
 -- One candidate more is judged; and what is judged once all are.
-use Rattle.std.proofs.Common.{◌≡◌, ℕ, zero, suc, ◌+◌, ◌-◌, ◌≤◌, ◌<◌, List, [], ◌∷◌, ◌++◌, length, set, get_or, refl, sym, ◌∙◌, ap, subst, arith, inl, inr}
-use Rattle.std.specs.Prelude.{◌⊎◌, Bool, true, Some, Contains, slice_get}
+use Rattle.std.proofs.Common.{◌≡◌, ℕ, zero, suc, ◌+◌, ◌-◌, ◌≤◌, ◌<◌, List, [], ◌∷◌, ◌++◌, length, set, replicate, get_or, refl, sym, ◌∙◌, ap, subst, arith, inl, inr}
+use Rattle.std.specs.Prelude.{◌⊎◌, Bool, true, false, Some, Contains, slice_get}
 use Rattle.std.proofs.lemmas.List.{length-set}
 use Rattle.std.proofs.lemmas.Option.{slice_get_within, get_or_from_slice_get}
 use Rattle.std.proofs.lemmas.List.Elements.{Contains-append_left, Contains-push}
@@ -164,3 +164,12 @@ judged_all objects roots leaves owners candidates marks touched are far = record
   there = far.there;
   owned = λ k place h. let o = far.owned k place h in (o.1, o.4);
 }
+
+-- marks that are made all alike
+none_repeated : (n at : ℕ) → slice_get (replicate n false) at ≡ Some true → ⊥
+none_repeated zero at is = cc
+none_repeated (suc n) zero is = cc
+none_repeated (suc n) (suc at) is = none_repeated n at is
+
+pub clear_repeated : (n : ℕ) (marks : List Bool) → marks ≡ replicate n false → AreClear marks
+clear_repeated n marks same at is = none_repeated n at (sym (ap (λ (its : List Bool). slice_get its at) same) ∙ is)
