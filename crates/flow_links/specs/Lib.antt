@@ -1,4 +1,5 @@
 pub mod Dials
 pub mod Doors
 pub mod Moments
+pub mod Pace
 pub mod System

@@ -16,4 +16,6 @@ pub use clock::Clock;
 pub use dial::{Dial, MAX_HOST};
 pub use door::Door;
 pub use link::Link;
-pub use system::{Deadline, LimitedStream, SystemClock, TcpDial, TcpDoor, TcpLink};
+pub use system::{
+    Deadline, LimitedStream, Pace, PacedStream, SystemClock, TcpDial, TcpDoor, TcpLink,
+};

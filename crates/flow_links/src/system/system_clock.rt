@@ -1,18 +1,31 @@
-ghost use Rattle.std.specs.Prelude.{None};
+ghost use Rattle.std.specs.Prelude.{◌≡◌, None};
+ghost use Rattle.flow_links.specs.Moments.{IsNext, GoesOn};
 
 use crate::Clock;
+use std::marker::Model;
 use std::time::{Clock as Timer, SystemTime, UNIX_EPOCH};
 
-/// The system's clock. Where it tells no time it gives the last moment again, or 0 at first.
+/// The system's clock. Where it tells no time it gives the last moment again, or 0 at first. Contracts see
+/// the last moment that it gave.
 #[derive(Drop)]
 pub struct SystemClock<'r, R: Timer> {
     rt: &'r R,
     last: u64,
 }
 
+impl<'r, R: Timer> Model for SystemClock<'r, R> {
+    ghost use Rattle.std.specs.Prelude.{ℕ};
+
+    ghost Value = { ℕ };
+
+    ghost view = { λ clock. clock.last };
+}
+
 impl<'r, R: Timer> SystemClock<'r, R> {
     /// A clock over this runtime.
-    pub fn new(rt: &'r R) -> SystemClock<'r, R> {
+    pub fn new(rt: &'r R) -> SystemClock<'r, R>
+        ensures { result ≡ 0 }
+    {
         SystemClock { rt, last: 0 }
     }
 
@@ -26,7 +39,12 @@ impl<'r, R: Timer> SystemClock<'r, R> {
 impl<'r, R: Timer> Clock for SystemClock<'r, R> {
     ghost moments = { λ _ _. None };
 
-    fn now(&mut self) -> u64 {
+    fn now(&mut self) -> u64
+        ensures next { IsNext (λ _. None) result }
+        ensures goes_on { GoesOn (λ _. None) (λ _. None) }
+
+        ensures last { self.new ≡ result }
+    {
         if let Some(moment) = self.moment() {
             self.last = moment;
         }

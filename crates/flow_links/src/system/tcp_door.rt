@@ -1,78 +1,132 @@
-ghost use Rattle.std.specs.Prelude.{◌≡◌, ◌≤◌, None, true, false, IfOk, OnErr, IsSome, IsErr};
+ghost use Rattle.std.specs.Prelude.{◌≡◌, ◌<◌, ◌≤◌, Some, None, IfOk, OnErr, IsSome, IsErr};
 ghost use Rattle.flow_edges.specs.Faults.{Counted};
 ghost use Rattle.flow_links.specs.Doors.{Stays, Listens, GivesNext, Finishes};
-ghost use Rattle.flow_links.specs.System.{StreamState};
+ghost use Rattle.flow_links.specs.declared.system.tcp_door.TheConstants.{MAX_LOST};
+ghost use Rattle.flow_links.specs.System.{StreamState, LosesCallers, loopback, address_of};
 
-use super::PATIENCE;
+use super::PacedStream;
 use crate::{Door, TcpLink};
 use flow_edges::counted_fault;
 use flow_values::Fault;
-use std::io;
+use std::io::ErrorKind;
 use std::marker::Model;
-use std::net::{Ipv4Addr, Net, OpenListener, OpenStream, SocketAddr, TcpListener};
-use std::time::Duration;
+use std::net::{Ipv4Addr, Net, OpenListener, OpenStream, SocketAddr, SocketAddrV4, TcpListener};
+use std::time::{Clock as Timer, Duration};
+use std::{io, thread};
+
+/// How many callers in a row may be lost; then the door is.
+const MAX_LOST: u64 = 100;
+
+/// How many milliseconds pass after a caller that was lost.
+const LOST_PAUSE: u64 = 100;
+
+/// A listener of the system, and where the system says that it listens.
+#[derive(Drop)]
+struct Port<L: OpenListener> {
+    listener: L,
+    address: SocketAddrV4,
+}
 
 /// A port of the system as a door, for callers of this machine. It tells no links, and counts each
-/// error of its calls; contracts see the count. A link's reads and writes fail after 30 seconds, and
-/// what is written is sent at once.
+/// error of its calls; contracts see the count. What is written to a link is sent at once, and a caller
+/// keeps a `Pace`.
+///
+/// A caller that can't be taken, since it has gone or since descriptors or memory are wanting, is lost and
+/// counted, and a tenth of a second later the next one is taken. Where a hundred are lost in a row, that
+/// is a `Fault`.
 #[derive(Drop)]
-pub struct TcpDoor<'r, R: Net> {
+pub struct TcpDoor<'r, R: Net + Timer> {
     rt: &'r R,
-    listener: Option<R::Listener>,
+    port: Option<Port<R::Listener>>,
+    lost: u64,
     faults: u64,
 }
 
-impl<'r, R: Net> Model for TcpDoor<'r, R> {
-    ghost use Rattle.std.specs.Prelude.{is_some};
-    ghost use Rattle.flow_links.specs.System.{PortState};
+impl<'r, R: Net + Timer> Model for TcpDoor<'r, R> {
+    ghost use Rattle.std.specs.Prelude.{option_map};
+    ghost use Rattle.flow_links.specs.System.{PortState, address_of};
 
     ghost Value = { PortState };
 
-    ghost view = { λ door. record { listening = is_some door.listener; faults = door.faults } };
+    ghost view = { λ door. record {
+      address = option_map (λ port. address_of port.address) door.port;
+      lost = door.lost;
+      faults = door.faults;
+    } };
 }
 
-impl<'r, R: Net> TcpDoor<'r, R> {
-    /// A door that is still shut, and has failed in no call yet.
+impl<'r, R: Net + Timer> TcpDoor<'r, R> {
+    /// A door that is still shut, has lost nobody and has failed in no call yet.
     pub fn new(rt: &'r R) -> TcpDoor<'r, R>
-        ensures { result ≡ record { listening = false; faults = 0 } }
+        ensures { result ≡ record { address = None; lost = 0; faults = 0 } }
     {
         TcpDoor {
             rt,
-            listener: None,
+            port: None,
+            lost: 0,
             faults: 0,
         }
     }
 
-    /// The next caller's stream, with its limits set.
-    fn accept(listener: &R::Listener) -> io::Result<R::Stream> {
-        let (stream, _) = listener.accept()?;
-        let patience = Some(Duration::from_secs(PATIENCE));
-        stream.set_nodelay(true)?;
-        stream.set_read_timeout(patience)?;
-        stream.set_write_timeout(patience)?;
-        Ok(stream)
+    /// This port of this machine, opened.
+    fn open(&self, port: u16) -> io::Result<Port<R::Listener>>
+        ensures { IfOk result (λ opened. address_of opened.address ≡ loopback port) }
+    {
+        let wanted = SocketAddrV4::new(Ipv4Addr::LOCALHOST, port);
+        let listener = TcpListener::bind(self.rt, SocketAddr::V4(wanted))?;
+        match listener.local_addr()? {
+            SocketAddr::V4(address) if address == wanted => Ok(Port { listener, address }),
+            _ => Err(io::Error::from(ErrorKind::AddrNotAvailable)),
+        }
     }
 }
 
-impl<'r, R: Net> Door for TcpDoor<'r, R> {
-    type Link = TcpLink<R::Stream>;
+/// The next caller.
+fn accept<'r, R: Net + Timer>(
+    rt: &'r R,
+    listener: &R::Listener,
+) -> io::Result<PacedStream<'r, R::Stream, R>> {
+    let (stream, _) = listener.accept()?;
+    stream.set_nodelay(true)?;
+    Ok(PacedStream::new(stream, rt))
+}
+
+/// The next caller that can be taken, behind so many that are lost; a fault where those are too many.
+fn take_caller<'r, R: Net + Timer>(
+    rt: &'r R,
+    listener: &R::Listener,
+) -> Result<(u64, PacedStream<'r, R::Stream, R>), Fault>
+    ensures { IfOk result (λ taken. taken.0 < MAX_LOST) }
+{
+    for lost in 0..MAX_LOST {
+        if let Ok(stream) = accept(rt, listener) {
+            return Ok((lost, stream));
+        }
+        thread::sleep(rt, Duration::from_millis(LOST_PAUSE));
+    }
+    Err(Fault)
+}
+
+impl<'r, R: Net + Timer> Door for TcpDoor<'r, R> {
+    type Link = TcpLink<PacedStream<'r, R::Stream, R>>;
 
     ghost told = { λ _. None };
 
     ghost faults = { λ door. door.faults };
 
+    /// Listens on the loopback address alone. Port 0 is none, and a `Fault`.
     fn listen(&mut self, port: u16) -> Result<(), Fault>
         ensures ok { IfOk result (λ _. Listens {L = StreamState} port None None) }
         ensures err { OnErr result (Stays {L = StreamState} None None) }
         ensures causes { Counted (IsErr result) self.old.faults self.new.faults }
 
-        ensures listening { IfOk result (λ _. self.new.listening ≡ true) }
-        ensures stays { OnErr result (self.new.listening ≡ self.old.listening) }
+        ensures address { IfOk result (λ _. self.new.address ≡ Some (loopback port)) }
+        ensures stays { OnErr result (self.new.address ≡ self.old.address) }
+        ensures lost { self.new.lost ≡ self.old.lost }
     {
-        let address = SocketAddr::from((Ipv4Addr::LOCALHOST, port));
-        match TcpListener::bind(self.rt, address) {
-            Ok(listener) => {
-                self.listener = Some(listener);
+        match self.open(port) {
+            Ok(opened) => {
+                self.port = Some(opened);
                 Ok(())
             }
             Err(_) => Err(counted_fault(&mut self.faults)),
@@ -80,28 +134,38 @@ impl<'r, R: Net> Door for TcpDoor<'r, R> {
     }
 
     /// `None` only where `listen` wasn't called: a port never runs out of callers.
-    fn next(&mut self) -> Result<Option<TcpLink<R::Stream>>, Fault>
+    fn next(&mut self) -> Result<Option<TcpLink<PacedStream<'r, R::Stream, R>>>, Fault>
         ensures ok { IfOk result (λ link. GivesNext {L = StreamState} link None None) }
         ensures err { OnErr result (Stays {L = StreamState} None None) }
         ensures causes { Counted (IsErr result) self.old.faults self.new.faults }
 
-        ensures some { IfOk result (λ link. self.old.listening ≡ true → IsSome link) }
-        ensures stays { self.new.listening ≡ self.old.listening }
+        ensures some { IfOk result (λ link. IsSome self.old.address → IsSome link) }
+        ensures address { self.new.address ≡ self.old.address }
+        ensures lost { LosesCallers result self.old.lost self.new.lost }
     {
-        let Some(listener) = &self.listener else {
+        let Some(port) = &self.port else {
             return Ok(None);
         };
-        match TcpDoor::<R>::accept(listener) {
-            Ok(stream) => Ok(Some(TcpLink::new(stream))),
-            Err(_) => Err(counted_fault(&mut self.faults)),
+        match take_caller(self.rt, &port.listener) {
+            Ok((lost, stream)) => {
+                self.lost = self.lost.saturating_add(lost);
+                Ok(Some(TcpLink::new(stream)))
+            }
+            Err(Fault) => {
+                self.lost = self.lost.saturating_add(MAX_LOST);
+                Err(counted_fault(&mut self.faults))
+            }
         }
     }
 
-    /// Closes the link.
-    fn finish(&mut self, link: TcpLink<R::Stream>)
-        ensures back { Finishes {L = StreamState} link None None }
+    /// Closes the link. Where no call of it failed, the caller is told first that no more comes, and what it
+    /// still sends is dropped for 2 seconds and 1,048,576 bytes at most, so that what was written reaches it.
+    fn finish(&mut self, link: TcpLink<PacedStream<'r, R::Stream, R>>)
+        ensures back { Finishes {L = StreamState} link.entry None None }
         ensures quiet { self.new ≡ self.old }
     {
-        drop(link);
+        if let Some(stream) = link.into_whole() {
+            let _ = stream.close();
+        }
     }
 }

@@ -1,4 +1,4 @@
-ghost use Rattle.std.specs.Prelude.{◌≡◌, ◌≤◌, ◌<◌, None, refl, length, IfOk, IsErr};
+ghost use Rattle.std.specs.Prelude.{◌≡◌, ◌≤◌, ◌<◌, ◌↔◌, None, refl, length, IsSome, IfSome, IfOk, IsErr};
 ghost use Rattle.std.specs.Io.KnownBytes.{ReadConsumes, WriteAppends};
 ghost use Rattle.flow_edges.specs.Faults.{Counted};
 
@@ -40,6 +40,20 @@ impl<S: Read + Write> TcpLink<S> {
             stream,
             read_faults: 0,
             write_faults: 0,
+        }
+    }
+
+    /// The stream as it stands, where no call failed.
+    pub fn into_whole(self) -> Option<S>
+    where
+        S: Drop,
+        ensures some { IsSome result ↔ ((self.read_faults ≡ 0) × (self.write_faults ≡ 0)) }
+        ensures stream { IfSome result (λ stream. (S.remaining stream ≡ self.remaining) × (S.contents stream ≡ self.contents)) }
+    {
+        if self.read_faults == 0 && self.write_faults == 0 {
+            Some(self.stream)
+        } else {
+            None
         }
     }
 }
