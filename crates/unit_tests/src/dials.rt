@@ -1,16 +1,13 @@
-//! Dials in memory and over the system's network, and a stream whose deadline passes.
+//! Dials in memory and over the system's network.
 
 use crate::lists::listed;
-use flow_edges::{Sink, Source, write_whole};
-use flow_links::{Deadline, Dial, LimitedStream, TcpDial, TcpLink};
+use flow_edges::{Source, write_whole};
+use flow_links::{Dial, TcpDial};
 use flow_memory::{MemoryDial, MemoryLink};
 use flow_values::{Fault, Items};
-use std::cell::Cell;
-use std::io;
 use std::io::{Read, Write};
-use std::net::{Ipv4Addr, OpenListener, OpenStream, SocketAddr, TcpListener};
+use std::net::{Ipv4Addr, OpenListener, SocketAddr, TcpListener};
 use std::test::Fail;
-use std::time::{Clock, Duration};
 
 /// Dials, writes a text and reads at most 8 bytes, and hands the link back.
 fn ask<D: Dial>(dial: &mut D, host: &str, port: u16, text: &[u8]) -> Result<usize, Fault> {
@@ -69,77 +66,5 @@ fn a_peer_is_dialled_by_its_name(rt: HostRuntime) -> Result<(), Fail> {
     assert_eq!(rt; peer.read(&mut buffer)?, 0);
     drop(listener);
     assert_eq!(rt; ask(&mut dial, "127.0.0.1", port, b"question"), Err(Fault));
-    Ok(())
-}
-
-/// A clock that shows the seconds that it is set to.
-#[derive(Drop)]
-struct HandClock {
-    seconds: Cell<u64>,
-}
-
-impl Clock for HandClock {
-    fn monotonic(&self) -> io::Result<Duration> {
-        Ok(Duration::from_secs(self.seconds.get()))
-    }
-
-    fn since_1970(&self) -> io::Result<Duration> {
-        self.monotonic()
-    }
-}
-
-/// A stream that gives and takes each byte that is asked for, and shows how long it may wait for them.
-#[derive(Drop)]
-struct Steady<'w> {
-    wait: &'w Cell<Option<Duration>>,
-}
-
-impl<'w> Read for Steady<'w> {
-    fn read(&mut self, buf: &mut [u8]) -> io::Result<usize> {
-        Ok(buf.len())
-    }
-}
-
-impl<'w> Write for Steady<'w> {
-    fn write(&mut self, buf: &[u8]) -> io::Result<usize> {
-        Ok(buf.len())
-    }
-
-    fn flush(&mut self) -> io::Result<()> {
-        Ok(())
-    }
-}
-
-impl<'w> OpenStream for Steady<'w> {
-    fn set_read_timeout(&self, wait: Option<Duration>) -> io::Result<()> {
-        self.wait.set(wait);
-        Ok(())
-    }
-
-    fn set_write_timeout(&self, wait: Option<Duration>) -> io::Result<()> {
-        self.wait.set(wait);
-        Ok(())
-    }
-}
-
-#[test]
-fn a_stream_waits_until_its_deadline(rt: HostRuntime) -> Result<(), Fail> {
-    let clock = HandClock {
-        seconds: Cell::new(7),
-    };
-    let wait = Cell::new(None);
-    let deadline = Deadline::after(&clock, Duration::from_secs(40))?;
-    let mut link = TcpLink::new(LimitedStream::new(Steady { wait: &wait }, deadline));
-    let mut buffer = [0u8; 4];
-    assert_eq!(rt; link.read(&mut buffer), Ok(4));
-    assert_eq!(rt; wait.get(), Some(Duration::from_secs(30)));
-    clock.seconds.set(46);
-    assert_eq!(rt; link.write(&buffer), Ok(4));
-    assert_eq!(rt; wait.get(), Some(Duration::from_secs(1)));
-    for seconds in [47, 48] {
-        clock.seconds.set(seconds);
-        assert_eq!(rt; link.read(&mut buffer), Err(Fault));
-        assert_eq!(rt; link.write(&buffer), Err(Fault));
-    }
     Ok(())
 }

@@ -30,4 +30,6 @@ mod sockets;
 #[cfg(test)]
 mod sources;
 #[cfg(test)]
+mod timed_streams;
+#[cfg(test)]
 mod times;
