@@ -1,19 +1,39 @@
--- A number that a rule holds of exactly, and the least number of tries.
-use Rattle.std.proofs.Common.{◌≡◌, ◌↔◌, ℕ, ◌≤◌, List, [], ◌∷◌, Option, None, Some, refl}
-use Rattle.std.specs.Prelude.{IfSome, IfNone}
-use Rattle.command_mirror.specs.Words.{AreFileAndTries}
+-- The least number of tries, two words, and that a text is read exactly where it is a timestamp.
+use Rattle.std.proofs.Common.{◌≡◌, ◌↔◌, ℕ, ℤ, ◌≤◌, ◌<◌, Bool, List, [], ◌∷◌, length, get_or, String, Global, string_bytes, Option, Result, Ok, Err, IfOk, refl, sym, ap, subst, ◌∙◌, arith}
+use Rattle.command_line.specs.CommandLines.{texts}
+use Rattle.std.specs.Prelude.{IsTrue}
+use Rattle.std.specs.Result.{is_ok}
+use Rattle.stix_times.specs.declared.refusal.TimeRefusal.{TimeRefusal}
+use Rattle.stix_times.specs.Reading.{IsTextOf, Reads}
+use Rattle.command_mirror.specs.Words.{AreStoreWords, IsTimestamp}
 
--- a value of which a rule holds exactly, where there is one
-pub found_some : (Rule : ℕ → Type 0) (found : Option ℕ) → ((n : ℕ) → (found ≡ Some n) ↔ Rule n) → IfSome found Rule
-found_some Rule None exactly = tt
-found_some Rule (Some n) exactly = (exactly n).0 refl
+pub tries_least : (more : List (List ℕ)) (file : List ℕ) (tries : ℕ) (since : Option (List ℕ)) → AreStoreWords more file tries since → 1 ≤ tries
+tries_least [] file tries since are = absurd are
+tries_least (name ∷ []) file tries since are = absurd are
+tries_least (name ∷ number ∷ last) file tries since (is, some, its, time) = its.at_least
 
-pub found_none : (Rule : ℕ → Type 0) (found : Option ℕ) → ((n : ℕ) → (found ≡ Some n) ↔ Rule n) → IfNone found ((n : ℕ) → ¬ Rule n)
-found_none Rule None exactly = λ n holds. let none = (exactly n).1 holds in cc
-found_none Rule (Some n) exactly = tt
+read_exactly : (text : List ℕ) (answer : Result ℤ TimeRefusal) → IfOk answer (IsTextOf text) → ((other : Result ℤ TimeRefusal) → Reads text other → other ≡ answer)
+    → IsTrue (is_ok answer) ↔ IsTimestamp text
+read_exactly text (Ok instant) ok only = (λ read. (instant, ok), λ is. refl)
+read_exactly text (Err refusal) ok only = (λ read. absurd (cc read), λ is. absurd (no_error is.0 (only (Ok is.0) is.1)))
+  where
+    no_error : (instant : ℤ) → ◌≡◌ {A = Result ℤ TimeRefusal} (Ok instant) (Err refusal) → ⊥
+    no_error instant same = cc
 
-pub tries_least : (more : List (List ℕ)) (file : List ℕ) (tries : ℕ) → AreFileAndTries more file tries → 1 ≤ tries
-tries_least [] file tries are = absurd are
-tries_least (text ∷ []) file tries (is, some, last) = absurd last
-tries_least (text ∷ number ∷ []) file tries (is, some, last) = last.at_least
-tries_least (text ∷ number ∷ other ∷ more) file tries (is, some, last) = absurd last
+pub timestamp_exactly : (text : List ℕ) (answer : Result ℤ TimeRefusal) (read : Bool) → IfOk answer (IsTextOf text) → ((other : Result ℤ TimeRefusal) → Reads text other → other ≡ answer)
+    → read ≡ is_ok answer → IsTrue read ↔ IsTimestamp text
+timestamp_exactly text answer read ok only is = subst (λ (b : Bool). IsTrue b ↔ IsTimestamp text) (sym is) (read_exactly text answer ok only)
+
+abbrev Word : Type 0
+Word = String Global
+
+two : (words : List Word) (a b : Word) → 2 ≤ length words → length words < 3 → a ≡ get_or words 0 a → b ≡ get_or words 1 b → words ≡ a ∷ b ∷ []
+two [] a b least most is_a is_b = absurd (omega arith)
+two (x ∷ []) a b least most is_a is_b = absurd (omega arith)
+two (x ∷ y ∷ []) a b least most is_a is_b = cc
+two (x ∷ y ∷ z ∷ words) a b least most is_a is_b = absurd (omega arith)
+
+pub two_words : (words : List Word) (a b : Word) (first second : List ℕ) → 2 ≤ length words → length words < 3 → a ≡ get_or words 0 a → b ≡ get_or words 1 b
+    → first ≡ string_bytes a → second ≡ string_bytes b → texts words ≡ first ∷ second ∷ []
+two_words words a b first second least most is_a is_b is_first is_second =
+    ap texts (two words a b least most is_a is_b) ∙ ap (λ (text : List ℕ). text ∷ string_bytes b ∷ []) (sym is_first) ∙ ap (λ (text : List ℕ). first ∷ text ∷ []) (sym is_second)

@@ -1,9 +1,7 @@
 -- What an ending says of what was asked for and of the outside; its status, and its reason.
 use Rattle.std.specs.Prelude.{◌≡◌, ◌⊎◌, ℕ, List, [], ◌++◌, codes, decimal, Option}
-use Rattle.flow_edges.specs.Faults.{Rose}
-use Rattle.flow_edges.specs.Flow.{written_with, WritesPrefix, WritesPart}
+use Rattle.flow_edges.specs.Flow.{written_with, WritesPart}
 use Rattle.taxii_client.specs.Outside.{LinkView}
-use Rattle.taxii_client.specs.Refusals.{refusal_text}
 use Rattle.taxii_store.specs.declared.load_refusal.LoadRefusal.TheVariants as Load
 use Rattle.taxii_mirror.specs.declared.refusal.StoreRefusal.TheVariants as Store
 use Rattle.taxii_copy.specs.Copying.{Copying}
@@ -14,6 +12,7 @@ use Rattle.taxii_copy.specs.declared.stop.CopyStop.{CopyStop}
 use Rattle.taxii_copy.specs.declared.stop.CopyStop.TheVariants.{NotLoaded, NotFetched, NotAbsorbed}
 use Rattle.taxii_copy.specs.declared.stop.FetchStop.TheVariants as Stop
 use Rattle.taxii_copy.specs.declared.totals.Totals.{Totals}
+use Rattle.command_peer.specs.Refusal.{peer_reason}
 use Rattle.command_mirror.specs.declared.ending.MirrorEnding.{MirrorEnding}
 use Rattle.command_mirror.specs.declared.ending.MirrorEnding.TheVariants.{Usage, Done, WriteFault, Stopped, NoMemory}
 use Rattle.command_mirror.specs.Words.{AskFor, AskForNothing}
@@ -74,21 +73,16 @@ stop_reason (NotFetched Stop.LinkLost) = codes "link lost\n"
 stop_reason (NotLoaded Load.KeeperFault) = codes "store fault\n"
 stop_reason (NotAbsorbed Store.Fault) = codes "store fault\n"
 stop_reason (NotLoaded (Load.BadRow after)) = bad_row_reason after
-stop_reason (NotFetched (Stop.Refused refusal)) = codes "peer refused: " ++ (refusal_text refusal ++ codes "\n")
+stop_reason (NotFetched (Stop.Refused refusal)) = peer_reason refusal
 stop_reason (NotFetched Stop.TooManyPages) = codes "too many pages\n"
 stop_reason (NotAbsorbed Store.DatesUsedUp) = codes "date range is used up\n"
 
 abbrev pub reason_of : MirrorEnding → List ℕ
 reason_of Done = []
 reason_of NoMemory = codes "out of memory\n"
-reason_of Usage = codes "usage: stix_mirror HOST PORT ROOT COLLECTION FILE TRIES\n"
+reason_of Usage = codes "usage: stix_mirror HOST PORT ROOT COLLECTION FILE TRIES [--since TIME]\n"
 reason_of WriteFault = codes "write fault\n"
 reason_of (Stopped stop) = stop_reason stop
-
--- the text was written, or a prefix of it where the sink's count of faults rose
-abbrev pub WritesReason : List ℕ → Option (List ℕ) → Option (List ℕ) → ℕ → ℕ → Type 0
-WritesReason text written written_now faults faults_now =
-    (written_now ≡ written_with text written) ⊎ (WritesPrefix text written written_now × Rose faults faults_now)
 
 -- For private clauses: what the end of a copy says of what was written alone.
 abbrev pub Concludes : Totals → Option (List ℕ) → Option (List ℕ) → MirrorEnding → Type 0

@@ -25,7 +25,7 @@ pub record Ends {L : Type 0} (view : L → LinkView) (words : List (List ℕ)) (
   pub stands : EndsWords view words before now written written_now ending
   pub reason : Writes (reason_of ending)
 
--- the pages that came are a pull of the whole collection, all were absorbed, and the summary of that was written
+-- the pages that came are a pull of all that was asked for, all were absorbed, and the summary of that was written
 pub record CopiesAll {L : Type 0} (view : L → LinkView) (before now : Outside L) (written written_now : Option (List ℕ)) (asked : Copying) : Type 0 where
   pub pages : List (Page L)
   pub pull : IsPull view asked.target pages Over

@@ -1,14 +1,13 @@
 ghost use Rattle.std.specs.Prelude.{◌≡◌, ◌++◌, codes, IsErr};
 ghost use Rattle.flow_edges.specs.Faults.{Counted};
 ghost use Rattle.flow_edges.specs.Flow.{WritesWhole};
-ghost use Rattle.taxii_client.specs.Refusals.{refusal_text};
-ghost use Rattle.taxii_client.specs.declared.refusal.ReplyRefusal.TheVariants.{Status};
 ghost use Rattle.command_mirror.specs.Endings.{bad_row_reason, stop_status, stop_reason};
 
+use command_peer::write_refusal;
+use command_reasons::{write_no_memory, write_write_fault};
 use flow_edges::{Sink, write_pieces, write_whole};
 use flow_values::Fault;
 use itoa::Buffer;
-use taxii_client::ReplyRefusal;
 use taxii_copy::{CopyStop, FetchStop};
 use taxii_mirror::StoreRefusal;
 use taxii_store::LoadRefusal;
@@ -52,7 +51,7 @@ impl MirrorEnding {
             MirrorEnding::Done => write_whole(reasons, b""),
             MirrorEnding::NoMemory => write_no_memory(reasons),
             MirrorEnding::Usage => write_usage(reasons),
-            MirrorEnding::WriteFault => write_whole(reasons, b"write fault\n"),
+            MirrorEnding::WriteFault => write_write_fault(reasons),
             MirrorEnding::Stopped(stop) => write_stop(stop, reasons),
         }
     }
@@ -97,22 +96,14 @@ fn write_stop<S: Sink>(stop: &CopyStop, reasons: &mut S) -> Result<(), Fault>
     }
 }
 
-/// Writes that memory ran out. Takes no memory.
-pub fn write_no_memory<S: Sink>(reasons: &mut S) -> Result<(), Fault>
-    ensures text { WritesWhole (codes "out of memory\n") (S.written reasons.old) (S.written reasons.new) result }
-    ensures causes { Counted (IsErr result) (S.faults reasons.old) (S.faults reasons.new) }
-{
-    write_whole(reasons, b"out of memory\n")
-}
-
 /// Writes what the words are.
 fn write_usage<S: Sink>(reasons: &mut S) -> Result<(), Fault>
-    ensures text { WritesWhole (codes "usage: stix_mirror HOST PORT ROOT COLLECTION FILE TRIES\n") (S.written reasons.old) (S.written reasons.new) result }
+    ensures text { WritesWhole (codes "usage: stix_mirror HOST PORT ROOT COLLECTION FILE TRIES [--since TIME]\n") (S.written reasons.old) (S.written reasons.new) result }
     ensures causes { Counted (IsErr result) (S.faults reasons.old) (S.faults reasons.new) }
 {
     write_whole(
         reasons,
-        b"usage: stix_mirror HOST PORT ROOT COLLECTION FILE TRIES\n",
+        b"usage: stix_mirror HOST PORT ROOT COLLECTION FILE TRIES [--since TIME]\n",
     )
 }
 
@@ -135,29 +126,4 @@ fn write_date<S: Sink>(after: &str, reasons: &mut S) -> Result<(), Fault>
         reasons,
         &[b"store refused: row after ", after.as_bytes(), b"\n"],
     )
-}
-
-/// Writes why a reply is refused, as `peer refused: Status 404` and a line feed.
-fn write_refusal<S: Sink>(refusal: &ReplyRefusal, reasons: &mut S) -> Result<(), Fault>
-    ensures text { WritesWhole (codes "peer refused: " ++ (refusal_text refusal.now ++ codes "\n")) (S.written reasons.old) (S.written reasons.new) result }
-    ensures causes { Counted (IsErr result) (S.faults reasons.old) (S.faults reasons.new) }
-{
-    match refusal {
-        ReplyRefusal::BadHead => write_whole(reasons, b"peer refused: BadHead\n"),
-        ReplyRefusal::Status { code } => write_status(*code, reasons),
-        ReplyRefusal::Coding => write_whole(reasons, b"peer refused: Coding\n"),
-        ReplyRefusal::NoLength => write_whole(reasons, b"peer refused: NoLength\n"),
-        ReplyRefusal::TooLarge => write_whole(reasons, b"peer refused: TooLarge\n"),
-        ReplyRefusal::NotEnvelope => write_whole(reasons, b"peer refused: NotEnvelope\n"),
-    }
-}
-
-/// The same for a status.
-fn write_status<S: Sink>(code: u16, reasons: &mut S) -> Result<(), Fault>
-    ensures text { WritesWhole (codes "peer refused: " ++ (refusal_text (Status code) ++ codes "\n")) (S.written reasons.old) (S.written reasons.new) result }
-    ensures causes { Counted (IsErr result) (S.faults reasons.old) (S.faults reasons.new) }
-{
-    let mut buffer = Buffer::new();
-    let code = buffer.format(code);
-    write_pieces(reasons, &[b"peer refused: Status ", code.as_bytes(), b"\n"])
 }

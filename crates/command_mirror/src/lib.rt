@@ -3,10 +3,9 @@
 #![tactic(auto)]
 
 mod ending;
-mod forms;
 mod run;
 mod summary;
 mod words;
 
-pub use ending::{MirrorEnding, write_no_memory};
+pub use ending::MirrorEnding;
 pub use run::run_mirror;

@@ -2,9 +2,11 @@ ghost use Rattle.std.specs.Prelude.{◌≡◌, ◌↔◌, ◌≤◌};
 ghost use Rattle.flow_edges.specs.Faults.{Counted};
 ghost use Rattle.command_line.specs.CommandLines.{texts};
 ghost use Rattle.taxii_client.specs.Outside.{link_view};
-ghost use Rattle.command_mirror.specs.Words.{AskForNothing, IsHost, copying_of};
+ghost use Rattle.command_reasons.specs.Reasons.{WritesReason};
+ghost use Rattle.command_peer.specs.Words.{IsHost};
+ghost use Rattle.command_mirror.specs.Words.{AskForNothing, copying_of};
 ghost use Rattle.taxii_copy.specs.Filling.{outside};
-ghost use Rattle.command_mirror.specs.Endings.{AskSo, Concludes, EndsMirror, EndsWords, WritesReason, mirror_status, reason_of};
+ghost use Rattle.command_mirror.specs.Endings.{AskSo, Concludes, EndsMirror, EndsWords, mirror_status, reason_of};
 ghost use Rattle.command_mirror.specs.Runs.{Ends, CopiesAll, LosesAll, HoldsMirrored};
 
 use crate::ending::MirrorEnding;
@@ -38,8 +40,8 @@ fn answer<D: Dial, K: Keeper, C: Clock, O: Sink>(
     clock: &mut C,
     output: &mut O,
 ) -> MirrorEnding
-    requires host { IsHost request.now.host.now }
-    requires tries { 1 ≤ request.now.tries }
+    requires host { IsHost request.now.peer.host.now }
+    requires tries { 1 ≤ request.now.store.tries }
     ensures ends { EndsMirror (link_view D.Link.left D.Link.written D.Link.Source.faults D.Link.Sink.faults) (copying_of request.now)
         (outside (D.told dial.old) (D.faults dial.old) (K.kept keeper.old) (C.moments clock.old))
         (outside (D.told dial.new) (D.faults dial.new) (K.kept keeper.new) (C.moments clock.new)) (O.written output.old) (O.written output.new) result }
@@ -53,8 +55,8 @@ fn answer<D: Dial, K: Keeper, C: Clock, O: Sink>(
     match copy(
         alloc,
         &target,
-        request.file,
-        request.tries,
+        request.store.file,
+        request.store.tries,
         dial,
         keeper,
         clock,

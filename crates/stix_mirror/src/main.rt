@@ -2,7 +2,8 @@
 #![tactic(auto)]
 
 use command_line::program_words;
-use command_mirror::{run_mirror, write_no_memory};
+use command_mirror::run_mirror;
+use command_reasons::write_no_memory;
 use flow_edges::WriteSink;
 use flow_links::{SystemClock, TcpDial};
 use flow_values::NoMemory;

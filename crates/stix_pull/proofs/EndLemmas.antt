@@ -1,5 +1,5 @@
 -- What an ending says of the words and of the dial's count.
-use Rattle.std.proofs.Common.{◌≡◌, ◌≢◌, ◌⊎◌, ◌↔◌, inl, inr, ℕ, ◌≤◌, List, [], ◌∷◌, ◌++◌, Err, refl, sym, ap, subst, arith}
+use Rattle.std.proofs.Common.{◌≡◌, ◌≢◌, ◌⊎◌, ◌↔◌, inl, inr, ℕ, ◌≤◌, List, [], ◌∷◌, ◌++◌, refl, sym, ap, subst, arith}
 use Rattle.flow_edges.specs.Faults.{Rose}
 use Rattle.watch_log.specs.declared.cut_short.CutShort.TheVariants as Cut
 use Rattle.taxii_client.specs.Outside.{LinkView}

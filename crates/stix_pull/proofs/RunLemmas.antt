@@ -1,5 +1,5 @@
 -- Pages that came and were written so far, one more of them, and what each ending says.
-use Rattle.std.proofs.Common.{◌≡◌, ◌⊎◌, inl, inr, ℕ, suc, ◌+◌, ◌*◌, ◌≤◌, ◌<◌, List, [], ◌∷◌, ◌++◌, length, map, Option, None, Some, Result, Ok, Err, refl, sym, ap, subst, ◌∙◌, append_assoc, length-append, arith}
+use Rattle.std.proofs.Common.{◌≡◌, inl, inr, ℕ, ◌+◌, ◌≤◌, ◌<◌, List, [], ◌∷◌, ◌++◌, length, Option, None, Ok, Err, refl, sym, ap, subst, ◌∙◌, append_assoc, length-append, arith}
 use Rattle.std.proofs.lemmas.List.{append-nil}
 use Rattle.std.specs.Prelude.{All, fold}
 use Rattle.command_reasons.proofs.WritesWholeLemmas.{after_part}
@@ -9,7 +9,7 @@ use Rattle.flow_links.specs.Dials.{DialState}
 use Rattle.stix_json.specs.declared.entry.Entry.{Entry}
 use Rattle.taxii_client.specs.Outside.{LinkView, DialView}
 use Rattle.taxii_client.specs.Fetches.{Fetched}
-use Rattle.taxii_client.specs.Pulls.{PullState, Lent, Page, PassThrough, IsPageAt, IsPull, turn_after, AsksFor, GivesPage, FetchesOver, FailsToDial, Dials, Answers}
+use Rattle.taxii_client.specs.Pulls.{PullState, Lent, Page, PassThrough, IsPageAt, IsPull, turn_after, AsksFor, GivesPage, Dials, Answers}
 use Rattle.taxii_client.specs.declared.fetch_end.FetchEnd.{FetchEnd}
 use Rattle.taxii_client.specs.declared.fetch_end.FetchEnd.TheVariants as Fetch
 use Rattle.taxii_client.specs.declared.page_end.PageEnd.{PageEnd}
@@ -17,10 +17,10 @@ use Rattle.taxii_client.specs.declared.page_end.PageEnd.TheVariants as End
 use Rattle.taxii_client.specs.declared.pull.TheConstants.{MAX_PAGES}
 use Rattle.taxii_client.specs.declared.target.Target.{Target}
 use Rattle.taxii_client.specs.declared.turn.Turn.{Turn}
-use Rattle.taxii_client.specs.declared.turn.Turn.TheVariants.{First, Over}
+use Rattle.taxii_client.specs.declared.turn.Turn.TheVariants.{First}
 use Rattle.stix_pull.specs.declared.ending.PullEnding.TheVariants.{Lost, Done}
 use Rattle.taxii_client.specs.Telling.{told_of, told_of_pages, bad_in, bad_in_pages, IsWritable}
-use Rattle.stix_pull.specs.Pulling.{Outside, links_of, Pulls, WritesPages, DialIsQuiet, LosesPage, StopsAsking, StopsBehind, StopsWriting}
+use Rattle.stix_pull.specs.Pulling.{Outside, links_of, Pulls, WritesPages, DialIsQuiet, StopsAsking, StopsBehind, StopsWriting}
 use Rattle.stix_pull.specs.Endings.{EndsPull, AreAll, AreTooFew}
 use Rattle.stix_pull.proofs.WritingLemmas.{all-writable, written-none, written-more}
 

@@ -1,11 +1,10 @@
 -- What is told of entries, one more of them, and of those of a page.
-use Rattle.std.proofs.Common.{◌≡◌, ◌↔◌, ℕ, zero, suc, ◌+◌, ◌<◌, ◌≤◌, List, [], ◌∷◌, ◌++◌, length, take, drop, Option, None, Some, refl, get_or, sym, ap, subst, ◌∙◌, append_assoc, arith}
+use Rattle.std.proofs.Common.{◌≡◌, ℕ, zero, suc, ◌<◌, List, [], ◌∷◌, ◌++◌, length, take, drop, Option, None, Some, refl, get_or, sym, ap, subst, ◌∙◌, append_assoc, arith}
 use Rattle.std.proofs.lemmas.List.{append-nil}
 use Rattle.command_reasons.proofs.WritesWholeLemmas.{front_part}
-use Rattle.std.specs.Prelude.{All, Result, Ok, Err, OnErr, IfSome, IfNone}
+use Rattle.std.specs.Prelude.{All, Result, Ok, Err, OnErr}
 use Rattle.flow_edges.specs.Flow.{written_with, WritesPrefix}
 use Rattle.serde_json.specs.Data.{Items, no_items, item}
-use Rattle.stix_json.specs.DataOf.{data_of}
 use Rattle.stix_json.specs.Ordered.{IsOrdered}
 use Rattle.stix_json.specs.Entries.{AreEntriesFor}
 use Rattle.stix_json.specs.Reading.{IsEntryFor}
@@ -53,12 +52,3 @@ cut-of-page entries i entry first written within is prefix =
 pub fails_so : {T E P : Type 0} (answer : Result T E) → P → OnErr answer P
 fails_so (Ok value) fact = tt
 fails_so (Err refusal) fact = fact
-
--- a value of which a rule holds exactly, where there is one
-pub found-some : (Rule : ℕ → Type 0) (found : Option ℕ) → ((n : ℕ) → (found ≡ Some n) ↔ Rule n) → IfSome found Rule
-found-some Rule None exactly = tt
-found-some Rule (Some n) exactly = (exactly n).0 refl
-
-pub found-none : (Rule : ℕ → Type 0) (found : Option ℕ) → ((n : ℕ) → (found ≡ Some n) ↔ Rule n) → IfNone found ((n : ℕ) → ¬ Rule n)
-found-none Rule None exactly = λ n holds. let none = (exactly n).1 holds in cc
-found-none Rule (Some n) exactly = tt

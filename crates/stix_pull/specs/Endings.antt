@@ -3,13 +3,13 @@ use Rattle.std.specs.Prelude.{◌≡◌, ◌≢◌, ◌⊎◌, ℕ, zero, suc, L
 use Rattle.watch_log.specs.declared.cut_short.CutShort.TheVariants as Cut
 use Rattle.taxii_client.specs.Outside.{LinkView}
 use Rattle.taxii_client.specs.Pulls.{Page}
-use Rattle.taxii_client.specs.Refusals.{refusal_text}
 use Rattle.taxii_client.specs.declared.fetch_end.FetchEnd.TheVariants as Fetch
 use Rattle.taxii_client.specs.declared.page_end.PageEnd.TheVariants as End
 use Rattle.taxii_client.specs.declared.pull.TheConstants.{MAX_PAGES}
 use Rattle.taxii_client.specs.declared.target.Target.{Target}
 use Rattle.taxii_client.specs.declared.turn.Turn.{Turn}
 use Rattle.taxii_client.specs.declared.turn.Turn.TheVariants.{Over}
+use Rattle.command_peer.specs.Refusal.{peer_reason}
 use Rattle.stix_pull.specs.declared.ending.PullEnding.{PullEnding}
 use Rattle.stix_pull.specs.declared.ending.PullEnding.TheVariants.{Usage, Done, Lost, CutShort, NoMemory}
 use Rattle.stix_pull.specs.declared.ending.PullEnd.{PullEnd}
@@ -68,7 +68,7 @@ reason_of NoMemory = codes "out of memory\n"
 reason_of Usage = codes "usage: stix_pull HOST PORT ROOT COLLECTION [LIMIT]\n"
 reason_of (Lost End.Fault) = codes "link fault\n"
 reason_of (CutShort Cut.WriteFault) = codes "write fault\n"
-reason_of (Lost (End.Refused refusal)) = codes "peer refused: " ++ (refusal_text refusal ++ codes "\n")
+reason_of (Lost (End.Refused refusal)) = peer_reason refusal
 reason_of (Lost End.Cut) = codes "reply cut\n"
 reason_of (Lost End.TooManyPages) = codes "too many pages\n"
 

@@ -1,7 +1,7 @@
 -- What stands when the program ended, by its status.
 use Rattle.std.specs.Prelude.{◌≡◌, ◌⊎◌, ℕ, ◌≤◌, List, [], ◌∷◌, ◌++◌}
 use Rattle.flow_edges.specs.Faults.{Rose}
-use Rattle.taxii_client.specs.Outside.{LinkView}
+use Rattle.taxii_client.specs.Outside.{LinkView, LinkRose}
 use Rattle.taxii_client.specs.Pulls.{Lent, PassThrough}
 use Rattle.taxii_client.specs.declared.target.Target.{Target}
 use Rattle.stix_pull.specs.declared.ending.PullEnd.{PullEnd}
@@ -18,10 +18,6 @@ pub record Ends {L : Type 0} (view : L → LinkView) (words : List (List ℕ)) (
 -- all pages of the collection came, and their good entries were written
 abbrev pub PullsAll : {L : Type 0} → (L → LinkView) → List (List ℕ) → Outside L → Outside L → Type 0
 PullsAll view words before now = AskSo words (λ target. (skipped : ℕ) × StopsBehind view target before now AreAll skipped)
-
--- of the two counts of a link one rose
-abbrev pub LinkRose : LinkView → LinkView → Type 0
-LinkRose before now = Rose before.read_faults now.read_faults ⊎ Rose before.write_faults now.write_faults
 
 -- the link that was dialled last, and handed back, counted a fault
 pub record LosesLink {L : Type 0} (view : L → LinkView) (target : Target) (before now : Outside L) : Type 0 where

@@ -1,15 +1,14 @@
-ghost use Rattle.std.specs.Prelude.{◌≡◌, ◌++◌, codes, IsErr};
+ghost use Rattle.std.specs.Prelude.{◌≡◌, IsErr};
 ghost use Rattle.flow_edges.specs.Faults.{Counted};
 ghost use Rattle.flow_edges.specs.Flow.{WritesWhole};
-ghost use Rattle.taxii_client.specs.Refusals.{refusal_text};
-ghost use Rattle.taxii_client.specs.declared.refusal.ReplyRefusal.TheVariants.{Status};
 ghost use Rattle.stix_pull.specs.Endings.{skipped_text, end_reason};
 
+use command_peer::write_refusal;
 use command_reasons::{write_no_memory, write_write_fault};
 use flow_edges::{Sink, write_pieces, write_whole};
 use flow_values::Fault;
 use itoa::Buffer;
-use taxii_client::{PageEnd, ReplyRefusal};
+use taxii_client::PageEnd;
 use watch_log::CutShort;
 
 /// How the program ends.
@@ -94,31 +93,6 @@ impl PullEnding {
             PullEnding::Lost(PageEnd::TooManyPages) => write_whole(reasons, b"too many pages\n"),
         }
     }
-}
-
-/// Writes why a reply is refused, as `peer refused: Status 404` and a line feed.
-fn write_refusal<S: Sink>(refusal: &ReplyRefusal, reasons: &mut S) -> Result<(), Fault>
-    ensures text { WritesWhole (codes "peer refused: " ++ (refusal_text refusal.now ++ codes "\n")) (S.written reasons.old) (S.written reasons.new) result }
-    ensures causes { Counted (IsErr result) (S.faults reasons.old) (S.faults reasons.new) }
-{
-    match refusal {
-        ReplyRefusal::BadHead => write_whole(reasons, b"peer refused: BadHead\n"),
-        ReplyRefusal::Status { code } => write_status(*code, reasons),
-        ReplyRefusal::Coding => write_whole(reasons, b"peer refused: Coding\n"),
-        ReplyRefusal::NoLength => write_whole(reasons, b"peer refused: NoLength\n"),
-        ReplyRefusal::TooLarge => write_whole(reasons, b"peer refused: TooLarge\n"),
-        ReplyRefusal::NotEnvelope => write_whole(reasons, b"peer refused: NotEnvelope\n"),
-    }
-}
-
-/// The same for a status.
-fn write_status<S: Sink>(code: u16, reasons: &mut S) -> Result<(), Fault>
-    ensures text { WritesWhole (codes "peer refused: " ++ (refusal_text (Status code) ++ codes "\n")) (S.written reasons.old) (S.written reasons.new) result }
-    ensures causes { Counted (IsErr result) (S.faults reasons.old) (S.faults reasons.new) }
-{
-    let mut buffer = Buffer::new();
-    let code = buffer.format(code);
-    write_pieces(reasons, &[b"peer refused: Status ", code.as_bytes(), b"\n"])
 }
 
 /// Writes how many entries were skipped, where some were.

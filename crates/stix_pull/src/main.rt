@@ -3,7 +3,6 @@
 #![tactic(auto)]
 
 mod ending;
-mod forms;
 mod pulling;
 mod run;
 mod words;

@@ -3,7 +3,8 @@ ghost use Rattle.flow_edges.specs.Faults.{Counted};
 ghost use Rattle.command_line.specs.CommandLines.{texts};
 ghost use Rattle.command_reasons.specs.Reasons.{WritesReason};
 ghost use Rattle.taxii_client.specs.Outside.{link_view};
-ghost use Rattle.stix_pull.specs.Words.{AskForNothing, IsHost, target_of};
+ghost use Rattle.command_peer.specs.Words.{IsHost};
+ghost use Rattle.stix_pull.specs.Words.{AskForNothing, target_of};
 ghost use Rattle.stix_pull.specs.Pulling.{outside};
 ghost use Rattle.stix_pull.specs.Endings.{EndsPull, EndsWords, pull_status, end_reason};
 ghost use Rattle.stix_pull.specs.Runs.{Ends, PullsAll, CountsDial};
@@ -23,7 +24,7 @@ fn answer<D: Dial, O: Sink>(
     dial: &mut D,
     output: &mut O,
 ) -> PullEnd
-    requires { IsHost request.now.host.now }
+    requires { IsHost request.now.peer.host.now }
     ensures end { EndsPull (link_view D.Link.left D.Link.written D.Link.Source.faults D.Link.Sink.faults) (target_of request.now)
         (outside (D.told dial.old) (D.faults dial.old) (O.written output.old)) (outside (D.told dial.new) (D.faults dial.new) (O.written output.new))
         result.skipped result.ending }

@@ -19,11 +19,15 @@ link_view left written read_faults write_faults link = record {
   write_faults = write_faults link;
 }
 
+-- of the two counts of a link one rose
+abbrev pub LinkRose : LinkView → LinkView → Type 0
+LinkRose before now = Rose before.read_faults now.read_faults ⊎ Rose before.write_faults now.write_faults
+
 -- what a call says of the two counts of a link: neither falls; one has risen where the call failed so, and both stay where it didn't
 pub record CountsLink (Failed : Type 0) (before now : LinkView) : Type 0 where
   pub reads_later : before.read_faults ≤ now.read_faults
   pub writes_later : before.write_faults ≤ now.write_faults
-  pub failed : Failed → Rose before.read_faults now.read_faults ⊎ Rose before.write_faults now.write_faults
+  pub failed : Failed → LinkRose before now
   pub quiet_reads : ¬ Failed → now.read_faults ≡ before.read_faults
   pub quiet_writes : ¬ Failed → now.write_faults ≡ before.write_faults
 

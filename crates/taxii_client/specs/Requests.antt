@@ -1,5 +1,5 @@
 -- The request of a client for a page of a collection (TAXII 2.1, sections 3.4 and 5.4): the objects in all their versions, at most so
--- many of them, and behind a page those that follow it.
+-- many of them; behind a page those that follow it, and else those that were added after a time, where there is one.
 use Rattle.std.specs.Prelude.{ℕ, List, [], ◌++◌, codes, decimal, Option, Some, None}
 use Rattle.form_urlencoded.specs.Form.{byte_serialize}
 use Rattle.stix_ids.specs.Uuid.{uuid_text}
@@ -11,16 +11,26 @@ abbrev pub next_pair : Option (List ℕ) → List ℕ
 next_pair None = []
 next_pair (Some next) = codes "&next=" ++ byte_serialize next
 
+-- the pair that asks for what was added after a time
+abbrev pub since_pair : Option (List ℕ) → List ℕ
+since_pair None = []
+since_pair (Some time) = codes "&added_after=" ++ byte_serialize time
+
+-- behind a page what asks for its next, and else for what was added since the time
+abbrev pub behind : Option (List ℕ) → Option (List ℕ) → List ℕ
+behind since None = since_pair since
+behind since (Some next) = next_pair (Some next)
+
 -- the path to a collection's objects, below the root
 abbrev pub path_of : Target → List ℕ
 path_of target = target.root ++ codes "collections/" ++ uuid_text target.collection ++ codes "/objects/"
 
 -- the query for at most so many objects, in all their versions
-abbrev pub query_of : ℕ → Option (List ℕ) → List ℕ
-query_of limit next = codes "?limit=" ++ decimal limit ++ codes "&match%5Bversion%5D=all" ++ next_pair next
+abbrev pub query_of : ℕ → Option (List ℕ) → Option (List ℕ) → List ℕ
+query_of limit since next = codes "?limit=" ++ decimal limit ++ codes "&match%5Bversion%5D=all" ++ behind since next
 
 abbrev pub request_line : Target → Option (List ℕ) → List ℕ
-request_line target next = codes "GET " ++ path_of target ++ query_of target.limit next ++ codes " HTTP/1.1" ++ line_end
+request_line target next = codes "GET " ++ path_of target ++ query_of target.limit target.since next ++ codes " HTTP/1.1" ++ line_end
 
 abbrev pub host_of : Target → List ℕ
 host_of target = target.host ++ codes ":" ++ decimal target.port

@@ -1,7 +1,8 @@
 ghost use Rattle.std.specs.Prelude.{◌≡◌, ◌++◌, codes, decimal, option_map, IfOk, OnOk};
+ghost use Rattle.form_urlencoded.specs.Form.{byte_serialize};
 ghost use Rattle.http_frames.specs.Answers.{field_line};
 ghost use Rattle.stix_ids.specs.Uuid.{uuid_text};
-ghost use Rattle.taxii_client.specs.Requests.{request_of, request_line, path_of, query_of, next_pair, host_of};
+ghost use Rattle.taxii_client.specs.Requests.{request_of, request_line, path_of, query_of, behind, since_pair, host_of};
 
 use crate::Target;
 use flow_values::{NoMemory, Text};
@@ -29,7 +30,7 @@ fn push_request_line(text: &mut Text, target: &Target, next: Option<&str>) -> Re
 {
     text.push("GET ")?;
     push_path(text, target)?;
-    push_query(text, target.limit, next)?;
+    push_query(text, target, next)?;
     text.push(" HTTP/1.1")?;
     text.push("\r\n")?;
     Ok(())
@@ -48,32 +49,42 @@ fn push_path(text: &mut Text, target: &Target) -> Result<(), NoMemory>
 }
 
 /// Adds the query.
-fn push_query(text: &mut Text, limit: u64, next: Option<&str>) -> Result<(), NoMemory>
-    ensures { OnOk result (text.new ≡ text.old ++ query_of limit (option_map (λ next. next.now) next.entry)) }
+fn push_query(text: &mut Text, target: &Target, next: Option<&str>) -> Result<(), NoMemory>
+    ensures { OnOk result (text.new ≡ text.old ++ query_of target.now.limit target.now.since (option_map (λ next. next.now) next.entry)) }
 {
     text.push("?limit=")?;
-    text.push(Buffer::new().format(limit))?;
+    text.push(Buffer::new().format(target.limit))?;
     text.push("&match%5Bversion%5D=all")?;
-    push_next(text, next)?;
+    push_behind(text, target, next)?;
     Ok(())
 }
 
-/// Adds the pair that asks for what follows a page, where there is one.
-fn push_next(text: &mut Text, next: Option<&str>) -> Result<(), NoMemory>
-    ensures { OnOk result (text.new ≡ text.old ++ next_pair (option_map (λ next. next.now) next.entry)) }
+/// Adds the pair that asks for what follows a page, and else the one for what was added since a time.
+fn push_behind(text: &mut Text, target: &Target, next: Option<&str>) -> Result<(), NoMemory>
+    ensures { OnOk result (text.new ≡ text.old ++ behind target.now.since (option_map (λ next. next.now) next.entry)) }
 {
     match next {
-        Some(next) => push_pair(text, next),
+        Some(next) => push_pair(text, "&next=", next),
+        None => push_since(text, target),
+    }
+}
+
+/// Adds the pair of the time, where there is one.
+fn push_since(text: &mut Text, target: &Target) -> Result<(), NoMemory>
+    ensures { OnOk result (text.new ≡ text.old ++ since_pair target.now.since) }
+{
+    match &target.since {
+        Some(time) => push_pair(text, "&added_after=", time.as_str()),
         None => Ok(()),
     }
 }
 
-/// Adds the pair of `next`.
-fn push_pair(text: &mut Text, next: &str) -> Result<(), NoMemory>
-    ensures { OnOk result (text.new ≡ text.old ++ next_pair (Some next.now)) }
+/// Adds a pair, of a name with what stands around it, and a value.
+fn push_pair(text: &mut Text, name: &str, value: &str) -> Result<(), NoMemory>
+    ensures { OnOk result (text.new ≡ text.old ++ (name.now ++ byte_serialize value.now)) }
 {
-    text.push("&next=")?;
-    for piece in byte_serialize(next.as_bytes()) {
+    text.push(name)?;
+    for piece in byte_serialize(value.as_bytes()) {
         text.push(piece)?;
     }
     Ok(())

@@ -1,6 +1,6 @@
 use flow_values::Text;
 
-/// A collection of a peer, and how many objects a page of it may have.
+/// A collection of a peer, how many objects a page of it may have, and from when on they are asked for.
 #[derive(Debug, Drop)]
 pub struct Target {
     /// The peer's name or address.
@@ -11,4 +11,7 @@ pub struct Target {
     /// The number of the collection's UUID.
     pub collection: u128,
     pub limit: u64,
+    /// A timestamp: only what was added after it is asked for; none asks for all (TAXII 2.1, section 3.4,
+    /// `added_after`).
+    pub since: Option<Text>,
 }

@@ -1,11 +1,10 @@
 -- Attempts at the pages of a peer's collection: each page is asked for over a new link until it comes.
 use Rattle.std.specs.Prelude.{◌≡◌, ◌⊎◌, ℕ, ◌+◌, ◌-◌, ◌^◌, ◌≤◌, min, Bool, true, false, List, [], ◌∷◌, map, filter, filter_map, count_by, is_none, Option, Some, None, MatchOption, Result, Ok, Err}
-use Rattle.flow_edges.specs.Faults.{Rose}
 use Rattle.flow_edges.specs.Flow.{IsAtEnd}
 use Rattle.http_replies.specs.Replies.{IsCut, Takes}
 use Rattle.stix_json.specs.declared.entry.Entry.{Entry}
 use Rattle.stix_json.specs.declared.envelope.Envelope.{Envelope}
-use Rattle.taxii_client.specs.Outside.{LinkView}
+use Rattle.taxii_client.specs.Outside.{LinkView, LinkRose}
 use Rattle.taxii_client.specs.Fetches.{Fetched}
 use Rattle.taxii_client.specs.Pulls.{Asks, Lent, Page, turn_after}
 use Rattle.taxii_client.specs.declared.fetch_end.FetchEnd.{FetchEnd}
@@ -83,10 +82,6 @@ abbrev pub GoesOn : {L : Type 0} → Attempt L → Type 0
 GoesOn attempt = ((envelope : Envelope) × (attempt.answer ≡ Ok envelope)) ⊎ (is_lost attempt ≡ true)
 
 -- ---- why they were lost
-
--- of the two counts of the link one rose
-abbrev pub LinkRose : LinkView → LinkView → Type 0
-LinkRose before now = Rose before.read_faults now.read_faults ⊎ Rose before.write_faults now.write_faults
 
 -- the link's bytes ended inside a reply
 pub record EndsInside (before now : LinkView) : Type 0 where

@@ -14,7 +14,7 @@ returns-in-Ok-copy-clause-ends g c =
     let before = outside (g.D.Dial.told c.args.dial.now) (g.D.Dial.faults c.args.dial.now) (g.K.Keeper.kept c.args.keeper.now) (g.C.Clock.moments c.args.clock.now) in
     let now = outside (g.D.Dial.told c.copy.new.dial) (g.D.Dial.faults c.copy.new.dial) (g.K.Keeper.kept c.copy.new.keeper) (g.C.Clock.moments c.copy.new.clock) in
     concluded _ view before now (g.O.Sink.written c.args.output.now) (g.O.Sink.written c.conclude.new.output) (copying_of c.args.request.now) c.in-Ok-copy.totals c.conclude.result
-    (subst (λ (t : Target). Copies view (record { target = t; file = c.args.request.now.file.now; tries = c.args.request.now.tries }) before now (Ok c.in-Ok-copy.totals))
+    (subst (λ (t : Target). Copies view (record { target = t; file = c.args.request.now.store.file.now; tries = c.args.request.now.store.tries }) before now (Ok c.in-Ok-copy.totals))
     c.in-Ok.ensures c.in-Ok-copy.ensures.copies)
     c.conclude.ensures.concludes
 
@@ -30,7 +30,7 @@ returns-clause-ends g c =
     let view = link_view g.D.Link.Source.left g.D.Link.Sink.written g.D.Link.Source.faults g.D.Link.Sink.faults in
     let before = outside (g.D.Dial.told c.args.dial.now) (g.D.Dial.faults c.args.dial.now) (g.K.Keeper.kept c.args.keeper.now) (g.C.Clock.moments c.args.clock.now) in
     let now = outside (g.D.Dial.told c.copy.new.dial) (g.D.Dial.faults c.copy.new.dial) (g.K.Keeper.kept c.copy.new.keeper) (g.C.Clock.moments c.copy.new.clock) in (
-      subst (λ (t : Target). EndsCopy view (record { target = t; file = c.args.request.now.file.now; tries = c.args.request.now.tries }) before now c.in-Err-copy.stop)
+      subst (λ (t : Target). EndsCopy view (record { target = t; file = c.args.request.now.store.file.now; tries = c.args.request.now.store.tries }) before now c.in-Err-copy.stop)
           c.in-Ok.ensures c.in-Err-copy.ensures.copies,
       refl,
     )

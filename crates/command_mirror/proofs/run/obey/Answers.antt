@@ -13,4 +13,4 @@ returns-in-Some-clause-untouched g c two =
     absurd (no_usage _ view before now (g.O.Sink.written c.args.output.now) (g.O.Sink.written c.answer.new.output) (copying_of c.in-Some.request) c.answer.result c.answer.ensures.ends two)
 
 pub answer-requires-clause-tries : goal.answer-requires-clause-tries
-answer-requires-clause-tries g c = let asked = c.in-Some.ensures.some in tries_least asked.more _ _ asked.more_are
+answer-requires-clause-tries g c = let asked = c.in-Some.ensures.some in tries_least asked.more _ _ _ asked.more_are

@@ -1,4 +1,3 @@
-use Rattle.std.proofs.Common.{ℕ, List, Option}
 use Rattle.taxii_client.specs.Telling.{line_of}
 use Rattle.stix_pull.proofs.WritingLemmas.{fails_so}
 use Rattle.stix_pull.proofs.writing.add_entry.Goals as goal

@@ -1,7 +1,7 @@
 use Rattle.std.proofs.Common.{Ok, Err}
 use Rattle.flow_edges.specs.Flow.{WritesWhole}
 use Rattle.stix_pull.specs.Endings.{reason_of, skipped_text, end_reason}
-use Rattle.command_reasons.proofs.WritesWholeLemmas.{after_whole, front_part, after_part, writes_whole-err}
+use Rattle.command_reasons.proofs.WritesWholeLemmas.{after_whole, after_part}
 use Rattle.stix_pull.proofs.ending.PullEnd.write_reason.Goals as goal
 
 pub returns-clause-text : goal.returns-clause-text

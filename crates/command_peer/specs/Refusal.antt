@@ -1,0 +1,8 @@
+-- What is told of a reply that is refused.
+use Rattle.std.specs.Prelude.{ℕ, List, ◌++◌, codes}
+use Rattle.taxii_client.specs.Refusals.{refusal_text}
+use Rattle.taxii_client.specs.declared.refusal.ReplyRefusal.{ReplyRefusal}
+
+-- peer refused: NAME
+abbrev pub peer_reason : ReplyRefusal → List ℕ
+peer_reason refusal = codes "peer refused: " ++ (refusal_text refusal ++ codes "\n")

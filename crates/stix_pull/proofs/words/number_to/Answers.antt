@@ -1,9 +1,0 @@
-use Rattle.command_line.specs.CommandLines.{IsNumberIn}
-use Rattle.stix_pull.proofs.WritingLemmas.{found-some, found-none}
-use Rattle.stix_pull.proofs.words.number_to.Goals as goal
-
-pub returns-clause-some : goal.returns-clause-some
-returns-clause-some c = found-some (IsNumberIn 1 c.args.most c.args.text.now) c.number_in.result c.number_in.ensures
-
-pub returns-clause-none : goal.returns-clause-none
-returns-clause-none c = found-none (IsNumberIn 1 c.args.most c.args.text.now) c.number_in.result c.number_in.ensures
