@@ -17,6 +17,8 @@ use std::marker::Model;
 use stix_bundles::{Bundle, Observation};
 use watch_hunt::{Engine, EngineRefusal, Found};
 use watch_indicators::Hunted;
+use stix_times::Instant;
+use watch_sightings::MAX_COUNT;
 use watch_log::{CutShort, Pending, SeeEnd, Watcher};
 
 /// Who hunts: it tells the hits of a log as they end, and keeps what was seen of each indicator. Contracts see the hunted list, the
@@ -57,6 +59,63 @@ impl<'p> Hunter<'p> {
             sights,
         })
     }
+
+    fn tell_all<O: Sink>(
+        &mut self,
+        batch: &Batch,
+        pending: &mut Pending,
+        output: &mut O,
+    ) -> Result<(), SeeEnd<Crowded>> {
+        for observation in batch.observations.as_slice() {
+            self.tell(observation, &batch.bundle, pending, output)?;
+        }
+        Ok(())
+    }
+
+    fn tell<O: Sink>(
+        &mut self,
+        observation: &Observation,
+        bundle: &Bundle,
+        pending: &mut Pending,
+        output: &mut O,
+    ) -> Result<(), SeeEnd<Crowded>> {
+        let found = match self.engine.take(observation, bundle) {
+            Ok(found) => found,
+            Err(EngineRefusal::Crowded {
+                hunted,
+                number,
+                cap,
+            }) => return Err(SeeEnd::Stopped(Crowded { hunted, number, cap })),
+            Err(_) => return Err(SeeEnd::NoMemory),
+        };
+        for hit in found.as_slice() {
+            let place = hit.hunted as usize;
+            let line = hit_line(self.alloc, &self.hunted[place], &hit.bind)?;
+            let next = with_hit(self.sights[place], observation.last);
+            self.sights[place] = Some(next);
+            pending.add(line.as_bytes(), output)?;
+        }
+        Ok(())
+    }
+}
+
+fn with_hit(sight: Option<Sight>, time: Instant) -> Sight {
+    match sight {
+        None => Sight {
+            count: 1,
+            first: time,
+            last: time,
+        },
+        Some(sight) => Sight {
+            count: (sight.count + 1).min(MAX_COUNT),
+            first: sight.first,
+            last: time,
+        },
+    }
+}
+
+fn has_cut_lines(told: &Result<(), SeeEnd<Crowded>>) -> bool {
+    matches!(told, Err(SeeEnd::NoMemory | SeeEnd::WriteFault))
 }
 
 impl<'p> Watcher for Hunter<'p> {

@@ -11,6 +11,7 @@ use flow_edges::Sink;
 use std::alloc::Global;
 use stix_times::Instant;
 use watch_log::{CutShort, Pending};
+use watch_sightings::{Seen, sighting_text};
 
 /// Writes the line that tells, at a moment, what was seen of the hunted indicators: an envelope of their sightings. Where there is
 /// no hit, nothing is written. After an `Err` a prefix of the line was.
@@ -27,5 +28,28 @@ pub fn write_report<O: Sink>(
         × TellsReport moment rows hits hunter.now.hunted text × WritesPrefix text (O.written output.old) (O.written output.new)) }
     ensures causes { Counted (result ≡ Err CutShort.WriteFault) (O.faults output.old) (O.faults output.new) }
 {
-    unimplemented!()
+    let mut pending = Pending::new(alloc);
+    let mut any = false;
+    for (place, indicator) in hunter.hunted.iter().enumerate() {
+        let Some(sight) = hunter.sights[place] else {
+            continue;
+        };
+        let seen = Seen {
+            indicator: &indicator.id,
+            created: indicator.created,
+            count: sight.count,
+            first: sight.first,
+            last: sight.last,
+        };
+        let text = sighting_text(alloc, moment, &seen)?;
+        let ahead = if any { "," } else { "{\"objects\":[" };
+        pending.add(ahead.as_bytes(), output)?;
+        pending.add(text.as_str().as_bytes(), output)?;
+        any = true;
+    }
+    if any {
+        pending.add("]}\n".as_bytes(), output)?;
+    }
+    pending.write(output)?;
+    Ok(())
 }

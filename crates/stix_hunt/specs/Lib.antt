@@ -1,0 +1,4 @@
+pub mod Tasks
+pub mod Telling
+pub mod Endings
+pub mod Runs
