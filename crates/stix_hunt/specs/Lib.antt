@@ -2,3 +2,4 @@ pub mod Tasks
 pub mod Telling
 pub mod Endings
 pub mod Runs
+pub mod inner

@@ -1,29 +1,66 @@
-ghost use Rattle.std.specs.Prelude.{◌≡◌, ◌⊎◌, ℕ, List, [], ◌∷◌, Option, All};
+ghost use Rattle.std.specs.Prelude.{◌≡◌, ◌≢◌, ◌⊎◌, ◌↔◌, ℕ, List, [], ◌∷◌, Option, None, All, IfOk};
 ghost use Rattle.flow_edges.specs.Faults.{Counted};
-ghost use Rattle.flow_edges.specs.Streams.{streams};
-ghost use Rattle.match_input.specs.Reading.{BundleOf};
+ghost use Rattle.flow_edges.specs.Streams.{Streams, streams};
+ghost use Rattle.stix_ids.specs.Kind.{IsKind};
+ghost use Rattle.stix_bundles.specs.Objects.{data_in};
 ghost use Rattle.watch_log.specs.Reading.{HasRead, MayFollow, bundle_of};
-ghost use Rattle.watch_hits.specs.Hunting.{IsHuntable};
+ghost use Rattle.watch_indicators.specs.Indicators.{IsHuntOf};
+ghost use Rattle.watch_hunt.specs.declared.found.Found.{Found};
+ghost use Rattle.watch_hunt.specs.EngineLog.{Row};
+ghost use Rattle.watch_hits.specs.Hunting.{HuntsOver, IsHuntable};
 ghost use Rattle.command_line.specs.CommandLines.{texts};
 ghost use Rattle.command_reasons.specs.Reasons.{WritesReason};
-ghost use Rattle.stix_hunt.specs.Tasks.{task_of};
+ghost use Rattle.stix_hunt.specs.Tasks.{AskForNothing, task_of};
 ghost use Rattle.stix_hunt.specs.Telling.{AnswersHunt};
-ghost use Rattle.stix_hunt.specs.Endings.{AskSo, EndsHunt, AskForNothing, hunt_status, IsHuntReason};
+ghost use Rattle.stix_hunt.specs.Endings.{AskSo, EndsHunt, hunt_status, IsHuntReason};
 ghost use Rattle.stix_hunt.specs.Runs.{Ends, HuntsInput, HuntsToCrowd};
+ghost use Rattle.stix_hunt.specs.inner.Begun.{IsBegun, HasSkipped, Reports};
 
 use crate::ending::HuntEnding;
 use crate::words::{HuntRequest, read_request};
 use flow_edges::{Sink, Source};
 use flow_values::NoMemory;
-use match_input::{Batch, Mode, Reader};
 use std::alloc::Global;
+use stix_bundles::Bundle;
+use stix_times::Instant;
 use watch_hits::laws::{answers_are_the_hits, hunted_are_huntable};
 use watch_hits::{Crowded, Hunter, write_report, write_skipped};
-use watch_indicators::{Hunted, hunt};
-use watch_log::laws::begins_with_none;
-use watch_log::{SeeEnd, WatchEnd, Watcher, follow, next_bundle};
+use watch_indicators::{Hunt, Hunted, hunt};
+use watch_log::laws::{begins_with_none, read_bundles_come_first};
+use watch_log::{Batch, CutShort, Mode, Reader, WatchEnd, Watcher, follow, next_bundle};
 
-/// Hunts over an input: the first bundle is of the log, and what follows.
+/// The hunt of a bundle: each indicator of it can be hunted and told.
+fn hunt_of(alloc: Global, bundle: &Bundle, moment: Instant) -> Result<Hunt, NoMemory>
+    ensures hunt { IfOk result (IsHuntOf (data_in bundle.now) moment) }
+    ensures hunted { IfOk result (λ hunt. All IsHuntable hunt.hunted) }
+    ensures skipped { IfOk result (λ hunt. All (λ s. IsKind s.id.kind) hunt.skipped) }
+{
+    hunted_are_huntable();
+    let _unbroken = bundle.objects();
+    hunt(alloc, bundle, moment)
+}
+
+/// Tells at the end of the input what was seen.
+fn report<O: Sink>(
+    alloc: Global,
+    request: HuntRequest,
+    hunter: &Hunter<'_>,
+    output: &mut O,
+) -> WatchEnd<Crowded>
+    requires huntable { All IsHuntable hunter.now.hunted }
+    ensures end { (rows : List Row) (hits : List Found) → HuntsOver hunter.now rows hits
+        → Reports request.moment rows hits hunter.now.hunted (O.written output.old) (O.written output.new) result }
+    ensures unread { result ≢ WatchEnd.ReadFault }
+    ensures causes { Counted (result ≡ WatchEnd.WriteFault) (O.faults output.old) (O.faults output.new) }
+{
+    match write_report(alloc, hunter, request.moment, output) {
+        Ok(()) => WatchEnd::Done,
+        Err(CutShort::WriteFault) => WatchEnd::WriteFault,
+        Err(CutShort::NoMemory) => WatchEnd::NoMemory,
+    }
+}
+
+/// Hunts for some indicators over an input: the first bundle has come, and then what follows.
 fn hunt_for<I: Source, O: Sink>(
     alloc: Global,
     request: HuntRequest,
@@ -33,7 +70,17 @@ fn hunt_for<I: Source, O: Sink>(
     input: &mut I,
     output: &mut O,
 ) -> WatchEnd<Crowded>
+    requires huntable { All IsHuntable hunted.now }
+    requires read { (start : Option (List ℕ)) × HasRead start reader.old (I.left input.old) (I.began input.old) (bundle_of first.now ∷ []) }
+    requires follow { MayFollow None 1 first.now.observations }
+    ensures end { (before : Streams) → HasRead before.left reader.old (I.left input.old) (I.began input.old) (bundle_of first.now ∷ [])
+        → IsBegun before (bundle_of first.now) (I.left input.old) (I.began input.old)
+        → HasSkipped (task_of request) before (bundle_of first.now) hunted.now (O.written output.old)
+        → AnswersHunt (task_of request) before (streams (I.left input.new) (I.began input.new) (O.written output.new)) result }
+    ensures input { Counted (result ≡ WatchEnd.ReadFault) (I.faults input.old) (I.faults input.new) }
+    ensures output { Counted (result ≡ WatchEnd.WriteFault) (O.faults output.old) (O.faults output.new) }
 {
+    answers_are_the_hits();
     let mut hunter = match Hunter::new(alloc, hunted, u64::from(request.cap)) {
         Ok(hunter) => hunter,
         Err(NoMemory) => return WatchEnd::NoMemory,
@@ -47,20 +94,6 @@ fn hunt_for<I: Source, O: Sink>(
     }
 }
 
-/// Tells at the end of the input what was seen.
-fn report<O: Sink>(
-    alloc: Global,
-    request: HuntRequest,
-    hunter: &Hunter<'_>,
-    output: &mut O,
-) -> WatchEnd<Crowded>
-{
-    match write_report(alloc, hunter, request.moment, output) {
-        Ok(()) => WatchEnd::Done,
-        Err(short) => WatchEnd::from(SeeEnd::from(short)),
-    }
-}
-
 /// Hunts over an input, whose first bundle has come: it holds the indicators.
 fn hunt_from<I: Source, O: Sink>(
     alloc: Global,
@@ -70,15 +103,27 @@ fn hunt_from<I: Source, O: Sink>(
     input: &mut I,
     output: &mut O,
 ) -> WatchEnd<Crowded>
+    requires read { (start : Option (List ℕ)) × HasRead start reader.old (I.left input.old) (I.began input.old) (bundle_of first.now ∷ []) }
+    requires follow { MayFollow None 1 first.now.observations }
+    ensures end { (before : Streams) → HasRead before.left reader.old (I.left input.old) (I.began input.old) (bundle_of first.now ∷ [])
+        → IsBegun before (bundle_of first.now) (I.left input.old) (I.began input.old) → before.written ≡ O.written output.old
+        → AnswersHunt (task_of request) before (streams (I.left input.new) (I.began input.new) (O.written output.new)) result }
+    ensures input { Counted (result ≡ WatchEnd.ReadFault) (I.faults input.old) (I.faults input.new) }
+    ensures output { Counted (result ≡ WatchEnd.WriteFault) (O.faults output.old) (O.faults output.new) }
 {
-    let hunt = match hunt(alloc, &first.bundle, request.moment) {
+    answers_are_the_hits();
+    let hunt = match hunt_of(alloc, &first.bundle, request.moment) {
         Ok(hunt) => hunt,
         Err(NoMemory) => return WatchEnd::NoMemory,
     };
-    if let Err(short) = write_skipped(alloc, hunt.skipped.as_slice(), output) {
-        return WatchEnd::from(SeeEnd::from(short));
+    match write_skipped(alloc, hunt.skipped.as_slice(), output) {
+        Ok(()) => {
+            let hunted = hunt.hunted.as_slice();
+            hunt_for(alloc, request, hunted, first, reader, input, output)
+        }
+        Err(CutShort::WriteFault) => WatchEnd::WriteFault,
+        Err(CutShort::NoMemory) => WatchEnd::NoMemory,
     }
-    hunt_for(alloc, request, hunt.hunted.as_slice(), first, reader, input, output)
 }
 
 /// Hunts over an input.
@@ -94,6 +139,7 @@ fn hunt_input<I: Source, O: Sink>(
     ensures output { Counted (result ≡ WatchEnd.WriteFault) (O.faults output.old) (O.faults output.new) }
 {
     begins_with_none();
+    read_bundles_come_first();
     let mut reader = match Reader::new(alloc, Mode::Lines) {
         Ok(reader) => reader,
         Err(NoMemory) => return WatchEnd::NoMemory,

@@ -1,0 +1,2 @@
+mod HuntLemmas
+mod RunLemmas
