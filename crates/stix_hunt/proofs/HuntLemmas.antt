@@ -8,6 +8,8 @@ use Rattle.flow_edges.specs.Streams.{Streams, streams}
 use Rattle.serde_json.specs.Data.{Data}
 use Rattle.pattern_types.specs.declared.pattern.Pattern.{Pattern}
 use Rattle.match_bindings.specs.declared.log_entry.LogEntry.{LogEntry}
+use Rattle.match_bindings.specs.NumberedPattern.{numbered_pattern}
+use Rattle.match_live.specs.Answer.{IsRoomy}
 use Rattle.match_input.specs.Reading.{BundleOf}
 use Rattle.match_log.proofs.PendingLemmas.{written_with-nil, written_with-both}
 use Rattle.watch_log.specs.Watching.{Says, BreaksOff, EndsSeeing, SeesAll, WatchesWhole, StopsWithin as EndsWithin, AnswersWatch}
@@ -82,10 +84,10 @@ takes-all (bundle ∷ bundles) before after text (next, own, later, sees, others
 -- ---- a hunt from its start
 
 -- no pattern is crowded at no rows
-none-crowded : (patterns : List Pattern) (cap : ℕ) → AreNeverCrowded patterns cap []
-none-crowded patterns cap place p is = ([], tt, none)
+none-crowded : (patterns : List Pattern) (most : ℕ) → AreNeverCrowded patterns most []
+none-crowded patterns most place p is = ([], tt, none)
   where
-    none : (rows more : List LogEntry) (row : LogEntry) → [] ≡ rows ++ row ∷ more → _
+    none : (rows more : List LogEntry) (row : LogEntry) → [] ≡ rows ++ row ∷ more → IsRoomy (numbered_pattern p) (rows ++ row ∷ []) most
     none [] more row same = absurd (cc)
     none (x ∷ rows) more row same = absurd (cc)
 

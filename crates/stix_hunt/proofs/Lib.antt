@@ -1,2 +1,3 @@
 mod HuntLemmas
 mod RunLemmas
+mod WordsLemmas
