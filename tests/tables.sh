@@ -197,6 +197,7 @@ lay_tables() {
     case $table in
       *.patterns) lay_patterns "$table" "$name" ;;
       *.lines) lay_lines "$table" "$name" ;;
+      *.hunts) "$top/tests/lay_hunts" "$table" "$name" ;;
       *.inputs) lay_inputs "$table" "$name" ;;
       *.objects) lay_objects "$table" "$name" ;;
       *.truths) lay_truths "$table" "$name" ;;

@@ -1,5 +1,5 @@
 -- What an ending of `match` says of its pattern, the log and what was written; its status, and its reason as a text.
-use Rattle.std.specs.Prelude.{◌≡◌, ℕ, List, [], ◌++◌, codes, decimal}
+use Rattle.std.specs.Prelude.{◌≡◌, ℕ, List, [], codes}
 use Rattle.pattern_reader.specs.declared.refusal.PatternRefusal.{PatternRefusal}
 use Rattle.pattern_types.specs.declared.pattern.Pattern.{Pattern}
 use Rattle.pattern_reader.specs.Read.{IsReadAs}
@@ -10,7 +10,7 @@ use Rattle.match_log.specs.declared.end.MatchEnd.{MatchEnd}
 use Rattle.match_log.specs.declared.end.MatchEnd.TheVariants as end
 use Rattle.command_match.specs.declared.matching.MatchEnding.{MatchEnding}
 use Rattle.command_match.specs.declared.matching.MatchEnding.TheVariants.{PatternRefused, Ended, NoMemory}
-use Rattle.command_reasons.specs.Reasons.{IsRefusedPattern, pattern_reason}
+use Rattle.command_reasons.specs.Reasons.{IsRefusedPattern, pattern_reason, crowded_reason}
 use Rattle.command_match.specs.Tasks.{MatchTask}
 use Rattle.flow_edges.specs.Streams.{Streams, AreUntouched}
 
@@ -35,10 +35,6 @@ match_status (Ended (end.Input line rule)) = 4
 match_status (Ended end.ReadFault) = 5
 match_status (Ended end.WriteFault) = 6
 match_status (Ended (end.Crowded number cap)) = 7
-
--- crowded at observation N: cap N
-abbrev pub crowded_reason : ℕ → ℕ → List ℕ
-crowded_reason number cap = codes "crowded at observation " ++ (decimal number ++ (codes ": cap " ++ (decimal cap ++ codes "\n")))
 
 abbrev pub IsMatchReason : MatchEnding → List ℕ → Type 0
 IsMatchReason (Ended (end.Done observations bindings last)) text = text ≡ []

@@ -1,7 +1,6 @@
 //! The command `match`: the bindings of a pattern over an input, a line each.
 #![tactic(auto)]
 
-mod crowded;
 mod matching;
 
 pub use matching::{MatchEnding, match_bindings};

@@ -7,9 +7,10 @@ ghost use Rattle.command_match.specs.Tasks.{request_of};
 ghost use Rattle.command_match.specs.Tasks.{mode_of};
 ghost use Rattle.command_match.specs.MatchEndings.{EndsMatch, match_status};
 
-use crate::crowded::write_crowded;
 use command_line::MatchRequest;
-use command_reasons::{write_no_memory, write_pattern_reason, write_read_fault, write_write_fault};
+use command_reasons::{
+    write_crowded, write_no_memory, write_pattern_reason, write_read_fault, write_write_fault,
+};
 use flow_edges::{Sink, Source, write_whole};
 use flow_values::{Fault, NoMemory};
 use match_input::write_input_refusal;

@@ -1,5 +1,5 @@
 -- What an ending says of what was asked for and of the outside; its status, and its reason.
-use Rattle.std.specs.Prelude.{◌≡◌, ◌⊎◌, ℕ, List, [], ◌++◌, codes, decimal, Option}
+use Rattle.std.specs.Prelude.{◌≡◌, ◌⊎◌, ℕ, List, [], codes, Option}
 use Rattle.flow_edges.specs.Flow.{written_with, WritesPart}
 use Rattle.taxii_client.specs.Outside.{LinkView}
 use Rattle.taxii_store.specs.declared.load_refusal.LoadRefusal.TheVariants as Load
@@ -13,6 +13,7 @@ use Rattle.taxii_copy.specs.declared.stop.CopyStop.TheVariants.{NotLoaded, NotFe
 use Rattle.taxii_copy.specs.declared.stop.FetchStop.TheVariants as Stop
 use Rattle.taxii_copy.specs.declared.totals.Totals.{Totals}
 use Rattle.command_peer.specs.Refusal.{peer_reason}
+use Rattle.command_reasons.specs.Reasons.{bad_row_reason}
 use Rattle.command_mirror.specs.declared.ending.MirrorEnding.{MirrorEnding}
 use Rattle.command_mirror.specs.declared.ending.MirrorEnding.TheVariants.{Usage, Done, WriteFault, Stopped, NoMemory}
 use Rattle.command_mirror.specs.Words.{AskFor, AskForNothing}
@@ -60,10 +61,6 @@ mirror_status NoMemory = 1
 mirror_status Usage = 2
 mirror_status WriteFault = 6
 mirror_status (Stopped stop) = stop_status stop
-
--- store refused: row after DATE
-abbrev pub bad_row_reason : ℕ → List ℕ
-bad_row_reason date = codes "store refused: row after " ++ (decimal date ++ codes "\n")
 
 abbrev pub stop_reason : CopyStop → List ℕ
 stop_reason (NotLoaded Load.NoMemory) = codes "out of memory\n"

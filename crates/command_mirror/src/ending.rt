@@ -1,13 +1,12 @@
-ghost use Rattle.std.specs.Prelude.{◌≡◌, ◌++◌, codes, IsErr};
+ghost use Rattle.std.specs.Prelude.{◌≡◌, codes, IsErr};
 ghost use Rattle.flow_edges.specs.Faults.{Counted};
 ghost use Rattle.flow_edges.specs.Flow.{WritesWhole};
-ghost use Rattle.command_mirror.specs.Endings.{bad_row_reason, stop_status, stop_reason};
+ghost use Rattle.command_mirror.specs.Endings.{stop_status, stop_reason};
 
 use command_peer::write_refusal;
-use command_reasons::{write_no_memory, write_write_fault};
-use flow_edges::{Sink, write_pieces, write_whole};
+use command_reasons::{write_bad_row, write_no_memory, write_write_fault};
+use flow_edges::{Sink, write_whole};
 use flow_values::Fault;
-use itoa::Buffer;
 use taxii_copy::{CopyStop, FetchStop};
 use taxii_mirror::StoreRefusal;
 use taxii_store::LoadRefusal;
@@ -104,26 +103,5 @@ fn write_usage<S: Sink>(reasons: &mut S) -> Result<(), Fault>
     write_whole(
         reasons,
         b"usage: stix_mirror HOST PORT ROOT COLLECTION FILE TRIES [--since TIME]\n",
-    )
-}
-
-/// Writes behind which date a row is bad, as `store refused: row after 7` and a line feed.
-fn write_bad_row<S: Sink>(after: u64, reasons: &mut S) -> Result<(), Fault>
-    ensures text { WritesWhole (bad_row_reason after) (S.written reasons.old) (S.written reasons.new) result }
-    ensures causes { Counted (IsErr result) (S.faults reasons.old) (S.faults reasons.new) }
-{
-    let mut buffer = Buffer::new();
-    let after = buffer.format(after);
-    write_date(after, reasons)
-}
-
-/// The same, of the date's text.
-fn write_date<S: Sink>(after: &str, reasons: &mut S) -> Result<(), Fault>
-    ensures text { WritesWhole (codes "store refused: row after " ++ (after.now ++ codes "\n")) (S.written reasons.old) (S.written reasons.new) result }
-    ensures causes { Counted (IsErr result) (S.faults reasons.old) (S.faults reasons.new) }
-{
-    write_pieces(
-        reasons,
-        &[b"store refused: row after ", after.as_bytes(), b"\n"],
     )
 }

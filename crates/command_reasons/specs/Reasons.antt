@@ -1,5 +1,5 @@
 -- What is told of why a command ended.
-use Rattle.std.specs.Prelude.{◌≡◌, ◌⊎◌, ℕ, List, ◌++◌, Option, codes}
+use Rattle.std.specs.Prelude.{◌≡◌, ◌⊎◌, ℕ, List, ◌++◌, Option, codes, decimal}
 use Rattle.flow_edges.specs.Faults.{Rose}
 use Rattle.flow_edges.specs.Flow.{written_with, WritesPrefix}
 use Rattle.pattern_types.specs.declared.pattern.Pattern.{Pattern}
@@ -19,6 +19,14 @@ pub record IsRefusedPattern (text : List ℕ) (refusal : PatternRefusal) : Type 
 -- why a pattern is refused
 abbrev pub pattern_reason : PatternRefusal → List ℕ
 pattern_reason refusal = codes "pattern refused: " ++ (refusal_text refusal ++ codes "\n")
+
+-- crowded at observation N: cap N
+abbrev pub crowded_reason : ℕ → ℕ → List ℕ
+crowded_reason number cap = codes "crowded at observation " ++ (decimal number ++ (codes ": cap " ++ (decimal cap ++ codes "\n")))
+
+-- store refused: row after DATE
+abbrev pub bad_row_reason : ℕ → List ℕ
+bad_row_reason date = codes "store refused: row after " ++ (decimal date ++ codes "\n")
 
 -- the text was written, or a prefix of it where the sink's count of faults rose
 abbrev pub WritesReason : List ℕ → Option (List ℕ) → Option (List ℕ) → ℕ → ℕ → Type 0

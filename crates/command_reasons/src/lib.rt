@@ -1,7 +1,11 @@
 //! Why a command ended, in one line on standard error: the reasons that several commands tell.
 #![tactic(auto)]
 
+mod bad_row;
+mod crowded;
 mod reasons;
 mod refusal_text;
 
+pub use bad_row::write_bad_row;
+pub use crowded::write_crowded;
 pub use reasons::{write_no_memory, write_pattern_reason, write_read_fault, write_write_fault};

@@ -9,6 +9,7 @@ use Rattle.taxii_server.specs.Outside.{LinkView}
 use Rattle.taxii_server.specs.declared.served.Served.{Served}
 use Rattle.taxii_server.specs.Serving.{Caller, PassThrough, IsWholeOf}
 use Rattle.command_line.specs.CommandLines.{PlainService}
+use Rattle.command_reasons.specs.Reasons.{bad_row_reason}
 use Rattle.command_serve.specs.declared.ending.ServeEnding.{ServeEnding}
 use Rattle.command_serve.specs.declared.ending.ServeEnding.TheVariants.{Done, NoMemory, WriteFault, DoorFault, StoreFault, BadRow}
 use Rattle.command_serve.specs.Services.{Places, Serves}
@@ -59,10 +60,6 @@ serve_status WriteFault = 6
 serve_status DoorFault = 8
 serve_status StoreFault = 9
 serve_status (BadRow date) = 10
-
--- store refused: row after DATE
-abbrev pub bad_row_reason : ℕ → List ℕ
-bad_row_reason date = codes "store refused: row after " ++ (decimal date ++ codes "\n")
 
 abbrev pub serve_reason : ServeEnding → List ℕ
 serve_reason (Done served) = []

@@ -1,6 +1,6 @@
 ghost use Rattle.std.specs.Prelude.{◌≡◌, IsErr};
 
-use crate::reasons::write_bad_row;
+use command_reasons::{write_bad_row, write_no_memory, write_write_fault};
 use flow_edges::{Sink, write_whole};
 use flow_values::Fault;
 use taxii_server::Served;
@@ -52,8 +52,8 @@ impl ServeEnding {
     {
         match self {
             ServeEnding::Done(_) => write_whole(reasons, b""),
-            ServeEnding::NoMemory => write_whole(reasons, b"out of memory\n"),
-            ServeEnding::WriteFault => write_whole(reasons, b"write fault\n"),
+            ServeEnding::NoMemory => write_no_memory(reasons),
+            ServeEnding::WriteFault => write_write_fault(reasons),
             ServeEnding::DoorFault => write_whole(reasons, b"door fault\n"),
             ServeEnding::StoreFault => write_whole(reasons, b"store fault\n"),
             ServeEnding::BadRow { after } => write_bad_row(after, reasons),

@@ -3,7 +3,6 @@
 
 mod ending;
 mod opening;
-mod reasons;
 mod service;
 mod summary;
 

@@ -17,7 +17,7 @@ use crate::brackets::{Brackets, clear, judge};
 use crate::follower::Follower;
 use crate::followers::{sweep, take_all};
 use crate::next_row::NextRow;
-use crate::{EngineRefusal, Found, Hunted};
+use crate::{EngineRefusal, Found};
 use flow_values::{Items, NoMemory};
 use match_bindings::laws::test_is_the_rule;
 use std::alloc::Global;
@@ -25,6 +25,7 @@ use std::marker::Model;
 use stix_bundles::{Bundle, Observation};
 use stix_times::Instant;
 use watch_index::Index;
+use watch_indicators::Hunted;
 
 /// Many patterns over one log. Contracts see the patterns of the hunted list, how much may be live of each, how
 /// many rows it took, the last time of the last of them, whether it has ended, and who follows the log for each

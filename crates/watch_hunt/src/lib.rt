@@ -11,12 +11,10 @@ mod engine;
 mod follower;
 mod followers;
 mod found;
-mod hunted;
 pub mod laws;
 mod next_row;
 mod refusal;
 
 pub use engine::Engine;
 pub use found::Found;
-pub use hunted::Hunted;
 pub use refusal::EngineRefusal;

@@ -6,7 +6,7 @@ use Rattle.std.proofs.lemmas.List.Elements.{All-append, All-get_or}
 use Rattle.pattern_types.specs.PlainLeaf.{PlainLeaf, plain_leaf}
 use Rattle.pattern_types.specs.PlainPattern.{PlainPattern, plain_pattern}
 use Rattle.pattern_types.specs.Soundness.{IsSoundLeaf, IsSoundPattern}
-use Rattle.watch_hunt.specs.declared.hunted.Hunted.{Hunted}
+use Rattle.watch_indicators.specs.declared.hunted.Hunted.{Hunted}
 use Rattle.watch_hunt.specs.inner.Table.{leaf_list, IsTable}
 use Rattle.watch_hunt.proofs.SoundLemmas.{sound_leaves}
 use Rattle.watch_hunt.proofs.engine.brackets_of.Goals as goal

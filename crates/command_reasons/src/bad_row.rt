@@ -1,14 +1,14 @@
 ghost use Rattle.std.specs.Prelude.{◌++◌, codes, IsErr};
 ghost use Rattle.flow_edges.specs.Faults.{Counted};
 ghost use Rattle.flow_edges.specs.Flow.{WritesWhole};
-ghost use Rattle.command_serve.specs.ServeEndings.{bad_row_reason};
+ghost use Rattle.command_reasons.specs.Reasons.{bad_row_reason};
 
 use flow_edges::{Sink, write_pieces};
 use flow_values::Fault;
 use itoa::Buffer;
 
 /// Writes behind which date a row is bad, as `store refused: row after 7` and a line feed.
-pub(crate) fn write_bad_row<S: Sink>(after: u64, reasons: &mut S) -> Result<(), Fault>
+pub fn write_bad_row<S: Sink>(after: u64, reasons: &mut S) -> Result<(), Fault>
     ensures text { WritesWhole (bad_row_reason after) (S.written reasons.old) (S.written reasons.new) result }
     ensures causes { Counted (IsErr result) (S.faults reasons.old) (S.faults reasons.new) }
 {

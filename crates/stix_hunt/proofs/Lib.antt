@@ -1,0 +1,3 @@
+mod HuntLemmas
+mod RunLemmas
+mod WordsLemmas

@@ -1,0 +1,5 @@
+pub mod Tasks
+pub mod Telling
+pub mod Endings
+pub mod Runs
+pub mod inner

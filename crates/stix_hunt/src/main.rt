@@ -1,0 +1,28 @@
+//! The program `stix_hunt`: many indicators on one log. The first bundle of the input holds the indicators; each hit is told before the
+//! next line is read, and at the end what was seen of each.
+#![tactic(auto)]
+
+mod ending;
+mod run;
+mod words;
+
+use command_line::program_words;
+use command_reasons::write_no_memory;
+use flow_edges::{ReadSource, WriteSink};
+use flow_values::NoMemory;
+use std::process::ExitCode;
+
+fn main(rt: HostRuntime) -> ExitCode {
+    let mut input = ReadSource::new(rt.stdin());
+    let mut output = WriteSink::new(rt.stdout());
+    let mut faults = WriteSink::new(rt.stderr());
+    let words = match program_words(&rt) {
+        Ok(words) => words,
+        Err(NoMemory) => {
+            let _ = write_no_memory(&mut faults);
+            return ExitCode::from(1);
+        }
+    };
+    let status = run::run_hunt(rt.alloc(), &words, &mut input, &mut output, &mut faults);
+    ExitCode::from(status)
+}

@@ -1,0 +1,221 @@
+ghost use Rattle.std.specs.Prelude.{◌≡◌, ◌≢◌, ◌⊎◌, ◌↔◌, ℕ, List, [], ◌∷◌, Option, None, All, IfOk};
+ghost use Rattle.flow_edges.specs.Faults.{Counted};
+ghost use Rattle.flow_edges.specs.Streams.{Streams, streams};
+ghost use Rattle.stix_ids.specs.Kind.{IsKind};
+ghost use Rattle.stix_bundles.specs.Objects.{data_in};
+ghost use Rattle.watch_log.specs.Reading.{HasRead, MayFollow, bundle_of};
+ghost use Rattle.watch_indicators.specs.Indicators.{IsHuntOf};
+ghost use Rattle.watch_hunt.specs.declared.found.Found.{Found};
+ghost use Rattle.watch_hunt.specs.EngineLog.{Row};
+ghost use Rattle.watch_hits.specs.Hunting.{HuntsOver, IsHuntable};
+ghost use Rattle.command_line.specs.CommandLines.{texts};
+ghost use Rattle.command_reasons.specs.Reasons.{WritesReason};
+ghost use Rattle.stix_hunt.specs.Tasks.{AskForNothing, task_of};
+ghost use Rattle.stix_hunt.specs.Telling.{AnswersHunt};
+ghost use Rattle.stix_hunt.specs.Endings.{AskSo, EndsHunt, hunt_status, IsHuntReason};
+ghost use Rattle.stix_hunt.specs.Runs.{Ends, HuntsInput, HuntsToCrowd};
+ghost use Rattle.stix_hunt.specs.inner.Begun.{IsBegun, HasSkipped, Reports};
+
+use crate::ending::HuntEnding;
+use crate::words::{HuntRequest, read_request};
+use flow_edges::{Sink, Source};
+use flow_values::NoMemory;
+use std::alloc::Global;
+use stix_bundles::Bundle;
+use stix_times::Instant;
+use watch_hits::laws::{answers_are_the_hits, hunted_are_huntable};
+use watch_hits::{Crowded, Hunter, write_report, write_skipped};
+use watch_indicators::{Hunt, Hunted, hunt};
+use watch_log::laws::{begins_with_none, read_bundles_come_first};
+use watch_log::{Batch, CutShort, Mode, Reader, WatchEnd, Watcher, follow, next_bundle};
+
+/// The hunt of a bundle: each indicator of it can be hunted and told.
+fn hunt_of(alloc: Global, bundle: &Bundle, moment: Instant) -> Result<Hunt, NoMemory>
+    ensures hunt { IfOk result (IsHuntOf (data_in bundle.now) moment) }
+    ensures hunted { IfOk result (λ hunt. All IsHuntable hunt.hunted) }
+    ensures skipped { IfOk result (λ hunt. All (λ s. IsKind s.id.kind) hunt.skipped) }
+{
+    hunted_are_huntable();
+    let _unbroken = bundle.objects();
+    hunt(alloc, bundle, moment)
+}
+
+/// Tells at the end of the input what was seen.
+fn report<O: Sink>(
+    alloc: Global,
+    request: HuntRequest,
+    hunter: &Hunter<'_>,
+    output: &mut O,
+) -> WatchEnd<Crowded>
+    requires huntable { All IsHuntable hunter.now.hunted }
+    ensures end { (rows : List Row) (hits : List Found) → HuntsOver hunter.now rows hits
+        → Reports request.moment rows hits hunter.now.hunted (O.written output.old) (O.written output.new) result }
+    ensures unread { result ≢ WatchEnd.ReadFault }
+    ensures causes { Counted (result ≡ WatchEnd.WriteFault) (O.faults output.old) (O.faults output.new) }
+{
+    match write_report(alloc, hunter, request.moment, output) {
+        Ok(()) => WatchEnd::Done,
+        Err(CutShort::WriteFault) => WatchEnd::WriteFault,
+        Err(CutShort::NoMemory) => WatchEnd::NoMemory,
+    }
+}
+
+/// Hunts for some indicators over an input: the first bundle has come, and then what follows.
+fn hunt_for<I: Source, O: Sink>(
+    alloc: Global,
+    request: HuntRequest,
+    hunted: &[Hunted],
+    first: &Batch,
+    reader: &mut Reader,
+    input: &mut I,
+    output: &mut O,
+) -> WatchEnd<Crowded>
+    requires huntable { All IsHuntable hunted.now }
+    requires read { (start : Option (List ℕ)) × HasRead start reader.old (I.left input.old) (I.began input.old) (bundle_of first.now ∷ []) }
+    requires follow { MayFollow None 1 first.now.observations }
+    ensures end { (before : Streams) → HasRead before.left reader.old (I.left input.old) (I.began input.old) (bundle_of first.now ∷ [])
+        → IsBegun before (bundle_of first.now) (I.left input.old) (I.began input.old)
+        → HasSkipped (task_of request) before (bundle_of first.now) hunted.now (O.written output.old)
+        → AnswersHunt (task_of request) before (streams (I.left input.new) (I.began input.new) (O.written output.new)) result }
+    ensures input { Counted (result ≡ WatchEnd.ReadFault) (I.faults input.old) (I.faults input.new) }
+    ensures output { Counted (result ≡ WatchEnd.WriteFault) (O.faults output.old) (O.faults output.new) }
+{
+    answers_are_the_hits();
+    let mut hunter = match Hunter::new(alloc, hunted, u64::from(request.cap)) {
+        Ok(hunter) => hunter,
+        Err(NoMemory) => return WatchEnd::NoMemory,
+    };
+    if let Err(end) = hunter.see(first, output) {
+        return WatchEnd::from(end);
+    }
+    match follow(reader, &mut hunter, input, output) {
+        WatchEnd::Done => report(alloc, request, &hunter, output),
+        end => end,
+    }
+}
+
+/// Hunts over an input, whose first bundle has come: it holds the indicators.
+fn hunt_from<I: Source, O: Sink>(
+    alloc: Global,
+    request: HuntRequest,
+    first: &Batch,
+    reader: &mut Reader,
+    input: &mut I,
+    output: &mut O,
+) -> WatchEnd<Crowded>
+    requires read { (start : Option (List ℕ)) × HasRead start reader.old (I.left input.old) (I.began input.old) (bundle_of first.now ∷ []) }
+    requires follow { MayFollow None 1 first.now.observations }
+    ensures end { (before : Streams) → HasRead before.left reader.old (I.left input.old) (I.began input.old) (bundle_of first.now ∷ [])
+        → IsBegun before (bundle_of first.now) (I.left input.old) (I.began input.old) → before.written ≡ O.written output.old
+        → AnswersHunt (task_of request) before (streams (I.left input.new) (I.began input.new) (O.written output.new)) result }
+    ensures input { Counted (result ≡ WatchEnd.ReadFault) (I.faults input.old) (I.faults input.new) }
+    ensures output { Counted (result ≡ WatchEnd.WriteFault) (O.faults output.old) (O.faults output.new) }
+{
+    answers_are_the_hits();
+    let hunt = match hunt_of(alloc, &first.bundle, request.moment) {
+        Ok(hunt) => hunt,
+        Err(NoMemory) => return WatchEnd::NoMemory,
+    };
+    match write_skipped(alloc, hunt.skipped.as_slice(), output) {
+        Ok(()) => {
+            let hunted = hunt.hunted.as_slice();
+            hunt_for(alloc, request, hunted, first, reader, input, output)
+        }
+        Err(CutShort::WriteFault) => WatchEnd::WriteFault,
+        Err(CutShort::NoMemory) => WatchEnd::NoMemory,
+    }
+}
+
+/// Hunts over an input.
+fn hunt_input<I: Source, O: Sink>(
+    alloc: Global,
+    request: HuntRequest,
+    input: &mut I,
+    output: &mut O,
+) -> WatchEnd<Crowded>
+    ensures end { AnswersHunt (task_of request) (streams (I.left input.old) (I.began input.old) (O.written output.old))
+        (streams (I.left input.new) (I.began input.new) (O.written output.new)) result }
+    ensures input { Counted (result ≡ WatchEnd.ReadFault) (I.faults input.old) (I.faults input.new) }
+    ensures output { Counted (result ≡ WatchEnd.WriteFault) (O.faults output.old) (O.faults output.new) }
+{
+    begins_with_none();
+    read_bundles_come_first();
+    let mut reader = match Reader::new(alloc, Mode::Lines) {
+        Ok(reader) => reader,
+        Err(NoMemory) => return WatchEnd::NoMemory,
+    };
+    match next_bundle(&mut reader, input) {
+        Ok(Some(first)) => hunt_from(alloc, request, &first, &mut reader, input, output),
+        Ok(None) => WatchEnd::Done,
+        Err(end) => WatchEnd::from(end),
+    }
+}
+
+/// Does what the words ask for.
+fn obey<I: Source, O: Sink>(
+    alloc: Global,
+    words: &[String],
+    input: &mut I,
+    output: &mut O,
+) -> HuntEnding
+    ensures end { EndsHunt (texts words.now) (streams (I.left input.old) (I.began input.old) (O.written output.old))
+        (streams (I.left input.new) (I.began input.new) (O.written output.new)) result }
+    ensures untouched { hunt_status result ≡ 2 → (input.new ≡ input.old) × (output.new ≡ output.old) }
+    ensures input { Counted (hunt_status result ≡ 5) (I.faults input.old) (I.faults input.new) }
+    ensures output { Counted (hunt_status result ≡ 6) (O.faults output.old) (O.faults output.new) }
+{
+    match read_request(words) {
+        Some(request) => HuntEnding::Ended(hunt_input(alloc, request, input, output)),
+        None => HuntEnding::Usage,
+    }
+}
+
+/// Hunts the indicators of an input, as words ask for it. The words are TIME, the moment at which indicators have to be valid, and
+/// perhaps CAP: how much may be live of one pattern. The input is one of `match`; its first bundle holds the indicators, and is of the
+/// log itself.
+///
+/// `output` gets a line for each indicator whose pattern isn't read; then each hit, which is the identifier of an indicator and a
+/// binding of its pattern, by the observation at which it ends and by the indicator's place, before more is read; and at the end of
+/// the input, where there was a hit, an envelope of sightings, one for each indicator that was seen.
+///
+/// | Status | Comes |
+/// |---|---|
+/// | 0 | the input was read to its end, and all was told |
+/// | 1 | memory ran out |
+/// | 2 | exactly where the words ask for nothing |
+/// | 4 | where a line is refused, the first such one |
+/// | 5, 6 | only where the input, the output counted a fault, and at each fault of theirs |
+/// | 7 | where more of a pattern is live at an observation than the cap allows, the first such one |
+///
+/// On `faults` the reason is told in one line. A failing write there changes nothing else.
+pub fn run_hunt<I: Source, O: Sink, E: Sink>(
+    alloc: Global,
+    words: &[String],
+    input: &mut I,
+    output: &mut O,
+    faults: &mut E,
+) -> u8
+    ensures ends { Ends (texts words.now) (streams (I.left input.old) (I.began input.old) (O.written output.old))
+        (streams (I.left input.new) (I.began input.new) (O.written output.new)) result
+        (λ reason. WritesReason reason (E.written faults.old) (E.written faults.new) (E.faults faults.old) (E.faults faults.new)) }
+    ensures refusals { (result ≡ 2) ↔ AskForNothing (texts words.now) }
+    ensures told { (result ≡ 0) ⊎ (result ≡ 4) → AskSo (texts words.now) (HuntsInput (streams (I.left input.old) (I.began input.old) (O.written output.old))
+        (streams (I.left input.new) (I.began input.new) (O.written output.new)) result) }
+    ensures crowded { result ≡ 7 → AskSo (texts words.now) (HuntsToCrowd (streams (I.left input.old) (I.began input.old) (O.written output.old))
+        (streams (I.left input.new) (I.began input.new) (O.written output.new))) }
+    ensures untouched { result ≡ 2 → (input.new ≡ input.old) × (output.new ≡ output.old) }
+    ensures input { Counted (result ≡ 5) (I.faults input.old) (I.faults input.new) }
+    ensures output { Counted (result ≡ 6) (O.faults output.old) (O.faults output.new) }
+{
+    let ending = obey(alloc, words, input, output);
+    finish(&ending, faults)
+}
+
+/// Tells why the program ends so, and answers its status.
+fn finish<E: Sink>(ending: &HuntEnding, faults: &mut E) -> u8
+    ensures status { result ≡ hunt_status ending.now }
+    ensures reason { (text : List ℕ) × IsHuntReason ending.now text × WritesReason text (E.written faults.old) (E.written faults.new) (E.faults faults.old) (E.faults faults.new) }
+{
+    let _ = ending.write_reason(faults);
+    ending.status()
+}

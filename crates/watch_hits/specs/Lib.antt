@@ -1,0 +1,5 @@
+pub mod Rows
+pub mod Hits
+pub mod Lines
+pub mod Sights
+pub mod Hunting

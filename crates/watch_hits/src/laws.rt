@@ -1,0 +1,28 @@
+//! What follows from the definitions: the contracts are the laws, and the functions do nothing.
+
+ghost use Rattle.std.specs.Prelude.{List, [], All, ℤ};
+ghost use Rattle.serde_json.specs.Data.{Data};
+ghost use Rattle.stix_objects.specs.Breaks.{AreBreaksOf};
+ghost use Rattle.pattern_types.specs.declared.pattern.Pattern.{Pattern};
+ghost use Rattle.watch_indicators.specs.declared.hunted.Hunt.{Hunt};
+ghost use Rattle.watch_indicators.specs.Indicators.{IsHuntOf};
+ghost use Rattle.watch_hunt.specs.declared.found.Found.{Found};
+ghost use Rattle.watch_hunt.specs.EngineLog.{Row};
+ghost use Rattle.watch_hits.specs.Hits.{AnswerRows, AreHits};
+ghost use Rattle.watch_hits.specs.Hunting.{IsHuntable};
+
+/// The answers to the rows of a log, one after another, are its hits.
+pub fn answers_are_the_hits()
+    ensures { (patterns : List Pattern) (rows : List Row) (hits : List Found) → AnswerRows patterns [] rows hits → AreHits patterns rows hits }
+{
+    match_live::laws::answers_are_the_listing();
+    watch_hunt::laws::one_log();
+}
+
+/// Each indicator that is hunted can be, and a sighting of it can be told.
+pub fn hunted_are_huntable()
+    ensures { (objects : List Data) (moment : ℤ) (hunt : Hunt) → All (λ object. AreBreaksOf object []) objects
+        → IsHuntOf objects moment hunt → All IsHuntable hunt.hunted }
+{
+    watch_sightings::laws::versions_are_whole();
+}
