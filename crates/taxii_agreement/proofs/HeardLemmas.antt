@@ -27,8 +27,8 @@ use Rattle.taxii_runs.specs.Runs.{WasDone, Round}
 use Rattle.taxii_runs.specs.Following.{IsFetch}
 use Rattle.taxii_client.specs.Requests.{path_of}
 use Rattle.taxii_client.specs.declared.target.Target.{Target}
-use Rattle.taxii_agreement.specs.Asking.{IsServersOwn, IsTold, IsAnswered, wanted_of}
-use Rattle.taxii_agreement.proofs.QueryLemmas.{query_for, pairs_for, pairs_are, next_values, asks_alike}
+use Rattle.taxii_agreement.specs.Asking.{IsServersOwn, IsTold, IsAnswered, IsHeard, wanted_after}
+use Rattle.taxii_agreement.proofs.QueryLemmas.{query_for, pairs_for, pairs_are, next_values, instant_is, asks_alike}
 use Rattle.taxii_agreement.proofs.RequestLemmas.{IsGetOf, is_get, own_target, own_path}
 
 -- the laws of lower floors: a target has one path and one query, a path one route, a text is one number's UUID; what was answered
@@ -76,23 +76,11 @@ names_number laws number infos info small fit names =
 -- ---- the fetch
 
 pub heard : Laws → (target : Target) (next : Option (List ℕ)) (round : Round) → IsServersOwn target → IsTold next → IsAnswered target next round
-    → IsExchange round.config round.exchange → IsFetch (wanted_of target) next round
+    → IsExchange round.config round.exchange → IsHeard target next round
 heard laws target next round own told answered goes = record {
-  okay = answered.okay;
-  query = done.query;
-  asks = record {
-    path = was.path;
-    text = was.text;
-    route = was.route;
-    parsed = done.query;
-    get = get.get;
-    target_is = was.target_is;
-    route_is = was.route_is;
-    query_is = done.query_is;
-    asks = inl (uuid_text target.collection, reading.0, route_is, reading.1, names_number laws target.collection round.config.collections reading.0 own.collection answered.numbers reading.1, refl, refl);
-  };
-  alike = asks_alike target.limit next done.query asked;
-  next_sent = ap (values_of (name_of Next)) pairs ∙ next_values target.limit next;
+  instant = done.query.added_after;
+  time = instant_is target.limit target.since next done.query asked;
+  fetch = fetch;
 }
   where
     was : WasDone round.config round.exchange
@@ -104,22 +92,22 @@ heard laws target next round own told answered goes = record {
     get : IsGetOf target next round.exchange.request
     get = is_get target next answered.greatest_body round.exchange.request [] own answered.heard
 
-    its_target : IsTargetOf round.exchange.request.target (path_of target) (Some (query_for target.limit next))
-    its_target = subst (λ (text : List ℕ). IsTargetOf text (path_of target) (Some (query_for target.limit next))) (sym get.target_is) (own_target target next own)
+    its_target : IsTargetOf round.exchange.request.target (path_of target) (Some (query_for target.limit target.since next))
+    its_target = subst (λ (text : List ℕ). IsTargetOf text (path_of target) (Some (query_for target.limit target.since next))) (sym get.target_is) (own_target target next own)
 
     path_is : was.path ≡ path_of target
-    path_is = laws.path round.exchange.request.target was.path (path_of target) was.text (Some (query_for target.limit next)) was.target_is its_target
+    path_is = laws.path round.exchange.request.target was.path (path_of target) was.text (Some (query_for target.limit target.since next)) was.target_is its_target
 
-    text_is : was.text ≡ Some (query_for target.limit next)
-    text_is = laws.text round.exchange.request.target was.path (path_of target) was.text (Some (query_for target.limit next)) was.target_is its_target
+    text_is : was.text ≡ Some (query_for target.limit target.since next)
+    text_is = laws.text round.exchange.request.target was.path (path_of target) was.text (Some (query_for target.limit target.since next)) was.target_is its_target
 
     route_is : was.route ≡ Objects (uuid_text target.collection)
     route_is = laws.route (path_of target) was.route (Objects (uuid_text target.collection)) (subst (λ (path : List ℕ). IsPathOf path was.route) path_is was.route_is) (own_path target own)
 
-    pairs : pairs_of (unwrap_or was.text []) ≡ pairs_for target.limit next
-    pairs = ap (λ (text : Option (List ℕ)). pairs_of (unwrap_or text [])) text_is ∙ pairs_are target.limit next own.limit told
+    pairs : pairs_of (unwrap_or was.text []) ≡ pairs_for target.limit target.since next
+    pairs = ap (λ (text : Option (List ℕ)). pairs_of (unwrap_or text [])) text_is ∙ pairs_are target.limit target.since next own.limit own.since told
 
-    asked : IsQueryOf (pairs_for target.limit next) done.query
+    asked : IsQueryOf (pairs_for target.limit target.since next) done.query
     asked = subst (λ (its : List Pair). IsQueryOf its done.query) pairs done.query_is
 
     does : Does round.config round.exchange.before round.exchange.moment round.exchange.request was.route done.query Get round.exchange.answer round.exchange.after
@@ -127,3 +115,22 @@ heard laws target next round own told answered goes = record {
 
     reading : IsReading round.config round.exchange.before (Objects (uuid_text target.collection)) done.query round.exchange.answer
     reading = subst (λ (route : Route). IsReading round.config round.exchange.before route done.query round.exchange.answer) route_is does.0
+
+    fetch : IsFetch (wanted_after target done.query.added_after) next round
+    fetch = record {
+      okay = answered.okay;
+      query = done.query;
+      asks = record {
+        path = was.path;
+        text = was.text;
+        route = was.route;
+        parsed = done.query;
+        get = get.get;
+        target_is = was.target_is;
+        route_is = was.route_is;
+        query_is = done.query_is;
+        asks = inl (uuid_text target.collection, reading.0, route_is, reading.1, names_number laws target.collection round.config.collections reading.0 own.collection answered.numbers reading.1, refl, refl);
+      };
+      alike = asks_alike target.limit target.since next done.query asked;
+      next_sent = ap (values_of (name_of Next)) pairs ∙ next_values target.limit target.since next;
+    }

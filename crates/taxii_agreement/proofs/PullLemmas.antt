@@ -1,5 +1,5 @@
 -- Pages that a server's answers are, and the walk that their rounds make.
-use Rattle.std.proofs.Common.{◌≡◌, ℕ, ◌+◌, ◌<◌, ◌≤◌, ◌^◌, Bool, List, [], ◌∷◌, ◌++◌, All, length, map, codes, Option, Some, None, option_map, inl, inr, refl, sym, ap, subst, ◌∙◌, append_assoc, append-nil, arith}
+use Rattle.std.proofs.Common.{◌≡◌, ℕ, ℤ, ◌+◌, ◌<◌, ◌≤◌, ◌^◌, Bool, List, [], ◌∷◌, ◌++◌, All, length, map, codes, Option, Some, None, option_map, inl, inr, refl, sym, ap, subst, ◌∙◌, append_assoc, append-nil, arith}
 use Rattle.std.specs.Prelude.{is_some, fold}
 use Rattle.std.proofs.lemmas.List.Concat.{flat_map-append}
 use Rattle.std.proofs.lemmas.List.Elements.{All-head, All-tail, All-cons, All-nil, All-append, All-map}
@@ -32,14 +32,14 @@ use Rattle.taxii_client.specs.declared.target.Target.{Target}
 use Rattle.taxii_client.specs.declared.turn.Turn.{Turn}
 use Rattle.taxii_client.specs.declared.turn.Turn.TheVariants.{First, Behind, Over}
 use Rattle.taxii_agreement.specs.Reading.{lines_of, IsReadAs}
-use Rattle.taxii_agreement.specs.Asking.{IsServersOwn, IsTold, IsAnswered, wanted_of}
+use Rattle.taxii_agreement.specs.Asking.{IsServersOwn, IsTold, IsAnswered, IsHeard, IsInstantOf, time_at, wanted_of, wanted_after}
 use Rattle.taxii_agreement.specs.Pulling.{IsServed, ServeFrom, AreServed, WritesEachRow}
 use Rattle.taxii_agreement.proofs.BytesLemmas.{AreFrom, next_seen}
 
 -- the laws: what a client writes is a fetch, a server's answers are read by the client, and a GET is answered by a page of sound rows
 pub record Laws : Type 0 where
   pub heard : (target : Target) (next : Option (List ℕ)) (round : Round) → IsServersOwn target → IsTold next → IsAnswered target next round
-      → IsExchange round.config round.exchange → IsFetch (wanted_of target) next round
+      → IsExchange round.config round.exchange → IsHeard target next round
   pub replies : (answer : Answer) (close : Bool) (text later reply body own rest : List ℕ) → answer.status ≡ Okay → answer.body ≡ Some own
       → IsAnswerText answer close text → length text < 2 ^ 64 → IsReply reply body → text ++ later ≡ reply ++ rest → body ≡ own
   pub read_back : (rows : List StoredRow) (more : Bool) (envelope : Envelope) → All IsSoundRow rows → IsEnvelopeOf (envelope_text rows more) envelope
@@ -86,6 +86,16 @@ all_seen (b ∷ bytes) (low, high, are) = All-cons (λ byte. (33 ≤ byte) × (b
 module _ (L : Type 0) (view : L → LinkView) (target : Target) (laws : Laws) where
   abbrev wanted : Wanted
   wanted = wanted_of target
+
+  -- where all objects are asked for, a request names no time
+  no_time : (since next : Option (List ℕ)) → since ≡ None → time_at since next ≡ None
+  no_time since None none = none
+  no_time since (Some next) none = refl
+
+  fetch_of : (next : Option (List ℕ)) (round : Round) → target.since ≡ None → IsHeard target next round → IsFetch wanted next round
+  fetch_of next round none heard =
+      let instant : heard.instant ≡ None = subst (λ (time : Option (List ℕ)). IsInstantOf time heard.instant) (no_time target.since next none) heard.time in
+      subst (λ (its : Option ℤ). IsFetch (wanted_after target its) next round) instant heard.fetch
 
   -- the envelope of a page that is the answer of a round with these rows
   page_read : (turn : Turn) (next : Option (List ℕ)) (page : Page L) (round : Round) (rows : List StoredRow) (more : Bool) → IsPageAt view target turn page
@@ -171,22 +181,22 @@ module _ (L : Type 0) (view : L → LinkView) (target : Target) (laws : Laws) wh
         all_seen (next_text date) (next_seen date),
       )
 
-  pub fetches : (turn : Turn) (page : Page L) (pages : List (Page L)) (round : Round) (rounds : List Round) → IsServersOwn target
+  pub fetches : (turn : Turn) (page : Page L) (pages : List (Page L)) (round : Round) (rounds : List Round) → IsServersOwn target → target.since ≡ None
       → InTurn view target turn (page ∷ pages) Over → (serve : ServeFrom view target turn (page ∷ pages) (round ∷ rounds)) → IsTold serve.0
       → All Goes (round ∷ rounds) → All (λ r. IsSoundState r.exchange.before.library) (round ∷ rounds) → FetchFrom wanted serve.0 round rounds
-  fetches turn page [] round [] own (at, over) (next, asks, served, rest) told goes sound =
+  fetches turn page [] round [] own none (at, over) (next, asks, served, rest) told goes sound =
       let own_goes : Goes round = All-head Goes round [] goes in
-      let fetch = laws.heard target next round own told served.answered own_goes in
+      let fetch = fetch_of next round none (laws.heard target next round own told served.answered own_goes) in
       let its = answered turn next page round at served fetch own_goes (All-head (λ r. IsSoundState r.exchange.before.library) round [] sound) in
       (fetch, ends page round its (sym over))
-  fetches turn page [] round (other ∷ rounds) own turns (next, asks, served, rest) told goes sound = absurd rest
-  fetches turn page (second ∷ pages) round [] own turns (next, asks, served, rest) told goes sound = absurd rest
-  fetches turn page (second ∷ pages) round (other ∷ rounds) own (at, turns) (next, asks, served, rest) told goes sound =
+  fetches turn page [] round (other ∷ rounds) own none turns (next, asks, served, rest) told goes sound = absurd rest
+  fetches turn page (second ∷ pages) round [] own none turns (next, asks, served, rest) told goes sound = absurd rest
+  fetches turn page (second ∷ pages) round (other ∷ rounds) own none (at, turns) (next, asks, served, rest) told goes sound =
       let own_goes : Goes round = All-head Goes round (other ∷ rounds) goes in
-      let fetch = laws.heard target next round own told served.answered own_goes in
+      let fetch = fetch_of next round none (laws.heard target next round own told served.answered own_goes) in
       let its = answered turn next page round at served fetch own_goes (All-head (λ r. IsSoundState r.exchange.before.library) round (other ∷ rounds) sound) in
       let on = goes_on page round its rest.0 rest.1 in
-      let later : FetchFrom wanted rest.0 other rounds = fetches (turn_after page.envelope) second pages other rounds own turns rest (subst IsTold (sym on.2) on.3)
+      let later : FetchFrom wanted rest.0 other rounds = fetches (turn_after page.envelope) second pages other rounds own none turns rest (subst IsTold (sym on.2) on.3)
       (All-tail Goes round (other ∷ rounds) goes) (All-tail (λ r. IsSoundState r.exchange.before.library) round (other ∷ rounds) sound) in
       (fetch, on.0, on.1, subst (λ (asked : Option (List ℕ)). FetchFrom wanted asked other rounds) on.2 later)
 
@@ -262,7 +272,7 @@ module _ (L : Type 0) (view : L → LinkView) (target : Target) (laws : Laws) wh
   whole_pull (page ∷ pages) all (first ∷ others) hear go pull served =
       let goes = among_all Goes (first ∷ others) all served.among go in
       let fetched : FetchFrom wanted None first others = subst (λ (next : Option (List ℕ)). FetchFrom wanted next first others) served.serve.1
-      (fetches First page pages first others served.own pull served.serve (subst IsTold (sym served.serve.1) tt) goes served.sound) in
+      (fetches First page pages first others served.own served.whole pull served.serve (subst IsTold (sym served.serve.1) tt) goes served.sound) in
       let hears = hear first others (record { among = served.among; start = refl; fetches = fetched }) in
       let read = all_read None First (page ∷ pages) (first ∷ others) hears.first hears.others hears.walk.goes hears.answers hears.states served.sound pull served.serve in
       record {

@@ -25,23 +25,27 @@ use Rattle.taxii_routes.specs.Query.{Pair, pairs_of, values_of, IsQueryOf}
 use Rattle.taxii_routes.specs.Query as query
 use Rattle.taxii_routes.specs.Value.{IsLimit, IsPickText, members}
 use Rattle.taxii_walks.specs.Walk.{AsksAlike}
-use Rattle.taxii_client.specs.Requests.{next_pair}
+use Rattle.taxii_client.specs.Requests.{behind}
 use Rattle.taxii_runs.specs.Following.{sent}
-use Rattle.taxii_agreement.specs.Asking.{IsTold, any_query}
+use Rattle.taxii_agreement.specs.Asking.{IsTold, IsInstantOf, time_at, query_after}
 use Rattle.taxii_agreement.proofs.BytesLemmas.{AreFrom, seen, from_all, from_both, all_low, are_text, are_digits}
 
 -- ---- the pairs
 
-abbrev next_pairs : Option (List ℕ) → List Pair
-next_pairs None = []
-next_pairs (Some next) = (codes "next", next) ∷ []
+abbrev since_pairs : Option (List ℕ) → List Pair
+since_pairs None = []
+since_pairs (Some time) = (codes "added_after", time) ∷ []
 
-abbrev pub pairs_for : ℕ → Option (List ℕ) → List Pair
-pairs_for limit next = (codes "limit", decimal limit) ∷ (codes "match[version]", codes "all") ∷ next_pairs next
+abbrev pairs_behind : Option (List ℕ) → Option (List ℕ) → List Pair
+pairs_behind since None = since_pairs since
+pairs_behind since (Some next) = (codes "next", next) ∷ []
+
+abbrev pub pairs_for : ℕ → Option (List ℕ) → Option (List ℕ) → List Pair
+pairs_for limit since next = (codes "limit", decimal limit) ∷ (codes "match[version]", codes "all") ∷ pairs_behind since next
 
 -- the query without its question mark
-abbrev pub query_for : ℕ → Option (List ℕ) → List ℕ
-query_for limit next = codes "limit=" ++ decimal limit ++ codes "&match%5Bversion%5D=all" ++ next_pair next
+abbrev pub query_for : ℕ → Option (List ℕ) → Option (List ℕ) → List ℕ
+query_for limit since next = codes "limit=" ++ decimal limit ++ codes "&match%5Bversion%5D=all" ++ behind since next
 
 unchanged_digit : (b : ℕ) → 48 ≤ b → b ≤ 57 → IsUnchanged b
 unchanged_digit b low high = grind (arith, nat_tests)
@@ -73,6 +77,10 @@ next_pair_is : (next : List ℕ) → serialize_pair (codes "next", next) ≡ cod
 unfolding form_urlencoded_on_literals
 next_pair_is next = refl
 
+since_pair_is : (time : List ℕ) → serialize_pair (codes "added_after", time) ≡ codes "added_after=" ++ byte_serialize time
+unfolding form_urlencoded_on_literals
+since_pair_is time = refl
+
 first_pair : (limit : ℕ) → extend_pairs [] ((codes "limit", decimal limit) ∷ []) ≡ codes "limit=" ++ byte_serialize (decimal limit)
 unfolding form_urlencoded_on_literals
 first_pair limit = refl
@@ -92,13 +100,19 @@ both_are limit few =
     ap (λ (form : List ℕ). append_pair form (codes "match[version]") (codes "all")) (first_is limit few)
     ∙ one_more (front_for limit) (codes "match[version]") (codes "all") (codes "match%5Bversion%5D=all") (some_front limit) version_pair
 
-serialized : (limit : ℕ) (next : Option (List ℕ)) → limit < 2 ^ 64 → query_for limit next ≡ extend_pairs [] (pairs_for limit next)
-serialized limit None few = append-nil (front_for limit ++ codes "&match%5Bversion%5D=all") ∙ sym (both_are limit few)
-serialized limit (Some next) few =
+-- behind those two stands one more pair
+one_behind : (limit : ℕ) (name value pair : List ℕ) → limit < 2 ^ 64 → serialize_pair (name, value) ≡ pair
+    → (front_for limit ++ codes "&match%5Bversion%5D=all") ++ (38 ∷ pair)
+    ≡ append_pair (append_pair (extend_pairs [] ((codes "limit", decimal limit) ∷ [])) (codes "match[version]") (codes "all")) name value
+one_behind limit name value pair few is =
     let front = front_for limit ++ codes "&match%5Bversion%5D=all" in
-    sym (ap (λ (form : List ℕ). append_pair form (codes "next") next) (both_are limit few)
-    ∙ one_more front (codes "next") next (codes "next=" ++ byte_serialize next)
-    (omega (arith, length-append (front_for limit) (codes "&match%5Bversion%5D=all"))) (next_pair_is next))
+    sym (ap (λ (form : List ℕ). append_pair form name value) (both_are limit few)
+    ∙ one_more front name value pair (omega (arith, length-append (front_for limit) (codes "&match%5Bversion%5D=all"))) is)
+
+serialized : (limit : ℕ) (since next : Option (List ℕ)) → limit < 2 ^ 64 → query_for limit since next ≡ extend_pairs [] (pairs_for limit since next)
+serialized limit None None few = append-nil (front_for limit ++ codes "&match%5Bversion%5D=all") ∙ sym (both_are limit few)
+serialized limit (Some time) None few = one_behind limit (codes "added_after") time (codes "added_after=" ++ byte_serialize time) few (since_pair_is time)
+serialized limit since (Some next) few = one_behind limit (codes "next") next (codes "next=" ++ byte_serialize next) few (next_pair_is next)
 
 -- ---- they are read back
 
@@ -114,6 +128,9 @@ all_value = seen 33 (codes "all") refl
 next_name : AreFrom 33 (codes "next")
 next_name = seen 33 (codes "next") refl
 
+since_name : AreFrom 33 (codes "added_after")
+since_name = seen 33 (codes "added_after") refl
+
 version_name : AreFrom 33 (codes "match[version]")
 version_name = seen 33 (codes "match[version]") refl
 
@@ -125,10 +142,18 @@ abbrev AreSeen : List Pair → Type 0
 AreSeen [] = ⊤
 AreSeen (pair ∷ pairs) = IsSeen pair × AreSeen pairs
 
-pairs_seen : (limit : ℕ) (next : Option (List ℕ)) → limit < 2 ^ 64 → IsTold next → AreSeen (pairs_for limit next)
-pairs_seen limit None few told = ((limit_name, are_digits (decimal limit) (decimal_is_IsNumeral limit few).0.1), ((version_name, all_value), tt))
-pairs_seen limit (Some next) few told =
-    ((limit_name, are_digits (decimal limit) (decimal_is_IsNumeral limit few).0.1), ((version_name, all_value), ((next_name, from_all next told), tt)))
+-- a time of visible bytes, where there is one
+abbrev pub IsSeenTime : Option (List ℕ) → Type 0
+IsSeenTime since = IfSome since (λ time. All (λ byte. (33 ≤ byte) × (byte < 127)) time)
+
+behind_are : (since next : Option (List ℕ)) → IsSeenTime since → IsTold next → AreSeen (pairs_behind since next)
+behind_are None None visible told = tt
+behind_are (Some time) None visible told = ((since_name, from_all time visible), tt)
+behind_are since (Some next) visible told = ((next_name, from_all next told), tt)
+
+pairs_seen : (limit : ℕ) (since next : Option (List ℕ)) → limit < 2 ^ 64 → IsSeenTime since → IsTold next → AreSeen (pairs_for limit since next)
+pairs_seen limit since next few visible told =
+    ((limit_name, are_digits (decimal limit) (decimal_is_IsNumeral limit few).0.1), ((version_name, all_value), behind_are since next visible told))
 
 all_bytes : (pairs : List Pair) → AreSeen pairs → All IsBytePair pairs
 all_bytes [] are = All-nil IsBytePair
@@ -160,19 +185,25 @@ texts_of : (raw : List Pair) → map text_pair raw ≡ map lossy_pair (map decod
 texts_of [] = refl
 texts_of (pair ∷ raw) = ap (λ (rest : List Pair). text_pair pair ∷ rest) (texts_of raw)
 
-pub pairs_are : (limit : ℕ) (next : Option (List ℕ)) → limit < 2 ^ 64 → IsTold next → pairs_of (query_for limit next) ≡ pairs_for limit next
-pairs_are limit next few told =
-    let seen = pairs_seen limit next few told in
-    texts_of (raw_pairs (query_for limit next))
+pub pairs_are : (limit : ℕ) (since next : Option (List ℕ)) → limit < 2 ^ 64 → IsSeenTime since → IsTold next → pairs_of (query_for limit since next) ≡ pairs_for limit since next
+pairs_are limit since next few visible told =
+    let are = pairs_seen limit since next few visible told in
+    texts_of (raw_pairs (query_for limit since next))
     ∙ ap (map lossy_pair)
-    (ap parse (serialized limit next few) ∙ round_trip (pairs_for limit next) (all_bytes (pairs_for limit next) seen))
-    ∙ lossy_same (pairs_for limit next) seen
+    (ap parse (serialized limit since next few) ∙ round_trip (pairs_for limit since next) (all_bytes (pairs_for limit since next) are))
+    ∙ lossy_same (pairs_for limit since next) are
 
 -- ---- what they ask for
 
-pub next_values : (limit : ℕ) (next : Option (List ℕ)) → values_of (name_of Next) (pairs_for limit next) ≡ sent next
-next_values limit None = refl
-next_values limit (Some next) = refl
+pub next_values : (limit : ℕ) (since next : Option (List ℕ)) → values_of (name_of Next) (pairs_for limit since next) ≡ sent next
+next_values limit None None = refl
+next_values limit (Some time) None = refl
+next_values limit since (Some next) = refl
+
+pub instant_is : (limit : ℕ) (since next : Option (List ℕ)) (parsed : Query) → IsQueryOf (pairs_for limit since next) parsed → IsInstantOf (time_at since next) parsed.added_after
+instant_is limit None None parsed is = is AddedAfter
+instant_is limit (Some time) None parsed is = is AddedAfter
+instant_is limit since (Some next) parsed is = is AddedAfter
 
 -- `all` is no time
 no_time : (t : Timestamp) → t.year < 10000 → codes "all" ≡ text_of t → ⊥
@@ -196,23 +227,21 @@ some_limit : (text : List ℕ) (limit : Option ℕ) → IsSomeAnd limit (λ its.
 some_limit text None none = absurd none
 some_limit text (Some its) is = is.some
 
-pub asks_alike : (limit : ℕ) (next : Option (List ℕ)) (parsed : Query) → IsQueryOf (pairs_for limit next) parsed → AsksAlike any_query parsed
-asks_alike limit None parsed is = record {
-  all = all_picked parsed.picks (is MatchVersion);
-  added_after = is AddedAfter;
-  ids = is MatchId;
-  kinds = is MatchType;
-  specs = is MatchSpec;
-  limit = some_limit (decimal limit) parsed.limit (is Limit);
+alike_by : (limit : ℕ) (parsed : Query) → IsSomeAnd parsed.picks (λ its. AllZip IsPickText (members (codes "all")) its) → parsed.ids ≡ None → parsed.kinds ≡ None → parsed.specs ≡ None
+    → IsSomeAnd parsed.limit (λ its. IsLimit (decimal limit) its) → AsksAlike (query_after parsed.added_after) parsed
+alike_by limit parsed picks ids kinds specs few = record {
+  all = all_picked parsed.picks picks;
+  added_after = refl;
+  ids = ids;
+  kinds = kinds;
+  specs = specs;
+  limit = some_limit (decimal limit) parsed.limit few;
 }
-asks_alike limit (Some next) parsed is = record {
-  all = all_picked parsed.picks (is MatchVersion);
-  added_after = is AddedAfter;
-  ids = is MatchId;
-  kinds = is MatchType;
-  specs = is MatchSpec;
-  limit = some_limit (decimal limit) parsed.limit (is Limit);
-}
+
+pub asks_alike : (limit : ℕ) (since next : Option (List ℕ)) (parsed : Query) → IsQueryOf (pairs_for limit since next) parsed → AsksAlike (query_after parsed.added_after) parsed
+asks_alike limit None None parsed is = alike_by limit parsed (is MatchVersion) (is MatchId) (is MatchType) (is MatchSpec) (is Limit)
+asks_alike limit (Some time) None parsed is = alike_by limit parsed (is MatchVersion) (is MatchId) (is MatchType) (is MatchSpec) (is Limit)
+asks_alike limit since (Some next) parsed is = alike_by limit parsed (is MatchVersion) (is MatchId) (is MatchType) (is MatchSpec) (is Limit)
 
 -- ---- its bytes are visible
 
@@ -233,6 +262,7 @@ serialized_seen (b ∷ bytes) are =
         either (inr (inl plus)) = (omega (arith, plus), omega (arith, plus))
         either (inr (inr percent)) = (omega (arith, percent), omega (arith, percent))
 
-pub next_pair_seen : (next : Option (List ℕ)) → AreFrom 33 (next_pair next)
-next_pair_seen None = tt
-next_pair_seen (Some next) = from_both 33 (codes "&next=") (byte_serialize next) (seen 33 (codes "&next=") refl) (serialized_seen (byte_serialize next) (All-byte_serialize next))
+pub behind_seen : (since next : Option (List ℕ)) → AreFrom 33 (behind since next)
+behind_seen None None = tt
+behind_seen (Some time) None = from_both 33 (codes "&added_after=") (byte_serialize time) (seen 33 (codes "&added_after=") refl) (serialized_seen (byte_serialize time) (All-byte_serialize time))
+behind_seen since (Some next) = from_both 33 (codes "&next=") (byte_serialize next) (seen 33 (codes "&next=") refl) (serialized_seen (byte_serialize next) (All-byte_serialize next))

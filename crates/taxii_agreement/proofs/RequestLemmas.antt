@@ -20,12 +20,12 @@ use Rattle.http_frames.specs.declared.request.Request.{Request}
 use Rattle.taxii_routes.specs.Route.{IsPathOf}
 use Rattle.taxii_routes.specs.Target.{IsTargetOf}
 use Rattle.taxii_routes.specs.declared.route.Route.TheVariants.{Objects}
-use Rattle.taxii_client.specs.Requests.{next_pair, path_of, query_of, host_of, request_of}
+use Rattle.taxii_client.specs.Requests.{behind, path_of, query_of, host_of, request_of}
 use Rattle.taxii_client.specs.declared.target.Target.{Target}
 use Rattle.taxii_agreement.specs.Asking.{IsServersOwn}
 use Rattle.taxii_agreement.proofs.BytesLemmas.{passes, AreFrom, seen, from_all, from_both, from_less, are_values, are_uri, are_text, are_digits}
 use Rattle.taxii_agreement.proofs.HeadLemmas.{field, is_field, printed_field, token}
-use Rattle.taxii_agreement.proofs.QueryLemmas.{query_for, next_pair_seen}
+use Rattle.taxii_agreement.proofs.QueryLemmas.{query_for, behind_seen}
 
 -- ---- the text of a UUID
 
@@ -79,7 +79,7 @@ seen_uuid (b ∷ bytes) are = let first = All-head IsUuidByte b bytes are in (fi
 -- ---- the target
 
 abbrev pub target_text : Target → Option (List ℕ) → List ℕ
-target_text target next = path_of target ++ query_of target.limit next
+target_text target next = path_of target ++ query_of target.limit target.since next
 
 abbrev own_path_text : Target → List ℕ
 own_path_text target = codes "/api/" ++ codes "collections/" ++ uuid_text target.collection ++ codes "/objects/"
@@ -97,16 +97,16 @@ path_seen target own =
 limit_seen : (limit : ℕ) → limit < 2 ^ 64 → AreFrom 33 (decimal limit)
 limit_seen limit few = are_digits (decimal limit) (decimal_is_IsNumeral limit few).0.1
 
-query_seen : (limit : ℕ) (next : Option (List ℕ)) → limit < 2 ^ 64 → AreFrom 33 (query_of limit next)
-query_seen limit next few =
-    from_both 33 (codes "?limit=" ++ decimal limit ++ codes "&match%5Bversion%5D=all") (next_pair next)
+query_seen : (limit : ℕ) (since next : Option (List ℕ)) → limit < 2 ^ 64 → AreFrom 33 (query_of limit since next)
+query_seen limit since next few =
+    from_both 33 (codes "?limit=" ++ decimal limit ++ codes "&match%5Bversion%5D=all") (behind since next)
     (from_both 33 (codes "?limit=" ++ decimal limit) (codes "&match%5Bversion%5D=all")
     (from_both 33 (codes "?limit=") (decimal limit) (seen 33 (codes "?limit=") refl) (limit_seen limit few))
     (seen 33 (codes "&match%5Bversion%5D=all") refl))
-    (next_pair_seen next)
+    (behind_seen since next)
 
 target_seen : (target : Target) (next : Option (List ℕ)) → IsServersOwn target → AreFrom 33 (target_text target next)
-target_seen target next own = from_both 33 (path_of target) (query_of target.limit next) (path_seen target own) (query_seen target.limit next own.limit)
+target_seen target next own = from_both 33 (path_of target) (query_of target.limit target.since next) (path_seen target own) (query_seen target.limit target.since next own.limit)
 
 -- ---- the head
 
@@ -136,7 +136,7 @@ tree_of target next = record {
 some_target : (target : Target) (next : Option (List ℕ)) → 0 < length (target_text target next)
 some_target target next = omega (
   arith,
-  length-append (path_of target) (query_of target.limit next),
+  length-append (path_of target) (query_of target.limit target.since next),
   length-append (target.root ++ codes "collections/" ++ uuid_text target.collection) (codes "/objects/"),
 )
 
@@ -189,10 +189,10 @@ tree_printed target next =
     let host = field_line (codes "Host") (host_of target) in
     let accept = field_line (codes "Accept") media in
     let close = field_line (codes "Connection") (codes "close") in
-    from_right (path_of target) (query_of target.limit next) host accept close line_end
+    from_right (path_of target) (query_of target.limit target.since next) host accept close line_end
     ∙ ap (λ (text : List ℕ). codes "GET " ++ text)
     (sym (ap (λ (fields : List ℕ). target_text target next ++ (codes " HTTP/1.1" ++ (line_end ++ (fields ++ line_end)))) (fields_printed target)
-    ∙ regrouped (path_of target) (query_of target.limit next) (codes " HTTP/1.1") line_end host accept close))
+    ∙ regrouped (path_of target) (query_of target.limit target.since next) (codes " HTTP/1.1") line_end host accept close))
     ∙ sym (printed_head target next)
 
 -- ---- what a server reads
@@ -263,7 +263,7 @@ path_unmarked target own =
     (All-weaker IsUuidByte (λ byte. byte ≢ 63) (λ b is. is.no_mark) (uuid_text target.collection) (uuid_bytes target.collection)))
     (unmarked (codes "/objects/") refl))
 
-pub own_target : (target : Target) (next : Option (List ℕ)) → IsServersOwn target → IsTargetOf (target_text target next) (path_of target) (Some (query_for target.limit next))
+pub own_target : (target : Target) (next : Option (List ℕ)) → IsServersOwn target → IsTargetOf (target_text target next) (path_of target) (Some (query_for target.limit target.since next))
 own_target target next own = record { unmarked = path_unmarked target own; spelling = refl }
 
 pub own_path : (target : Target) → IsServersOwn target → IsPathOf (path_of target) (Objects (uuid_text target.collection))

@@ -1,6 +1,6 @@
 -- A client that pulls a collection from a server, page by page over links of their own: each page is a round that the server
 -- answered (TAXII 2.1, sections 3.4 and 5.4). Whatever others ask stands between, and so may the server's restarts.
-use Rattle.std.specs.Prelude.{◌≡◌, ⊤, ℕ, ◌<◌, ◌^◌, Bool, List, [], ◌∷◌, ◌++◌, All, map, length, Option, Some}
+use Rattle.std.specs.Prelude.{◌≡◌, ⊤, ℕ, ◌<◌, ◌^◌, Bool, List, [], ◌∷◌, ◌++◌, All, map, length, Option, Some, None}
 use Rattle.std.specs.List.{Contains}
 use Rattle.http_frames.specs.Answers.{IsAnswerText}
 use Rattle.taxii_rows.specs.declared.stored_row.StoredRow.{StoredRow}
@@ -36,9 +36,11 @@ ServeFrom view target turn (page ∷ pages) [] = ⊥
 ServeFrom view target turn (page ∷ pages) (round ∷ rounds) = (next : Option (List ℕ)) × Asks turn next × IsServed view target next page round
     × ServeFrom view target (turn_after page.envelope) pages rounds
 
--- the pages are these rounds of a server, each of which found a sound store, as every library is; the first asked for the first page
+-- the pages are these rounds of a server, each of which found a sound store, as every library is; the first asked for the first page. All
+-- objects were asked for, whenever they were added
 pub record AreServed {L : Type 0} (view : L → LinkView) (target : Target) (pages : List (Page L)) (all : List Round) (rounds : List Round) : Type 0 where
   pub own : IsServersOwn target
+  pub whole : target.since ≡ None
   pub among : Among rounds all
   pub serve : ServeFrom view target First pages rounds
   pub sound : All (λ round. IsSoundState round.exchange.before.library) rounds

@@ -15,13 +15,12 @@ ghost use Rattle.taxii_bodies.specs.Envelope.{envelope_text};
 ghost use Rattle.taxii_walks.specs.History.{IsDated};
 ghost use Rattle.taxii_histories.specs.Exchanges.{IsExchange};
 ghost use Rattle.taxii_runs.specs.Runs.{Run, Round, GoOn, rounds_of};
-ghost use Rattle.taxii_runs.specs.Following.{IsFetch};
 ghost use Rattle.taxii_client.specs.Outside.{LinkView};
 ghost use Rattle.taxii_client.specs.Pulls.{Page, IsPull};
 ghost use Rattle.taxii_client.specs.declared.target.Target.{Target};
 ghost use Rattle.taxii_client.specs.declared.turn.Turn.TheVariants.{Over};
 ghost use Rattle.taxii_agreement.specs.Reading.{IsReadAs};
-ghost use Rattle.taxii_agreement.specs.Asking.{IsServersOwn, IsTold, IsAnswered, wanted_of};
+ghost use Rattle.taxii_agreement.specs.Asking.{IsServersOwn, IsTold, IsAnswered, IsHeard, wanted_of};
 ghost use Rattle.taxii_agreement.specs.Pulling.{AreServed, WritesEachRow};
 
 use flow_links::Dial;
@@ -45,11 +44,12 @@ pub fn pages_are_read_back()
     envelopes_are_json();
 }
 
-/// A round that answers with 200 the request which a server reads in what a client writes is a fetch of all objects of the
-/// collection, in all versions, with the `next` that the client sends.
+/// A round that answers with 200 the request which a server reads in what a client writes is a fetch of the objects of the
+/// collection, in all versions, with the `next` that the client sends. The first page is asked for with the target's time, and is
+/// of what was added after it.
 pub fn requests_are_heard()
     ensures { (target : Target) (next : Option (List ℕ)) (round : Round) → IsServersOwn target → IsTold next → IsAnswered target next round
-        → IsExchange round.config round.exchange → IsFetch (wanted_of target) next round }
+        → IsExchange round.config round.exchange → IsHeard target next round }
 {
     one_target();
     one_route();
@@ -57,7 +57,7 @@ pub fn requests_are_heard()
     answered_requests_were_done();
 }
 
-/// A client that pulls a collection to the end, over links on which a server answers, misses nothing: it writes the stored
+/// A client that pulls a whole collection to the end, over links on which a server answers, misses nothing: it writes the stored
 /// text of each row that it wants and that is still stored at the last page, once each, in the order of dates, whatever
 /// others add and delete between two pages, and over restarts.
 pub fn pulls_skip_no_row<D: Dial>()
