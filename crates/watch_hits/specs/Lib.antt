@@ -3,3 +3,4 @@ pub mod Hits
 pub mod Lines
 pub mod Sights
 pub mod Hunting
+pub mod inner

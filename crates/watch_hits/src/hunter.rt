@@ -1,13 +1,16 @@
-ghost use Rattle.std.specs.Prelude.{◌≡◌, ◌+◌, ◌∷◌, ◌<◌, ◌^◌, ◌≤ℤ◌, [], List, All, Err, length, map, IfOk, IfErr, OnOk, OnErr};
+ghost use Rattle.std.specs.Prelude.{◌≡◌, ◌≢◌, ◌↔◌, ◌+◌, ◌∷◌, ◌<◌, ◌≤ℤ◌, [], List, All, Err, IsTrue, length, IfOk, IfErr, OnOk};
 ghost use Rattle.flow_edges.specs.Faults.{Counted};
 ghost use Rattle.stix_bundles.specs.Objects.{data_in};
 ghost use Rattle.match_live.specs.MatcherState.{Falls};
 ghost use Rattle.watch_log.specs.Reading.{MayFollow};
 ghost use Rattle.watch_hunt.specs.EngineLog.{row_of};
-ghost use Rattle.watch_hits.specs.Rows.{rows_over};
-ghost use Rattle.watch_hits.specs.Hunting.{IsHuntable, HuntsOver, IsReady, TakesRows, SeesBundle, BeginsBundle, StopsInBundle};
+ghost use Rattle.watch_hunt.specs.declared.refusal.EngineRefusal.TheVariants.{Ended};
+ghost use Rattle.watch_hits.specs.Hunting.{IsHuntable, HuntsOver, IsReady, SeesBundle, BeginsBundle, StopsInBundle};
+ghost use Rattle.watch_hits.specs.inner.Noting.{noted, all_noted, AreBefore};
+ghost use Rattle.watch_hits.specs.inner.Telling.{TakesRow, end_of_engine, EndsAtRow, TakesSoFar, EndsAmong, HasCutLines};
 
-use crate::hit_line::hit_line;
+use crate::hit_line::add_hits;
+use crate::sight::sight_after;
 use crate::{Crowded, Sight};
 use flow_edges::Sink;
 use flow_values::{Items, NoMemory};
@@ -15,28 +18,41 @@ use match_input::Batch;
 use std::alloc::Global;
 use std::marker::Model;
 use stix_bundles::{Bundle, Observation};
+use stix_times::Instant;
+use watch_hunt::laws::one_log;
 use watch_hunt::{Engine, EngineRefusal, Found};
 use watch_indicators::Hunted;
-use stix_times::Instant;
-use watch_sightings::MAX_COUNT;
-use watch_log::{CutShort, Pending, SeeEnd, Watcher};
+use watch_log::laws::parts_on_their_way;
+use watch_log::{Pending, SeeEnd, Watcher};
+
+/// No log has an observation of such a number.
+const TOO_MANY: u64 = 1 << 63;
 
 /// Who hunts: it tells the hits of a log as they end, and keeps what was seen of each indicator. Contracts see the hunted list, the
 /// engine and what was seen of each; and by `HuntsOver` the rows that it hunted over, with the hits there.
 #[derive(Drop)]
 pub struct Hunter<'p> {
-    pub(crate) alloc: Global,
+    alloc: Global,
     pub(crate) hunted: &'p [Hunted],
-    pub(crate) engine: Engine<'p>,
+    engine: Engine<'p>,
     pub(crate) sights: Vec<Option<Sight>>,
 }
 
 impl<'p> Model for Hunter<'p> {
+    ghost use Rattle.std.specs.Coded.{codes};
+    ghost use Rattle.pattern_types.specs.contracts.pattern.Pattern as held;
+    ghost use Rattle.match_live.specs.inner.TreeCode.{tree_code};
     ghost use Rattle.watch_hits.specs.Hunting.{HunterState};
 
     ghost Value = { HunterState };
 
+    ghost coded = { Prim.hlevel (codes, held.the_row.coded, tree_code) };
+
+    ghost use Rattle.watch_hits.specs.inner.Built.{IsBuilt};
+
     ghost view = { λ hunter. record { hunted = hunter.hunted.now; engine = hunter.engine; sights = hunter.sights.items } };
+
+    ghost invariant = { IsBuilt };
 }
 
 impl<'p> Hunter<'p> {
@@ -60,62 +76,105 @@ impl<'p> Hunter<'p> {
         })
     }
 
+    /// Tells the hits at each observation of a bundle, in turn.
     fn tell_all<O: Sink>(
         &mut self,
         batch: &Batch,
         pending: &mut Pending,
         output: &mut O,
-    ) -> Result<(), SeeEnd<Crowded>> {
-        for observation in batch.observations.as_slice() {
-            self.tell(observation, &batch.bundle, pending, output)?;
+    ) -> Result<(), SeeEnd<Crowded>>
+        requires ready { IsReady self.old }
+        requires follow { MayFollow self.old.engine.last (self.old.engine.rows + 1) batch.now.observations }
+        requires empty { pending.old ≡ [] }
+        ensures sees { OnOk result (TakesSoFar (data_in batch.now.bundle) batch.now.observations self.old self.new pending.new (O.written output.old) (O.written output.new)) }
+        ensures end { IfErr result (EndsAmong (data_in batch.now.bundle) batch.now.observations self.old pending.new (O.written output.old) (O.written output.new)) }
+        ensures causes { Counted (result ≡ Err SeeEnd.WriteFault) (O.faults output.old) (O.faults output.new) }
+    {
+        parts_on_their_way();
+        let observations = batch.observations.as_slice();
+        for observation in observations {
+            let hits = match self.take(observation, &batch.bundle) {
+                Ok(hits) => hits,
+                Err(end) => return Err(end),
+            };
+            add_hits(self.alloc, self.hunted, hits.as_slice(), pending, output)?;
         }
         Ok(())
     }
 
-    fn tell<O: Sink>(
+    /// Takes the next observation, and notes the hits that end there.
+    fn take(
         &mut self,
         observation: &Observation,
         bundle: &Bundle,
-        pending: &mut Pending,
-        output: &mut O,
-    ) -> Result<(), SeeEnd<Crowded>> {
-        let found = match self.engine.take(observation, bundle) {
-            Ok(found) => found,
-            Err(EngineRefusal::Crowded {
-                hunted,
-                number,
-                cap,
-            }) => return Err(SeeEnd::Stopped(Crowded { hunted, number, cap })),
-            Err(_) => return Err(SeeEnd::NoMemory),
-        };
-        for hit in found.as_slice() {
-            let place = hit.hunted as usize;
-            let line = hit_line(self.alloc, &self.hunted[place], &hit.bind)?;
-            let next = with_hit(self.sights[place], observation.last);
-            self.sights[place] = Some(next);
-            pending.add(line.as_bytes(), output)?;
+    ) -> Result<Items<Found>, SeeEnd<Crowded>>
+        requires ready { IsReady self.old }
+        requires span { observation.now.first ≤ℤ observation.now.last }
+        requires number { observation.now.number ≡ self.old.engine.rows + 1 }
+        requires order { ¬ (Falls self.old.engine.last observation.now.last) }
+        ensures row { IfOk result (TakesRow (row_of observation.now (data_in bundle.now)) self.old self.new) }
+        ensures end { IfErr result (EndsAtRow (row_of observation.now (data_in bundle.now)) self.old) }
+    {
+        one_log();
+        if observation.number >= TOO_MANY {
+            return Err(SeeEnd::NoMemory);
         }
-        Ok(())
+        let hits = match self.engine.take(observation, bundle) {
+            Ok(hits) => hits,
+            Err(refusal) => return Err(end_of(refusal)),
+        };
+        self.note_all(hits.as_slice(), observation.last);
+        Ok(hits)
+    }
+
+    /// Notes hits that end at an observation of that last time.
+    fn note_all(&mut self, hits: &[Found], last: Instant)
+        requires inside { All (λ hit. hit.hunted < length self.old.sights) hits.now }
+        requires order { AreBefore last self.old.sights }
+        ensures { self.new ≡ record self.old { sights = all_noted last hits.now self.old.sights } }
+    {
+        for hit in hits {
+            self.note(hit, last);
+        }
+    }
+
+    /// Notes a hit.
+    fn note(&mut self, hit: &Found, last: Instant)
+        requires inside { hit.now.hunted < length self.old.sights }
+        requires order { AreBefore last self.old.sights }
+        ensures { self.new ≡ record self.old { sights = noted last hit.now self.old.sights } }
+    {
+        let place = hit.hunted as usize;
+        let sight = sight_after(self.sights[place], last);
+        self.sights[place] = Some(sight);
     }
 }
 
-fn with_hit(sight: Option<Sight>, time: Instant) -> Sight {
-    match sight {
-        None => Sight {
-            count: 1,
-            first: time,
-            last: time,
-        },
-        Some(sight) => Sight {
-            count: (sight.count + 1).min(MAX_COUNT),
-            first: sight.first,
-            last: time,
-        },
+/// How a hunter ends where its engine does.
+fn end_of(refusal: EngineRefusal) -> SeeEnd<Crowded>
+    requires { refusal ≢ Ended }
+    ensures { result ≡ end_of_engine refusal }
+{
+    match refusal {
+        EngineRefusal::Crowded {
+            hunted,
+            number,
+            cap,
+        } => SeeEnd::Stopped(Crowded {
+            hunted,
+            number,
+            cap,
+        }),
+        EngineRefusal::NoMemory => SeeEnd::NoMemory,
+        EngineRefusal::Ended => unreachable!(),
     }
 }
 
-fn has_cut_lines(told: &Result<(), SeeEnd<Crowded>>) -> bool {
-    matches!(told, Err(SeeEnd::NoMemory | SeeEnd::WriteFault))
+/// Whether an end came in the middle of lines: memory ran out, or a write failed.
+fn has_cut_lines(ended: &Result<(), SeeEnd<Crowded>>) -> bool
+    ensures { IsTrue result ↔ HasCutLines ended.now }
+{
+    matches!(ended, Err(SeeEnd::NoMemory | SeeEnd::WriteFault))
 }
 
 impl<'p> Watcher for Hunter<'p> {

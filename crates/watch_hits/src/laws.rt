@@ -11,12 +11,18 @@ ghost use Rattle.watch_hunt.specs.EngineLog.{Row};
 ghost use Rattle.watch_hits.specs.Hits.{AnswerRows, AreHits};
 ghost use Rattle.watch_hits.specs.Hunting.{IsHuntable};
 
+use match_live::laws::answers_are_the_listing;
+use pattern_types::laws::leaves_are_brackets;
+use stix_objects::laws::{no_breaks, one_id};
+use watch_hunt::laws::one_log;
+use watch_sightings::laws::versions_are_whole;
+
 /// The answers to the rows of a log, one after another, are its hits.
 pub fn answers_are_the_hits()
     ensures { (patterns : List Pattern) (rows : List Row) (hits : List Found) → AnswerRows patterns [] rows hits → AreHits patterns rows hits }
 {
-    match_live::laws::answers_are_the_listing();
-    watch_hunt::laws::one_log();
+    answers_are_the_listing();
+    one_log();
 }
 
 /// Each indicator that is hunted can be, and a sighting of it can be told.
@@ -24,5 +30,8 @@ pub fn hunted_are_huntable()
     ensures { (objects : List Data) (moment : ℤ) (hunt : Hunt) → All (λ object. AreBreaksOf object []) objects
         → IsHuntOf objects moment hunt → All IsHuntable hunt.hunted }
 {
-    watch_sightings::laws::versions_are_whole();
+    no_breaks();
+    one_id();
+    versions_are_whole();
+    leaves_are_brackets();
 }

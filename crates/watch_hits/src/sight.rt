@@ -1,4 +1,8 @@
+ghost use Rattle.std.specs.Prelude.{◌≡◌};
+ghost use Rattle.watch_hits.specs.inner.Noting.{sight_after};
+
 use stix_times::Instant;
+use watch_sightings::MAX_COUNT;
 
 /// What was seen of an indicator: its bindings so far.
 #[derive(Clone, Copy, Debug)]
@@ -9,4 +13,22 @@ pub struct Sight {
     pub first: Instant,
     /// When the observation was last observed at which the last of them ended.
     pub last: Instant,
+}
+
+/// The same, once one more ended at an observation of that last time.
+pub(crate) fn sight_after(sight: Option<Sight>, last: Instant) -> Sight
+    ensures { result ≡ sight_after last sight }
+{
+    match sight {
+        Some(sight) => Sight {
+            count: sight.count.saturating_add(1).min(MAX_COUNT),
+            first: sight.first,
+            last,
+        },
+        None => Sight {
+            count: 1,
+            first: last,
+            last,
+        },
+    }
 }

@@ -1,7 +1,8 @@
-ghost use Rattle.std.specs.Prelude.{◌≡◌, Err, All, IfOk, OnOk, OnErr};
+ghost use Rattle.std.specs.Prelude.{◌≡◌, ◌++◌, ℕ, List, Option, Err, All, IfOk, OnOk, OnErr, string_bytes};
 ghost use Rattle.flow_edges.specs.Faults.{Counted};
 ghost use Rattle.flow_edges.specs.Flow.{written_with, WritesPrefix};
 ghost use Rattle.stix_ids.specs.Kind.{IsKind};
+ghost use Rattle.watch_log.specs.OnItsWay.{IsOnItsWay};
 ghost use Rattle.watch_log.specs.declared.cut_short.CutShort.TheVariants as cut;
 ghost use Rattle.watch_hits.specs.Lines.{skipped_line, skipped_text};
 
@@ -10,6 +11,7 @@ use flow_values::NoMemory;
 use std::alloc::Global;
 use stix_ids::write_id;
 use watch_indicators::Skipped;
+use watch_log::laws::parts_on_their_way;
 use watch_log::{CutShort, Pending};
 
 /// Writes a line for each indicator that is skipped: its identifier, and why its pattern isn't read. After an `Err` a prefix of
@@ -24,12 +26,32 @@ pub fn write_skipped<O: Sink>(
     ensures err { OnErr result (WritesPrefix (skipped_text skipped.now) (O.written output.old) (O.written output.new)) }
     ensures causes { Counted (result ≡ Err CutShort.WriteFault) (O.faults output.old) (O.faults output.new) }
 {
+    parts_on_their_way();
     let mut pending = Pending::new(alloc);
     for indicator in skipped {
-        let line = skipped_line(alloc, indicator)?;
-        pending.add(line.as_bytes(), output)?;
+        add_skipped(alloc, indicator, &mut pending, output)?;
     }
     pending.write(output)?;
+    Ok(())
+}
+
+/// Adds the line of an indicator that is skipped.
+fn add_skipped<O: Sink>(
+    alloc: Global,
+    skipped: &Skipped,
+    pending: &mut Pending,
+    output: &mut O,
+) -> Result<(), CutShort>
+    requires { IsKind skipped.now.id.kind }
+    ensures ok { (before : List ℕ) (first : Option (List ℕ)) → IsOnItsWay before pending.old first (O.written output.old)
+        → OnOk result (IsOnItsWay (before ++ skipped_line skipped.now) pending.new first (O.written output.new)) }
+    ensures err { (before : List ℕ) (first : Option (List ℕ)) → IsOnItsWay before pending.old first (O.written output.old)
+        → OnErr result (WritesPrefix (before ++ skipped_line skipped.now) first (O.written output.new)) }
+    ensures causes { Counted (result ≡ Err CutShort.WriteFault) (O.faults output.old) (O.faults output.new) }
+{
+    parts_on_their_way();
+    let line = skipped_line(alloc, skipped)?;
+    pending.add(line.as_str().as_bytes(), output)?;
     Ok(())
 }
 

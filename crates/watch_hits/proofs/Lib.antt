@@ -1,0 +1,9 @@
+mod PlaceLemmas
+mod HitsLemmas
+mod SightLemmas
+mod HunterLemmas
+mod TellingLemmas
+mod LinesLemmas
+mod ReportLemmas
+mod HuntableLemmas
+mod KindLemmas

@@ -1,0 +1,4 @@
+pub mod Noting
+pub mod Built
+pub mod Telling
+pub mod Reporting
