@@ -1,8 +1,9 @@
 -- What is hunted can be: it is an indicator, created at a whole number of microseconds, and its pattern is sound and narrow.
-use Rattle.std.proofs.Common.{◌≡◌, inl, inr, ℕ, ◌<◌, ◌^◌, ℤ, List, [], ap, ◌∙◌, arith}
+use Rattle.std.proofs.Common.{◌≡◌, inl, inr, ℕ, ◌<◌, ◌^◌, ℤ, List, [], sym, ap, subst, ◌∙◌, arith}
 use Rattle.std.specs.Prelude.{All, codes}
 use Rattle.serde_json.specs.Data.{Data}
 use Rattle.stix_ids.specs.declared.id.Id.{Id}
+use Rattle.stix_ids.specs.Kind.{IsKind}
 use Rattle.stix_times.specs.Reading.{IsMillisTextOf}
 use Rattle.stix_times.specs.Writing.{IsWhole}
 use Rattle.stix_objects.specs.Breaks.{AreBreaksOf}
@@ -14,7 +15,8 @@ use Rattle.pattern_types.specs.Leaves.{leaves}
 use Rattle.pattern_types.specs.PlainPattern.{plain_pattern}
 use Rattle.pattern_types.specs.Width.{brackets, IsTooWide}
 use Rattle.watch_indicators.specs.declared.hunted.Hunted.{Hunted}
-use Rattle.watch_indicators.specs.Indicators.{IsHunted}
+use Rattle.watch_indicators.specs.declared.hunted.Skipped.{Skipped}
+use Rattle.watch_indicators.specs.Indicators.{IsHunted, IsSkipped}
 use Rattle.watch_hits.proofs.PlaceLemmas.{all_at, less_or_not}
 use Rattle.watch_hits.specs.Hunting.{IsHuntable}
 
@@ -57,3 +59,12 @@ huntable of_value one whole same objects moment indicator unbroken is =
       sound = is.read.meant.meant.sound;
       narrow = few_leaves same indicator.pattern is.read.meant.narrow;
     }
+
+-- what is skipped has an identifier of a kind
+pub kind_of_skipped : Named → OneId → (objects : List Data) (moment : ℤ) (skipped : Skipped)
+    → All (λ object. AreBreaksOf object []) objects → IsSkipped objects moment skipped → IsKind skipped.id.kind
+kind_of_skipped of_value one objects moment skipped unbroken is =
+    let current = is.candidate.current in
+    let sound = all_at (λ object. AreBreaksOf object []) objects skipped.at is.object unbroken current.there in
+    let named = of_value is.object sound in
+    subst IsKind (sym (kind_is of_value one is.object skipped.id sound current.has named)) named.kind

@@ -2,6 +2,7 @@
 
 ghost use Rattle.std.specs.Prelude.{List, [], All, ℤ};
 ghost use Rattle.serde_json.specs.Data.{Data};
+ghost use Rattle.stix_ids.specs.Kind.{IsKind};
 ghost use Rattle.stix_objects.specs.Breaks.{AreBreaksOf};
 ghost use Rattle.pattern_types.specs.declared.pattern.Pattern.{Pattern};
 ghost use Rattle.watch_indicators.specs.declared.hunted.Hunt.{Hunt};
@@ -34,4 +35,13 @@ pub fn hunted_are_huntable()
     one_id();
     versions_are_whole();
     leaves_are_brackets();
+}
+
+/// Each indicator that is skipped can be told: its identifier is of a kind.
+pub fn skipped_can_be_told()
+    ensures { (objects : List Data) (moment : ℤ) (hunt : Hunt) → All (λ object. AreBreaksOf object []) objects
+        → IsHuntOf objects moment hunt → All (λ s. IsKind s.id.kind) hunt.skipped }
+{
+    no_breaks();
+    one_id();
 }

@@ -1,5 +1,5 @@
 -- A new engine has its tables, and stands for no rows.
-use Rattle.std.proofs.Common.{rules, ◌≡◌, ◌∙◌, refl, sym, ap, [], map}
+use Rattle.std.proofs.Common.{rules, ◌∙◌, refl, sym, ap, [], map}
 use Rattle.std.proofs.lemmas.List.{length-map}
 use Rattle.watch_hunt.proofs.JudgeLemmas.{clear_repeated}
 use Rattle.watch_hunt.proofs.engine.Engine.new.Goals as goal
