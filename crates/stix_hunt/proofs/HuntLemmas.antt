@@ -85,7 +85,7 @@ takes-all [] before after text (behind, is) =
     subst (λ (w : HunterState). TakesRows [] before w text) (sym behind) (subst (TakesRows [] before before) (sym is) (takes-none before))
 takes-all (bundle ∷ bundles) before after text (next, own, later, sees, others, is) =
     subst (TakesRows (rows_of (bundle ∷ bundles)) before after) (sym is)
-        (takes-more (rows_over bundle.objects bundle.observations) (rows_of bundles) before next after own later sees (takes-all bundles next after later others))
+    (takes-more (rows_over bundle.objects bundle.observations) (rows_of bundles) before next after own later sees (takes-all bundles next after later others))
 
 -- ---- a hunt from its start
 
