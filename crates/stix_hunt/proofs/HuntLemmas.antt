@@ -1,19 +1,25 @@
 -- What is told of an input, by what the hunter sees of its bundles.
-use Rattle.std.proofs.Common.{◌≡◌, ◌≢◌, inl, inr, ℕ, List, [], ◌∷◌, ◌++◌, length, Option, refl, sym, ap, subst, ◌∙◌, append_assoc, arith}
+use Rattle.std.proofs.Common.{◌≡◌, ◌≢◌, inl, inr, ℕ, List, [], ◌∷◌, ◌++◌, length, Option, Err, refl, sym, ap, subst, ◌∙◌, append_assoc, arith}
 use Rattle.std.proofs.lemmas.List.{append-nil}
 use Rattle.std.proofs.Math.Seq.{take-length}
 use Rattle.std.proofs.lemmas.Grind.{flat_map-append}
-use Rattle.flow_edges.specs.Flow.{written_with, WritesPrefix}
+use Rattle.flow_edges.specs.Flow.{IsAtEnd, written_with, WritesPrefix}
 use Rattle.flow_edges.specs.Streams.{Streams, streams}
 use Rattle.serde_json.specs.Data.{Data}
 use Rattle.pattern_types.specs.declared.pattern.Pattern.{Pattern}
 use Rattle.match_bindings.specs.declared.log_entry.LogEntry.{LogEntry}
 use Rattle.match_bindings.specs.NumberedPattern.{numbered_pattern}
 use Rattle.match_live.specs.Answer.{IsRoomy}
-use Rattle.match_input.specs.Reading.{BundleOf}
+use Rattle.match_input.specs.declared.mode.Mode.TheVariants.{Lines}
+use Rattle.match_input.specs.declared.read_end.ReadEnd.{ReadEnd}
+use Rattle.match_input.specs.declared.read_end.ReadEnd.TheVariants as read
+use Rattle.match_input.specs.Reading.{BundleOf, Whole}
+use Rattle.match_input.specs.Ahead.{ReaderState}
+use Rattle.match_log.specs.Matching.{ReadsInput}
 use Rattle.match_log.proofs.PendingLemmas.{written_with-nil, written_with-both}
 use Rattle.watch_log.specs.Watching.{Says, BreaksOff, EndsSeeing, SeesAll, WatchesWhole, StopsWithin as EndsWithin, AnswersWatch}
-use Rattle.watch_log.specs.inner.Ends.{end_of_see}
+use Rattle.watch_log.specs.inner.Ends.{end_of_read, end_of_see}
+use Rattle.watch_log.specs.Reading.{NextAnswers}
 use Rattle.watch_log.proofs.WayLemmas.{way-cut}
 use Rattle.watch_log.specs.declared.see_end.SeeEnd.{SeeEnd}
 use Rattle.watch_log.specs.declared.see_end.SeeEnd.TheVariants as see
@@ -32,7 +38,7 @@ use Rattle.watch_hits.specs.Lines.{skipped_text, hit_line, hits_text}
 use Rattle.watch_hits.specs.Sights.{IsReport, TellsReport}
 use Rattle.watch_hits.specs.Hunting.{HunterState, patterns_of, HuntsOver, TakesRows, SeesBundle, BeginsBundle, StopsInBundle}
 use Rattle.stix_hunt.specs.Tasks.{HuntTask}
-use Rattle.stix_hunt.specs.Telling.{HuntsRows, told_of, TellsHits, StopsCrowded, StopsWithin, StopsReporting, AnswersHunt}
+use Rattle.stix_hunt.specs.Telling.{HuntsRows, told_of, TellsHits, HuntsWhole, StopsCrowded, StopsWithin, StopsReporting, AnswersHunt}
 use Rattle.stix_hunt.specs.inner.Begun.{IsBegun, Reports}
 
 -- the law that the answers to the rows of a log are its hits
@@ -79,7 +85,7 @@ takes-all [] before after text (behind, is) =
     subst (λ (w : HunterState). TakesRows [] before w text) (sym behind) (subst (TakesRows [] before before) (sym is) (takes-none before))
 takes-all (bundle ∷ bundles) before after text (next, own, later, sees, others, is) =
     subst (TakesRows (rows_of (bundle ∷ bundles)) before after) (sym is)
-        (takes-more (rows_over bundle.objects bundle.observations) (rows_of bundles) before next after own later sees (takes-all bundles next after later others))
+    (takes-more (rows_over bundle.objects bundle.observations) (rows_of bundles) before next after own later sees (takes-all bundles next after later others))
 
 -- ---- a hunt from its start
 
@@ -152,6 +158,30 @@ prefix-behind : (text more : List ℕ) (before now after : Option (List ℕ)) �
 prefix-behind text more before now after was prefix = way-cut (text ++ more) more before now after (record { sent = text; text_is = refl; now_is = was }) prefix
 
 -- ---- how a run ends
+
+-- the first bundle was read, and of what is skipped a prefix was told
+pub ends-skipping : AnswersAreHits → (task : HuntTask) (before : Streams) (first : BundleOf) (hunt : Hunt) → IsHuntOf first.objects task.moment hunt
+    → (left began written written_now : Option (List ℕ)) → IsBegun before first left began → before.written ≡ written
+    → WritesPrefix (skipped_text hunt.skipped) written written_now → StopsWithin task before (streams left began written_now)
+ends-skipping law task before first hunt hunt_is left began written written_now begun same prefix =
+    let skipped = skipped_text hunt.skipped in
+    let so = hunts-none law task first.objects hunt hunt_is in record {
+      earlier = [];
+      bundle = first;
+      begins = begun.begins;
+      only = begun.only;
+      seen = [];
+      later = first.observations;
+      observations_are = refl;
+      hunts = so.hunts;
+      text = [];
+      tells = refl;
+      more = skipped ++ [];
+      more_is = so.told;
+      prefix = subst (λ (w : Option (List ℕ)). WritesPrefix (skipped ++ []) w written_now) (written_with-nil before.written)
+          (subst (λ (t : List ℕ). WritesPrefix t before.written written_now) (sym (append-nil skipped))
+          (subst (λ (w : Option (List ℕ)). WritesPrefix skipped w written_now) (sym same) prefix));
+    }
 
 -- the first bundle was read, and what is skipped was told
 module _ (law : AnswersAreHits) (task : HuntTask) (before : Streams) (first : BundleOf) (hunt : Hunt) (hunt_is : IsHuntOf first.objects task.moment hunt)
@@ -389,3 +419,43 @@ module _ (law : AnswersAreHits) (task : HuntTask) (before : Streams) (first : Bu
           report-ends (Input line why) ends = absurd ends
           report-ends ReadFault ends = absurd ends
           report-ends (Stopped why) ends = absurd ends
+
+-- the hunter hunts for what it did before the bundles that it saw
+pub same-hunted-behind : (start next behind : HunterState) (bundle : BundleOf) (bundles : List BundleOf) (written written_next now : Option (List ℕ))
+    → Says (SeesBundle start bundle next) written written_next → Says (SeesAll SeesBundle next bundles behind) written_next now → behind.hunted ≡ start.hunted
+same-hunted-behind start next behind bundle bundles written written_next now one all = (takes-all bundles next behind all.0 all.1).hunted ∙ one.1.hunted
+
+-- ---- an input that gave no bundle
+
+-- the input ended before a bundle came
+pub reads-none : (task : HuntTask) (before : Streams) (left began : Option (List ℕ)) → ReadsInput Lines before.left [] Whole → IsAtEnd left
+    → HuntsWhole task before (streams left began before.written)
+reads-none task before left began reading drained = record {
+  bundles = [];
+  reading = reading;
+  text = [];
+  tells = refl;
+  text_is = written_with-nil before.written;
+  drained = drained;
+}
+
+pub read-ends : (task : HuntTask) (before : Streams) (reader after : ReaderState) (left began : Option (List ℕ)) (end : ReadEnd)
+    → NextAnswers before.left [] reader after left began (Err end) → AnswersHunt task before (streams left began before.written) (end_of_read end)
+read-ends task before reader after left began (read.Input line why) answers = record {
+  bundles = [];
+  reading = answers.0;
+  text = [];
+  tells = refl;
+  text_is = written_with-nil before.written;
+  little = answers.1;
+}
+read-ends task before reader after left began read.ReadFault answers = record {
+  bundles = [];
+  begins = answers.0;
+  text = [];
+  tells = refl;
+  text_is = written_with-nil before.written;
+  taken = answers.1;
+}
+read-ends task before reader after left began read.Ended answers = absurd answers
+read-ends task before reader after left began read.NoMemory answers = inl refl

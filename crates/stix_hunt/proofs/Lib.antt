@@ -1,3 +1,4 @@
 mod HuntLemmas
+mod ObjectsLemmas
 mod RunLemmas
 mod WordsLemmas

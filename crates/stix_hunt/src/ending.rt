@@ -49,7 +49,9 @@ impl HuntEnding {
             }
             HuntEnding::Ended(WatchEnd::ReadFault) => write_read_fault(reasons),
             HuntEnding::Ended(WatchEnd::WriteFault) => write_write_fault(reasons),
-            HuntEnding::Ended(WatchEnd::Stopped(why)) => write_crowded(why.number, why.cap, reasons),
+            HuntEnding::Ended(WatchEnd::Stopped(why)) => write_crowded(
+                why.number, why.cap, reasons,
+            ),
             HuntEnding::Ended(WatchEnd::NoMemory) => write_no_memory(reasons),
         }
     }

@@ -23,7 +23,7 @@ use flow_values::NoMemory;
 use std::alloc::Global;
 use stix_bundles::Bundle;
 use stix_times::Instant;
-use watch_hits::laws::{answers_are_the_hits, hunted_are_huntable};
+use watch_hits::laws::{answers_are_the_hits, hunted_are_huntable, skipped_can_be_told};
 use watch_hits::{Crowded, Hunter, write_report, write_skipped};
 use watch_indicators::{Hunt, Hunted, hunt};
 use watch_log::laws::{begins_with_none, read_bundles_come_first};
@@ -36,6 +36,7 @@ fn hunt_of(alloc: Global, bundle: &Bundle, moment: Instant) -> Result<Hunt, NoMe
     ensures skipped { IfOk result (λ hunt. All (λ s. IsKind s.id.kind) hunt.skipped) }
 {
     hunted_are_huntable();
+    skipped_can_be_told();
     let _unbroken = bundle.objects();
     hunt(alloc, bundle, moment)
 }
