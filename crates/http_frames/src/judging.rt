@@ -100,7 +100,7 @@ impl<'a> Head<'a> {
         let content_type = first_text(alloc, &self.values(alloc, b"content-type")?)?;
         let close = self.closes(alloc)?;
         Ok(Request {
-            method: Method::of(self.method()),
+            method: Method::of(alloc, self.method()),
             target,
             accept,
             content_type,
@@ -159,7 +159,7 @@ impl<'a> Head<'a> {
         ensures { IfOk result (λ lacks. lacks ≡ lacks_length self.now) }
     {
         let lengths = self.values(alloc, b"content-length")?;
-        Ok(Method::of(self.method()).is_post() && lengths.len() == 0)
+        Ok(Method::of(alloc, self.method()).is_post() && lengths.len() == 0)
     }
 
     /// How many bytes the body has.
