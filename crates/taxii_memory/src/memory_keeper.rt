@@ -10,7 +10,7 @@ use crate::held::{append_copies, is_among};
 use flow_values::{Items, Text};
 use std::alloc::Global;
 use std::marker::Model;
-use taxii_rows::{Keeper, KeeperRefusal, StoredRow, row_after};
+use taxii_rows::{FaultCause, Keeper, KeeperRefusal, StoredRow, row_after};
 
 /// Rows in memory, with calls that fail.
 #[derive(Drop)]
@@ -90,6 +90,14 @@ impl Keeper for MemoryKeeper {
     ghost kept = { λ keeper. record { told = Some keeper.state; name = keeper.name; attached = is_some keeper.name } };
 
     ghost faults = { λ keeper. keeper.faults };
+
+    ghost blamed = { λ _. FaultCause.Untold };
+
+    fn cause(&self) -> FaultCause
+        ensures { result ≡ FaultCause.Untold }
+    {
+        FaultCause::Untold
+    }
 
     fn attach(&mut self, text: &str) -> Result<(), KeeperRefusal>
         ensures ok { OnOk result (self.new.name ≡ Some text.now) }

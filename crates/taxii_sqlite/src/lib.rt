@@ -13,6 +13,8 @@
 
 mod connection;
 mod failure;
+mod file;
+mod form;
 mod keeper;
 mod memory;
 mod row;
@@ -20,3 +22,4 @@ mod schema;
 mod statements;
 
 pub use keeper::SqliteKeeper;
+pub use sqlite::{Start, Unknown};
