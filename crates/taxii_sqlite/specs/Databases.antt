@@ -52,6 +52,11 @@ module _ {S : Type 0} {start : Ghosts S} where
   IsShut (Disk held) = (file_state held).is_open ≡ false
   IsShut _ = ⊥
 
+  -- the disk has returned what was written
+  abbrev pub IsClean : Database S start → Type 0
+  IsClean (Disk held) = HasCleanDisk (file_state held)
+  IsClean _ = ⊤
+
   -- what was opened under a path: with an empty one no rows, in memory; with another one a file, whose database is the one that it
   -- held as a whole, and which was then made ready
   abbrev pub IsOpenAt : List ℕ → Database S start → Type 0
