@@ -1,5 +1,6 @@
 ghost use Rattle.std.specs.Prelude.{◌≡◌, ◌≢◌, None, Some, Err, IfOk, OnOk, OnErr, is_some};
 ghost use Rattle.taxii_rows.specs.declared.keeper_refusal.KeeperRefusal.TheVariants.{NoMemory as OutOfMemory};
+ghost use Rattle.taxii_rows.specs.declared.fault_cause.FaultCause.TheVariants.{Untold};
 ghost use Rattle.taxii_rows.specs.StoreState.{dates_of, RiseFrom};
 ghost use Rattle.taxii_rows.specs.Keeper.{row_after as first_later, with_rows, without, CanAppend};
 ghost use Rattle.flow_edges.specs.Faults.{Counted};
@@ -91,10 +92,10 @@ impl Keeper for MemoryKeeper {
 
     ghost faults = { λ keeper. keeper.faults };
 
-    ghost blamed = { λ _. FaultCause.Untold };
+    ghost blamed = { λ _. Untold };
 
     fn cause(&self) -> FaultCause
-        ensures { result ≡ FaultCause.Untold }
+        ensures { result ≡ Untold }
     {
         FaultCause::Untold
     }
