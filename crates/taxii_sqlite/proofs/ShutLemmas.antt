@@ -1,5 +1,6 @@
 -- A connection that answers was open, and so was one that has committed.
-use Rattle.std.proofs.Common.{◌≡◌, ◌⊎◌, ℕ, List, [], ◌∷◌, Option, None, Some, Ok, Err, IsTrue, inl, inr, cases_Bool, subst}
+use Rattle.std.proofs.Common.{◌≡◌, ◌⊎◌, ℕ, List, [], ◌∷◌, Option, None, Some, Ok, Err, Bool, true, false, IsTrue, inl, inr, cases_Bool, subst}
+use Rattle.sqlite_disk.specs.declared.Disk.{Ghosts}
 use Rattle.sqlite_value.specs.Order.{Row}
 use Rattle.sqlite_trees.specs.declared.error.StoreError.{StoreError}
 use Rattle.sqlite_trees.specs.declared.error.StoreError.TheVariants.{OutOfMemory, Io, Corrupt, Full, Broken, Unstorable}
@@ -13,7 +14,11 @@ use Rattle.sqlite.specs.Clock.{timed}
 use Rattle.sqlite.specs.State.{State, Runs, RunsCommand, ShowsRows, FailsToShow, Fails, Shown, QueriesRow, FailsToQuery, IsNotRun, ExecutesIn, Executes, store_error, shows_rows, text_of}
 use Rattle.sqlite.specs.Held.{Held}
 use Rattle.taxii_rows.specs.declared.stored_row.StoredRow.{StoredRow}
+use Rattle.sqlite.specs.Files.{file_state}
 use Rattle.taxii_sqlite.specs.Statements as asked
+use Rattle.taxii_sqlite.specs.Databases.{FindsNext, FindsMark, Appends, Removes, IsShut, IsClean}
+use Rattle.taxii_sqlite.specs.declared.connection.Database.{Database}
+use Rattle.taxii_sqlite.specs.declared.connection.Database.TheVariants.{Closed, Memory, Disk}
 
 no_store_error : (cause : StoreError) → ¬ (QueryReturnedNoRows ≡ store_error cause)
 no_store_error OutOfMemory is = cc is
@@ -103,3 +108,37 @@ module _ {S : Type 0} (shown : Held S → State) where
 
   pub removed_open : (dates : List ℕ) (before after : Held S) → asked.Transacts shown (asked.InTurn (asked.Deletes shown) dates) before after → IsTrue (shown (asked.begun before)).is_open
   removed_open dates = transacted_open (asked.InTurn (asked.Deletes shown) dates) (in_turn_stay (asked.Deletes shown) (λ date. runs_stay _ _) dates)
+
+conflict : (b : Bool) → b ≡ false → ¬ IsTrue b
+conflict true shut still = cc shut
+conflict false shut still = cc still
+
+module _ {D : Type 0} {disk : Ghosts D} where
+  pub no_next : (before after : Database D disk) (date : ℕ) (found : Option StoredRow) → IsShut before → IsClean after → ¬ FindsNext date before after found
+  no_next (Disk b) (Disk a) date None shut clean finds = conflict _ shut (none_open (file_state b) (file_state a) _ _ (finds clean))
+  no_next (Disk b) (Disk a) date (Some row) shut clean finds = let it = finds clean in conflict _ shut (row_open (file_state b) (file_state a) _ _ it.0 it.2)
+  no_next (Disk b) (Memory a) date found shut clean finds = absurd finds
+  no_next (Disk b) Closed date found shut clean finds = absurd finds
+  no_next (Memory b) after date found shut clean finds = absurd shut
+  no_next Closed after date found shut clean finds = absurd shut
+
+  pub no_mark : (before after : Database D disk) (mark : ℕ) → IsShut before → IsClean after → ¬ FindsMark before after mark
+  no_mark (Disk b) (Disk a) mark shut clean finds = let it = finds clean in conflict _ shut (row_open (file_state b) (file_state a) _ _ it.0 it.2)
+  no_mark (Disk b) (Memory a) mark shut clean finds = absurd finds
+  no_mark (Disk b) Closed mark shut clean finds = absurd finds
+  no_mark (Memory b) after mark shut clean finds = absurd shut
+  no_mark Closed after mark shut clean finds = absurd shut
+
+  pub none_added : (before after : Database D disk) (rows : List StoredRow) (mark : ℕ) → IsShut before → IsClean after → ¬ Appends rows mark before after
+  none_added (Disk b) (Disk a) rows mark shut clean adds = conflict _ shut (appended_open file_state rows mark b a (adds clean))
+  none_added (Disk b) (Memory a) rows mark shut clean adds = absurd adds
+  none_added (Disk b) Closed rows mark shut clean adds = absurd adds
+  none_added (Memory b) after rows mark shut clean adds = absurd shut
+  none_added Closed after rows mark shut clean adds = absurd shut
+
+  pub none_removed : (before after : Database D disk) (dates : List ℕ) → IsShut before → IsClean after → ¬ Removes dates before after
+  none_removed (Disk b) (Disk a) dates shut clean removes = conflict _ shut (removed_open file_state dates b a (removes clean))
+  none_removed (Disk b) (Memory a) dates shut clean removes = absurd removes
+  none_removed (Disk b) Closed dates shut clean removes = absurd removes
+  none_removed (Memory b) after dates shut clean removes = absurd shut
+  none_removed Closed after dates shut clean removes = absurd shut

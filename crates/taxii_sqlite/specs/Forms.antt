@@ -1,5 +1,5 @@
 -- What form a database has, and how one becomes a store.
-use Rattle.std.specs.Prelude.{◌≡◌, ℕ, ℤ, pos, ⊤, ⊥, List, [], ◌∷◌, Ok}
+use Rattle.std.specs.Prelude.{◌≡◌, ℕ, ℤ, pos, ⊤, List, [], ◌∷◌, Ok}
 use Rattle.sqlite_value.specs.declared.value.Value.{Value}
 use Rattle.sqlite_value.specs.declared.value.Value.TheVariants.{Int, Text}
 use Rattle.sqlite_value.specs.Order.{column}

@@ -1,4 +1,3 @@
-pub mod KeeperState
 pub mod Failing
 pub mod Columns
 pub mod Transactions

@@ -1,12 +1,14 @@
 ghost use Rattle.std.specs.Prelude.{◌≡◌, ◌≢◌, true, [], IfOk, OnOk, OnErr};
+ghost use Rattle.sqlite_wal.specs.Files.{image_at};
+ghost use Rattle.sqlite_wal.specs.Recovery.{Image};
 ghost use Rattle.taxii_rows.specs.StoreState.{RiseFrom};
-ghost use Rattle.taxii_sqlite.specs.Databases.{FindsNext, FindsMark, Appends, Removes, StaysAs, IsOpenAt};
-ghost use Rattle.taxii_sqlite.specs.KeeperState.{is_open};
+ghost use Rattle.taxii_sqlite.specs.Databases.{is_open, FindsNext, FindsMark, Appends, Removes, StaysAs, IsOpenAt};
 
 use crate::failure::Failure;
 use crate::{file, memory, statements};
 use flow_values::Items;
 use sqlite::{Connection, Error, ErrorCode, FileFrom, FileStore, Start};
+use sqlite_disk::Disk;
 use std::alloc::Global;
 use std::rt::HostRuntime;
 use taxii_memory::MemoryKeeper;
@@ -14,37 +16,22 @@ use taxii_rows::{FaultCause, Keeper, StoredRow};
 
 /// What a keeper has its rows in. One that is closed fails each call.
 #[derive(Drop)]
-pub(crate) enum Database<S: Start> {
+pub(crate) enum Database<D: Disk + Drop> {
     Closed,
     Memory(MemoryKeeper),
-    Disk(Connection<FileStore<FileFrom<S>>>),
+    Disk(Connection<FileStore<D>>),
 }
 
 const CLOSED: Failure = Failure::Fault(FaultCause::Closed);
 
-impl<S: Start> Database<S> {
+impl<D: Disk + Drop> Database<D> {
     /// A database without rows, in memory.
-    pub(crate) fn in_memory(alloc: Global) -> Database<S>
-        ensures { IsOpenAt [] result }
+    pub(crate) fn in_memory(alloc: Global) -> Database<D>
+        ensures open { is_open result ≡ true }
+        ensures ready { (files : Image) → IsOpenAt files [] result }
     {
         let rows = MemoryKeeper::new(alloc, Items::new(alloc), 0, Items::new(alloc));
         Database::Memory(rows)
-    }
-
-    /// Opens the database of this path, which isn't empty, and makes it ready. A file that isn't there is made, for its owner
-    /// alone; its pages get sums.
-    pub(crate) fn open(rt: &HostRuntime, path: &str, start: S) -> Result<Database<S>, Failure>
-        requires { path.now ≢ [] }
-        ensures open { IfOk result (λ database. is_open database ≡ true) }
-        ensures ready { IfOk result (IsOpenAt path.now) }
-    {
-        file::make_private(rt, path)?;
-        let mut connection = match Connection::open_from(rt, path, true, start) {
-            Ok(connection) => connection,
-            Err((error, _)) => return Err(failure_to_open(rt, path, error)),
-        };
-        statements::make_ready(&mut connection)?;
-        Ok(Database::Disk(connection))
     }
 
     /// Copies the log into the file of the database, where it is in one, so that the file alone is the whole store. Without this
@@ -106,6 +93,26 @@ impl<S: Start> Database<S> {
             Database::Disk(connection) => statements::remove(connection, dates),
         }
     }
+}
+
+/// Opens the database of this path, which isn't empty, and makes it ready. A file that isn't there is made, for its owner alone;
+/// its pages get sums. `S` stands for what the file held before.
+pub(crate) fn open<S: Start>(
+    rt: &HostRuntime,
+    path: &str,
+    start: S,
+) -> Result<Database<FileFrom<S>>, Failure>
+    requires { path.now ≢ [] }
+    ensures open { IfOk result (λ database. is_open database ≡ true) }
+    ensures ready { IfOk result (IsOpenAt (image_at S.Start) path.now) }
+{
+    file::make_private(rt, path)?;
+    let mut connection = match Connection::open_from(rt, path, true, start) {
+        Ok(connection) => connection,
+        Err((error, _)) => return Err(failure_to_open(rt, path, error)),
+    };
+    statements::make_ready(&mut connection)?;
+    Ok(Database::Disk(connection))
 }
 
 /// Why a file that the system opens wasn't opened as a database.

@@ -116,7 +116,8 @@ fn make_rows<S: Alter>(transaction: &mut Transaction<'_, S>) -> Result<(), Failu
 {
     execute(transaction, ROW_TABLE, &[])?;
     execute(transaction, MARK_TABLE, &[])?;
-    execute(transaction, FIRST_MARK, &[])
+    execute(transaction, FIRST_MARK, &[])?;
+    Ok(())
 }
 
 fn make_name<S: Alter>(transaction: &mut Transaction<'_, S>) -> Result<(), Failure>
@@ -126,7 +127,8 @@ fn make_name<S: Alter>(transaction: &mut Transaction<'_, S>) -> Result<(), Failu
     ensures names { HasCleanDisk (state S.Store transaction.new.conn.now) → OnOk result (NamesForm (state S.Store) transaction.old.conn.now transaction.new.conn.now) }
 {
     execute(transaction, FORM_TABLE, &[])?;
-    execute(transaction, NAME_FORM, &[])
+    execute(transaction, NAME_FORM, &[])?;
+    Ok(())
 }
 
 /// The version of the form.

@@ -5,12 +5,12 @@ ghost use Rattle.taxii_rows.specs.declared.stored_row.StoredRow.{StoredRow as Ro
 ghost use Rattle.taxii_sqlite.specs.declared.connection.Database.{Database as Held};
 ghost use Rattle.taxii_sqlite.specs.Databases.{FindsNext, FindsMark, Appends, Removes, IsShut, IsClean};
 
-use sqlite::Start;
+use sqlite_disk::Disk;
 
 /// A file that a failure of the disk has shut answers no call of a keeper: none is done, and no row or mark is told.
-pub fn shut_answers_nothing<S: Start>()
-    ensures next { (before after : Held S S.Start) (date : ℕ) (found : Option Row) → IsShut before → IsClean after → ¬ FindsNext date before after found }
-    ensures mark { (before after : Held S S.Start) (mark : ℕ) → IsShut before → IsClean after → ¬ FindsMark before after mark }
-    ensures added { (before after : Held S S.Start) (rows : List Row) (mark : ℕ) → IsShut before → IsClean after → ¬ Appends rows mark before after }
-    ensures removed { (before after : Held S S.Start) (dates : List ℕ) → IsShut before → IsClean after → ¬ Removes dates before after }
+pub fn shut_answers_nothing<D: Disk + Drop>()
+    ensures next { (before after : Held D D.Disk) (date : ℕ) (found : Option Row) → IsShut before → IsClean after → ¬ FindsNext date before after found }
+    ensures mark { (before after : Held D D.Disk) (mark : ℕ) → IsShut before → IsClean after → ¬ FindsMark before after mark }
+    ensures added { (before after : Held D D.Disk) (rows : List Row) (mark : ℕ) → IsShut before → IsClean after → ¬ Appends rows mark before after }
+    ensures removed { (before after : Held D D.Disk) (dates : List ℕ) → IsShut before → IsClean after → ¬ Removes dates before after }
 {}
