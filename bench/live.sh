@@ -1,7 +1,7 @@
 #!/usr/bin/env bash
 # Times the streaming matcher alone, on 100,000 rows that are made in memory and on ten times as many: for each pattern the
 # bindings, the rows kept at the end, the nanoseconds a row and the greatest memory; and with 1,000, 10,000 and 100,000
-# rows held of which one expires at each row, in order of time and mixed. The program is built over copies of the crates,
+# rows held of which one expires at each row. The program is built over copies of the crates,
 # since a repository's gate takes no crate but its own.
 #
 #   bench/live.sh [PROGRAM]    a program that was built before
@@ -44,10 +44,10 @@ live() {
   done
 }
 
-# held PACE ROWS SECONDS: an AND whose left side holds a row of each second, and whose right side none.
+# held SECONDS: an AND whose left side holds a row of each second, and whose right side none.
 held() {
-  printf '%-6s WITHIN %7d, %7d rows: ' "$1" "$3" "$2"
-  /usr/bin/time -f '%M' -o "$folder/memory" "$program" "([a:b='1'] AND [a:b='2']) WITHIN $3 SECONDS" "$2" "$1" | tr -d '\n'
+  printf 'AND WITHIN %7d, 1000000 rows: ' "$1"
+  /usr/bin/time -f '%M' -o "$folder/memory" "$program" "([a:b='1'] AND [a:b='2']) WITHIN $1 SECONDS" 1000000 steady | tr -d '\n'
   printf ', %s KB\n' "$(cat "$folder/memory")"
 }
 
@@ -60,8 +60,7 @@ for _ in 1 2 3; do
   live "AND, 60 s" "([a:b='1'] AND [a:b='2']) WITHIN 60 SECONDS"
   live "two FOLLOWEDBY, 60 s" "([a:b='1'] FOLLOWEDBY [a:b='2'] FOLLOWEDBY [a:b='3']) WITHIN 60 SECONDS"
   live "eight brackets by OR" "[a:b=1] OR [a:b=2] OR [a:b=3] OR [a:b=4] OR [a:b=5] OR [a:b=6] OR [a:b=7] OR [a:b=8]"
-  held steady 1000000 1000
-  held steady 1000000 10000
-  held steady 1000000 100000
-  held mixed 1000000 100000
+  held 1000
+  held 10000
+  held 100000
 done
