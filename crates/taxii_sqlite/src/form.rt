@@ -37,7 +37,8 @@ pub(crate) fn take<S: Alter>(connection: &mut Connection<S>) -> Result<(), Failu
     let form = read_form(connection)?;
     complete(connection, form)?;
     let version = read_version(connection)?;
-    check_version(version)
+    check_version(version)?;
+    Ok(())
 }
 
 /// What tables the database has.

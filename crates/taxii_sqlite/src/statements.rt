@@ -20,6 +20,7 @@ use taxii_rows::{FaultCause, StoredRow};
 /// `next_after` would never give.
 pub(crate) fn make_ready<S: Alter>(connection: &mut Connection<S>) -> Result<(), Failure>
     ensures ready { HasCleanDisk (state S.Store connection.new) → OnOk result (IsReady (state S.Store) connection.old connection.new) }
+    ensures clean { HasCleanDisk (state S.Store connection.new) → HasCleanDisk (state S.Store connection.old) }
 {
     form::take(connection)?;
     let _mark = read_mark(connection)?;
