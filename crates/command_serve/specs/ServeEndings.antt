@@ -1,5 +1,5 @@
 -- What an ending of `serve` says of the callers and of what is outside; its status, and its reason as a text.
-use Rattle.std.specs.Prelude.{◌≡◌, ◌⊎◌, ⊤, ⊥, ℕ, List, [], ◌++◌, Option, IfSome, codes, decimal}
+use Rattle.std.specs.Prelude.{◌≡◌, ◌⊎◌, ⊤, ℕ, List, [], ◌++◌, Option, IfSome, codes, decimal}
 use Rattle.flow_edges.specs.Flow.{written_with, WritesPart}
 use Rattle.flow_links.specs.Doors.{Stays}
 use Rattle.taxii_rows.specs.declared.fault_cause.FaultCause.{FaultCause}
