@@ -1,11 +1,12 @@
 -- What stands around a server when it ends, from what its parts say.
-use Rattle.std.proofs.Common.{◌≡◌, ◌≤◌, ℕ, List, length, Option, Some, None, option_map, IfSome, refl, sym, ap, subst, ◌∙◌}
+use Rattle.std.proofs.Common.{◌≡◌, ◌≤◌, ℕ, List, [], length, Option, Some, None, option_map, IfSome, refl, sym, ap, subst, ◌∙◌}
 use Rattle.flow_edges.specs.Flow.{written_with}
 use Rattle.taxii_rows.specs.StoreState.{StoreState}
 use Rattle.taxii_rows.specs.Keeper.{Kept}
 use Rattle.taxii_rows.specs.SoundRow.{IsSoundState}
 use Rattle.taxii_statuses.specs.Statuses.{StatusesState}
 use Rattle.taxii_state.specs.declared.state.State.{State}
+use Rattle.taxii_store.specs.Agreement.{without_rows}
 use Rattle.taxii_store.specs.Loading.{IsBadAfter}
 use Rattle.taxii_store.specs.declared.load_refusal.LoadRefusal.{LoadRefusal}
 use Rattle.taxii_store.specs.declared.load_refusal.LoadRefusal.TheVariants as refused
@@ -30,6 +31,14 @@ named_some : {A : Type 0} (told : Option A) (name : Option (List ℕ)) (text : L
 named_some None name text is = tt
 named_some (Some kept) name text is = is
 
+-- where rows were told before, those that are told now are told in their place
+told_still : (before now : Option StoreState) (none last : StoreState) → option_map (λ (_ : StoreState). none) now ≡ option_map (λ (_ : StoreState). none) before
+    → IfSome now (λ its. its ≡ last) → now ≡ option_map (λ (_ : StoreState). last) before
+told_still None None none last same held = refl
+told_still None (Some its) none last same held = absurd (cc same)
+told_still (Some rows) None none last same held = absurd (cc same)
+told_still (Some rows) (Some its) none last same held = ap Some held
+
 dated : (store : StoreState) → IsSoundState store → IsDated store
 dated store sound = record { rise = sound.rise; marked = sound.marked }
 
@@ -50,10 +59,10 @@ module _ {L : Type 0} (view : L → LinkView) (service : PlainService) (before a
   concluded-ends served (BadRow date) all ends = absurd ends
 
   pub serves-of : (server : Server) (last : State) (callers : List (Caller L)) (kept : Kept) → Begins service kept server → kept.told ≡ before.kept.told
-      → after.kept.name ≡ kept.name → HaveConnections view server.config server.state callers last → IfSome after.kept.told (λ its. its ≡ last.library)
+      → without_rows after.kept ≡ without_rows kept → HaveConnections view server.config server.state callers last → IfSome after.kept.told (λ its. its ≡ last.library)
       → length callers ≤ service.connections → Pass (exchanges_of callers) before.around after.around
       → (IsDated server.state.library → WalksSkipNoRow server.config (exchanges_of callers)) → Serves view service before after callers
-  serves-of server last callers kept begins same named connections held few pass walks =
+  serves-of server last callers kept begins same stays connections held few pass walks =
       let store = server.state.library in record {
         config = server.config;
         config_is = begins.config_is;
@@ -61,10 +70,10 @@ module _ {L : Type 0} (view : L → LinkView) (service : PlainService) (before a
         loaded = subst (λ (it : Option StoreState). IfSome it (λ rows. store ≡ rows)) same (some_same kept.told store begins.loaded.agrees.told_is);
         sound = begins.loaded.sound;
         named = named_some before.kept.told after.kept.name (store_name service.store)
-            (named ∙ begins.loaded.named ∙ ap (λ (told : Option StoreState). option_map (λ _. store_name service.store) told) same);
+            (ap (λ (it : Kept). it.name) stays ∙ begins.loaded.named ∙ ap (λ (told : Option StoreState). option_map (λ _. store_name service.store) told) same);
         last = last;
         connections = subst (λ (it : StatusesState). HaveConnections view server.config (record { library = store; statuses = it }) callers last) begins.statuses connections;
-        kept = held;
+        kept = told_still before.kept.told after.kept.told (record { rows = []; mark = 0 }) last.library (ap (λ (it : Kept). it.told) stays ∙ ap (option_map (λ _. record { rows = []; mark = 0 })) same) held;
         few = few;
         pass = pass;
         walks = walks (dated store begins.loaded.sound);

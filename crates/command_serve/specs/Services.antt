@@ -1,5 +1,5 @@
 -- What a server is that a command line asks for, and how callers are served by it.
-use Rattle.std.specs.Prelude.{◌≡◌, ◌≤◌, ℕ, List, [], length, map, Option, Some, None, IfSome}
+use Rattle.std.specs.Prelude.{◌≡◌, ◌≤◌, ℕ, List, [], length, map, Option, Some, None, option_map, IfSome}
 use Rattle.flow_links.specs.Doors.{DoorState}
 use Rattle.taxii_rows.specs.StoreState.{StoreState}
 use Rattle.taxii_rows.specs.Keeper.{Kept}
@@ -46,8 +46,8 @@ pub record Places (L : Type 0) : Type 0 where
   pub around : Outside
 
 -- these callers were served: the server that is asked for began with the keeper's rows and no statuses; each caller had its connection, from
--- what the one before left, and no more were served than asked for; the keeper has the rows of the last state; and no walk among the requests
--- skips a row
+-- what the one before left, and no more were served than asked for; where the keeper told its rows, it tells those of the last state; and no
+-- walk among the requests skips a row
 pub record Serves {L : Type 0} (view : L → LinkView) (service : PlainService) (before after : Places L) (callers : List (Caller L)) : Type 0 where
   pub config : Config
   pub config_is : IsConfigOf service config
@@ -57,7 +57,7 @@ pub record Serves {L : Type 0} (view : L → LinkView) (service : PlainService) 
   pub named : IfSome before.kept.told (λ _. after.kept.name ≡ Some (store_name service.store))
   pub last : State
   pub connections : HaveConnections view config (starting_with store) callers last
-  pub kept : IfSome after.kept.told (λ rows. rows ≡ last.library)
+  pub kept : after.kept.told ≡ option_map (λ _. last.library) before.kept.told
   pub few : length callers ≤ service.connections
   pub pass : Pass (exchanges_of callers) before.around after.around
   pub walks : WalksSkipNoRow config (exchanges_of callers)

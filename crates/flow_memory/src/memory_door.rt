@@ -15,6 +15,7 @@ pub struct MemoryDoor {
     /// The links to come, the next one last.
     coming: Vec<MemoryLink>,
     finished: Vec<MemoryLink>,
+    opened: u64,
     port: Option<u16>,
     given: usize,
     failing: Items<u64>,
@@ -29,7 +30,7 @@ impl Model for MemoryDoor {
     ghost Value = { MemoryDoorState };
 
     ghost view = { λ door. record {
-      links = record { coming = reverse door.coming.items; finished = door.finished.items; port = door.port; given = door.given };
+      links = record { coming = reverse door.coming.items; finished = door.finished.items; opened = door.opened; port = door.port; given = door.given };
       failing = door.failing;
       calls = door.calls;
       faults = door.faults;
@@ -47,7 +48,7 @@ impl MemoryDoor {
         failing: Items<u64>,
     ) -> Result<MemoryDoor, NoMemory>
         ensures { IfOk result (λ door. door ≡ record {
-          links = record { coming = links; finished = []; port = None; given = 0 };
+          links = record { coming = links; finished = []; opened = 0; port = None; given = 0 };
           failing = failing;
           calls = 0;
           faults = 0;
@@ -59,6 +60,7 @@ impl MemoryDoor {
         Ok(MemoryDoor {
             coming,
             finished,
+            opened: 0,
             port: None,
             given: 0,
             failing,
@@ -109,6 +111,7 @@ impl Door for MemoryDoor {
         ensures stays { self.new.failing ≡ self.old.failing }
     {
         self.begin()?;
+        self.opened = self.opened.saturating_add(1);
         self.port = Some(port);
         Ok(())
     }

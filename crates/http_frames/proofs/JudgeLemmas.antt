@@ -6,7 +6,7 @@ use Rattle.std.proofs.lemmas.List.{append-nil}
 use Rattle.std.proofs.lemmas.Bool.Decides.{Decides-eqb}
 use Rattle.http_frames.specs.declared.refusal.Refusal.{Refusal}
 use Rattle.http_frames.specs.declared.refusal.Refusal.TheVariants.{BadRequest, LengthRequired, BodyTooLarge, TransferCoding}
-use Rattle.http_frames.specs.Fields.{HeadParts, values, first_length, states, body_length, lacks_host, has_bad_text, has_bad_text_in, has_coding, has_bad_length, lacks_length}
+use Rattle.http_frames.specs.Fields.{HeadParts, values, first_length, states, body_length, has_bad_host, has_bad_text, has_bad_text_in, has_coding, has_bad_length, lacks_length}
 use Rattle.http_frames.specs.declared.frame.Frame.TheVariants.{More}
 use Rattle.http_frames.specs.declared.frame.TheConstants.{MAX_HEAD}
 use Rattle.http_frames.specs.Frames.{refusal_of, Accepts, IsFirstFrame}
@@ -53,32 +53,32 @@ no_text true b c d e f is = absurd (cc is)
 no_text false true c d e f is = absurd (cc is)
 no_text false false c d e f is = refl
 
-pub by_host : (g : ℕ) (h : HeadParts) → lacks_host h ≡ true → Some BadRequest ≡ refusal_of g h
-by_host g h = pick_host (lacks_host h) (has_bad_text h) (has_coding h) (has_bad_length h) (lacks_length h) (nat_lt g (body_length h))
+pub by_host : (g : ℕ) (h : HeadParts) → has_bad_host h ≡ true → Some BadRequest ≡ refusal_of g h
+by_host g h = pick_host (has_bad_host h) (has_bad_text h) (has_coding h) (has_bad_length h) (lacks_length h) (nat_lt g (body_length h))
 
 pub by_text : (g : ℕ) (h : HeadParts) → has_bad_text h ≡ true → Some BadRequest ≡ refusal_of g h
-by_text g h = pick_text (lacks_host h) (has_bad_text h) (has_coding h) (has_bad_length h) (lacks_length h) (nat_lt g (body_length h))
+by_text g h = pick_text (has_bad_host h) (has_bad_text h) (has_coding h) (has_bad_length h) (lacks_length h) (nat_lt g (body_length h))
 
-pub by_coding : (g : ℕ) (h : HeadParts) → lacks_host h ≡ false → has_bad_text h ≡ false → has_coding h ≡ true → Some TransferCoding ≡ refusal_of g h
-by_coding g h = pick_coding (lacks_host h) (has_bad_text h) (has_coding h) (has_bad_length h) (lacks_length h) (nat_lt g (body_length h))
+pub by_coding : (g : ℕ) (h : HeadParts) → has_bad_host h ≡ false → has_bad_text h ≡ false → has_coding h ≡ true → Some TransferCoding ≡ refusal_of g h
+by_coding g h = pick_coding (has_bad_host h) (has_bad_text h) (has_coding h) (has_bad_length h) (lacks_length h) (nat_lt g (body_length h))
 
-pub by_bad : (g : ℕ) (h : HeadParts) → lacks_host h ≡ false → has_bad_text h ≡ false → has_coding h ≡ false → has_bad_length h ≡ true → Some BadRequest ≡ refusal_of g h
-by_bad g h = pick_bad (lacks_host h) (has_bad_text h) (has_coding h) (has_bad_length h) (lacks_length h) (nat_lt g (body_length h))
+pub by_bad : (g : ℕ) (h : HeadParts) → has_bad_host h ≡ false → has_bad_text h ≡ false → has_coding h ≡ false → has_bad_length h ≡ true → Some BadRequest ≡ refusal_of g h
+by_bad g h = pick_bad (has_bad_host h) (has_bad_text h) (has_coding h) (has_bad_length h) (lacks_length h) (nat_lt g (body_length h))
 
-pub by_lacks : (g : ℕ) (h : HeadParts) → lacks_host h ≡ false → has_bad_text h ≡ false → has_coding h ≡ false → has_bad_length h ≡ false → lacks_length h ≡ true
+pub by_lacks : (g : ℕ) (h : HeadParts) → has_bad_host h ≡ false → has_bad_text h ≡ false → has_coding h ≡ false → has_bad_length h ≡ false → lacks_length h ≡ true
     → Some LengthRequired ≡ refusal_of g h
-by_lacks g h = pick_lacks (lacks_host h) (has_bad_text h) (has_coding h) (has_bad_length h) (lacks_length h) (nat_lt g (body_length h))
+by_lacks g h = pick_lacks (has_bad_host h) (has_bad_text h) (has_coding h) (has_bad_length h) (lacks_length h) (nat_lt g (body_length h))
 
-pub by_large : (g : ℕ) (h : HeadParts) → lacks_host h ≡ false → has_bad_text h ≡ false → has_coding h ≡ false → has_bad_length h ≡ false → lacks_length h ≡ false
+pub by_large : (g : ℕ) (h : HeadParts) → has_bad_host h ≡ false → has_bad_text h ≡ false → has_coding h ≡ false → has_bad_length h ≡ false → lacks_length h ≡ false
     → nat_lt g (body_length h) ≡ true → Some BodyTooLarge ≡ refusal_of g h
-by_large g h = pick_large (lacks_host h) (has_bad_text h) (has_coding h) (has_bad_length h) (lacks_length h) (nat_lt g (body_length h))
+by_large g h = pick_large (has_bad_host h) (has_bad_text h) (has_coding h) (has_bad_length h) (lacks_length h) (nat_lt g (body_length h))
 
-pub by_none : (g : ℕ) (h : HeadParts) → lacks_host h ≡ false → has_bad_text h ≡ false → has_coding h ≡ false → has_bad_length h ≡ false → lacks_length h ≡ false
+pub by_none : (g : ℕ) (h : HeadParts) → has_bad_host h ≡ false → has_bad_text h ≡ false → has_coding h ≡ false → has_bad_length h ≡ false → lacks_length h ≡ false
     → nat_lt g (body_length h) ≡ false → None ≡ refusal_of g h
-by_none g h = pick_none (lacks_host h) (has_bad_text h) (has_coding h) (has_bad_length h) (lacks_length h) (nat_lt g (body_length h))
+by_none g h = pick_none (has_bad_host h) (has_bad_text h) (has_coding h) (has_bad_length h) (lacks_length h) (nat_lt g (body_length h))
 
 pub texts_are_fine : (g : ℕ) (h : HeadParts) → refusal_of g h ≡ None → has_bad_text h ≡ false
-texts_are_fine g h = no_text (lacks_host h) (has_bad_text h) (has_coding h) (has_bad_length h) (lacks_length h) (nat_lt g (body_length h))
+texts_are_fine g h = no_text (has_bad_host h) (has_bad_text h) (has_coding h) (has_bad_length h) (lacks_length h) (nat_lt g (body_length h))
 
 -- ---- the values that are read as texts
 
@@ -155,7 +155,7 @@ not_lt : (n m : ℕ) → nat_lt n m ≡ false → m ≤ n
 not_lt n m is = Prim.search rules
 
 small_body : (g : ℕ) (h : HeadParts) → refusal_of g h ≡ None → body_length h ≤ g
-small_body g h fine = not_lt g (body_length h) (no_large (lacks_host h) (has_bad_text h) (has_coding h) (has_bad_length h) (lacks_length h) (nat_lt g (body_length h)) fine)
+small_body g h fine = not_lt g (body_length h) (no_large (has_bad_host h) (has_bad_text h) (has_coding h) (has_bad_length h) (lacks_length h) (nat_lt g (body_length h)) fine)
 
 pub few_bytes : (greatest : ℕ) (bytes rest : List ℕ) → IsFirstFrame greatest bytes More rest → length bytes < MAX_HEAD + greatest
 few_bytes greatest bytes rest (inl head, same) = let room = head.room in omega (arith, room)

@@ -45,9 +45,9 @@ is_post Post = true
 is_post Delete = false
 is_post Other = false
 
--- a request of HTTP/1.1 without exactly one Host (RFC 9112, section 3.2)
-abbrev pub lacks_host : HeadParts → Bool
-lacks_host h = h.minor == 1 && not (length (values (codes "host") h) == 1)
+-- a request of HTTP/1.1 without a Host, or one of either version with more than one (RFC 9112, section 3.2)
+abbrev pub has_bad_host : HeadParts → Bool
+has_bad_host h = (h.minor == 1 && length (values (codes "host") h) == 0) || nat_lt 1 (length (values (codes "host") h))
 
 -- a value of that name isn't UTF-8
 abbrev pub has_bad_text_in : List ℕ → HeadParts → Bool

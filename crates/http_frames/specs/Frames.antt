@@ -9,12 +9,12 @@ use Rattle.http_frames.specs.declared.refusal.Refusal.{Refusal}
 use Rattle.http_frames.specs.declared.refusal.Refusal.TheVariants.{BadRequest, LengthRequired, BodyTooLarge, HeadTooLarge, TransferCoding}
 use Rattle.http_frames.specs.declared.request.Request.{Request}
 use Rattle.http_frames.specs.Heads.{IsHeadAt, HasNoHeadIn}
-use Rattle.http_frames.specs.Fields.{HeadParts, parts_of, values, method_of, joined, first_of, closes, body_length, lacks_host, has_bad_text, has_coding, has_bad_length, lacks_length}
+use Rattle.http_frames.specs.Fields.{HeadParts, parts_of, values, method_of, joined, first_of, closes, body_length, has_bad_host, has_bad_text, has_coding, has_bad_length, lacks_length}
 
 -- why a head that is read is refused, where it is: the first of the conditions that holds
 abbrev pub refusal_of : ℕ → HeadParts → Option Refusal
 refusal_of greatest h =
-    if lacks_host h || has_bad_text h then Some BadRequest
+    if has_bad_host h || has_bad_text h then Some BadRequest
     else if has_coding h then Some TransferCoding
     else if has_bad_length h then Some BadRequest
     else if lacks_length h then Some LengthRequired

@@ -1,6 +1,6 @@
 ghost use Rattle.std.specs.Prelude.{◌≡◌, ◌≤◌, ◌<◌, ◌^◌, false, [], length, IfOk};
 ghost use Rattle.std.specs.Str.{IsUtf8};
-ghost use Rattle.http_frames.specs.Fields.{lacks_host, has_bad_text, has_bad_text_in, has_coding, has_bad_length, lacks_length, body_length, closes};
+ghost use Rattle.http_frames.specs.Fields.{has_bad_host, has_bad_text, has_bad_text_in, has_coding, has_bad_length, lacks_length, body_length, closes};
 ghost use Rattle.http_frames.specs.Frames.{HoldsHead, refusal_of, request_of};
 ghost use Rattle.http_frames.specs.declared.grammar.TheConstants.{MAX_FIELDS};
 ghost use Rattle.http_frames.specs.inner.Searching.{IsFound};
@@ -68,7 +68,7 @@ impl<'a> Head<'a> {
     fn refusal(&self, alloc: Global, greatest_body: u64) -> Result<Option<Refusal>, NoMemory>
         ensures { IfOk result (λ refusal. refusal ≡ refusal_of greatest_body self.now) }
     {
-        if self.lacks_host(alloc)? {
+        if self.has_bad_host(alloc)? {
             return Ok(Some(Refusal::BadRequest));
         }
         if self.has_bad_text(alloc)? {
@@ -100,7 +100,7 @@ impl<'a> Head<'a> {
         let content_type = first_text(alloc, &self.values(alloc, b"content-type")?)?;
         let close = self.closes(alloc)?;
         Ok(Request {
-            method: Method::of(self.method()),
+            method: Method::of(alloc, self.method()),
             target,
             accept,
             content_type,
@@ -109,12 +109,12 @@ impl<'a> Head<'a> {
         })
     }
 
-    /// Whether the head is of HTTP/1.1 and has not exactly one Host.
-    fn lacks_host(&self, alloc: Global) -> Result<bool, NoMemory>
-        ensures { IfOk result (λ lacks. lacks ≡ lacks_host self.now) }
+    /// Whether the head is of HTTP/1.1 and has no Host, or has more than one.
+    fn has_bad_host(&self, alloc: Global) -> Result<bool, NoMemory>
+        ensures { IfOk result (λ bad. bad ≡ has_bad_host self.now) }
     {
         let hosts = self.values(alloc, b"host")?;
-        Ok(self.minor() == 1 && hosts.len() != 1)
+        Ok((self.minor() == 1 && hosts.len() == 0) || hosts.len() > 1)
     }
 
     /// Whether a value that is read as a text isn't UTF-8.
@@ -159,7 +159,7 @@ impl<'a> Head<'a> {
         ensures { IfOk result (λ lacks. lacks ≡ lacks_length self.now) }
     {
         let lengths = self.values(alloc, b"content-length")?;
-        Ok(Method::of(self.method()).is_post() && lengths.len() == 0)
+        Ok(Method::of(alloc, self.method()).is_post() && lengths.len() == 0)
     }
 
     /// How many bytes the body has.

@@ -1,7 +1,10 @@
-ghost use Rattle.std.specs.Prelude.{◌≡◌};
+ghost use Rattle.std.specs.Prelude.{◌≡◌, Some};
+ghost use Rattle.http.specs.StatusCode.{reason_phrase};
 ghost use Rattle.http_frames.specs.Answers.{code_of, phrase_of};
 
-/// A status of an answer (RFC 9110, section 15).
+use http::StatusCode;
+
+/// A status of an answer (RFC 9110, section 15): those codes of `http` that occur.
 #[derive(Clone, Copy, Debug, PartialEq, Eq, Hash)]
 pub enum Status {
     Okay,
@@ -26,45 +29,37 @@ impl Status {
     pub fn code(self) -> u16
         ensures { result ≡ code_of self }
     {
-        match self {
-            Status::Okay => 200,
-            Status::Accepted => 202,
-            Status::BadRequest => 400,
-            Status::Forbidden => 403,
-            Status::NotFound => 404,
-            Status::MethodNotAllowed => 405,
-            Status::NotAcceptable => 406,
-            Status::LengthRequired => 411,
-            Status::PayloadTooLarge => 413,
-            Status::UnsupportedMediaType => 415,
-            Status::UnprocessableEntity => 422,
-            Status::HeadTooLarge => 431,
-            Status::InternalServerError => 500,
-            Status::NotImplemented => 501,
-            Status::ServiceUnavailable => 503,
-        }
+        self.known().as_u16()
     }
 
-    /// What the status means, in words.
+    /// What the status means, in the words of `http`.
     pub fn phrase(self) -> &'static str
-        ensures { result.now ≡ phrase_of self }
+        ensures phrase { result.now ≡ phrase_of self }
+        ensures known { reason_phrase (code_of self) ≡ Some result.now }
+    {
+        self.known().canonical_reason().unwrap_or("")
+    }
+
+    /// The status as `http` has it.
+    fn known(self) -> StatusCode
+        ensures { result ≡ code_of self }
     {
         match self {
-            Status::Okay => "OK",
-            Status::Accepted => "Accepted",
-            Status::BadRequest => "Bad Request",
-            Status::Forbidden => "Forbidden",
-            Status::NotFound => "Not Found",
-            Status::MethodNotAllowed => "Method Not Allowed",
-            Status::NotAcceptable => "Not Acceptable",
-            Status::LengthRequired => "Length Required",
-            Status::PayloadTooLarge => "Payload Too Large",
-            Status::UnsupportedMediaType => "Unsupported Media Type",
-            Status::UnprocessableEntity => "Unprocessable Entity",
-            Status::HeadTooLarge => "Request Header Fields Too Large",
-            Status::InternalServerError => "Internal Server Error",
-            Status::NotImplemented => "Not Implemented",
-            Status::ServiceUnavailable => "Service Unavailable",
+            Status::Okay => StatusCode::OK,
+            Status::Accepted => StatusCode::ACCEPTED,
+            Status::BadRequest => StatusCode::BAD_REQUEST,
+            Status::Forbidden => StatusCode::FORBIDDEN,
+            Status::NotFound => StatusCode::NOT_FOUND,
+            Status::MethodNotAllowed => StatusCode::METHOD_NOT_ALLOWED,
+            Status::NotAcceptable => StatusCode::NOT_ACCEPTABLE,
+            Status::LengthRequired => StatusCode::LENGTH_REQUIRED,
+            Status::PayloadTooLarge => StatusCode::PAYLOAD_TOO_LARGE,
+            Status::UnsupportedMediaType => StatusCode::UNSUPPORTED_MEDIA_TYPE,
+            Status::UnprocessableEntity => StatusCode::UNPROCESSABLE_ENTITY,
+            Status::HeadTooLarge => StatusCode::REQUEST_HEADER_FIELDS_TOO_LARGE,
+            Status::InternalServerError => StatusCode::INTERNAL_SERVER_ERROR,
+            Status::NotImplemented => StatusCode::NOT_IMPLEMENTED,
+            Status::ServiceUnavailable => StatusCode::SERVICE_UNAVAILABLE,
         }
     }
 }

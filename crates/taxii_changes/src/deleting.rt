@@ -3,7 +3,7 @@ ghost use Rattle.flow_edges.specs.Faults.{Counted};
 ghost use Rattle.http_frames.specs.declared.status.Status.TheVariants.{Okay};
 ghost use Rattle.stix_ids.specs.declared.pick.Pick.TheVariants.{All as PickAll};
 ghost use Rattle.taxii_rows.specs.StoreState.{RiseFrom};
-ghost use Rattle.taxii_store.specs.Agreement.{Agrees};
+ghost use Rattle.taxii_store.specs.Agreement.{Agrees, without_rows};
 ghost use Rattle.taxii_store.specs.Deleting.{AreDatesTaken};
 ghost use Rattle.taxii_bodies.specs.declared.problem.Problem.TheVariants as Trouble;
 ghost use Rattle.taxii_requests.specs.declared.refusal.Refusal.TheVariants as Refused;
@@ -34,7 +34,7 @@ pub fn delete_object<K: Keeper>(
 ) -> Result<Answer, Refusal>
     requires agrees { Agrees (K.kept keeper.old) state.old.library }
     ensures agrees { Agrees (K.kept keeper.new) state.new.library }
-    ensures name { (K.kept keeper.new).name ≡ (K.kept keeper.old).name }
+    ensures keeper { without_rows (K.kept keeper.new) ≡ without_rows (K.kept keeper.old) }
     ensures ok { IfOk result (λ answer. (dates : List ℕ) × AreDeleted state.old.library collection id.now query dates
         × (answer ≡ bare Okay None) × (state.new ≡ without_dates dates state.old)) }
     ensures err { IfErr result (λ refusal. (refusal ≡ Refused.NoMemory) ⊎ ((refusal ≡ Refused.Problem Trouble.StoreFault)

@@ -103,6 +103,7 @@ listens_through port (Some state) now listens = (
   (
     sym (ap (λ s. s.coming) listens.2),
     ap (λ s. s.finished) listens.2 ∙ sym (append-nil state.finished),
+    ap (λ s. s.opened) listens.2,
     ap (λ s. s.port) listens.2,
     ap (λ s. s.given) listens.2,
   ),
@@ -132,8 +133,9 @@ told_through {L} port callers caller before state given now through gives back =
         ap (λ (s : DoorState L). s.finished) is_now ∙ d.0 ∙ ap (λ some. some ++ (caller.finished ∷ [])) before_this
             ∙ append_assoc before.finished (finished callers) (caller.finished ∷ [])
             ∙ ap (λ some. before.finished ++ some) (sym (map-append (λ (one : Caller L). one.finished) callers (caller ∷ []))),
-        ap (λ (s : DoorState L). s.port) is_now ∙ d.2 ∙ ap (λ (s : DoorState L). s.port) is_given ∙ b.2 ∙ ap (λ (s : DoorState L). s.port) is_state ∙ a.2,
-        omega (arith, a.3, b.3, d.3, ap (λ (s : DoorState L). s.given) is_state, ap (λ (s : DoorState L). s.given) is_given, ap (λ (s : DoorState L). s.given) is_now),
+        ap (λ (s : DoorState L). s.opened) is_now ∙ d.2.0 ∙ ap (λ (s : DoorState L). s.opened) is_given ∙ b.2.0 ∙ ap (λ (s : DoorState L). s.opened) is_state ∙ a.2,
+        ap (λ (s : DoorState L). s.port) is_now ∙ d.2.1 ∙ ap (λ (s : DoorState L). s.port) is_given ∙ b.2.1 ∙ ap (λ (s : DoorState L). s.port) is_state ∙ a.3,
+        omega (arith, a.4, b.3, d.3, ap (λ (s : DoorState L). s.given) is_state, ap (λ (s : DoorState L). s.given) is_given, ap (λ (s : DoorState L). s.given) is_now),
       ),
     )
 

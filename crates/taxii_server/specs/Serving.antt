@@ -1,6 +1,7 @@
 -- A server behind its door: callers are served one after the other, each from what the one before left.
 use Rattle.std.specs.Prelude.{◌≡◌, ◌⊎◌, ℕ, List, [], ◌∷◌, ◌++◌, length, map, Option, Some, IfSome}
 use Rattle.std.specs.List.{flat_map}
+use Rattle.flow_edges.specs.Faults.{counted}
 use Rattle.flow_links.specs.Doors.{DoorState, Changes}
 use Rattle.taxii_requests.specs.declared.config.Config.{Config}
 use Rattle.taxii_state.specs.declared.state.State.{State}
@@ -28,11 +29,12 @@ HaveConnections view config before (caller ∷ callers) after = (middle : State)
     × Connection config before (view caller.given) (view caller.finished) caller.exchanges caller.end middle
     × HaveConnections view config middle callers after
 
--- the door listens at the port; the links to come were given, and handed back, in order
+-- the door was opened once, at the port; the links to come were given, and handed back, in order
 abbrev pub PassThrough : {L : Type 0} → ℕ → List (Caller L) → Option (DoorState L) → Option (DoorState L) → Type 0
 PassThrough port callers before now = Changes (λ state now.
     (state.coming ≡ map (λ caller. caller.given) callers ++ now.coming)
     × (now.finished ≡ state.finished ++ map (λ caller. caller.finished) callers)
+    × (now.opened ≡ counted state.opened)
     × (now.port ≡ Some port)
     × (now.given ≡ state.given)) before now
 

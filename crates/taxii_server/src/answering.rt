@@ -1,6 +1,6 @@
 ghost use Rattle.std.specs.Prelude.{◌≡◌, IsErr};
 ghost use Rattle.flow_edges.specs.Faults.{Counted};
-ghost use Rattle.taxii_store.specs.Agreement.{Agrees};
+ghost use Rattle.taxii_store.specs.Agreement.{Agrees, without_rows};
 ghost use Rattle.taxii_server.specs.inner.Answering.{Answers};
 
 use crate::Server;
@@ -23,7 +23,7 @@ pub(crate) fn answer<K: Keeper, L: Link, C: Clock>(
 ) -> Result<bool, Fault>
     requires agrees { Agrees (K.kept keeper.old) server.old.state.library }
     ensures agrees { Agrees (K.kept keeper.new) server.new.state.library }
-    ensures name { (K.kept keeper.new).name ≡ (K.kept keeper.old).name }
+    ensures keeper { without_rows (K.kept keeper.new) ≡ without_rows (K.kept keeper.old) }
     ensures config { server.new.config ≡ server.old.config }
     ensures answers { Answers server.old.config server.old.state request.now is_last
         (record { moments = C.moments clock.old; faults = K.faults keeper.old }) (record { moments = C.moments clock.new; faults = K.faults keeper.new })

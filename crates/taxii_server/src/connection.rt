@@ -1,5 +1,5 @@
 ghost use Rattle.std.specs.Prelude.{◌≡◌, ◌≤◌, List};
-ghost use Rattle.taxii_store.specs.Agreement.{Agrees};
+ghost use Rattle.taxii_store.specs.Agreement.{Agrees, without_rows};
 ghost use Rattle.taxii_histories.specs.Exchanges.{Exchange};
 ghost use Rattle.taxii_server.specs.Connections.{Connection, Pass, requests_of};
 ghost use Rattle.taxii_server.specs.Outside.{link_view};
@@ -31,7 +31,7 @@ pub fn serve_link<K: Keeper, L: Link, C: Clock>(
 ) -> LinkEnd
     requires agrees { Agrees (K.kept keeper.old) server.old.state.library }
     ensures agrees { Agrees (K.kept keeper.new) server.new.state.library }
-    ensures name { (K.kept keeper.new).name ≡ (K.kept keeper.old).name }
+    ensures keeper { without_rows (K.kept keeper.new) ≡ without_rows (K.kept keeper.old) }
     ensures config { server.new.config ≡ server.old.config }
     ensures serves { (exchanges : List Exchange) × Connection server.old.config server.old.state
         (link_view L.left L.began L.written L.Source.faults L.Sink.faults link.old)

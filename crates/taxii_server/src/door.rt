@@ -1,7 +1,7 @@
 ghost use Rattle.std.specs.Prelude.{◌≡◌, ◌≤◌, ◌<◌, ◌⊎◌, ◌^◌, [], List, length, IfOk, IfSome, IsErr};
 ghost use Rattle.flow_edges.specs.Faults.{Counted};
 ghost use Rattle.flow_links.specs.Doors.{Stays};
-ghost use Rattle.taxii_store.specs.Agreement.{Agrees};
+ghost use Rattle.taxii_store.specs.Agreement.{Agrees, without_rows};
 ghost use Rattle.taxii_server.specs.Connections.{Pass};
 ghost use Rattle.taxii_server.specs.Outside.{link_view};
 ghost use Rattle.taxii_server.specs.declared.connection.TheConstants.{MAX_REQUESTS};
@@ -27,7 +27,7 @@ pub fn serve_door<K: Keeper, D: Door, C: Clock>(
     requires agrees { Agrees (K.kept keeper.old) server.old.state.library }
     requires few { connections < 2 ^ 32 }
     ensures agrees { Agrees (K.kept keeper.new) server.new.state.library }
-    ensures name { (K.kept keeper.new).name ≡ (K.kept keeper.old).name }
+    ensures keeper { without_rows (K.kept keeper.new) ≡ without_rows (K.kept keeper.old) }
     ensures config { server.new.config ≡ server.old.config }
     ensures serves { (callers : List (Caller D.Link))
         × HaveConnections (link_view D.Link.left D.Link.began D.Link.written D.Link.Source.faults D.Link.Sink.faults)
@@ -64,7 +64,7 @@ fn serve_caller<K: Keeper, D: Door, C: Clock>(
     requires agrees { Agrees (K.kept keeper.old) server.old.state.library }
     requires given { IfSome (D.told door.old) (λ state. 1 ≤ state.given) }
     ensures agrees { Agrees (K.kept keeper.new) server.new.state.library }
-    ensures name { (K.kept keeper.new).name ≡ (K.kept keeper.old).name }
+    ensures keeper { without_rows (K.kept keeper.new) ≡ without_rows (K.kept keeper.old) }
     ensures config { server.new.config ≡ server.old.config }
     ensures serves { ServesCaller (link_view D.Link.left D.Link.began D.Link.written D.Link.Source.faults D.Link.Sink.faults)
         server.old.config server.old.state link

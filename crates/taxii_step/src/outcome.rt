@@ -2,7 +2,7 @@ ghost use Rattle.std.specs.Prelude.{◌≡◌, ◌⊎◌, IfOk, IfErr, OnErr, Er
 ghost use Rattle.flow_edges.specs.Faults.{Counted};
 ghost use Rattle.taxii_bodies.specs.declared.problem.Problem.TheVariants as Trouble;
 ghost use Rattle.taxii_requests.specs.declared.refusal.Refusal.TheVariants as Refused;
-ghost use Rattle.taxii_store.specs.Agreement.{Agrees};
+ghost use Rattle.taxii_store.specs.Agreement.{Agrees, without_rows};
 ghost use Rattle.taxii_step.specs.Step.{IsRefused, IsDone};
 ghost use Rattle.taxii_step.specs.inner.Performing.{RouteChanges};
 
@@ -27,7 +27,7 @@ pub(crate) fn outcome<K: Keeper>(
 ) -> Result<Answer, Refusal>
     requires agrees { Agrees (K.kept keeper.old) state.old.library }
     ensures agrees { Agrees (K.kept keeper.new) state.new.library }
-    ensures name { (K.kept keeper.new).name ≡ (K.kept keeper.old).name }
+    ensures keeper { without_rows (K.kept keeper.new) ≡ without_rows (K.kept keeper.old) }
     ensures ok { IfOk result (λ answer. IsDone config.now state.old moment request.now route.now query.now
         answer state.new) }
     ensures err { IfErr result (λ refusal. (refusal ≡ Refused.NoMemory)

@@ -6,7 +6,7 @@ ghost use Rattle.taxii_requests.specs.declared.refusal.Refusal.TheVariants as Re
 ghost use Rattle.taxii_requests.specs.declared.rights.Rights.{Rights};
 ghost use Rattle.taxii_requests.specs.Checking.{allows};
 ghost use Rattle.taxii_resources.specs.Finding.{IsFound, allowed_of};
-ghost use Rattle.taxii_store.specs.Agreement.{Agrees};
+ghost use Rattle.taxii_store.specs.Agreement.{Agrees, without_rows};
 ghost use Rattle.taxii_step.specs.Step.{Posts, CannotPost, Deletes, Does, CannotDo};
 ghost use Rattle.stix_ids.specs.declared.id.Id.{Id as Identifier};
 ghost use Rattle.stix_ids.specs.Identifier.{IsTextOf};
@@ -36,7 +36,7 @@ pub(crate) fn post<K: Keeper>(
     requires allowed { allows (allowed_of route.now) Verb.Post ≡ true }
     requires found { (rights : Rights) × IsFound config.now.collections state.old route.now rights }
     ensures agrees { Agrees (K.kept keeper.new) state.new.library }
-    ensures name { (K.kept keeper.new).name ≡ (K.kept keeper.old).name }
+    ensures keeper { without_rows (K.kept keeper.new) ≡ without_rows (K.kept keeper.old) }
     ensures ok { IfOk result (λ answer. Posts config.now state.old moment request.now route.now answer state.new) }
     ensures err { IfErr result (λ refusal. (refusal ≡ Refused.NoMemory)
         ⊎ (CannotPost config.now state.old moment request.now route.now refusal
@@ -66,7 +66,7 @@ pub(crate) fn delete<K: Keeper>(
     requires allowed { allows (allowed_of route.now) Verb.Delete ≡ true }
     requires found { (rights : Rights) × IsFound config.now.collections state.old route.now rights }
     ensures agrees { Agrees (K.kept keeper.new) state.new.library }
-    ensures name { (K.kept keeper.new).name ≡ (K.kept keeper.old).name }
+    ensures keeper { without_rows (K.kept keeper.new) ≡ without_rows (K.kept keeper.old) }
     ensures ok { IfOk result (λ answer. Deletes config.now state.old route.now query answer state.new) }
     ensures err { IfErr result (λ refusal. (refusal ≡ Refused.NoMemory) ⊎ ((refusal ≡ Refused.Problem Trouble.StoreFault)
         × DeleteChanges config.now state.old route.now query)) }
@@ -111,7 +111,7 @@ pub(crate) fn perform<K: Keeper>(
     requires allowed { allows (allowed_of route.now) request.now.method ≡ true }
     requires found { (rights : Rights) × IsFound config.now.collections state.old route.now rights }
     ensures agrees { Agrees (K.kept keeper.new) state.new.library }
-    ensures name { (K.kept keeper.new).name ≡ (K.kept keeper.old).name }
+    ensures keeper { without_rows (K.kept keeper.new) ≡ without_rows (K.kept keeper.old) }
     ensures ok { IfOk result (λ answer. Does config.now state.old moment request.now route.now query request.now.method
         answer state.new) }
     ensures err { IfErr result (λ refusal. (refusal ≡ Refused.NoMemory)

@@ -5,7 +5,7 @@ ghost use Rattle.http_frames.specs.Answers.{HasDates};
 ghost use Rattle.taxii_bodies.specs.declared.problem.Problem.TheVariants as Trouble;
 ghost use Rattle.taxii_requests.specs.Answers as spec;
 ghost use Rattle.taxii_requests.specs.declared.refusal.Refusal.TheVariants as Refused;
-ghost use Rattle.taxii_store.specs.Agreement.{Agrees};
+ghost use Rattle.taxii_store.specs.Agreement.{Agrees, without_rows};
 ghost use Rattle.taxii_step.specs.Step.{IsAnswerTo, RouteStep, Step, FailsToKeep};
 ghost use Rattle.taxii_step.specs.inner.Performing.{RouteChanges};
 
@@ -33,7 +33,7 @@ pub fn respond<K: Keeper>(
 ) -> Result<Answer, NoMemory>
     requires agrees { Agrees (K.kept keeper.old) state.old.library }
     ensures agrees { Agrees (K.kept keeper.new) state.new.library }
-    ensures name { (K.kept keeper.new).name ≡ (K.kept keeper.old).name }
+    ensures keeper { without_rows (K.kept keeper.new) ≡ without_rows (K.kept keeper.old) }
     ensures ok { IfOk result (λ answer. Step config.now state.old moment request.now answer state.new
         ⊎ FailsToKeep config.now state.old moment request.now answer state.new) }
     ensures err { OnErr result (state.new ≡ state.old) }
@@ -72,7 +72,7 @@ fn respond_at<K: Keeper>(
 ) -> Result<Answer, NoMemory>
     requires agrees { Agrees (K.kept keeper.old) state.old.library }
     ensures agrees { Agrees (K.kept keeper.new) state.new.library }
-    ensures name { (K.kept keeper.new).name ≡ (K.kept keeper.old).name }
+    ensures keeper { without_rows (K.kept keeper.new) ≡ without_rows (K.kept keeper.old) }
     ensures ok { IfOk result (λ answer. RouteStep config.now state.old moment request.now route.now query.now
         answer state.new
         ⊎ ((answer ≡ spec.answer_to_problem request.now.method Trouble.StoreFault) × (state.new ≡ state.old)

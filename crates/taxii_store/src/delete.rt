@@ -3,7 +3,7 @@ ghost use Rattle.std.specs.List.{Contains};
 ghost use Rattle.taxii_rows.specs.Keeper.{without};
 ghost use Rattle.flow_edges.specs.Faults.{Counted};
 ghost use Rattle.taxii_rows.specs.StoreState.{RiseFrom};
-ghost use Rattle.taxii_store.specs.Agreement.{Agrees};
+ghost use Rattle.taxii_store.specs.Agreement.{Agrees, without_rows};
 ghost use Rattle.stix_ids.specs.declared.pick.Pick.{Pick as Picked};
 ghost use Rattle.taxii_rows.specs.Picking.{IsPicked};
 ghost use Rattle.taxii_store.specs.Picks.{HasPicks};
@@ -70,7 +70,7 @@ impl Library {
         requires agrees { Agrees (K.kept keeper.old) self.old }
         requires rise { RiseFrom 0 dates.now }
         ensures agrees { Agrees (K.kept keeper.new) self.new }
-        ensures name { (K.kept keeper.new).name ≡ (K.kept keeper.old).name }
+        ensures keeper { without_rows (K.kept keeper.new) ≡ without_rows (K.kept keeper.old) }
         ensures ok { OnOk result (self.new ≡ without dates.now self.old) }
         ensures err { OnErr result (self.new ≡ self.old) }
         ensures nothing { dates.now ≡ [] → IsOk result × (keeper.new ≡ keeper.old) }

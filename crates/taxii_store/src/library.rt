@@ -8,7 +8,7 @@ ghost use Rattle.taxii_rows.specs.SoundRow.{IsSoundState};
 ghost use Rattle.taxii_index.specs.Names.{id_of};
 ghost use Rattle.taxii_index.specs.Index.{HasRowOf};
 ghost use Rattle.taxii_store.specs.Addition.{mark_after};
-ghost use Rattle.taxii_store.specs.Agreement.{Agrees};
+ghost use Rattle.taxii_store.specs.Agreement.{Agrees, without_rows};
 
 use crate::Planned;
 use std::alloc::Global;
@@ -102,7 +102,7 @@ impl Library {
         requires agrees { Agrees (K.kept keeper.old) self.old }
         requires mark { planned.mark ≡ self.old.mark }
         ensures agrees { Agrees (K.kept keeper.new) self.new }
-        ensures name { (K.kept keeper.new).name ≡ (K.kept keeper.old).name }
+        ensures keeper { without_rows (K.kept keeper.new) ≡ without_rows (K.kept keeper.old) }
         ensures ok { OnOk result (self.new ≡ with_rows planned.rows (mark_after planned.mark planned.rows) self.old) }
         ensures err { OnErr result (self.new ≡ self.old) }
         ensures nothing { planned.rows ≡ [] → IsOk result × (keeper.new ≡ keeper.old) }

@@ -15,8 +15,8 @@ use std::time::{Clock as Timer, Duration, Instant};
 /// How many seconds the bytes of a caller are dropped for at the end.
 const CLOSING_TIME: u64 = 2;
 
-/// The most bytes that are dropped then.
-const CLOSING_BYTES: u64 = 1_048_576;
+/// The most bytes that are dropped then: twice the largest body that a server takes.
+const CLOSING_BYTES: u64 = 16_777_216;
 
 /// A stream of the system whose caller has to keep a pace: a read or a write waits no longer than its `Pace`
 /// leaves time, and is an error where it leaves none. Contracts see what the stream has left and holds,
@@ -52,7 +52,7 @@ impl<'r, S: Read + Write + OpenStream + Drop, C: Timer> PacedStream<'r, S, C> {
         }
     }
 
-    /// Ends what is written, and drops what still comes, for 2 seconds and 1,048,576 bytes at most. A system
+    /// Ends what is written, and drops what still comes, for 2 seconds and 16,777,216 bytes at most. A system
     /// that closes a stream before takes back what the caller hasn't read yet.
     pub(super) fn close(self) -> io::Result<()> {
         self.stream.shutdown(Shutdown::Write)?;

@@ -159,7 +159,7 @@ impl<'r, R: Net + Timer> Door for TcpDoor<'r, R> {
     }
 
     /// Closes the link. Where no call of it failed, the caller is told first that no more comes, and what it
-    /// still sends is dropped for 2 seconds and 1,048,576 bytes at most, so that what was written reaches it.
+    /// still sends is dropped for 2 seconds and 16,777,216 bytes at most, so that what was written reaches it.
     fn finish(&mut self, link: TcpLink<PacedStream<'r, R::Stream, R>>)
         ensures back { Finishes {L = StreamState} link.entry None None }
         ensures quiet { self.new ≡ self.old }

@@ -12,7 +12,7 @@ loop-request-init g c = record {
   in_time = inl refl;
   few = omega arith;
   agrees = c.requires.agrees;
-  name = refl;
+  keeper = refl;
   config = refl;
   read_faults = refl;
   write_faults = refl;
@@ -76,7 +76,7 @@ loop-request-preserved g c =
       so_far = so_far-next {link = link} _ so_far next wrote.0 c.in-Ok-false.field-0-test;
       few = few-next next c.in-Ok-false.field-0-test;
       agrees = c.in-Ok-false.ensures.agrees;
-      name = c.in-Ok-false.ensures.name ∙ c.loop-request.invariant.name;
+      keeper = c.in-Ok-false.ensures.keeper ∙ c.loop-request.invariant.keeper;
       config = c.in-Ok-false.ensures.config ∙ c.loop-request.invariant.config;
       read_faults = wrote.1 ∙ c.in-Ok-receive.ensures.quiet (λ failed. absurd (cc failed)) ∙ c.loop-request.invariant.read_faults;
       write_faults = c.in-Ok-false.ensures.causes.quiet (λ failed. absurd (cc failed)) ∙ read.1 ∙ c.loop-request.invariant.write_faults;

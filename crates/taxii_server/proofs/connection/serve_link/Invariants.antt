@@ -1,5 +1,5 @@
 use Rattle.std.proofs.Common.{◌≡◌, ◌-◌, ◌<◌}
-use Rattle.taxii_store.specs.Agreement.{Agrees}
+use Rattle.taxii_store.specs.Agreement.{Agrees, without_rows}
 use Rattle.taxii_server.specs.declared.connection.TheConstants.{MAX_REQUESTS}
 use Rattle.taxii_server.specs.Outside.{link_view}
 use Rattle.taxii_server.specs.inner.Receiving.{IsInTime}
@@ -15,7 +15,7 @@ invariant-loop-request g l = record {
   in_time : IsInTime (g.L.Source.left l.fn.link) (g.L.Source.left l.link) (g.L.Source.began l.link) l.requests;
   few : l.requests < MAX_REQUESTS;
   agrees : Agrees (g.K.Keeper.kept l.keeper) l.server.state.library;
-  name : (g.K.Keeper.kept l.keeper).name ≡ (g.K.Keeper.kept l.fn.keeper).name;
+  keeper : without_rows (g.K.Keeper.kept l.keeper) ≡ without_rows (g.K.Keeper.kept l.fn.keeper);
   config : l.server.config ≡ l.fn.server.config;
   read_faults : g.L.Source.faults l.link ≡ g.L.Source.faults l.fn.link;
   write_faults : g.L.Sink.faults l.link ≡ g.L.Sink.faults l.fn.link;

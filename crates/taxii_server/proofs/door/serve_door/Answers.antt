@@ -10,7 +10,7 @@ returns-in_err-listen-clause-serves g c =
 pub loop-served-init : goal.loop-served-init
 loop-served-init g c = record {
   agrees = c.requires.agrees;
-  name = refl;
+  keeper = refl;
   config = refl;
   so_far = none_yet _ _ _ _ _ _ _ c.in_ok-listen.ensures.ok;
   most = omega arith;
@@ -21,7 +21,7 @@ pub loop-served-preserved : goal.loop-served-preserved
 loop-served-preserved g c =
     let before = c.loop-served.invariant in record {
       agrees = c.serve_caller.ensures.agrees;
-      name = c.serve_caller.ensures.name ∙ before.name;
+      keeper = c.serve_caller.ensures.keeper ∙ before.keeper;
       config = c.serve_caller.ensures.config ∙ before.config;
       so_far = one_more _ _ _ _ _ _ _ _ _ _ _ _ _ _ _ _ _ before.so_far
           (subst (λ found. GivesNext found (g.D.Door.told c.loop-served.door) (g.D.Door.told c.next.new.self)) c.in-Some.is c.in_ok-link.ensures.ok) before.config

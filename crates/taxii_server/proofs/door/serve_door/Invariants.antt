@@ -1,5 +1,5 @@
 use Rattle.std.proofs.Common.{◌-◌, ◌≡◌, ◌≤◌}
-use Rattle.taxii_store.specs.Agreement.{Agrees}
+use Rattle.taxii_store.specs.Agreement.{Agrees, without_rows}
 use Rattle.taxii_server.specs.Outside.{link_view}
 use Rattle.taxii_server.specs.inner.Serving.{SoFar}
 use Rattle.taxii_server.proofs.door.serve_door.Given as goal
@@ -7,7 +7,7 @@ use Rattle.taxii_server.proofs.door.serve_door.Given as goal
 abbrev pub invariant-loop-served : goal.invariant-loop-served
 invariant-loop-served g l = record {
   agrees : Agrees (g.K.Keeper.kept l.keeper) l.server.state.library;
-  name : (g.K.Keeper.kept l.keeper).name ≡ (g.K.Keeper.kept l.fn.keeper).name;
+  keeper : without_rows (g.K.Keeper.kept l.keeper) ≡ without_rows (g.K.Keeper.kept l.fn.keeper);
   config : l.server.config ≡ l.fn.server.config;
   so_far : SoFar (link_view g.D.Link.Source.left g.D.Link.Source.began g.D.Link.Sink.written g.D.Link.Source.faults g.D.Link.Sink.faults)
       l.fn.server.config l.fn.server.state l.server.state l.port

@@ -30,7 +30,7 @@ returns-in_default g c =
     let ensures = c.respond_at.ensures in
     record {
       agrees = ensures.agrees;
-      name = ensures.name;
+      keeper = ensures.keeper;
       ok = if_ok c.respond_at.result
           (λ answer. RouteStep config before moment request route c.query_text-query.result.now answer after
           ⊎ ((answer ≡ answer_to_problem request.method StoreFault) × (after ≡ before) × RouteChanges config before moment request route c.query_text-query.result.now))
