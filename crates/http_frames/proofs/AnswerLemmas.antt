@@ -1,31 +1,10 @@
--- The phrase of a status; the lines of the head of an answer: the field of a date, and all of them one after the other.
+-- The lines of the head of an answer: the field of a date, and all of them one after the other.
 use Rattle.std.proofs.Common.{◌≡◌, ℕ, ◌*◌, Bool, List, [], ◌++◌, length, Option, Some, None, ℤ, pos, subst, sym, refl, ap, ◌∙◌, codes}
 use Rattle.std.specs.Prelude.{SomeIff, decimal, option_map, if◌then◌else◌}
 use Rattle.stix_times.specs.Writing.{IsTextOfDigits}
-use Rattle.http.specs.StatusCode.{reason_phrase}
 use Rattle.http_frames.specs.declared.answer.Answer.{Answer}
-use Rattle.http_frames.specs.declared.status.Status.{Status}
-use Rattle.http_frames.specs.declared.status.Status.TheVariants as status
-use Rattle.http_frames.specs.Answers.{code_of, phrase_of, field_line, line_if_some, line_end, status_line, media_type, methods_of, body_of, head_text, IsDateText, IsAnswerText}
+use Rattle.http_frames.specs.Answers.{field_line, line_if_some, line_end, status_line, media_type, methods_of, body_of, head_text, IsDateText, IsAnswerText}
 use Rattle.http_frames.specs.inner.HeadText.{PushesDate, IsHeadText}
-
--- the phrase of a status is the one that `http` has for its code
-pub phrase_known : (its : Status) → reason_phrase (code_of its) ≡ Some (phrase_of its)
-phrase_known status.Okay = refl
-phrase_known status.Accepted = refl
-phrase_known status.BadRequest = refl
-phrase_known status.Forbidden = refl
-phrase_known status.NotFound = refl
-phrase_known status.MethodNotAllowed = refl
-phrase_known status.NotAcceptable = refl
-phrase_known status.LengthRequired = refl
-phrase_known status.PayloadTooLarge = refl
-phrase_known status.UnsupportedMediaType = refl
-phrase_known status.UnprocessableEntity = refl
-phrase_known status.HeadTooLarge = refl
-phrase_known status.InternalServerError = refl
-phrase_known status.NotImplemented = refl
-phrase_known status.ServiceUnavailable = refl
 
 pub some_is : (found : Option ℤ) (P : Type 0) (v i : ℤ) → SomeIff found P v → found ≡ Some i → i ≡ v
 some_is None P v i holds is = absurd (cc is)

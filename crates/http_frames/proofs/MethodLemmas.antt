@@ -1,10 +1,11 @@
 -- The names of the methods that a resource takes are short tokens, so `http` reads them without memory.
-use Rattle.std.proofs.Common.{◌≡◌, ℕ, ◌≤◌, Bool, true, false, List, length, codes, refl, sym, subst, arith}
-use Rattle.std.specs.Prelude.{bytes_eq, if◌then◌else◌}
+use Rattle.std.proofs.Common.{◌≡◌, ℕ, ◌≤◌, true, false, List, length, codes, refl, sym, subst, arith}
+use Rattle.std.specs.Prelude.{bytes_eq, All, IsTrue}
+use Rattle.std.specs.List.{list_all}
+use Rattle.std.proofs.lemmas.Bool.Decides.{Decides-by_and}
 use Rattle.std.proofs.lemmas.Bool.{false_from_ne_true}
 use Rattle.std.proofs.lemmas.Slice.Eq.{bytes_eq-Decides}
-use Rattle.http_header.specs.Token.{is_token_byte, IsToken}
-use Rattle.http_header.proofs.TokenLemmas.{AllPass-from_test}
+use Rattle.http.specs.Token.{is_token_byte, IsToken}
 use Rattle.http_frames.specs.declared.method.Method.TheVariants.{Other}
 use Rattle.http_frames.specs.Fields.{method_of}
 
@@ -12,25 +13,28 @@ use Rattle.http_frames.specs.Fields.{method_of}
 abbrev pub IsShortToken : List ℕ → Type 0
 IsShortToken name = IsToken name × (length name ≤ 15)
 
+all_marks : (name : List ℕ) → list_all is_token_byte name ≡ true → All (λ b. IsTrue (is_token_byte b)) name
+all_marks name = (Decides-by_and is_token_byte (λ b. IsTrue (is_token_byte b)) (list_all is_token_byte) (λ b. (λ h. h, λ h. h)) refl (λ _ _. refl) name).0
+
 unlike : (name known : List ℕ) → ¬ (IsShortToken name) → IsShortToken known → bytes_eq name known ≡ false
 unlike name known none is =
     false_from_ne_true (bytes_eq name known) (λ same. none (subst IsShortToken (sym ((bytes_eq-Decides name known).0 same)) is))
 
 get_is : IsShortToken (codes "GET")
 unfolding is_token_byte
-get_is = ((omega arith, AllPass-from_test is_token_byte (codes "GET") refl), omega arith)
+get_is = ((omega arith, all_marks (codes "GET") refl), omega arith)
 
 head_is : IsShortToken (codes "HEAD")
 unfolding is_token_byte
-head_is = ((omega arith, AllPass-from_test is_token_byte (codes "HEAD") refl), omega arith)
+head_is = ((omega arith, all_marks (codes "HEAD") refl), omega arith)
 
 post_is : IsShortToken (codes "POST")
 unfolding is_token_byte
-post_is = ((omega arith, AllPass-from_test is_token_byte (codes "POST") refl), omega arith)
+post_is = ((omega arith, all_marks (codes "POST") refl), omega arith)
 
 delete_is : IsShortToken (codes "DELETE")
 unfolding is_token_byte
-delete_is = ((omega arith, AllPass-from_test is_token_byte (codes "DELETE") refl), omega arith)
+delete_is = ((omega arith, all_marks (codes "DELETE") refl), omega arith)
 
 -- what is no short token names another method
 pub other_method : (name : List ℕ) → ¬ (IsShortToken name) → Other ≡ method_of name
