@@ -13,7 +13,9 @@ use Rattle.taxii_copy.specs.declared.stop.CopyStop.TheVariants.{NotLoaded, NotFe
 use Rattle.taxii_copy.specs.declared.stop.FetchStop.TheVariants as Stop
 use Rattle.taxii_copy.specs.declared.totals.Totals.{Totals}
 use Rattle.command_peer.specs.Refusal.{peer_reason}
-use Rattle.command_reasons.specs.Reasons.{bad_row_reason}
+use Rattle.taxii_rows.specs.declared.fault_cause.FaultCause.{FaultCause}
+use Rattle.taxii_rows.specs.Causes.{text_of}
+use Rattle.command_reasons.specs.Reasons.{bad_row_reason, store_fault_reason}
 use Rattle.command_mirror.specs.declared.ending.MirrorEnding.{MirrorEnding}
 use Rattle.command_mirror.specs.declared.ending.MirrorEnding.TheVariants.{Usage, Done, WriteFault, Stopped, NoMemory}
 use Rattle.command_mirror.specs.Words.{AskFor, AskForNothing}
@@ -62,24 +64,25 @@ mirror_status Usage = 2
 mirror_status WriteFault = 6
 mirror_status (Stopped stop) = stop_status stop
 
-abbrev pub stop_reason : CopyStop → List ℕ
-stop_reason (NotLoaded Load.NoMemory) = codes "out of memory\n"
-stop_reason (NotFetched Stop.NoMemory) = codes "out of memory\n"
-stop_reason (NotAbsorbed Store.NoMemory) = codes "out of memory\n"
-stop_reason (NotFetched Stop.LinkLost) = codes "link lost\n"
-stop_reason (NotLoaded Load.KeeperFault) = codes "store fault\n"
-stop_reason (NotAbsorbed Store.Fault) = codes "store fault\n"
-stop_reason (NotLoaded (Load.BadRow after)) = bad_row_reason after
-stop_reason (NotFetched (Stop.Refused refusal)) = peer_reason refusal
-stop_reason (NotFetched Stop.TooManyPages) = codes "too many pages\n"
-stop_reason (NotAbsorbed Store.DatesUsedUp) = codes "date range is used up\n"
+-- `cause` is why the keeper failed, if it did
+abbrev pub stop_reason : FaultCause → CopyStop → List ℕ
+stop_reason cause (NotLoaded Load.NoMemory) = codes "out of memory\n"
+stop_reason cause (NotFetched Stop.NoMemory) = codes "out of memory\n"
+stop_reason cause (NotAbsorbed Store.NoMemory) = codes "out of memory\n"
+stop_reason cause (NotFetched Stop.LinkLost) = codes "link lost\n"
+stop_reason cause (NotLoaded Load.KeeperFault) = store_fault_reason (text_of cause)
+stop_reason cause (NotAbsorbed Store.Fault) = store_fault_reason (text_of cause)
+stop_reason cause (NotLoaded (Load.BadRow after)) = bad_row_reason after
+stop_reason cause (NotFetched (Stop.Refused refusal)) = peer_reason refusal
+stop_reason cause (NotFetched Stop.TooManyPages) = codes "too many pages\n"
+stop_reason cause (NotAbsorbed Store.DatesUsedUp) = codes "date range is used up\n"
 
-abbrev pub reason_of : MirrorEnding → List ℕ
-reason_of Done = []
-reason_of NoMemory = codes "out of memory\n"
-reason_of Usage = codes "usage: stix_mirror HOST PORT ROOT COLLECTION FILE TRIES [--since TIME]\n"
-reason_of WriteFault = codes "write fault\n"
-reason_of (Stopped stop) = stop_reason stop
+abbrev pub reason_of : FaultCause → MirrorEnding → List ℕ
+reason_of cause Done = []
+reason_of cause NoMemory = codes "out of memory\n"
+reason_of cause Usage = codes "usage: stix_mirror HOST PORT ROOT COLLECTION FILE TRIES [--since TIME]\n"
+reason_of cause WriteFault = codes "write fault\n"
+reason_of cause (Stopped stop) = stop_reason cause stop
 
 -- For private clauses: what the end of a copy says of what was written alone.
 abbrev pub Concludes : Totals → Option (List ℕ) → Option (List ℕ) → MirrorEnding → Type 0

@@ -2,6 +2,7 @@
 use Rattle.std.specs.Prelude.{◌≡◌, ◌≢◌, ◌⊎◌, ℕ, ◌+◌, ◌-◌, ◌^◌, ◌≤◌, List, [], ◌++◌, length, map, All, Option, IfSome}
 use Rattle.flow_edges.specs.Flow.{written_with}
 use Rattle.stix_json.specs.declared.entry.Entry.{Entry}
+use Rattle.taxii_rows.specs.declared.fault_cause.FaultCause.{FaultCause}
 use Rattle.taxii_rows.specs.StoreState.{StoreState}
 use Rattle.taxii_client.specs.Outside.{LinkView}
 use Rattle.taxii_client.specs.Pulls.{Page, PassThrough, IsPull}
@@ -17,13 +18,13 @@ use Rattle.taxii_copy.specs.Totals.{totals_of}
 use Rattle.command_mirror.specs.Summary.{summary_text}
 use Rattle.command_mirror.specs.Endings.{EndsWords, mirror_status, reason_of}
 
--- the program ended in one of its ways, with that status and that reason
+-- the program ended in one of its ways, with that status and that reason; `cause` is why the keeper failed, if it did
 pub record Ends {L : Type 0} (view : L → LinkView) (words : List (List ℕ)) (before now : Outside L) (written written_now : Option (List ℕ)) (status : ℕ)
-    (Writes : List ℕ → Type 0) : Type 0 where
+    (cause : FaultCause) (Writes : List ℕ → Type 0) : Type 0 where
   pub ending : MirrorEnding
   pub status_is : status ≡ mirror_status ending
   pub stands : EndsWords view words before now written written_now ending
-  pub reason : Writes (reason_of ending)
+  pub reason : Writes (reason_of cause ending)
 
 -- the pages that came are a pull of all that was asked for, all were absorbed, and the summary of that was written
 pub record CopiesAll {L : Type 0} (view : L → LinkView) (before now : Outside L) (written written_now : Option (List ℕ)) (asked : Copying) : Type 0 where

@@ -4,11 +4,12 @@ ghost use Rattle.flow_edges.specs.Flow.{WritesWhole};
 ghost use Rattle.command_mirror.specs.Endings.{stop_status, stop_reason};
 
 use command_peer::write_refusal;
-use command_reasons::{write_bad_row, write_no_memory, write_write_fault};
+use command_reasons::{write_bad_row, write_no_memory, write_store_fault, write_write_fault};
 use flow_edges::{Sink, write_whole};
 use flow_values::Fault;
 use taxii_copy::{CopyStop, FetchStop};
 use taxii_mirror::StoreRefusal;
+use taxii_rows::FaultCause;
 use taxii_store::LoadRefusal;
 
 /// How the program ends.
@@ -41,9 +42,10 @@ impl MirrorEnding {
         }
     }
 
-    /// Writes why the program ends so, in one line, or nothing where all was done. Takes no memory.
-    pub fn write_reason<S: Sink>(&self, reasons: &mut S) -> Result<(), Fault>
-        ensures text { WritesWhole (reason_of self.now) (S.written reasons.old) (S.written reasons.new) result }
+    /// Writes why the program ends so, in one line, or nothing where all was done; `cause` is why the keeper failed, if it did.
+    /// Takes no memory.
+    pub fn write_reason<S: Sink>(&self, cause: FaultCause, reasons: &mut S) -> Result<(), Fault>
+        ensures text { WritesWhole (reason_of cause self.now) (S.written reasons.old) (S.written reasons.new) result }
         ensures causes { Counted (IsErr result) (S.faults reasons.old) (S.faults reasons.new) }
     {
         match self {
@@ -51,7 +53,7 @@ impl MirrorEnding {
             MirrorEnding::NoMemory => write_no_memory(reasons),
             MirrorEnding::Usage => write_usage(reasons),
             MirrorEnding::WriteFault => write_write_fault(reasons),
-            MirrorEnding::Stopped(stop) => write_stop(stop, reasons),
+            MirrorEnding::Stopped(stop) => write_stop(stop, cause, reasons),
         }
     }
 }
@@ -75,8 +77,8 @@ fn status_of(stop: &CopyStop) -> u8
 }
 
 /// Writes why a copy stopped.
-fn write_stop<S: Sink>(stop: &CopyStop, reasons: &mut S) -> Result<(), Fault>
-    ensures text { WritesWhole (stop_reason stop.now) (S.written reasons.old) (S.written reasons.new) result }
+fn write_stop<S: Sink>(stop: &CopyStop, cause: FaultCause, reasons: &mut S) -> Result<(), Fault>
+    ensures text { WritesWhole (stop_reason cause stop.now) (S.written reasons.old) (S.written reasons.new) result }
     ensures causes { Counted (IsErr result) (S.faults reasons.old) (S.faults reasons.new) }
 {
     match stop {
@@ -85,7 +87,7 @@ fn write_stop<S: Sink>(stop: &CopyStop, reasons: &mut S) -> Result<(), Fault>
         | CopyStop::NotAbsorbed(StoreRefusal::NoMemory) => write_no_memory(reasons),
         CopyStop::NotFetched(FetchStop::LinkLost) => write_whole(reasons, b"link lost\n"),
         CopyStop::NotLoaded(LoadRefusal::KeeperFault)
-        | CopyStop::NotAbsorbed(StoreRefusal::Fault) => write_whole(reasons, b"store fault\n"),
+        | CopyStop::NotAbsorbed(StoreRefusal::Fault) => write_store_fault(cause.text(), reasons),
         CopyStop::NotLoaded(LoadRefusal::BadRow { after }) => write_bad_row(*after, reasons),
         CopyStop::NotFetched(FetchStop::Refused(refusal)) => write_refusal(refusal, reasons),
         CopyStop::NotFetched(FetchStop::TooManyPages) => write_whole(reasons, b"too many pages\n"),

@@ -18,7 +18,7 @@ use flow_values::NoMemory;
 use std::alloc::Global;
 use taxii_client::laws::pulls_go_on;
 use taxii_copy::{Totals, copy};
-use taxii_rows::Keeper;
+use taxii_rows::{FaultCause, Keeper};
 
 /// Tells what was absorbed.
 fn conclude<O: Sink>(totals: &Totals, output: &mut O) -> MirrorEnding
@@ -117,7 +117,7 @@ pub fn run_mirror<D: Dial, K: Keeper, C: Clock, O: Sink, E: Sink>(
 ) -> u8
     ensures ends { Ends (link_view D.Link.left D.Link.written D.Link.Source.faults D.Link.Sink.faults) (texts words.now)
         (outside (D.told dial.old) (D.faults dial.old) (K.kept keeper.old) (C.moments clock.old))
-        (outside (D.told dial.new) (D.faults dial.new) (K.kept keeper.new) (C.moments clock.new)) (O.written output.old) (O.written output.new) result
+        (outside (D.told dial.new) (D.faults dial.new) (K.kept keeper.new) (C.moments clock.new)) (O.written output.old) (O.written output.new) result (K.blamed keeper.new)
         (λ reason. WritesReason reason (E.written faults.old) (E.written faults.new) (E.faults faults.old) (E.faults faults.new)) }
     ensures refusals { (result ≡ 2) ↔ AskForNothing (texts words.now) }
     ensures untouched { result ≡ 2 → (dial.new ≡ dial.old) × (keeper.new ≡ keeper.old) × (clock.new ≡ clock.old) × (output.new ≡ output.old) }
@@ -135,14 +135,14 @@ pub fn run_mirror<D: Dial, K: Keeper, C: Clock, O: Sink, E: Sink>(
 {
     pulls_go_on::<D>();
     let ending = obey(alloc, words, dial, keeper, clock, output);
-    finish(&ending, faults)
+    finish(&ending, keeper.cause(), faults)
 }
 
-/// Tells why the program ends so, and answers its status.
-fn finish<E: Sink>(ending: &MirrorEnding, faults: &mut E) -> u8
+/// Tells why the program ends so, and answers its status; `cause` is why the keeper failed, if it did.
+fn finish<E: Sink>(ending: &MirrorEnding, cause: FaultCause, faults: &mut E) -> u8
     ensures status { result ≡ mirror_status ending.now }
-    ensures reason { WritesReason (reason_of ending.now) (E.written faults.old) (E.written faults.new) (E.faults faults.old) (E.faults faults.new) }
+    ensures reason { WritesReason (reason_of cause ending.now) (E.written faults.old) (E.written faults.new) (E.faults faults.old) (E.faults faults.new) }
 {
-    let _ = ending.write_reason(faults);
+    let _ = ending.write_reason(cause, faults);
     ending.status()
 }

@@ -28,6 +28,10 @@ crowded_reason number cap = codes "crowded at observation " ++ (decimal number +
 abbrev pub bad_row_reason : ℕ → List ℕ
 bad_row_reason date = codes "store refused: row after " ++ (decimal date ++ codes "\n")
 
+-- store fault: WHY
+abbrev pub store_fault_reason : List ℕ → List ℕ
+store_fault_reason cause = codes "store fault: " ++ (cause ++ codes "\n")
+
 -- the text was written, or a prefix of it where the sink's count of faults rose
 abbrev pub WritesReason : List ℕ → Option (List ℕ) → Option (List ℕ) → ℕ → ℕ → Type 0
 WritesReason text written written_after faults faults_after =

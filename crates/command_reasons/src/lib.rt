@@ -5,7 +5,9 @@ mod bad_row;
 mod crowded;
 mod reasons;
 mod refusal_text;
+mod store_fault;
 
 pub use bad_row::write_bad_row;
 pub use crowded::write_crowded;
 pub use reasons::{write_no_memory, write_pattern_reason, write_read_fault, write_write_fault};
+pub use store_fault::write_store_fault;

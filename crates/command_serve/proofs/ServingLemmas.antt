@@ -1,6 +1,7 @@
 -- What stands around a server when it ends, from what its parts say.
 use Rattle.std.proofs.Common.{◌≡◌, ◌≤◌, ℕ, List, [], length, Option, Some, None, option_map, IfSome, refl, sym, ap, subst, ◌∙◌}
 use Rattle.flow_edges.specs.Flow.{written_with}
+use Rattle.taxii_rows.specs.declared.fault_cause.FaultCause.{FaultCause}
 use Rattle.taxii_rows.specs.StoreState.{StoreState}
 use Rattle.taxii_rows.specs.Keeper.{Kept}
 use Rattle.taxii_rows.specs.SoundRow.{IsSoundState}
@@ -44,10 +45,10 @@ dated store sound = record { rise = sound.rise; marked = sound.marked }
 
 module _ {L : Type 0} (view : L → LinkView) (service : PlainService) (before after : Places L) where
   pub refused-ends : (refusal : LoadRefusal) → IsUnserved before after → ((date : ℕ) → refusal ≡ refused.BadRow date → IfSome before.kept.told (λ state. IsBadAfter state date))
-      → EndsServe view service before after (load_ending refusal)
-  refused-ends refused.KeeperFault same bad = same
-  refused-ends (refused.BadRow date) same bad = (same, bad date refl)
-  refused-ends refused.NoMemory same bad = same
+      → (cause : FaultCause) → EndsServe view service before after (load_ending cause refusal)
+  refused-ends refused.KeeperFault same bad cause = same
+  refused-ends (refused.BadRow date) same bad cause = (same, bad date refl)
+  refused-ends refused.NoMemory same bad cause = same
 
   pub concluded-ends : (served : Served) (ending : ServeEnding) → ServesAll view service before after served → Concludes served before.written after.written ending
       → EndsServe view service before after ending
@@ -55,7 +56,7 @@ module _ {L : Type 0} (view : L → LinkView) (service : PlainService) (before a
   concluded-ends served WriteFault all ends = (served, all, ends)
   concluded-ends served DoorFault all ends = absurd ends
   concluded-ends served NoMemory all ends = absurd ends
-  concluded-ends served StoreFault all ends = absurd ends
+  concluded-ends served (StoreFault cause) all ends = absurd ends
   concluded-ends served (BadRow date) all ends = absurd ends
 
   pub serves-of : (server : Server) (last : State) (callers : List (Caller L)) (kept : Kept) → Begins service kept server → kept.told ≡ before.kept.told

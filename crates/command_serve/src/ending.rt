@@ -1,8 +1,9 @@
 ghost use Rattle.std.specs.Prelude.{◌≡◌, IsErr};
 
-use command_reasons::{write_bad_row, write_no_memory, write_write_fault};
+use command_reasons::{write_bad_row, write_no_memory, write_store_fault, write_write_fault};
 use flow_edges::{Sink, write_whole};
 use flow_values::Fault;
+use taxii_rows::FaultCause;
 use taxii_server::Served;
 use taxii_store::LoadRefusal;
 
@@ -17,8 +18,8 @@ pub enum ServeEnding {
     WriteFault,
     /// The door failed. The callers before that were served.
     DoorFault,
-    /// The store failed while it was read, before the door was opened.
-    StoreFault,
+    /// The store failed while it was read, before the door was opened, and why.
+    StoreFault(FaultCause),
     /// The row behind this date is bad, or the mark behind the last row.
     BadRow {
         /// In microseconds since 1970; 0 where it is the first row.
@@ -29,7 +30,7 @@ pub enum ServeEnding {
 impl ServeEnding {
     ghost use Rattle.flow_edges.specs.Faults.{Counted};
     ghost use Rattle.flow_edges.specs.Flow.{WritesWhole};
-    ghost use Rattle.command_serve.specs.ServeEndings.{serve_status, serve_reason};
+    ghost use Rattle.command_serve.specs.ServeEndings.{serve_status, serve_reason, load_ending};
 
     /// The status of the program.
     pub fn status(self) -> u8
@@ -40,7 +41,7 @@ impl ServeEnding {
             ServeEnding::NoMemory => 1,
             ServeEnding::WriteFault => 6,
             ServeEnding::DoorFault => 8,
-            ServeEnding::StoreFault => 9,
+            ServeEnding::StoreFault(_) => 9,
             ServeEnding::BadRow { .. } => 10,
         }
     }
@@ -55,20 +56,17 @@ impl ServeEnding {
             ServeEnding::NoMemory => write_no_memory(reasons),
             ServeEnding::WriteFault => write_write_fault(reasons),
             ServeEnding::DoorFault => write_whole(reasons, b"door fault\n"),
-            ServeEnding::StoreFault => write_whole(reasons, b"store fault\n"),
+            ServeEnding::StoreFault(cause) => write_store_fault(cause.text(), reasons),
             ServeEnding::BadRow { after } => write_bad_row(after, reasons),
         }
     }
-}
 
-impl From<LoadRefusal> for ServeEnding {
-    ghost use Rattle.command_serve.specs.ServeEndings.{load_ending};
-
-    ghost from_gives = { λ refusal ending. ending ≡ load_ending refusal };
-
-    fn from(refusal: LoadRefusal) -> ServeEnding {
+    /// How a `serve` ends whose rows can't be loaded, where the keeper failed for that cause if it did.
+    pub(crate) fn of_refusal(refusal: LoadRefusal, cause: FaultCause) -> ServeEnding
+        ensures { result ≡ load_ending cause refusal }
+    {
         match refusal {
-            LoadRefusal::KeeperFault => ServeEnding::StoreFault,
+            LoadRefusal::KeeperFault => ServeEnding::StoreFault(cause),
             LoadRefusal::BadRow { after } => ServeEnding::BadRow { after },
             LoadRefusal::NoMemory => ServeEnding::NoMemory,
         }

@@ -1,8 +1,9 @@
 ghost use Rattle.std.specs.Prelude.{◌≡◌};
 ghost use Rattle.flow_edges.specs.Faults.{Counted};
+ghost use Rattle.taxii_rows.specs.declared.fault_cause.FaultCause.{FaultCause as Cause};
 ghost use Rattle.taxii_server.specs.Outside.{link_view};
 ghost use Rattle.command_line.specs.Request.{plain_service};
-ghost use Rattle.command_serve.specs.ServeEndings.{EndsServe, IsEarly, Concludes};
+ghost use Rattle.command_serve.specs.ServeEndings.{EndsServe, IsEarly, IsStoreFault, Concludes};
 
 use crate::ending::ServeEnding;
 use crate::opening::open;
@@ -33,14 +34,15 @@ pub fn serve<O: Sink, D: Door, K: Keeper, C: Clock>(
         result }
     ensures early { IsEarly result → (door.new ≡ door.old) × (clock.new ≡ clock.old) × (output.new ≡ output.old) }
     ensures door { Counted (result ≡ ServeEnding.DoorFault) (D.faults door.old) (D.faults door.new) }
-    ensures keeper { IsEarly result → Counted (result ≡ ServeEnding.StoreFault) (K.faults keeper.old) (K.faults keeper.new) }
+    ensures keeper { IsEarly result → Counted (IsStoreFault result) (K.faults keeper.old) (K.faults keeper.new) }
+    ensures cause { (cause : Cause) → result ≡ ServeEnding.StoreFault cause → cause ≡ K.blamed keeper.new }
     ensures output { Counted (result ≡ ServeEnding.WriteFault) (O.faults output.old) (O.faults output.new) }
 {
     walks_among_requests_skip_no_row();
     callers_make_history::<D>();
     let mut server = match open(alloc, request, keeper) {
         Ok(server) => server,
-        Err(refusal) => return ServeEnding::from(refusal),
+        Err(refusal) => return ServeEnding::of_refusal(refusal, keeper.cause()),
     };
     let connections = u64::from(request.connections);
     match serve_door(&mut server, keeper, clock, door, request.port, connections) {

@@ -15,7 +15,7 @@ use Rattle.stix_command.specs.declared.ending.Ending.{Ending}
 use Rattle.stix_command.specs.declared.ending.Ending.TheVariants.{Match, Check, Show, Make, Serve, Usage, NoMemory}
 use Rattle.command_serve.specs.declared.ending.ServeEnding.{ServeEnding}
 use Rattle.command_serve.specs.declared.ending.ServeEnding.TheVariants as serving
-use Rattle.command_serve.specs.ServeEndings.{EndsServe, serve_status, IsEarly}
+use Rattle.command_serve.specs.ServeEndings.{EndsServe, serve_status, IsEarly, IsStoreFault}
 use Rattle.command_serve.specs.Services.{Places}
 use Rattle.match_input.specs.declared.mode.Mode.{Mode}
 use Rattle.taxii_server.specs.Outside.{LinkView}
@@ -172,7 +172,7 @@ serve_statuses (serving.Done served) = (λ is. omega arith, λ is. omega arith)
 serve_statuses serving.NoMemory = (λ is. omega arith, λ is. omega arith)
 serve_statuses serving.WriteFault = (λ is. omega arith, λ is. omega arith)
 serve_statuses serving.DoorFault = (λ is. omega arith, λ is. omega arith)
-serve_statuses serving.StoreFault = (λ is. omega arith, λ is. omega arith)
+serve_statuses (serving.StoreFault cause) = (λ is. omega arith, λ is. omega arith)
 serve_statuses (serving.BadRow date) = (λ is. omega arith, λ is. omega arith)
 
 pub usage-run : {L : Type 0} (view : L → LinkView) (words : List (List ℕ)) (before after : Outside L) (ending : Ending) → EndsRun view words before after ending → status_of ending ≡ 2 → IsNoCommand words
@@ -320,7 +320,7 @@ early (serving.Done served) none = absurd (none.0 refl)
 early serving.NoMemory none = tt
 early serving.WriteFault none = absurd (none.1 refl)
 early serving.DoorFault none = absurd (none.2 refl)
-early serving.StoreFault none = tt
+early (serving.StoreFault cause) none = tt
 early (serving.BadRow date) none = tt
 
 -- which statuses no ending of a command has
@@ -361,7 +361,7 @@ serve_reads_nothing (serving.Done served) is = omega arith
 serve_reads_nothing serving.NoMemory is = omega arith
 serve_reads_nothing serving.WriteFault is = omega arith
 serve_reads_nothing serving.DoorFault is = omega arith
-serve_reads_nothing serving.StoreFault is = omega arith
+serve_reads_nothing (serving.StoreFault cause) is = omega arith
 serve_reads_nothing (serving.BadRow date) is = omega arith
 
 -- a count that no call touched
@@ -401,7 +401,7 @@ serve-output ending = counted-when (there ending, λ is. ap serve_status is) whe
   there serving.NoMemory is = absurd (omega arith)
   there serving.WriteFault is = refl
   there serving.DoorFault is = absurd (omega arith)
-  there serving.StoreFault is = absurd (omega arith)
+  there (serving.StoreFault cause) is = absurd (omega arith)
   there (serving.BadRow date) is = absurd (omega arith)
 
 pub serve-door : {before now : ℕ} (ending : ServeEnding) → Counted (ending ≡ serving.DoorFault) before now → Counted (serve_status ending ≡ 8) before now
@@ -411,17 +411,24 @@ serve-door ending = counted-when (there ending, λ is. ap serve_status is) where
   there serving.NoMemory is = absurd (omega arith)
   there serving.WriteFault is = absurd (omega arith)
   there serving.DoorFault is = refl
-  there serving.StoreFault is = absurd (omega arith)
+  there (serving.StoreFault cause) is = absurd (omega arith)
   there (serving.BadRow date) is = absurd (omega arith)
 
-pub serve-keeper : {before now : ℕ} (ending : ServeEnding) → Counted (ending ≡ serving.StoreFault) before now → Counted (serve_status ending ≡ 9) before now
-serve-keeper ending = counted-when (there ending, λ is. ap serve_status is) where
-  there : (ending : ServeEnding) → serve_status ending ≡ 9 → ending ≡ serving.StoreFault
+pub serve-keeper : {before now : ℕ} (ending : ServeEnding) → Counted (IsStoreFault ending) before now → Counted (serve_status ending ≡ 9) before now
+serve-keeper ending = counted-when (there ending, back ending) where
+  back : (ending : ServeEnding) → IsStoreFault ending → serve_status ending ≡ 9
+  back (serving.Done served) is = absurd is
+  back serving.NoMemory is = absurd is
+  back serving.WriteFault is = absurd is
+  back serving.DoorFault is = absurd is
+  back (serving.StoreFault cause) is = refl
+  back (serving.BadRow date) is = absurd is
+  there : (ending : ServeEnding) → serve_status ending ≡ 9 → IsStoreFault ending
   there (serving.Done served) is = absurd (omega arith)
   there serving.NoMemory is = absurd (omega arith)
   there serving.WriteFault is = absurd (omega arith)
   there serving.DoorFault is = absurd (omega arith)
-  there serving.StoreFault is = refl
+  there (serving.StoreFault cause) is = tt
   there (serving.BadRow date) is = absurd (omega arith)
 
 -- a count under a status that is another's
@@ -446,5 +453,5 @@ early-rows view service before after (serving.Done served) is ends = absurd is
 early-rows view service before after serving.WriteFault is ends = absurd is
 early-rows view service before after serving.DoorFault is ends = absurd is
 early-rows view service before after serving.NoMemory is ends = ends.rows
-early-rows view service before after serving.StoreFault is ends = ends.rows
+early-rows view service before after (serving.StoreFault cause) is ends = ends.rows
 early-rows view service before after (serving.BadRow date) is ends = ends.0.rows

@@ -10,7 +10,7 @@ use flow_edges::{ReadSource, WriteSink};
 use flow_links::{SystemClock, TcpDoor};
 use flow_values::NoMemory;
 use std::process::ExitCode;
-use taxii_sqlite::SqliteKeeper;
+use taxii_sqlite::{SqliteKeeper, Unknown};
 
 fn main(rt: HostRuntime) -> ExitCode {
     let mut input = ReadSource::new(rt.stdin());
@@ -23,6 +23,7 @@ fn main(rt: HostRuntime) -> ExitCode {
             return ExitCode::from(1);
         }
     };
+    let mut keeper = SqliteKeeper::new(rt.alloc(), rt, Unknown);
     let status = run::run(
         rt.alloc(),
         &words,
@@ -30,8 +31,10 @@ fn main(rt: HostRuntime) -> ExitCode {
         &mut output,
         &mut reasons,
         &mut TcpDoor::new(&rt),
-        &mut SqliteKeeper::new(rt.alloc(), rt),
+        &mut keeper,
         &mut SystemClock::new(&rt),
     );
+    // All that was answered is in the file and its log. Where the log can't be copied into the file, they stay two.
+    let _ = keeper.close();
     ExitCode::from(status)
 }

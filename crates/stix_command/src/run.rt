@@ -33,10 +33,10 @@ fn obey<I: Source, O: Sink, D: Door, K: Keeper, C: Clock>(
     ensures end { EndsRun (link_view D.Link.left D.Link.began D.Link.written D.Link.Source.faults D.Link.Sink.faults) (texts words.now)
         (outside (I.left input.old) (I.began input.old) (O.written output.old) (D.told door.old) (K.kept keeper.old) (C.moments clock.old) (K.faults keeper.old))
         (outside (I.left input.new) (I.began input.new) (O.written output.new) (D.told door.new) (K.kept keeper.new) (C.moments clock.new) (K.faults keeper.new)) result }
-    ensures unread { (status_of result ≡ 2) ⊎ (status_of result ≡ 3) ⊎ AskForNoInput (texts words.now) → input.new ≡ input.old }
-    ensures unwritten { (status_of result ≡ 2) ⊎ (status_of result ≡ 3) → output.new ≡ output.old }
+    ensures untouched { (status_of result ≡ 2) ⊎ (status_of result ≡ 3) → (input.new ≡ input.old) × (output.new ≡ output.old) }
+    ensures unasked { (AskForNoInput (texts words.now) → input.new ≡ input.old)
+        × (¬ AskToServe (texts words.now) → (door.new ≡ door.old) × (clock.new ≡ clock.old) × (keeper.new ≡ keeper.old)) }
     ensures unserved { ServesNone (status_of result) → (door.new ≡ door.old) × (clock.new ≡ clock.old) × ((K.kept keeper.new).told ≡ (K.kept keeper.old).told) }
-    ensures others { ¬ AskToServe (texts words.now) → (door.new ≡ door.old) × (clock.new ≡ clock.old) × (keeper.new ≡ keeper.old) }
     ensures input { Counted (status_of result ≡ 5) (I.faults input.old) (I.faults input.new) }
     ensures output { Counted (status_of result ≡ 6) (O.faults output.old) (O.faults output.new) }
     ensures door { Counted (status_of result ≡ 8) (D.faults door.old) (D.faults door.new) }

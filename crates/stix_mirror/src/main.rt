@@ -8,7 +8,7 @@ use flow_edges::WriteSink;
 use flow_links::{SystemClock, TcpDial};
 use flow_values::NoMemory;
 use std::process::ExitCode;
-use taxii_sqlite::SqliteKeeper;
+use taxii_sqlite::{SqliteKeeper, Unknown};
 
 fn main(rt: HostRuntime) -> ExitCode {
     let mut output = WriteSink::new(rt.stdout());
@@ -20,14 +20,17 @@ fn main(rt: HostRuntime) -> ExitCode {
             return ExitCode::from(1);
         }
     };
+    let mut keeper = SqliteKeeper::new(rt.alloc(), rt, Unknown);
     let status = run_mirror(
         rt.alloc(),
         &words,
         &mut TcpDial::new(&rt),
-        &mut SqliteKeeper::new(rt.alloc(), rt),
+        &mut keeper,
         &mut SystemClock::new(&rt),
         &mut output,
         &mut faults,
     );
+    // All that was absorbed is in the file and its log. Where the log can't be copied into the file, they stay two.
+    let _ = keeper.close();
     ExitCode::from(status)
 }

@@ -1,5 +1,6 @@
 ghost use Rattle.std.specs.Prelude.{◌≡◌, ◌≢◌, None, Some, Err, IfOk, OnOk, OnErr, is_some};
 ghost use Rattle.taxii_rows.specs.declared.keeper_refusal.KeeperRefusal.TheVariants.{NoMemory as OutOfMemory};
+ghost use Rattle.taxii_rows.specs.declared.fault_cause.FaultCause.TheVariants.{Untold};
 ghost use Rattle.taxii_rows.specs.StoreState.{dates_of, RiseFrom};
 ghost use Rattle.taxii_rows.specs.Keeper.{row_after as first_later, with_rows, without, CanAppend};
 ghost use Rattle.flow_edges.specs.Faults.{Counted};
@@ -10,7 +11,7 @@ use crate::held::{append_copies, is_among};
 use flow_values::{Items, Text};
 use std::alloc::Global;
 use std::marker::Model;
-use taxii_rows::{Keeper, KeeperRefusal, StoredRow, row_after};
+use taxii_rows::{FaultCause, Keeper, KeeperRefusal, StoredRow, row_after};
 
 /// Rows in memory, with calls that fail.
 #[derive(Drop)]
@@ -90,6 +91,14 @@ impl Keeper for MemoryKeeper {
     ghost kept = { λ keeper. record { told = Some keeper.state; name = keeper.name; attached = is_some keeper.name } };
 
     ghost faults = { λ keeper. keeper.faults };
+
+    ghost blamed = { λ _. Untold };
+
+    fn cause(&self) -> FaultCause
+        ensures { result ≡ Untold }
+    {
+        FaultCause::Untold
+    }
 
     fn attach(&mut self, text: &str) -> Result<(), KeeperRefusal>
         ensures ok { OnOk result (self.new.name ≡ Some text.now) }

@@ -5,3 +5,4 @@ pub mod StoreState
 pub mod Version
 pub mod Identity
 pub mod Picking
+pub mod Causes

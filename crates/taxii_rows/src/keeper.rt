@@ -1,21 +1,30 @@
 ghost use Rattle.std.specs.Prelude.{◌≡◌, ℕ, true, IfOk, IfSome, OnOk, OnErr, Err};
+ghost use Rattle.taxii_rows.specs.declared.fault_cause.FaultCause.{FaultCause as Cause};
 ghost use Rattle.taxii_rows.specs.StoreState.{RiseFrom};
 ghost use Rattle.taxii_rows.specs.Keeper.{Kept, row_after, with_rows, without, retold, CanAppend, IsAttached};
 ghost use Rattle.flow_edges.specs.Faults.{Counted};
 
-use crate::{KeeperRefusal, StoredRow};
+use crate::{FaultCause, KeeperRefusal, StoredRow};
 
 /// Where rows last: a file, or memory. It is attached under a name first, and then its rows are read,
 /// added and removed.
 ///
 /// A call that answers `Ok` is done whole. After a refusal the rows, the mark and the name are as they
-/// were. A `Fault` is counted; no other answer is.
+/// were, where the keeper tells them; one over a file may have ended, and then each later call is a fault.
+/// A `Fault` is counted; no other answer is.
 pub trait Keeper {
     /// Its rows and its name, where it tells them, and whether it is attached.
     ghost kept: { Self → Kept };
 
     /// How many calls failed.
     ghost faults: { Self → ℕ };
+
+    /// Why the last one of them did.
+    ghost blamed: { Self → Cause };
+
+    /// Why the last call that was a fault failed.
+    fn cause(&self) -> FaultCause
+        ensures { result ≡ blamed self.now };
 
     /// Makes the rows under a name ready.
     fn attach(&mut self, text: &str) -> Result<(), KeeperRefusal>

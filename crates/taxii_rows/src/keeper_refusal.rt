@@ -2,7 +2,7 @@ use flow_values::{Fault, NoMemory};
 use std::error::Error;
 use std::fmt;
 
-/// Why a keeper didn't do what it was called for. Its rows, its mark and its name are as they were.
+/// Why a keeper didn't do what it was called for.
 #[derive(Clone, Copy, Debug, PartialEq, Eq)]
 pub enum KeeperRefusal {
     /// The outside failed, and the keeper has counted it.

@@ -8,6 +8,7 @@
 
 mod by_date;
 mod described;
+mod fault_cause;
 mod keeper;
 mod keeper_refusal;
 pub mod laws;
@@ -18,6 +19,7 @@ mod version;
 
 pub use by_date::{row_after, row_at};
 pub use described::{Described, describe};
+pub use fault_cause::FaultCause;
 pub use keeper::Keeper;
 pub use keeper_refusal::KeeperRefusal;
 pub use sound::is_sound_row;

@@ -1,3 +1,4 @@
 mod BehindLemmas
 mod InTurnLemmas
 mod CommitLemmas
+mod ShutLemmas

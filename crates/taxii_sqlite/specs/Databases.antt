@@ -1,44 +1,71 @@
 -- What a database answers and does: by statements over its file, or over rows in memory.
-use Rattle.std.specs.Prelude.{◌≡◌, ◌≢◌, ℕ, List, [], Option}
+use Rattle.std.specs.Prelude.{◌≡◌, ◌≢◌, ⊤, true, false, Bool, ℕ, List, [], Option}
+use Rattle.sqlite_disk.specs.declared.Disk.{Ghosts}
+use Rattle.sqlite_wal.specs.Recovery.{Image}
 use Rattle.sqlite.specs.State.{HasCleanDisk}
-use Rattle.sqlite.specs.Files.{over_files, file_state}
+use Rattle.sqlite.specs.Start.{FindsIn}
+use Rattle.sqlite.specs.Files.{file_state, IsOpened}
 use Rattle.sqlite.specs.Held.{IsNew}
-use Rattle.sqlite.specs.Batch.{ExecutesAllInside}
 use Rattle.taxii_rows.specs.declared.stored_row.StoredRow.{StoredRow}
 use Rattle.taxii_rows.specs.Keeper.{row_after, with_rows, without}
-use Rattle.taxii_sqlite.specs.Statements.{AnswersNext, AnswersMark, InTurn, Transacts, Adds, Deletes, Succeeds, IsReady}
-use Rattle.taxii_sqlite.specs.declared.schema.TheConstants.{MAKE_TABLES}
+use Rattle.taxii_sqlite.specs.Statements.{AnswersNext, AnswersMark, InTurn, Transacts, Adds, Deletes}
+use Rattle.taxii_sqlite.specs.Forms.{IsReady}
+use Rattle.taxii_sqlite.specs.Transactions.{IsUntouched}
 use Rattle.taxii_sqlite.specs.declared.connection.Database.{Database}
 use Rattle.taxii_sqlite.specs.declared.connection.Database.TheVariants.{Closed, Memory, Disk}
 
--- the first row that is later than the date
-abbrev pub FindsNext : ℕ → Database → Database → Option StoredRow → Type 0
-FindsNext date (Disk before) (Disk after) found = HasCleanDisk (file_state after) → AnswersNext date (file_state before) (file_state after) found
-FindsNext date (Memory before) (Memory after) found = found ≡ row_after date before.state.rows
-FindsNext date _ _ found = ⊥
+module _ {D : Type 0} {disk : Ghosts D} where
+  -- whether there is a database
+  abbrev pub is_open : Database D disk → Bool
+  is_open Closed = false
+  is_open _ = true
 
--- the last date ever given
-abbrev pub FindsMark : Database → Database → ℕ → Type 0
-FindsMark (Disk before) (Disk after) mark = HasCleanDisk (file_state after) → AnswersMark (file_state before) (file_state after) mark
-FindsMark (Memory before) (Memory after) mark = mark ≡ before.state.mark
-FindsMark _ _ mark = ⊥
+  -- the first row that is later than the date
+  abbrev pub FindsNext : ℕ → Database D disk → Database D disk → Option StoredRow → Type 0
+  FindsNext date (Disk before) (Disk after) found = HasCleanDisk (file_state after) → AnswersNext date (file_state before) (file_state after) found
+  FindsNext date (Memory before) (Memory after) found = found ≡ row_after date before.state.rows
+  FindsNext date _ _ found = ⊥
 
--- the rows were added, and the date was made the mark
-abbrev pub Appends : List StoredRow → ℕ → Database → Database → Type 0
-Appends rows mark (Disk before) (Disk after) = HasCleanDisk (file_state after) → Transacts file_state (Adds file_state rows mark) before after
-Appends rows mark (Memory before) (Memory after) = after.state ≡ with_rows rows mark before.state
-Appends rows mark _ _ = ⊥
+  -- the last date ever given
+  abbrev pub FindsMark : Database D disk → Database D disk → ℕ → Type 0
+  FindsMark (Disk before) (Disk after) mark = HasCleanDisk (file_state after) → AnswersMark (file_state before) (file_state after) mark
+  FindsMark (Memory before) (Memory after) mark = mark ≡ before.state.mark
+  FindsMark _ _ mark = ⊥
 
--- the rows of the dates were removed
-abbrev pub Removes : List ℕ → Database → Database → Type 0
-Removes dates (Disk before) (Disk after) = HasCleanDisk (file_state after) → Transacts file_state (InTurn (Deletes file_state) dates) before after
-Removes dates (Memory before) (Memory after) = after.state ≡ without dates before.state
-Removes dates _ _ = ⊥
+  -- the rows were added, and the date was made the mark
+  abbrev pub Appends : List StoredRow → ℕ → Database D disk → Database D disk → Type 0
+  Appends rows mark (Disk before) (Disk after) = HasCleanDisk (file_state after) → Transacts file_state (Adds file_state rows mark) before after
+  Appends rows mark (Memory before) (Memory after) = after.state ≡ with_rows rows mark before.state
+  Appends rows mark _ _ = ⊥
 
--- what was opened under a path: with an empty one no rows, in memory; with another one a file that was made ready
-abbrev pub IsOpenAt : List ℕ → Database → Type 0
-IsOpenAt path (Memory keeper) = (path ≡ []) × (keeper.state ≡ record { rows = []; mark = 0 })
-IsOpenAt path (Disk after) =
-    (path ≢ [])
-    × (HasCleanDisk (file_state after) → (before : _) × IsNew before × IsReady file_state (Succeeds (ExecutesAllInside over_files 0 MAKE_TABLES.now)) before after)
-IsOpenAt path Closed = ⊥
+  -- the rows of the dates were removed
+  abbrev pub Removes : List ℕ → Database D disk → Database D disk → Type 0
+  Removes dates (Disk before) (Disk after) = HasCleanDisk (file_state after) → Transacts file_state (InTurn (Deletes file_state) dates) before after
+  Removes dates (Memory before) (Memory after) = after.state ≡ without dates before.state
+  Removes dates _ _ = ⊥
+
+  -- nothing was added or removed; of a file: what it holds and what is committed are as before, unless a failure has shut it
+  abbrev pub StaysAs : Database D disk → Database D disk → Type 0
+  StaysAs (Disk before) (Disk after) = HasCleanDisk (file_state after) → IsUntouched (file_state before) (file_state after)
+  StaysAs (Memory before) (Memory after) = after.state ≡ before.state
+  StaysAs Closed Closed = ⊤
+  StaysAs _ _ = ⊥
+
+  -- a failure of the disk has shut the file: each later call is refused, until the file is opened anew
+  abbrev pub IsShut : Database D disk → Type 0
+  IsShut (Disk held) = (file_state held).is_open ≡ false
+  IsShut _ = ⊥
+
+  -- the disk has returned what was written
+  abbrev pub IsClean : Database D disk → Type 0
+  IsClean (Disk held) = HasCleanDisk (file_state held)
+  IsClean _ = ⊤
+
+  -- what was opened under a path: with an empty one no rows, in memory; with another one a file, whose database is the one that these
+  -- files held, a database and its log, and which was then made ready
+  abbrev pub IsOpenAt : Image → List ℕ → Database D disk → Type 0
+  IsOpenAt files path (Memory keeper) = (path ≡ []) × (keeper.state ≡ record { rows = []; mark = 0 })
+  IsOpenAt files path (Disk after) =
+      (path ≢ [])
+      × (HasCleanDisk (file_state after) → (before : _) × IsNew before × IsOpened before × FindsIn files (file_state before) × IsReady file_state before after)
+  IsOpenAt files path Closed = ⊥

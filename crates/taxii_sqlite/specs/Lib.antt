@@ -1,6 +1,6 @@
-pub mod KeeperState
 pub mod Failing
 pub mod Columns
 pub mod Transactions
 pub mod Statements
+pub mod Forms
 pub mod Databases

@@ -1,12 +1,11 @@
 -- Which statements are run, with which values, and what they answer. What a statement does and answers is said by `Executes` and
 -- `QueriesRow` of the crate `sqlite`.
-use Rattle.std.specs.Prelude.{◌≡◌, ℕ, ℤ, pos, true, List, [], ◌∷◌, Option, None, Some, Result, Ok, Err}
+use Rattle.std.specs.Prelude.{◌≡◌, ℕ, ℤ, true, List, [], ◌∷◌, Option, None, Some, Ok, Err}
 use Rattle.sqlite_value.specs.declared.value.Value.{Value}
 use Rattle.sqlite_value.specs.declared.value.Value.TheVariants.{Int}
 use Rattle.sqlite_value.specs.Order.{column}
 use Rattle.sqlite.specs.State.{State, Executes, Commits, QueriesRow}
 use Rattle.sqlite.specs.Held.{Held}
-use Rattle.sqlite.specs.declared.error.Error.{Error}
 use Rattle.sqlite.specs.declared.error.Error.TheVariants.{QueryReturnedNoRows}
 use Rattle.taxii_rows.specs.declared.stored_row.StoredRow.{StoredRow}
 use Rattle.taxii_sqlite.specs.Columns.{HoldsRow, date_value}
@@ -32,10 +31,6 @@ AnswersCount before after count =
 abbrev pub InTurn : {X H : Type 0} → (X → H → H → Type 0) → List X → H → H → Type 0
 InTurn step [] before after = after ≡ before
 InTurn step (x ∷ more) before after = (between : _) × step x before between × InTurn step more between after
-
--- a batch of statements ended well
-abbrev pub Succeeds : {S : Type 0} → (Held S → Held S → Result (Unit {0}) Error → Type 0) → Held S → Held S → Type 0
-Succeeds batch before after = batch before after (Ok tt)
 
 -- the same connection, in a transaction that was begun
 abbrev pub begun : {S : Type 0} → Held S → Held S
@@ -68,12 +63,3 @@ module _ {S : Type 0} (shown : Held S → State) where
   -- the rows were added in turn, and then the date was made the mark
   abbrev pub Adds : List StoredRow → ℕ → Held S → Held S → Type 0
   Adds rows mark before after = (with_rows : Held S) × InTurn Inserts rows before with_rows × WritesMark mark with_rows after
-
-  -- the tables were made where they were absent, then a mark was read, and then it was counted that no row is early
-  pub record IsReady (MakesTables : Held S → Held S → Type 0) (before after : Held S) : Type 0 where
-    pub made : Held S
-    pub marked : Held S
-    pub mark : ℕ
-    pub makes : Transacts MakesTables before made
-    pub has_mark : AnswersMark (shown made) (shown marked) mark
-    pub has_none_early : AnswersCount (shown marked) (shown after) (pos 0)

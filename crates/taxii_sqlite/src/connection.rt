@@ -1,39 +1,46 @@
-ghost use Rattle.std.specs.Prelude.{◌≡◌, true, IfOk, OnOk};
+ghost use Rattle.std.specs.Prelude.{◌≡◌, ◌≢◌, true, [], IfOk, OnOk, OnErr};
+ghost use Rattle.sqlite_wal.specs.Files.{image_at};
+ghost use Rattle.sqlite_wal.specs.Recovery.{Image};
 ghost use Rattle.taxii_rows.specs.StoreState.{RiseFrom};
-ghost use Rattle.taxii_sqlite.specs.Databases.{FindsNext, FindsMark, Appends, Removes, IsOpenAt};
-ghost use Rattle.taxii_sqlite.specs.KeeperState.{is_open};
+ghost use Rattle.taxii_sqlite.specs.Databases.{is_open, FindsNext, FindsMark, Appends, Removes, StaysAs, IsOpenAt};
 
 use crate::failure::Failure;
-use crate::{memory, statements};
+use crate::{file, memory, statements};
 use flow_values::Items;
-use sqlite::{Connection, File, FileStore};
+use sqlite::{Connection, Error, ErrorCode, FileFrom, FileStore, Start};
+use sqlite_disk::Disk;
 use std::alloc::Global;
 use std::rt::HostRuntime;
 use taxii_memory::MemoryKeeper;
-use taxii_rows::{Keeper, StoredRow};
+use taxii_rows::{FaultCause, Keeper, StoredRow};
 
 /// What a keeper has its rows in. One that is closed fails each call.
 #[derive(Drop)]
-pub(crate) enum Database {
+pub(crate) enum Database<D: Disk + Drop> {
     Closed,
     Memory(MemoryKeeper),
-    Disk(Connection<FileStore<File>>),
+    Disk(Connection<FileStore<D>>),
 }
 
-impl Database {
-    /// Opens the database of this path and makes it ready; or begins without rows, in memory, where the
-    /// path is empty.
-    pub(crate) fn open(alloc: Global, rt: &HostRuntime, path: &str) -> Result<Database, Failure>
-        ensures open { IfOk result (λ database. is_open database ≡ true) }
-        ensures ready { IfOk result (IsOpenAt path.now) }
+const CLOSED: Failure = Failure::Fault(FaultCause::Closed);
+
+impl<D: Disk + Drop> Database<D> {
+    /// A database without rows, in memory.
+    pub(crate) fn in_memory(alloc: Global) -> Database<D>
+        ensures open { is_open result ≡ true }
+        ensures ready { (files : Image) → IsOpenAt files [] result }
     {
-        if path.is_empty() {
-            let rows = MemoryKeeper::new(alloc, Items::new(alloc), 0, Items::new(alloc));
-            return Ok(Database::Memory(rows));
+        let rows = MemoryKeeper::new(alloc, Items::new(alloc), 0, Items::new(alloc));
+        Database::Memory(rows)
+    }
+
+    /// Copies the log into the file of the database, where it is in one, so that the file alone is the whole store. Without this
+    /// the two are the store together.
+    pub(crate) fn close(self) -> Result<(), Failure> {
+        match self {
+            Database::Disk(connection) => Ok(connection.close()?),
+            Database::Closed | Database::Memory(_) => Ok(()),
         }
-        let mut connection = Connection::open(rt, path)?;
-        statements::make_ready(&mut connection)?;
-        Ok(Database::Disk(connection))
     }
 
     /// The first row that is later than the date, or none.
@@ -42,7 +49,7 @@ impl Database {
         ensures finds { IfOk result (FindsNext date self.old self.new) }
     {
         match self {
-            Database::Closed => Err(Failure::Fault),
+            Database::Closed => Err(CLOSED),
             Database::Memory(keeper) => Ok(keeper.next_after(date)?),
             Database::Disk(connection) => statements::next_after(connection, date),
         }
@@ -54,7 +61,7 @@ impl Database {
         ensures finds { IfOk result (FindsMark self.old self.new) }
     {
         match self {
-            Database::Closed => Err(Failure::Fault),
+            Database::Closed => Err(CLOSED),
             Database::Memory(keeper) => Ok(keeper.mark()?),
             Database::Disk(connection) => statements::read_mark(connection),
         }
@@ -64,9 +71,10 @@ impl Database {
     pub(crate) fn append(&mut self, rows: &[StoredRow], mark: u64) -> Result<(), Failure>
         ensures open { is_open self.new ≡ is_open self.old }
         ensures appends { OnOk result (Appends rows.now mark self.old self.new) }
+        ensures untouched { OnErr result (StaysAs self.old self.new) }
     {
         match self {
-            Database::Closed => Err(Failure::Fault),
+            Database::Closed => Err(CLOSED),
             Database::Memory(keeper) => memory::append(keeper, rows, mark),
             Database::Disk(connection) => statements::append(connection, rows, mark),
         }
@@ -77,11 +85,42 @@ impl Database {
         requires { RiseFrom 0 dates.now }
         ensures open { is_open self.new ≡ is_open self.old }
         ensures removes { OnOk result (Removes dates.now self.old self.new) }
+        ensures untouched { OnErr result (StaysAs self.old self.new) }
     {
         match self {
-            Database::Closed => Err(Failure::Fault),
+            Database::Closed => Err(CLOSED),
             Database::Memory(keeper) => Ok(keeper.remove(dates)?),
             Database::Disk(connection) => statements::remove(connection, dates),
         }
+    }
+}
+
+/// Opens the database of this path, which isn't empty, and makes it ready. A file that isn't there is made, for its owner alone;
+/// its pages get sums. `S` stands for what the file held before.
+pub(crate) fn open<S: Start>(
+    rt: &HostRuntime,
+    path: &str,
+    start: S,
+) -> Result<Database<FileFrom<S>>, Failure>
+    requires { path.now ≢ [] }
+    ensures open { IfOk result (λ database. is_open database ≡ true) }
+    ensures ready { IfOk result (IsOpenAt (image_at S.Start) path.now) }
+{
+    file::make_private(rt, path)?;
+    let mut connection = match Connection::open_from(rt, path, true, start) {
+        Ok(connection) => connection,
+        Err((error, _)) => return Err(failure_to_open(rt, path, error)),
+    };
+    statements::make_ready(&mut connection)?;
+    Ok(Database::Disk(connection))
+}
+
+/// Why a file that the system opens wasn't opened as a database.
+fn failure_to_open(rt: &HostRuntime, path: &str, error: Error) -> Failure {
+    match error {
+        Error::SqliteFailure(ErrorCode::CannotOpen) if file::has_journal(rt, path) => {
+            Failure::Fault(FaultCause::Journal)
+        }
+        error => Failure::from(error),
     }
 }

@@ -1,18 +1,18 @@
-ghost use Rattle.std.specs.Prelude.{◌≡◌, IfOk, IfErr, Ok, Err};
+ghost use Rattle.std.specs.Prelude.{◌≡◌, IfOk, IfErr, OnOk, Ok, Err};
 ghost use Rattle.flow_edges.specs.Faults.{Counted};
-ghost use Rattle.taxii_sqlite.specs.Failing.{is_want_of_memory as is_want, refused};
+ghost use Rattle.taxii_sqlite.specs.Failing.{is_want_of_memory as is_want, cause_of as cause_in, refused, blamed_after};
 
 use sqlite::{Error, ErrorCode};
 use sqlite_resolve::CompileError;
 use sqlite_syntax::error::ParseError;
 use std::alloc::AllocError;
-use taxii_rows::KeeperRefusal;
+use taxii_rows::{FaultCause, KeeperRefusal};
 
 /// Why a call of the database failed. It isn't counted yet.
 #[derive(Clone, Copy, Debug, PartialEq, Eq)]
 pub(crate) enum Failure {
     /// The outside failed, or gave what isn't of a store's form.
-    Fault,
+    Fault(FaultCause),
     /// Memory ran out.
     NoMemory,
 }
@@ -27,7 +27,7 @@ impl From<Error> for Failure {
         if is_want_of_memory(error) {
             Failure::NoMemory
         } else {
-            Failure::Fault
+            Failure::Fault(cause_of(error))
         }
     }
 }
@@ -46,7 +46,7 @@ impl From<AllocError> for Failure {
 impl From<KeeperRefusal> for Failure {
     fn from(refusal: KeeperRefusal) -> Failure {
         match refusal {
-            KeeperRefusal::Fault => Failure::Fault,
+            KeeperRefusal::Fault => Failure::Fault(FaultCause::Untold),
             KeeperRefusal::NoMemory => Failure::NoMemory,
         }
     }
@@ -64,21 +64,46 @@ fn is_want_of_memory(error: Error) -> bool
     )
 }
 
-/// The answer, with its fault counted.
-pub(crate) fn counted<T: Drop>(
-    faults: &mut u64,
-    answer: Result<T, Failure>,
-) -> Result<T, KeeperRefusal>
-    ensures ok { IfOk answer (λ value. result ≡ Ok value) }
-    ensures err { IfErr answer (λ failure. result ≡ Err (refused failure)) }
-    ensures causes { Counted (result ≡ Err KeeperRefusal.Fault) faults.old faults.new }
+/// Why an error came that isn't want of memory.
+fn cause_of(error: Error) -> FaultCause
+    ensures { result ≡ cause_in error }
 {
-    match answer {
-        Ok(value) => Ok(value),
-        Err(Failure::NoMemory) => Err(KeeperRefusal::NoMemory),
-        Err(Failure::Fault) => {
-            *faults = faults.saturating_add(1);
-            Err(KeeperRefusal::Fault)
+    match error {
+        Error::SqliteFailure(ErrorCode::DatabaseBusy) => FaultCause::Locked,
+        Error::SqliteFailure(ErrorCode::CannotOpen) => FaultCause::NotOpened,
+        Error::SqliteFailure(ErrorCode::NotADatabase) => FaultCause::NoDatabase,
+        Error::SqliteFailure(ErrorCode::DatabaseCorrupt) => FaultCause::Damaged,
+        Error::SqliteFailure(ErrorCode::DiskFull) => FaultCause::Full,
+        Error::SqliteFailure(ErrorCode::SystemIoFailure) => FaultCause::Disk,
+        Error::SqliteFailure(ErrorCode::Closed) => FaultCause::Closed,
+        _ => FaultCause::Unsound,
+    }
+}
+
+/// How many calls of a keeper failed, and why the last of them did.
+#[derive(Clone, Copy, Debug, PartialEq, Eq)]
+pub(crate) struct Faults {
+    pub(crate) count: u64,
+    pub(crate) cause: FaultCause,
+}
+
+impl Faults {
+    /// The answer, with its fault counted.
+    pub(crate) fn counted<T: Drop>(&mut self, answer: Result<T, Failure>) -> Result<T, KeeperRefusal>
+        ensures ok { IfOk answer (λ value. result ≡ Ok value) }
+        ensures err { IfErr answer (λ failure. result ≡ Err (refused failure)) }
+        ensures causes { Counted (result ≡ Err KeeperRefusal.Fault) self.old.count self.new.count }
+        ensures blames { IfErr answer (λ failure. self.new.cause ≡ blamed_after self.old.cause failure) }
+        ensures stays { OnOk answer (self.new.cause ≡ self.old.cause) }
+    {
+        match answer {
+            Ok(value) => Ok(value),
+            Err(Failure::NoMemory) => Err(KeeperRefusal::NoMemory),
+            Err(Failure::Fault(cause)) => {
+                self.count = self.count.saturating_add(1);
+                self.cause = cause;
+                Err(KeeperRefusal::Fault)
+            }
         }
     }
 }

@@ -5,18 +5,23 @@
 //! attached, that it counts each fault and nothing else, and what its database was asked. Over a file
 //! that is which statements of `schema.rt` were run, in which order and with the columns of which rows,
 //! alone in a transaction that was committed, or what they answered (`specs/Statements.antt`); in memory
-//! it is the rows themselves. A call that answers `Ok` has committed all that it did; after a refusal no
-//! clause says whether a commit took place. Of a file that was there before the clauses say nothing, since
-//! the kit doesn't. What a statement does is the crate `sqlite`'s to say: that those of `schema.rt` keep a
-//! store's rows is only tested.
+//! it is the rows themselves. The database is the one that the file held, whatever it held, and is a store
+//! of the form that this crate knows (`specs/Forms.antt`). A call that answers `Ok` has committed all that
+//! it did. After a refusal the database is as it was, or the disk has shut it, and then no call is answered
+//! any more (`laws::shut_answers_nothing`). What a statement does is the crate `sqlite`'s to say: that those
+//! of `schema.rt` keep a store's rows is only tested.
 #![tactic(auto)]
 
 mod connection;
 mod failure;
+mod file;
+mod form;
 mod keeper;
+pub mod laws;
 mod memory;
 mod row;
 mod schema;
 mod statements;
 
 pub use keeper::SqliteKeeper;
+pub use sqlite::{Start, Unknown};

@@ -6,7 +6,7 @@ ghost use Rattle.taxii_rows.specs.Keeper.{with_rows, CanAppend};
 
 use crate::failure::Failure;
 use taxii_memory::MemoryKeeper;
-use taxii_rows::{Keeper, StoredRow};
+use taxii_rows::{FaultCause, Keeper, StoredRow};
 
 /// Adds the rows and sets the mark, or changes nothing. Rows that don't come behind those that are held
 /// are a fault, as a date that is taken is to a file.
@@ -19,7 +19,7 @@ pub(crate) fn append(
     ensures err { OnErr result (keeper.new.state ≡ keeper.old.state) }
 {
     if !come_behind(keeper.rows(), rows, mark) {
-        return Err(Failure::Fault);
+        return Err(Failure::Fault(FaultCause::Unsound));
     }
     keeper.append(rows, mark)?;
     Ok(())

@@ -5,6 +5,7 @@ ghost use Rattle.sqlite_value.specs.Value.{owned};
 ghost use Rattle.sqlite.specs.Values.{bound};
 ghost use Rattle.taxii_rows.specs.declared.stored_row.StoredRow.{StoredRow as WholeRow};
 ghost use Rattle.taxii_sqlite.specs.Columns.{HoldsRow, HoldsNumber, HoldsText, date_value, truth_value};
+ghost use Rattle.taxii_rows.specs.declared.fault_cause.FaultCause.{FaultCause as Cause};
 ghost use Rattle.taxii_sqlite.specs.declared.failure.Failure.TheVariants.{Fault as IsFault};
 
 use crate::failure::Failure;
@@ -12,14 +13,17 @@ use flow_values::Text;
 use sqlite::Row;
 use sqlite::types::ValueRef;
 use stix_ids::Id;
-use taxii_rows::StoredRow;
+use taxii_rows::{FaultCause, StoredRow};
+
+/// What isn't as a store writes it.
+const UNSOUND: Failure = Failure::Fault(FaultCause::Unsound);
 
 /// A date as the table has it. One past the greatest integer is a fault.
 pub(crate) fn integer_of(date: u64) -> Result<i64, Failure>
     ensures ok { IfOk result (λ integer. integer ≡ pos date) }
     ensures err { OnErr result (2 ^ 63 ≤ date) }
 {
-    i64::try_from(date).map_err(|_| Failure::Fault)
+    i64::try_from(date).map_err(|_| UNSOUND)
 }
 
 /// The bytes of a number, the most significant first.
@@ -57,7 +61,7 @@ pub(crate) fn columns_of<'a>(
 /// The row that is in these columns. Columns that hold none are a fault.
 pub(crate) fn read_row(columns: &Row) -> Result<StoredRow, Failure>
     ensures ok { IfOk result (HoldsRow columns.now) }
-    ensures fault { result ≡ Err IsFault → (row : WholeRow) → ¬ HoldsRow columns.now row }
+    ensures fault { (cause : Cause) → result ≡ Err (IsFault cause) → (row : WholeRow) → ¬ HoldsRow columns.now row }
 {
     let date = date_at(columns, 0)?;
     let collection = number_at(columns, 1)?;
@@ -79,7 +83,7 @@ pub(crate) fn read_row(columns: &Row) -> Result<StoredRow, Failure>
 /// The date in a column.
 pub(crate) fn date_at(columns: &Row, at: usize) -> Result<u64, Failure>
     ensures ok { IfOk result (λ date. column columns.now at ≡ date_value date) }
-    ensures fault { result ≡ Err IsFault → (date : ℕ) → column columns.now at ≢ date_value date }
+    ensures fault { (cause : Cause) → result ≡ Err (IsFault cause) → (date : ℕ) → column columns.now at ≢ date_value date }
 {
     let date = columns.get(at)?;
     Ok(date)
@@ -88,33 +92,33 @@ pub(crate) fn date_at(columns: &Row, at: usize) -> Result<u64, Failure>
 /// The number in a column.
 fn number_at(columns: &Row, at: usize) -> Result<u128, Failure>
     ensures ok { IfOk result (HoldsNumber (column columns.now at)) }
-    ensures fault { result ≡ Err IsFault → (number : ℕ) → ¬ HoldsNumber (column columns.now at) number }
+    ensures fault { (cause : Cause) → result ≡ Err (IsFault cause) → (number : ℕ) → ¬ HoldsNumber (column columns.now at) number }
 {
     let ValueRef::Blob(bytes) = columns.get_ref(at)? else {
-        return Err(Failure::Fault);
+        return Err(UNSOUND);
     };
     match <[u8; 16]>::try_from(bytes) {
         Ok(bytes) => Ok(u128::from_be_bytes(bytes)),
-        Err(_) => Err(Failure::Fault),
+        Err(_) => Err(UNSOUND),
     }
 }
 
 /// The truth in a column.
 fn truth_at(columns: &Row, at: usize) -> Result<bool, Failure>
     ensures ok { IfOk result (λ truth. column columns.now at ≡ truth_value truth) }
-    ensures fault { result ≡ Err IsFault → (truth : Bool) → column columns.now at ≢ truth_value truth }
+    ensures fault { (cause : Cause) → result ≡ Err (IsFault cause) → (truth : Bool) → column columns.now at ≢ truth_value truth }
 {
     match columns.get_ref(at)? {
         ValueRef::Int(0) => Ok(false),
         ValueRef::Int(1) => Ok(true),
-        _ => Err(Failure::Fault),
+        _ => Err(UNSOUND),
     }
 }
 
 /// The text in a column.
 fn text_at(columns: &Row, at: usize) -> Result<Text, Failure>
     ensures ok { IfOk result (HoldsText (column columns.now at)) }
-    ensures fault { result ≡ Err IsFault → (text : List ℕ) → ¬ HoldsText (column columns.now at) text }
+    ensures fault { (cause : Cause) → result ≡ Err (IsFault cause) → (text : List ℕ) → ¬ HoldsText (column columns.now at) text }
 {
     let text = columns.get(at)?;
     Ok(Text::from_string(text))

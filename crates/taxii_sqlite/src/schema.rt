@@ -1,12 +1,34 @@
 //! The tables of a store and the statements over them. A connection keeps the plans of its last 64
 //! texts, so each of these is compiled once.
 
-/// Makes the tables where they are absent. A store without rows and without a mark has the mark 0; beside
-/// rows a mark that is missing stays missing.
-pub(crate) const MAKE_TABLES: &str =
-    "CREATE TABLE IF NOT EXISTS stix_row (date INTEGER PRIMARY KEY, collection BLOB NOT NULL, kind TEXT NOT NULL, number BLOB NOT NULL, version INTEGER NOT NULL, dated INTEGER NOT NULL, body TEXT NOT NULL) STRICT;
-CREATE TABLE IF NOT EXISTS stix_mark (one INTEGER PRIMARY KEY CHECK (one = 1), date INTEGER NOT NULL) STRICT;
-INSERT INTO stix_mark (one, date) SELECT 1, 0 WHERE NOT EXISTS (SELECT 1 FROM stix_row) AND NOT EXISTS (SELECT 1 FROM stix_mark);";
+/// The version of the form that the tables below have.
+pub(crate) const VERSION: i64 = 1;
+
+/// The table of the rows, as the schema lists it.
+pub(crate) const ROW_TABLE: &str =
+    "CREATE TABLE stix_row (date INTEGER PRIMARY KEY, collection BLOB NOT NULL, kind TEXT NOT NULL, number BLOB NOT NULL, version INTEGER NOT NULL, dated INTEGER NOT NULL, body TEXT NOT NULL) STRICT";
+
+/// The table of the mark, likewise.
+pub(crate) const MARK_TABLE: &str =
+    "CREATE TABLE stix_mark (one INTEGER PRIMARY KEY CHECK (one = 1), date INTEGER NOT NULL) STRICT";
+
+/// The table that names the form, likewise.
+pub(crate) const FORM_TABLE: &str =
+    "CREATE TABLE stix_store (one INTEGER PRIMARY KEY CHECK (one = 1), version INTEGER NOT NULL) STRICT";
+
+/// The mark of a store without rows.
+pub(crate) const FIRST_MARK: &str = "INSERT INTO stix_mark (one, date) VALUES (1, 0)";
+
+/// Names the form of the tables.
+pub(crate) const NAME_FORM: &str = "INSERT INTO stix_store (one, version) VALUES (1, 1)";
+
+/// How many objects the schema lists that SQLite itself didn't make, how many of them are the tables of the rows and of the mark,
+/// and how many the one that names the form.
+pub(crate) const COUNT_TABLES: &str =
+    "SELECT count(*), count(CASE WHEN replace(sql, 'IF NOT EXISTS ', '') IN (?1, ?2) THEN 1 END), count(CASE WHEN replace(sql, 'IF NOT EXISTS ', '') = ?3 THEN 1 END) FROM sqlite_schema WHERE name NOT LIKE 'sqlite%'";
+
+/// The version of the form.
+pub(crate) const READ_VERSION: &str = "SELECT version FROM stix_store WHERE one = 1";
 
 /// Counts the rows that no `NEXT_ROW` gives, since their dates aren't past 0.
 pub(crate) const COUNT_EARLY_ROWS: &str = "SELECT count(*) FROM stix_row WHERE date <= 0";

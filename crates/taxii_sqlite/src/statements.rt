@@ -1,49 +1,33 @@
 //! What is asked of an open database.
 
 ghost use Rattle.std.specs.Prelude.{◌≡◌, IfOk, OnOk, OnErr};
-ghost use Rattle.sqlite.specs.Batch.{ExecutesAllInside};
 ghost use Rattle.sqlite.specs.Held.{state};
 ghost use Rattle.sqlite.specs.State.{HasCleanDisk};
 ghost use Rattle.sqlite.specs.Values.{bound};
-ghost use Rattle.taxii_sqlite.specs.Statements.{AnswersNext, AnswersMark, AnswersCount, Runs, Inserts, Deletes, WritesMark, InTurn, Adds, Transacts, Succeeds, IsReady};
+ghost use Rattle.taxii_sqlite.specs.Forms.{IsReady};
+ghost use Rattle.taxii_sqlite.specs.Statements.{AnswersNext, AnswersMark, AnswersCount, Runs, Inserts, Deletes, WritesMark, InTurn, Adds, Transacts};
 ghost use Rattle.taxii_sqlite.specs.Transactions.{IsUntouched, IsSettled, GoesOn, StaysUnended};
 
 use crate::failure::Failure;
+use crate::form;
 use crate::row::{bytes_of, columns_of, date_at, integer_of, read_row};
-use crate::schema::{
-    COUNT_EARLY_ROWS, DELETE_ROW, INSERT_ROW, MAKE_TABLES, NEXT_ROW, READ_MARK, WRITE_MARK,
-};
+use crate::schema::{COUNT_EARLY_ROWS, DELETE_ROW, INSERT_ROW, NEXT_ROW, READ_MARK, WRITE_MARK};
 use sqlite::types::ValueRef;
 use sqlite::{Alter, Connection, Error, Transaction, params};
-use taxii_rows::StoredRow;
+use taxii_rows::{FaultCause, StoredRow};
 
-/// Makes the tables where they are absent, and sees that the database is a store: it has a mark, and no
-/// row that `next_after` would never give.
+/// Sees that the database is a store, or makes one of it where it may be (`form::take`): it has a mark, and no row that
+/// `next_after` would never give.
 pub(crate) fn make_ready<S: Alter>(connection: &mut Connection<S>) -> Result<(), Failure>
-    ensures ready { HasCleanDisk (state S.Store connection.new) → OnOk result (IsReady (state S.Store) (Succeeds (ExecutesAllInside S.Store 0 MAKE_TABLES.now)) connection.old connection.new) }
+    ensures ready { HasCleanDisk (state S.Store connection.new) → OnOk result (IsReady (state S.Store) connection.old connection.new) }
 {
-    make_tables(connection)?;
+    form::take(connection)?;
     let _mark = read_mark(connection)?;
     if count_early_rows(connection)? == 0 {
         Ok(())
     } else {
-        Err(Failure::Fault)
+        Err(Failure::Fault(FaultCause::Unsound))
     }
-}
-
-/// Makes the tables where they are absent, and commits; or changes nothing.
-fn make_tables<S: Alter>(connection: &mut Connection<S>) -> Result<(), Failure>
-    ensures ok { HasCleanDisk (state S.Store connection.new) → OnOk result (IsSettled (state S.Store connection.new)) }
-    ensures err { HasCleanDisk (state S.Store connection.new) → OnErr result (IsUntouched (state S.Store connection.old) (state S.Store connection.new)) }
-    ensures runs { HasCleanDisk (state S.Store connection.new) → OnOk result (Transacts (state S.Store) (Succeeds (ExecutesAllInside S.Store 0 MAKE_TABLES.now)) connection.old connection.new) }
-{
-    if !connection.is_autocommit() {
-        return Err(Failure::Fault);
-    }
-    let mut transaction = connection.transaction();
-    transaction.execute_batch(MAKE_TABLES)?;
-    transaction.commit()?;
-    Ok(())
 }
 
 /// The first row that is later than the date, or none.
@@ -90,7 +74,7 @@ pub(crate) fn append<S: Alter>(
     ensures runs { HasCleanDisk (state S.Store connection.new) → OnOk result (Transacts (state S.Store) (Adds (state S.Store) rows.now mark) connection.old connection.new) }
 {
     if !connection.is_autocommit() {
-        return Err(Failure::Fault);
+        return Err(Failure::Fault(FaultCause::Closed));
     }
     let mut transaction = connection.transaction();
     insert_rows(&mut transaction, rows)?;
@@ -106,7 +90,7 @@ pub(crate) fn remove<S: Alter>(connection: &mut Connection<S>, dates: &[u64]) ->
     ensures runs { HasCleanDisk (state S.Store connection.new) → OnOk result (Transacts (state S.Store) (InTurn (Deletes (state S.Store)) dates.now) connection.old connection.new) }
 {
     if !connection.is_autocommit() {
-        return Err(Failure::Fault);
+        return Err(Failure::Fault(FaultCause::Closed));
     }
     let mut transaction = connection.transaction();
     delete_rows(&mut transaction, dates)?;
@@ -178,7 +162,7 @@ fn write_mark<S: Alter>(transaction: &mut Transaction<'_, S>, mark: u64) -> Resu
 }
 
 /// Runs a statement of a transaction, which it doesn't end.
-fn execute<S: Alter>(
+pub(crate) fn execute<S: Alter>(
     transaction: &mut Transaction<'_, S>,
     statement: &str,
     columns: &[ValueRef<'_>],

@@ -31,46 +31,17 @@ returns-in-Ok-Serve-clause-end g c = record {
   unread = refl;
 }
 
-pub returns-in-Ok-Match-clause-unread : goal.returns-in-Ok-Match-clause-unread
-returns-in-Ok-Match-clause-unread g c =
-    let line = subst (λ (r : Request). IsCommandLine (texts c.args.words.now) (plain_request r)) c.in-Ok-Match.field-0-is c.in-Ok-Match.ensures.ok in
-    let task : IsMatchLine (texts c.args.words.now) (request_of c.in-Ok-Match.request) = record { whole = c.in-Ok-Match.request.whole; mode_is = refl; line = line } in
-    λ is. elim is [
-      | inl two ↦ absurd (match_isn't_usage _ two)
-      | inr more ↦ elim more [
-        | inl three ↦ (c.match_bindings.ensures.untouched three).0
-        | inr asks ↦ absurd (match_reads c.one_request.ensures _ (request_of c.in-Ok-Match.request) task asks)
-      ]
-    ]
-
-pub returns-in-Ok-Match-clause-unwritten : goal.returns-in-Ok-Match-clause-unwritten
-returns-in-Ok-Match-clause-unwritten g c = λ is. elim is [ inl two ↦ absurd (match_isn't_usage _ two) | inr three ↦ (c.match_bindings.ensures.untouched three).1 ]
-
 pub returns-in-Ok-Match-clause-door : goal.returns-in-Ok-Match-clause-door
 returns-in-Ok-Match-clause-door g c = match-counts c.match_bindings.result 8 (omega arith)
 
 pub returns-in-Ok-Match-clause-keeper : goal.returns-in-Ok-Match-clause-keeper
 returns-in-Ok-Match-clause-keeper g c = λ _. match-counts c.match_bindings.result 9 (omega arith)
 
-pub returns-in-Ok-Check-clause-unread : goal.returns-in-Ok-Check-clause-unread
-returns-in-Ok-Check-clause-unread g c =
-    let line = subst (λ (r : Request). IsCommandLine (texts c.args.words.now) (plain_request r)) c.in-Ok-Check.field-0-is c.in-Ok-Check.ensures.ok in
-    λ is. elim is [
-      | inl two ↦ absurd ((check_statuses _).0 two)
-      | inr more ↦ elim more [ inl three ↦ absurd ((check_statuses _).1 three) | inr asks ↦ absurd (check_reads c.one_request.ensures _ line asks) ]
-    ]
-
-pub returns-in-Ok-Check-clause-unwritten : goal.returns-in-Ok-Check-clause-unwritten
-returns-in-Ok-Check-clause-unwritten g c = λ is. elim is [ inl two ↦ absurd ((check_statuses _).0 two) | inr three ↦ absurd ((check_statuses _).1 three) ]
-
 pub returns-in-Ok-Check-clause-door : goal.returns-in-Ok-Check-clause-door
 returns-in-Ok-Check-clause-door g c = check-counts c.check.result 8 (omega arith)
 
 pub returns-in-Ok-Check-clause-keeper : goal.returns-in-Ok-Check-clause-keeper
 returns-in-Ok-Check-clause-keeper g c = λ _. check-counts c.check.result 9 (omega arith)
-
-pub returns-in-Ok-Show-clause-unwritten : goal.returns-in-Ok-Show-clause-unwritten
-returns-in-Ok-Show-clause-unwritten g c = λ is. elim is [ inl two ↦ absurd (show_isn't_usage _ two) | inr three ↦ c.show.ensures.untouched three ]
 
 pub returns-in-Ok-Show-clause-input : goal.returns-in-Ok-Show-clause-input
 returns-in-Ok-Show-clause-input g c = show-input c.show.result
@@ -81,9 +52,6 @@ returns-in-Ok-Show-clause-door g c = show-counts c.show.result 8 (omega arith)
 pub returns-in-Ok-Show-clause-keeper : goal.returns-in-Ok-Show-clause-keeper
 returns-in-Ok-Show-clause-keeper g c = λ _. show-counts c.show.result 9 (omega arith)
 
-pub returns-in-Ok-Make-clause-unwritten : goal.returns-in-Ok-Make-clause-unwritten
-returns-in-Ok-Make-clause-unwritten g c = λ is. elim is [ inl two ↦ absurd ((make_statuses _).0 two) | inr three ↦ absurd ((make_statuses _).1 three) ]
-
 pub returns-in-Ok-Make-clause-input : goal.returns-in-Ok-Make-clause-input
 returns-in-Ok-Make-clause-input g c = make-input c.make.result
 
@@ -92,9 +60,6 @@ returns-in-Ok-Make-clause-door g c = make-counts c.make.result 8 (omega arith)
 
 pub returns-in-Ok-Make-clause-keeper : goal.returns-in-Ok-Make-clause-keeper
 returns-in-Ok-Make-clause-keeper g c = λ _. make-counts c.make.result 9 (omega arith)
-
-pub returns-in-Ok-Serve-clause-unwritten : goal.returns-in-Ok-Serve-clause-unwritten
-returns-in-Ok-Serve-clause-unwritten g c = λ is. elim is [ inl two ↦ absurd ((serve_statuses _).0 two) | inr three ↦ absurd ((serve_statuses _).1 three) ]
 
 pub returns-in-Ok-Serve-clause-unserved : goal.returns-in-Ok-Serve-clause-unserved
 returns-in-Ok-Serve-clause-unserved g c = λ none.
@@ -111,3 +76,29 @@ returns-in-Ok-Serve-clause-door g c = serve-door _ c.serve.ensures.door
 
 pub returns-in-Ok-Serve-clause-keeper : goal.returns-in-Ok-Serve-clause-keeper
 returns-in-Ok-Serve-clause-keeper g c = λ none. serve-keeper _ (c.serve.ensures.keeper (early _ none))
+
+pub returns-in-Ok-Match-clause-untouched : goal.returns-in-Ok-Match-clause-untouched
+returns-in-Ok-Match-clause-untouched g c = λ is. elim is [ inl two ↦ absurd (match_isn't_usage _ two) | inr three ↦ c.match_bindings.ensures.untouched three ]
+
+pub returns-in-Ok-Match-clause-unasked : goal.returns-in-Ok-Match-clause-unasked
+returns-in-Ok-Match-clause-unasked g c =
+    let line = subst (λ (r : Request). IsCommandLine (texts c.args.words.now) (plain_request r)) c.in-Ok-Match.field-0-is c.in-Ok-Match.ensures.ok in
+    let task : IsMatchLine (texts c.args.words.now) (request_of c.in-Ok-Match.request) = record { whole = c.in-Ok-Match.request.whole; mode_is = refl; line = line } in
+    (λ asks. absurd (match_reads c.one_request.ensures _ (request_of c.in-Ok-Match.request) task asks), λ _. (refl, refl, refl))
+
+pub returns-in-Ok-Check-clause-untouched : goal.returns-in-Ok-Check-clause-untouched
+returns-in-Ok-Check-clause-untouched g c = λ is. elim is [ inl two ↦ absurd ((check_statuses _).0 two) | inr three ↦ absurd ((check_statuses _).1 three) ]
+
+pub returns-in-Ok-Check-clause-unasked : goal.returns-in-Ok-Check-clause-unasked
+returns-in-Ok-Check-clause-unasked g c =
+    let line = subst (λ (r : Request). IsCommandLine (texts c.args.words.now) (plain_request r)) c.in-Ok-Check.field-0-is c.in-Ok-Check.ensures.ok in
+    (λ asks. absurd (check_reads c.one_request.ensures _ line asks), λ _. (refl, refl, refl))
+
+pub returns-in-Ok-Show-clause-untouched : goal.returns-in-Ok-Show-clause-untouched
+returns-in-Ok-Show-clause-untouched g c = λ is. elim is [ inl two ↦ absurd (show_isn't_usage _ two) | inr three ↦ (refl, c.show.ensures.untouched three) ]
+
+pub returns-in-Ok-Make-clause-untouched : goal.returns-in-Ok-Make-clause-untouched
+returns-in-Ok-Make-clause-untouched g c = λ is. elim is [ inl two ↦ absurd ((make_statuses _).0 two) | inr three ↦ absurd ((make_statuses _).1 three) ]
+
+pub returns-in-Ok-Serve-clause-untouched : goal.returns-in-Ok-Serve-clause-untouched
+returns-in-Ok-Serve-clause-untouched g c = λ is. elim is [ inl two ↦ absurd ((serve_statuses _).0 two) | inr three ↦ absurd ((serve_statuses _).1 three) ]

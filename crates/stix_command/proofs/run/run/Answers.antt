@@ -1,4 +1,4 @@
-use Rattle.std.proofs.Common.{◌≡◌, ◌⊎◌, ℕ, inl, inr, subst, sym, ◌∙◌}
+use Rattle.std.proofs.Common.{◌≡◌, ◌⊎◌, ℕ, subst, sym, ◌∙◌}
 use Rattle.stix_command.specs.RunEndings.{ServesNone}
 use Rattle.stix_command.proofs.RunEndingsLemmas.{usage-run, no_line-run, pattern-run, refused-run, listing-run, making-run, counted-as}
 use Rattle.stix_command.proofs.run.run.Goals as goal
@@ -28,14 +28,13 @@ returns-clause-done g c = λ is. record {
 }
 
 pub returns-clause-untouched : goal.returns-clause-untouched
-returns-clause-untouched g c = λ is.
-    let its = subst (λ (n : ℕ). (n ≡ 2) ⊎ (n ≡ 3)) c.finish.ensures.status is in (
-      c.obey-ending.ensures.unread (elim its [ inl two ↦ inl two | inr three ↦ inr (inl three) ]),
-      c.obey-ending.ensures.unwritten its,
-    )
+returns-clause-untouched g c = λ is. c.obey-ending.ensures.untouched (subst (λ (n : ℕ). (n ≡ 2) ⊎ (n ≡ 3)) c.finish.ensures.status is)
 
 pub returns-clause-unread : goal.returns-clause-unread
-returns-clause-unread g c = λ asks. c.obey-ending.ensures.unread (inr (inr asks))
+returns-clause-unread g c = c.obey-ending.ensures.unasked.0
+
+pub returns-clause-others : goal.returns-clause-others
+returns-clause-others g c = c.obey-ending.ensures.unasked.1
 
 pub returns-clause-unserved : goal.returns-clause-unserved
 returns-clause-unserved g c = λ none. c.obey-ending.ensures.unserved (subst (λ (n : ℕ). ServesNone n) c.finish.ensures.status none)

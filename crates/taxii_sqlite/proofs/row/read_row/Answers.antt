@@ -3,7 +3,7 @@ use Rattle.std.proofs.Common.{rules}
 use Rattle.taxii_sqlite.proofs.row.read_row.Goals as goal
 
 pub returns-in_err-collection-clause-fault : goal.returns-in_err-collection-clause-fault
-returns-in_err-collection-clause-fault c fault row holds = c.in_err-collection.ensures.fault (search rules) row.collection holds.collection
+returns-in_err-collection-clause-fault c cause fault row holds = c.in_err-collection.ensures.fault cause (search rules) row.collection holds.collection
 
 pub returns-in_err-number-clause-fault : goal.returns-in_err-number-clause-fault
-returns-in_err-number-clause-fault c fault row holds = c.in_err-number.ensures.fault (search rules) row.id.number holds.number
+returns-in_err-number-clause-fault c cause fault row holds = c.in_err-number.ensures.fault cause (search rules) row.id.number holds.number

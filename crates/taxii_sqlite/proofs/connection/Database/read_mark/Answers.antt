@@ -7,4 +7,4 @@ where_ok Answers (Ok value) answers = answers
 where_ok Answers (Err error) answers = tt
 
 pub returns-in-Disk-clause-finds : goal.returns-in-Disk-clause-finds
-returns-in-Disk-clause-finds c = rw c.in-Disk.is (where_ok _ c.read_mark.result c.read_mark.ensures.asks)
+returns-in-Disk-clause-finds g c = rw c.in-Disk.is (where_ok _ c.read_mark.result c.read_mark.ensures.asks)

@@ -1,5 +1,5 @@
 -- A file is opened under a path that isn't empty, and made ready as it was opened.
-use Rattle.taxii_sqlite.proofs.connection.Database.open.Goals as goal
+use Rattle.taxii_sqlite.proofs.connection.open.Goals as goal
 
 pub returns-clause-ready : goal.returns-clause-ready
 returns-clause-ready c = (

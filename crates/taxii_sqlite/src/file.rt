@@ -1,0 +1,53 @@
+//! The file of a database, before it is opened as one.
+
+use crate::failure::Failure;
+use std::fs::{self, OpenOptions};
+use std::io::{self, ErrorKind};
+use std::os::unix::fs::OpenOptionsExt;
+use std::rt::HostRuntime;
+use taxii_rows::FaultCause;
+
+/// Makes the file where there is none, for its owner alone to read and write, which the log beside it follows. Or tells why
+/// there can't be one, of which the database's own error says less.
+pub(crate) fn make_private(rt: &HostRuntime, path: &str) -> Result<(), Failure> {
+    match OpenOptions::new()
+        .read(true)
+        .write(true)
+        .create_new(true)
+        .mode(0o600)
+        .open(rt, path)
+    {
+        Ok(_) => Ok(()),
+        Err(error) if error.kind() == ErrorKind::AlreadyExists => see(rt, path),
+        Err(error) => Err(failure_of(error)),
+    }
+}
+
+/// Sees that the file can be read and written.
+fn see(rt: &HostRuntime, path: &str) -> Result<(), Failure> {
+    match OpenOptions::new().read(true).write(true).open(rt, path) {
+        Ok(_) => Ok(()),
+        Err(error) => Err(failure_of(error)),
+    }
+}
+
+/// Why a file wasn't opened.
+fn failure_of(error: io::Error) -> Failure {
+    match error.kind() {
+        ErrorKind::OutOfMemory => Failure::NoMemory,
+        ErrorKind::NotFound | ErrorKind::NotADirectory => Failure::Fault(FaultCause::NoFolder),
+        ErrorKind::IsADirectory => Failure::Fault(FaultCause::NoFile),
+        ErrorKind::PermissionDenied => Failure::Fault(FaultCause::Denied),
+        ErrorKind::ReadOnlyFilesystem => Failure::Fault(FaultCause::ReadOnly),
+        ErrorKind::StorageFull | ErrorKind::QuotaExceeded => Failure::Fault(FaultCause::Full),
+        _ => Failure::Fault(FaultCause::NotOpened),
+    }
+}
+
+/// Whether another program left a journal beside the file, which it alone can play back.
+pub(crate) fn has_journal(rt: &HostRuntime, path: &str) -> bool {
+    match format!(in rt.alloc(); "{path}-journal") {
+        Ok(journal) => fs::symlink_metadata(rt, journal.as_str()).is_ok(),
+        Err(_) => false,
+    }
+}

@@ -1,0 +1,154 @@
+//! What form a database has: what tables it has, and which version of a store they are.
+
+ghost use Rattle.std.specs.Prelude.{◌≡◌, IfOk, OnOk};
+ghost use Rattle.sqlite.specs.Held.{state};
+ghost use Rattle.sqlite.specs.State.{HasCleanDisk};
+ghost use Rattle.taxii_sqlite.specs.Forms.{IsFormOf, AnswersForm, AnswersVersion, MakesRows, NamesForm, MakesAll, Completes, IsTaken};
+ghost use Rattle.taxii_sqlite.specs.Statements.{Transacts};
+ghost use Rattle.taxii_sqlite.specs.Transactions.{GoesOn, StaysUnended};
+
+use crate::failure::Failure;
+use crate::schema::{
+    COUNT_TABLES, FIRST_MARK, FORM_TABLE, MARK_TABLE, NAME_FORM, READ_VERSION, ROW_TABLE, VERSION,
+};
+use crate::statements::execute;
+use sqlite::{Alter, Connection, Transaction, params};
+use taxii_rows::FaultCause;
+
+/// What tables a database has.
+#[derive(Clone, Copy, Debug, PartialEq, Eq)]
+pub(crate) enum Form {
+    /// None: it is new.
+    Blank,
+    /// Those of a store that doesn't name its form, since it was made before forms had names.
+    Unnamed,
+    /// Those of a store that names its form.
+    Named,
+    /// Others.
+    Other,
+}
+
+/// Sees that the database is a store of this version, and makes one of it where it has no tables, or where it doesn't name its form.
+/// Nothing is written to any other.
+pub(crate) fn take<S: Alter>(connection: &mut Connection<S>) -> Result<(), Failure>
+    ensures taken { HasCleanDisk (state S.Store connection.new) → OnOk result (IsTaken (state S.Store) connection.old connection.new) }
+    ensures clean { HasCleanDisk (state S.Store connection.new) → HasCleanDisk (state S.Store connection.old) }
+{
+    let form = read_form(connection)?;
+    complete(connection, form)?;
+    let version = read_version(connection)?;
+    check_version(version)
+}
+
+/// What tables the database has.
+fn read_form<S: Alter>(connection: &mut Connection<S>) -> Result<Form, Failure>
+    ensures asks { HasCleanDisk (state S.Store connection.new) → IfOk result (AnswersForm (state S.Store connection.old) (state S.Store connection.new)) }
+    ensures clean { HasCleanDisk (state S.Store connection.new) → HasCleanDisk (state S.Store connection.old) }
+{
+    let columns = connection.query_row(COUNT_TABLES, params![ROW_TABLE, MARK_TABLE, FORM_TABLE])?;
+    let all = columns.get(0)?;
+    let rows = columns.get(1)?;
+    let names = columns.get(2)?;
+    Ok(Form::of(all, rows, names))
+}
+
+impl Form {
+    /// The form of a database with so many tables, so many of which are those of rows and mark, and of the form's name.
+    fn of(all: i64, rows: i64, names: i64) -> Form
+        ensures { IsFormOf all rows names result }
+    {
+        match (all, rows, names) {
+            (0, 0, 0) => Form::Blank,
+            (2, 2, 0) => Form::Unnamed,
+            (3, 2, 1) => Form::Named,
+            _ => Form::Other,
+        }
+    }
+}
+
+/// Makes the tables that a store of that form lacks.
+fn complete<S: Alter>(connection: &mut Connection<S>, form: Form) -> Result<(), Failure>
+    ensures completes { HasCleanDisk (state S.Store connection.new) → OnOk result (Completes (state S.Store) form connection.old connection.new) }
+    ensures clean { HasCleanDisk (state S.Store connection.new) → HasCleanDisk (state S.Store connection.old) }
+{
+    match form {
+        Form::Blank => make_all(connection),
+        Form::Unnamed => name(connection),
+        Form::Named => Ok(()),
+        Form::Other => Err(Failure::Fault(FaultCause::OtherForm)),
+    }
+}
+
+/// Makes all tables, and commits; or changes nothing.
+fn make_all<S: Alter>(connection: &mut Connection<S>) -> Result<(), Failure>
+    ensures runs { HasCleanDisk (state S.Store connection.new) → OnOk result (Transacts (state S.Store) (MakesAll (state S.Store)) connection.old connection.new) }
+    ensures clean { HasCleanDisk (state S.Store connection.new) → HasCleanDisk (state S.Store connection.old) }
+{
+    if !connection.is_autocommit() {
+        return Err(Failure::Fault(FaultCause::Closed));
+    }
+    let mut transaction = connection.transaction();
+    make_rows(&mut transaction)?;
+    make_name(&mut transaction)?;
+    transaction.commit()?;
+    Ok(())
+}
+
+/// Names the form, and commits; or changes nothing.
+fn name<S: Alter>(connection: &mut Connection<S>) -> Result<(), Failure>
+    ensures runs { HasCleanDisk (state S.Store connection.new) → OnOk result (Transacts (state S.Store) (NamesForm (state S.Store)) connection.old connection.new) }
+    ensures clean { HasCleanDisk (state S.Store connection.new) → HasCleanDisk (state S.Store connection.old) }
+{
+    if !connection.is_autocommit() {
+        return Err(Failure::Fault(FaultCause::Closed));
+    }
+    let mut transaction = connection.transaction();
+    make_name(&mut transaction)?;
+    transaction.commit()?;
+    Ok(())
+}
+
+fn make_rows<S: Alter>(transaction: &mut Transaction<'_, S>) -> Result<(), Failure>
+    ensures same_reference { transaction.new.conn.ghost_name ≡ transaction.old.conn.ghost_name }
+    ensures inside { GoesOn (state S.Store transaction.old.conn.now) (state S.Store transaction.new.conn.now) }
+    ensures unended { OnOk result (StaysUnended (state S.Store transaction.old.conn.now) (state S.Store transaction.new.conn.now)) }
+    ensures makes { HasCleanDisk (state S.Store transaction.new.conn.now) → OnOk result (MakesRows (state S.Store) transaction.old.conn.now transaction.new.conn.now) }
+{
+    execute(transaction, ROW_TABLE, &[])?;
+    execute(transaction, MARK_TABLE, &[])?;
+    execute(transaction, FIRST_MARK, &[])?;
+    Ok(())
+}
+
+fn make_name<S: Alter>(transaction: &mut Transaction<'_, S>) -> Result<(), Failure>
+    ensures same_reference { transaction.new.conn.ghost_name ≡ transaction.old.conn.ghost_name }
+    ensures inside { GoesOn (state S.Store transaction.old.conn.now) (state S.Store transaction.new.conn.now) }
+    ensures unended { OnOk result (StaysUnended (state S.Store transaction.old.conn.now) (state S.Store transaction.new.conn.now)) }
+    ensures names { HasCleanDisk (state S.Store transaction.new.conn.now) → OnOk result (NamesForm (state S.Store) transaction.old.conn.now transaction.new.conn.now) }
+{
+    execute(transaction, FORM_TABLE, &[])?;
+    execute(transaction, NAME_FORM, &[])?;
+    Ok(())
+}
+
+/// The version of the form.
+fn read_version<S: Alter>(connection: &mut Connection<S>) -> Result<i64, Failure>
+    ensures asks { HasCleanDisk (state S.Store connection.new) → IfOk result (AnswersVersion (state S.Store connection.old) (state S.Store connection.new)) }
+    ensures clean { HasCleanDisk (state S.Store connection.new) → HasCleanDisk (state S.Store connection.old) }
+{
+    let columns = connection.query_row(READ_VERSION, &[])?;
+    Ok(columns.get(0)?)
+}
+
+/// Whether the form has this version.
+fn check_version(version: i64) -> Result<(), Failure>
+    ensures { OnOk result (version ≡ VERSION) }
+{
+    if version == VERSION {
+        Ok(())
+    } else if version > VERSION {
+        Err(Failure::Fault(FaultCause::LaterForm))
+    } else {
+        Err(Failure::Fault(FaultCause::OtherForm))
+    }
+}
