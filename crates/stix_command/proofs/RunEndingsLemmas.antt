@@ -423,6 +423,7 @@ serve-keeper ending = counted-when (there ending, back ending) where
   back serving.DoorFault is = absurd is
   back (serving.StoreFault cause) is = refl
   back (serving.BadRow date) is = absurd is
+
   there : (ending : ServeEnding) → serve_status ending ≡ 9 → IsStoreFault ending
   there (serving.Done served) is = absurd (omega arith)
   there serving.NoMemory is = absurd (omega arith)

@@ -89,7 +89,10 @@ pub(crate) struct Faults {
 
 impl Faults {
     /// The answer, with its fault counted.
-    pub(crate) fn counted<T: Drop>(&mut self, answer: Result<T, Failure>) -> Result<T, KeeperRefusal>
+    pub(crate) fn counted<T: Drop>(
+        &mut self,
+        answer: Result<T, Failure>,
+    ) -> Result<T, KeeperRefusal>
         ensures ok { IfOk answer (λ value. result ≡ Ok value) }
         ensures err { IfErr answer (λ failure. result ≡ Err (refused failure)) }
         ensures causes { Counted (result ≡ Err KeeperRefusal.Fault) self.old.count self.new.count }
