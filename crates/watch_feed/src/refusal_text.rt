@@ -96,21 +96,35 @@ fn reason_of_breaks<'a>(breaks: &'a [Break]) -> Reason<'a>
 }
 
 /// Writes the line of a reason.
-fn write_reason<'a, S: Sink>(line: &'a str, reason: Reason<'a>, sink: &mut S) -> Result<(), Fault>
+fn write_reason<S: Sink>(line: &str, reason: Reason<'_>, sink: &mut S) -> Result<(), Fault>
     ensures text { WritesWhole (codes "indicators " ++ line_of_text line.now (reason_text reason.entry)) (S.written sink.old) (S.written sink.new) result }
     ensures causes { Counted (IsErr result) (S.faults sink.old) (S.faults sink.new) }
 {
-    let at = lead_of(reason.path);
+    write_parts(line, reason.name, reason.rule, reason.path, sink)
+}
+
+/// The same, of the parts of the reason.
+fn write_parts<'a, S: Sink>(
+    line: &'a str,
+    name: &'a str,
+    rule: &'a str,
+    path: &'a str,
+    sink: &mut S,
+) -> Result<(), Fault>
+    ensures text { WritesWhole (codes "indicators " ++ line_of_text line.now (at_path (name.now ++ rule.now) path.now)) (S.written sink.old) (S.written sink.new) result }
+    ensures causes { Counted (IsErr result) (S.faults sink.old) (S.faults sink.new) }
+{
+    let at = lead_of(path);
     write_pieces(
         sink,
         &[
             b"indicators line ",
             line.as_bytes(),
             b" refused: ",
-            reason.name.as_bytes(),
-            reason.rule.as_bytes(),
+            name.as_bytes(),
+            rule.as_bytes(),
             at.as_bytes(),
-            reason.path.as_bytes(),
+            path.as_bytes(),
             b"\n",
         ],
     )
