@@ -191,7 +191,8 @@ fn hunt_log<I: Source, O: Sink>(
 {
     answers_are_the_hits();
     begins_with_none();
-    let mut hunter = match Hunter::new(alloc, hunted, u64::from(request.cap)) {
+    let cap = u64::from(request.cap);
+    let mut hunter = match Hunter::new(alloc, hunted, cap) {
         Ok(hunter) => hunter,
         Err(NoMemory) => return WatchEnd::NoMemory,
     };
