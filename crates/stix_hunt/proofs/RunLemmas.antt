@@ -119,20 +119,20 @@ module _ (Named : Type 0) (one one_now other other_now : ℕ) where
   )
 
   pub one-rose : Named → (ending : HuntEnding) → RoseSo ending
-  one-rose named Usage = none-rose Usage (λ is. cc) (λ is. cc) (λ is. omega arith)
-  one-rose named (Unfed (feed.Refused line why)) = none-rose (Unfed (feed.Refused line why)) (λ is. cc) (λ is. cc) (λ is. omega arith)
+  one-rose named Usage input files = none-rose Usage (λ is. cc) (λ is. cc) (λ is. omega arith) input files
+  one-rose named (Unfed (feed.Refused line why)) input files = none-rose (Unfed (feed.Refused line why)) (λ is. cc) (λ is. cc) (λ is. omega arith) input files
   one-rose named (Unfed feed.Fault) input files = inr (
     named,
     input.quiet (λ is. cc),
     record { later = files.later; failed = λ is. files.failed refl; quiet = λ not. absurd (not refl) },
   )
-  one-rose named (Unfed feed.NoMemory) = none-rose (Unfed feed.NoMemory) (λ is. cc) (λ is. cc) (λ is. omega arith)
-  one-rose named (Ended end.Done) = none-rose (Ended end.Done) (λ is. cc) (λ is. cc) (λ is. omega arith)
-  one-rose named (Ended (end.Input line why)) = none-rose (Ended (end.Input line why)) (λ is. cc) (λ is. cc) (λ is. omega arith)
+  one-rose named (Unfed feed.NoMemory) input files = none-rose (Unfed feed.NoMemory) (λ is. cc) (λ is. cc) (λ is. omega arith) input files
+  one-rose named (Ended end.Done) input files = none-rose (Ended end.Done) (λ is. cc) (λ is. cc) (λ is. omega arith) input files
+  one-rose named (Ended (end.Input line why)) input files = none-rose (Ended (end.Input line why)) (λ is. cc) (λ is. cc) (λ is. omega arith) input files
   one-rose named (Ended end.ReadFault) input files = inl (
     record { later = input.later; failed = λ is. input.failed refl; quiet = λ not. absurd (not refl) },
     files.quiet (λ is. cc),
   )
-  one-rose named (Ended end.WriteFault) = none-rose (Ended end.WriteFault) (λ is. cc) (λ is. cc) (λ is. omega arith)
-  one-rose named (Ended (end.Stopped why)) = none-rose (Ended (end.Stopped why)) (λ is. cc) (λ is. cc) (λ is. omega arith)
-  one-rose named (Ended end.NoMemory) = none-rose (Ended end.NoMemory) (λ is. cc) (λ is. cc) (λ is. omega arith)
+  one-rose named (Ended end.WriteFault) input files = none-rose (Ended end.WriteFault) (λ is. cc) (λ is. cc) (λ is. omega arith) input files
+  one-rose named (Ended (end.Stopped why)) input files = none-rose (Ended (end.Stopped why)) (λ is. cc) (λ is. cc) (λ is. omega arith) input files
+  one-rose named (Ended end.NoMemory) input files = none-rose (Ended end.NoMemory) (λ is. cc) (λ is. cc) (λ is. omega arith) input files

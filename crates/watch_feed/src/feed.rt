@@ -45,7 +45,7 @@ fn next_object<S: Source>(
     lines: &mut Lines,
     source: &mut S,
 ) -> Result<Option<Json>, FeedEnd>
-    requires open { lines.old.refusal ≡ None }
+    requires unrefused { lines.old.refusal ≡ None }
     ensures next { AnswersObject (lines_ahead lines.old (S.left source.old)) (lines_ahead lines.new (S.left source.new)) result }
     ensures moves { IfOk result (λ found. IfSome found (λ _. MovesOn lines.old lines.new)) }
     ensures causes { Counted (result ≡ Err end.Fault) (S.faults source.old) (S.faults source.new) }

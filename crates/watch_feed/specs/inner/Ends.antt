@@ -38,7 +38,7 @@ AnswersObject before after (Err NoMemory) = ⊤
 
 -- a line went by, and none was refused
 pub record MovesOn (before after : LinesState) : Type 0 where
-  pub open : after.refusal ≡ None
+  pub unrefused : after.refusal ≡ None
   pub moved : before.given < after.given
   pub within : after.given ≤ MAX_INPUT
 

@@ -6,7 +6,7 @@ use Rattle.watch_feed.proofs.feed.gather.Given as goal
 
 abbrev pub invariant-objects : goal.invariant-objects
 invariant-objects g l = record {
-  open : l.lines.refusal ≡ None;
+  unrefused : l.lines.refusal ≡ None;
   within : l.lines.given ≤ MAX_INPUT;
   so : GathersSo (lines_ahead lines_start (g.S.Source.left l.fn.source)) (lines_ahead l.lines (g.S.Source.left l.source)) l.gathering;
   quiet : g.S.Source.faults l.source ≡ g.S.Source.faults l.fn.source;
