@@ -11,6 +11,7 @@ mod engine;
 mod follower;
 mod followers;
 mod found;
+mod glances;
 pub mod laws;
 mod next_row;
 mod refusal;

@@ -1,6 +1,6 @@
 use Rattle.std.proofs.Common.{rules, IsErr}
 use Rattle.stix_hunt.proofs.WordsLemmas.{first-word, no-moment}
-use Rattle.stix_hunt.proofs.words.read_request.Goals as goal
+use Rattle.stix_hunt.proofs.words.read_positions.Goals as goal
 
 pub returns-in_err-moment-clause-none : goal.returns-in_err-moment-clause-none
 returns-in_err-moment-clause-none c =
