@@ -1,4 +1,4 @@
-ghost use Rattle.std.specs.Prelude.{◌≡◌, ◌≤◌, ◌<◌, ◌↔◌, ◌⊎◌, [], Ok, None, Some, true, length, take, min, IsErr, IfOk, IfSome, IfNone, OnOk, OnErr};
+ghost use Rattle.std.specs.Prelude.{◌≡◌, ◌≢◌, ◌≤◌, ◌<◌, ◌↔◌, [], Ok, None, Some, true, false, length, take, min, IsErr, IsOk, IfOk, IfSome, IfNone, OnOk, OnErr};
 ghost use Rattle.flow_edges.specs.Faults.{counted, Counted};
 ghost use Rattle.flow_edges.specs.Flow.{left_after, IsNextOf, IsAtEnd};
 ghost use Rattle.flow_memory.specs.Files.{bytes_at, file_named};
@@ -130,7 +130,9 @@ impl Files for MemoryFiles {
         ensures opened { OnOk result (Some self.new.left ≡ file_named self.old.files name.now) }
         ensures causes { Counted (IsErr result) self.old.faults self.new.faults }
 
-        ensures fails { IsErr result ↔ ((is_failing self.old.failing self.old.calls ≡ true) ⊎ (file_named self.old.files name.now ≡ None)) }
+        ensures fails { is_failing self.old.failing self.old.calls ≡ true → IsErr result }
+        ensures unnamed { file_named self.old.files name.now ≡ None → IsErr result }
+        ensures only { is_failing self.old.failing self.old.calls ≡ false → file_named self.old.files name.now ≢ None → IsOk result }
         ensures calls { self.new.calls ≡ counted self.old.calls }
         ensures stays { (self.new.files ≡ self.old.files) × (self.new.piece ≡ self.old.piece) × (self.new.failing ≡ self.old.failing) }
     {

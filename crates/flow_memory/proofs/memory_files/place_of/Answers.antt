@@ -1,4 +1,4 @@
-use Rattle.std.proofs.Common.{◌≡◌, ℕ, zero, suc, ◌<◌, List, [], ◌∷◌, length, drop, slice_index_or, Bool, true, Option, Some, if◌then◌else◌, bytes_eq, sym, ap, subst, ◌∙◌, arith}
+use Rattle.std.proofs.Common.{◌≡◌, ℕ, zero, suc, ◌<◌, List, [], ◌∷◌, length, drop, slice_index_or, Bool, true, Some, if◌then◌else◌, bytes_eq, sym, ap, subst, ◌∙◌, arith}
 use Rattle.flow_memory.specs.declared.memory_files.MemoryFile.{MemoryFile}
 use Rattle.flow_memory.specs.Files.{file_named, bytes_at}
 use Rattle.flow_memory.proofs.memory_files.place_of.Goals as goal
