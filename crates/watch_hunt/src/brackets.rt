@@ -11,8 +11,8 @@ ghost use Rattle.watch_hunt.specs.declared.brackets.Stretch.{Stretch};
 ghost use Rattle.watch_hunt.specs.inner.Table.{leaf_list, part_of, repeated, IsTable};
 ghost use Rattle.watch_hunt.specs.inner.Judging.{IsRising, AreClear, Judged, AddsPlace};
 
-use crate::glances::Glances;
 use flow_values::{Items, NoMemory};
+use match_tests::leaf_holds;
 use pattern_types::{Leaf, Pattern};
 use std::alloc::Global;
 use stix_bundles::{Bundle, Observation};
@@ -129,7 +129,6 @@ pub(crate) fn judge(
     observation: &Observation,
     bundle: &Bundle,
     candidates: &[u32],
-    glances: &Glances,
     marks: &mut [bool],
 ) -> Result<Items<u32>, NoMemory>
     requires sound { All IsSoundLeaf (map plain_leaf (map (λ leaf. leaf.now) brackets.now.leaves.items)) }
@@ -144,7 +143,7 @@ pub(crate) fn judge(
     let mut touched = Vec::new(alloc);
     for bracket in candidates {
         let at = *bracket as usize;
-        if glances.leaf_holds(brackets.leaves[at], *bracket, observation, bundle)? {
+        if leaf_holds(alloc, brackets.leaves[at], observation, bundle)? {
             marks[at] = true;
             add_place(&mut touched, brackets.owners[at])?;
         }

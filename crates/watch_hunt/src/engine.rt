@@ -16,7 +16,6 @@ ghost use Rattle.watch_hunt.specs.EngineAnswer.{TellsRow, IsFirstCrowded};
 use crate::brackets::{Brackets, clear, judge};
 use crate::follower::Follower;
 use crate::followers::{sweep, take_all};
-use crate::glances::Glances;
 use crate::next_row::NextRow;
 use crate::{EngineRefusal, Found};
 use flow_values::{Items, NoMemory};
@@ -42,7 +41,6 @@ pub struct Engine<'p> {
     cap: u64,
     brackets: Brackets<'p>,
     index: Index<'p>,
-    glances: Glances,
     marks: Vec<bool>,
     followers: Vec<Follower<'p>>,
     /// The places of the patterns that have a matcher, and whose turn is next.
@@ -92,7 +90,6 @@ impl<'p> Engine<'p> {
         let followers = followers_of(alloc, hunted, cap)?;
         let turns = turns_of(alloc, followers.as_slice())?;
         let index = Index::new(alloc, brackets.leaves.as_slice())?;
-        let glances = Glances::new(alloc, brackets.leaves.len())?;
         let marks = vec![in alloc; false; brackets.leaves.len()]?;
         Ok(Engine {
             alloc,
@@ -100,7 +97,6 @@ impl<'p> Engine<'p> {
             cap,
             brackets,
             index,
-            glances,
             marks,
             followers,
             turns,
@@ -151,7 +147,6 @@ impl<'p> Engine<'p> {
         };
         let followers = self.followers.as_mut_slice();
         self.turn = sweep(followers, self.turns.as_slice(), self.turn, &row, self.cap)?;
-        self.glances.note(&self.index, observation, bundle)?;
         let candidates = self.index.candidates(observation, bundle)?;
         let touched = judge(
             self.alloc,
@@ -159,7 +154,6 @@ impl<'p> Engine<'p> {
             observation,
             bundle,
             candidates.as_slice(),
-            &self.glances,
             self.marks.as_mut_slice(),
         )?;
         let found = match take_all(

@@ -11,7 +11,6 @@ mod engine;
 mod follower;
 mod followers;
 mod found;
-mod glances;
 pub mod laws;
 mod next_row;
 mod refusal;
