@@ -1,5 +1,5 @@
 -- How far a feed is read, behind each of its objects.
-use Rattle.std.proofs.Common.{◌≡◌, ℕ, zero, suc, ◌<◌, List, [], ◌∷◌, ◌++◌, length, All, Option, None, Some, option_map, IfSome, Err, refl, sym, ap, subst, ◌∙◌, append_assoc, arith}
+use Rattle.std.proofs.Common.{◌≡◌, ℕ, zero, suc, List, [], ◌∷◌, ◌++◌, Option, None, Some, option_map, IfSome, Err, refl, sym, subst, append_assoc, arith}
 use Rattle.std.proofs.lemmas.List.{append-nil}
 use Rattle.serde_json.specs.Data.{Data}
 use Rattle.flow_lines.specs.Lines.{Lined, ended, refused, line_then, LinesState, lines_start, lines_ahead, RefusesLine}
@@ -9,7 +9,7 @@ use Rattle.stix_objects.specs.Breaks.{AreBreaksOf}
 use Rattle.watch_indicators.specs.Gathering.{Gathered, GathersFor}
 use Rattle.watch_feed.specs.declared.rule.FeedRule.{FeedRule}
 use Rattle.watch_feed.specs.declared.rule.FeedRule.TheVariants as rule
-use Rattle.watch_feed.specs.Line.{IsObjectOf, IsRefusedFor}
+use Rattle.watch_feed.specs.Line.{IsRefusedFor}
 use Rattle.watch_feed.specs.Feeds.{FeedClose, Whole, Refused, Reads, at_end, at_refusal, one_object, IsRefusedAt, ReadsFeed, AreUnbroken, GathersFeed}
 use Rattle.watch_feed.specs.inner.Ends.{end_of_line, GivesObject, AnswersObject, ReadsBehind, GathersSo}
 
@@ -60,18 +60,18 @@ module _ (all before after : Option Lined) (object : Data) (gives : GivesObject 
 
 -- none breaks a rule
 unbroken_one : (objects : List Data) (object : Data) → AreUnbroken objects → AreBreaksOf object [] → AreUnbroken (objects ++ object ∷ [])
-unbroken_one [] object all one zero d less = one
-unbroken_one [] object all one (suc k) d less = absurd (omega arith)
-unbroken_one (x ∷ xs) object all one zero d less = all zero d (omega arith)
-unbroken_one (x ∷ xs) object all one (suc k) d less = unbroken_one xs object (λ j e inside. all (suc j) e (omega arith)) one k d (omega arith)
+unbroken_one [] added all one zero d less = one
+unbroken_one [] added all one (suc k) d less = absurd (omega arith)
+unbroken_one (x ∷ xs) added all one zero d less = all zero d (omega arith)
+unbroken_one (x ∷ xs) added all one (suc k) d less = unbroken_one xs added (λ j e inside. all (suc j) e (omega arith)) one k d (omega arith)
 
 pub gathers_one : (all before after : Option Lined) (old new : Gathered) (object : Data) → GivesObject before after object
     → (so : GathersSo all before old) → GathersFor new (so.objects ++ object ∷ []) → GathersSo all after new
-gathers_one all before after old new object gives so gathers = record {
-  objects = so.objects ++ object ∷ [];
-  unbroken = unbroken_one so.objects object so.unbroken (subst (λ (o : Data). AreBreaksOf o []) refl gives.is.unbroken);
+gathers_one all before after old new added gives so gathers = record {
+  objects = so.objects ++ added ∷ [];
+  unbroken = unbroken_one so.objects added so.unbroken gives.is.unbroken;
   gathers = gathers;
-  behind = behind_one all before after object gives so.objects so.behind;
+  behind = behind_one all before after added gives so.objects so.behind;
 }
 
 pub gathers_none : (all : Option Lined) (gathered : Gathered) → GathersFor gathered [] → GathersSo all all gathered

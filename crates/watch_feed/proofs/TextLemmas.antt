@@ -17,3 +17,11 @@ pub refused_line : (line name rule path : List ℕ)
 refused_line line name rule path =
     ap (λ (xs : List ℕ). codes "indicators line " ++ (line ++ (codes " refused: " ++ xs)))
     (sym (append_assoc name rule (path_lead path ++ (path ++ codes "\n"))) ∙ led (name ++ rule) path)
+
+-- the same of the pieces, which were handed on
+pub refused_pieces : (line name rule path line_piece name_piece rule_piece lead_piece path_piece : List ℕ) → line_piece ≡ line → name_piece ≡ name → rule_piece ≡ rule
+    → lead_piece ≡ path_lead path → path_piece ≡ path
+    → codes "indicators line " ++ (line_piece ++ (codes " refused: " ++ (name_piece ++ (rule_piece ++ (lead_piece ++ (path_piece ++ codes "\n"))))))
+    ≡ codes "indicators " ++ line_of_text line (at_path (name ++ rule) path)
+refused_pieces line name rule path line_piece name_piece rule_piece lead_piece path_piece is_line is_name is_rule is_lead is_path =
+    let told = refused_line line name rule path in cc
