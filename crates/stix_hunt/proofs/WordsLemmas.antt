@@ -1,12 +1,13 @@
 -- Words, and what they ask for.
-use Rattle.std.proofs.Common.{◌≡◌, ◌↔◌, ℕ, ◌≤◌, ◌<◌, ◌-◌, ℤ, List, [], ◌∷◌, ◌++◌, length, take, drop, length-append, length-drop, Option, Some, None, Result, Ok, Err, IsErr, IfSome, IfNone, String, Global, string_bytes, get_or, refl, sym, ap, subst, ◌∙◌, arith}
+use Rattle.std.proofs.Common.{◌≡◌, ◌≢◌, ◌↔◌, inl, inr, ℕ, ◌≤◌, ◌<◌, ◌-◌, ◌==◌, Bool, true, false, not, IsTrue, ℤ, List, [], ◌∷◌, ◌++◌, length, take, drop, length-append, length-drop, Option, Some, None, Result, Ok, Err, IsErr, IfSome, IfNone, String, Global, string_bytes, get_or, refl, sym, ap, subst, ◌∙◌, arith}
 use Rattle.std.proofs.Math.Seq.{take-length}
+use Rattle.std.proofs.lemmas.Bool.{false≢true, eqb-true}
 use Rattle.std.proofs.lemmas.List.{length-map, map-append}
 use Rattle.stix_times.specs.declared.refusal.TimeRefusal.{TimeRefusal}
 use Rattle.stix_times.specs.Reading.{IsTextOf, Reads}
 use Rattle.command_line.specs.CommandLines.{IsNumberIn, IsNumberOr, texts}
 use Rattle.command_line.specs.declared.numbers.TheConstants.{DEFAULT_CAP, MAX_CAP}
-use Rattle.stix_hunt.specs.Tasks.{HuntTask, ArePositions, AreWithOption, OptionAhead, OptionBehind, task_of}
+use Rattle.stix_hunt.specs.Tasks.{HuntTask, ArePositions, AreWithOption, OptionAhead, OptionBehind, AskFor, AskForNothing, task_of}
 use Rattle.stix_hunt.specs.declared.words.HuntRequest.{HuntRequest}
 
 abbrev Word : Type 0
@@ -59,11 +60,6 @@ pub two-ahead : (words : List Word) (a b : Word) (option name : List ℕ) → 2 
     → option ≡ string_bytes a → name ≡ string_bytes b → texts words ≡ option ∷ name ∷ texts (take (length words - 2) (drop 2 words))
 two-ahead words a b option name least is_a is_b is_option is_name = let are = ap texts (two-first words a b least is_a is_b) in cc
 
-pub some-ahead : (words : List (List ℕ)) (option name : List ℕ) (others : List (List ℕ)) → words ≡ option ∷ name ∷ others → (answer : Option HuntRequest)
-    → IfSome answer (λ request. AreWithOption option name others (task_of request)) → IfSome answer (λ request. OptionAhead words (task_of request))
-some-ahead words option name others are None is = tt
-some-ahead words option name others are (Some request) is = record { option = option; name = name; others = others; words_are = are; are = is }
-
 pub some-behind : (words : List (List ℕ)) (option name : List ℕ) (others : List (List ℕ)) → words ≡ others ++ option ∷ name ∷ [] → (answer : Option HuntRequest)
     → IfSome answer (λ request. AreWithOption option name others (task_of request)) → IfSome answer (λ request. OptionBehind words (task_of request))
 some-behind words option name others are None is = tt
@@ -105,17 +101,6 @@ none-behind words option name others are none task asked =
     none task (subst (λ (o : List ℕ). AreWithOption o name others task) same.1 (subst (λ (n : List ℕ). AreWithOption asked.option n others task) same.2
     (subst (λ (r : List (List ℕ)). AreWithOption asked.option asked.name r task) same.0 asked.are)))
 
--- so few words have no option
-pub few-ahead : (words : List Word) → length words < 2 → (task : HuntTask) → ¬ OptionAhead (texts words) task
-few-ahead [] few task asked = let is = asked.words_are in absurd (cc)
-few-ahead (x ∷ []) few task asked = let is = asked.words_are in absurd (cc)
-few-ahead (x ∷ y ∷ words) few task asked = absurd (omega arith)
-
-pub few-behind : (words : List Word) → length words < 2 → (task : HuntTask) → ¬ OptionBehind (texts words) task
-few-behind words few task asked =
-    let count : length (texts words) ≡ length (asked.others ++ asked.option ∷ asked.name ∷ []) = ap length asked.words_are in
-    omega (arith, count, length-append asked.others (asked.option ∷ asked.name ∷ []), length-map words (λ (w : Word). string_bytes w), few)
-
 -- the words before the last two, and these
 last-are : (xs : List Word) (a b : Word) → length xs ≡ 2 → a ≡ get_or xs 0 a → b ≡ get_or xs 1 b → xs ≡ a ∷ b ∷ []
 last-are [] a b count is_a is_b = absurd (omega arith)
@@ -130,3 +115,24 @@ two-behind words others last a b option name are count is_a is_b is_option is_na
     let parts : texts words ≡ texts others ++ texts last = ap texts are ∙ map-append (λ (w : Word). string_bytes w) others last in
     let own : texts last ≡ option ∷ name ∷ [] = (let it = ap texts two in cc) in
     parts ∙ ap (λ (l : List (List ℕ)). texts others ++ l) own
+
+-- a word that isn't empty is a name
+pub named-so : (name : List ℕ) (empty : Bool) → empty ≡ (length name == 0) → IsTrue (not empty) ↔ (name ≢ [])
+named-so [] true is = ((λ yes none. absurd (false≢true yes)), (λ named. absurd (named refl)))
+named-so [] false is = absurd (false≢true is)
+named-so (c ∷ cs) true is = let none : length (c ∷ cs) ≡ 0 = eqb-true (length (c ∷ cs)) 0 (sym is) in absurd (omega arith)
+named-so (c ∷ cs) false is = ((λ yes none. absurd (cc)), (λ named. refl))
+
+-- the words are in none of the three forms
+pub nothing-asked : {A : Type 0} (words : List (List ℕ)) (positions : Option A) (ahead behind : Option HuntRequest) → positions ≡ None → ahead ≡ None
+    → IfNone positions ((moment : ℤ) (cap : ℕ) → ¬ ArePositions words moment cap) → IfNone ahead ((task : HuntTask) → ¬ OptionAhead words task)
+    → IfNone behind ((task : HuntTask) → ¬ OptionBehind words task) → IfNone behind (AskForNothing words)
+nothing-asked words (Some p) ahead behind none_positions none_ahead not_positions not_ahead not_behind = absurd (cc)
+nothing-asked words None (Some request) behind none_positions none_ahead not_positions not_ahead not_behind = absurd (cc)
+nothing-asked words None None (Some request) none_positions none_ahead not_positions not_ahead not_behind = tt
+nothing-asked words None None None none_positions none_ahead not_positions not_ahead not_behind = none
+  where
+    none : (task : HuntTask) → ¬ AskFor words task
+    none task (inl alone) = not_positions task.moment task.cap alone.1
+    none task (inr (inl asked)) = not_ahead task asked
+    none task (inr (inr asked)) = not_behind task asked
