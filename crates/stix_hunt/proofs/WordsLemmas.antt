@@ -1,8 +1,8 @@
 -- Words, and what they ask for.
-use Rattle.std.proofs.Common.{◌≡◌, ◌≢◌, ◌↔◌, inl, inr, ℕ, ◌≤◌, ◌<◌, ◌-◌, ◌==◌, Bool, true, false, not, IsTrue, ℤ, List, [], ◌∷◌, ◌++◌, length, take, drop, length-append, length-drop, Option, Some, None, Result, Ok, Err, IsErr, IfSome, IfNone, String, Global, string_bytes, get_or, refl, sym, ap, subst, ◌∙◌, arith}
+use Rattle.std.proofs.Common.{◌≡◌, ◌≢◌, ◌↔◌, inl, inr, ℕ, ◌≤◌, ◌<◌, ◌-◌, ◌==◌, Bool, true, false, not, IsTrue, ℤ, List, [], ◌∷◌, ◌++◌, length, take, drop, Option, Some, None, Result, Ok, IsErr, IfSome, IfNone, String, Global, string_bytes, get_or, refl, sym, ap, subst, ◌∙◌, arith}
 use Rattle.std.proofs.Math.Seq.{take-length}
 use Rattle.std.proofs.lemmas.Bool.{false≢true, eqb-true}
-use Rattle.std.proofs.lemmas.List.{length-map, map-append}
+use Rattle.std.proofs.lemmas.List.{map-append}
 use Rattle.stix_times.specs.declared.refusal.TimeRefusal.{TimeRefusal}
 use Rattle.stix_times.specs.Reading.{IsTextOf, Reads}
 use Rattle.command_line.specs.CommandLines.{IsNumberIn, IsNumberOr, texts}

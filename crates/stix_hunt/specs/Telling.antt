@@ -1,6 +1,6 @@
 -- What a run over an input has told, by how it ended. The indicators are among the objects of a file, where the words name one; else the
 -- first bundle holds them. The log is that of all bundles, the first one among them.
-use Rattle.std.specs.Prelude.{◌≡◌, ◌⊎◌, ℕ, ℤ, List, [], ◌∷◌, ◌++◌, Option, Some, None, MatchOption}
+use Rattle.std.specs.Prelude.{◌≡◌, ◌⊎◌, ℕ, List, [], ◌∷◌, ◌++◌, Option, Some, None, MatchOption}
 use Rattle.flow_edges.specs.Flow.{IsAtEnd, written_with, WritesPrefix}
 use Rattle.flow_edges.specs.Streams.{Streams}
 use Rattle.serde_json.specs.Data.{Data}

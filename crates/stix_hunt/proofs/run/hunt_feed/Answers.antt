@@ -1,7 +1,6 @@
-use Rattle.std.proofs.Common.{rules, List, Option, All, inl, inr, refl, sym, subst}
+use Rattle.std.proofs.Common.{List, All, inl, inr, refl, sym, subst}
 use Rattle.flow_edges.specs.Flow.{WritesPrefix}
 use Rattle.stix_ids.specs.Kind.{IsKind}
-use Rattle.watch_indicators.specs.declared.hunted.Hunted.{Hunted}
 use Rattle.watch_indicators.specs.declared.hunted.Skipped.{Skipped}
 use Rattle.watch_hits.specs.Lines.{skipped_text}
 use Rattle.watch_hits.specs.Hunting.{IsHuntable}
@@ -11,11 +10,11 @@ use Rattle.stix_hunt.proofs.run.hunt_feed.Goals as goal
 
 pub write_skipped-requires : goal.write_skipped-requires
 write_skipped-requires g c =
-    subst (All (λ (s : Skipped). IsKind s.id.kind)) (sym c.as_slice.ensures) (c.in-Ok.ensures.skipped c.requires.0 c.requires.1 c.requires.2)
+    subst (All (λ (s : Skipped). IsKind s.id.kind)) (sym c.as_slice.ensures) (c.in-Ok.ensures.skipped c.requires.fed.0 c.requires.fed.1 c.requires.fed.2)
 
 pub hunt_log-requires-clause-huntable : goal.hunt_log-requires-clause-huntable
 hunt_log-requires-clause-huntable g c =
-    subst (All IsHuntable) (sym c.as_slice-hunted.ensures) (c.in-Ok.ensures.hunted c.requires.0 c.requires.1 c.requires.2)
+    subst (All IsHuntable) (sym c.as_slice-hunted.ensures) (c.in-Ok.ensures.hunted c.requires.fed.0 c.requires.fed.1 c.requires.fed.2)
 
 pub returns-in-Err-WriteFault-clause-end : goal.returns-in-Err-WriteFault-clause-end
 returns-in-Err-WriteFault-clause-end g c feed gathers =

@@ -1,8 +1,6 @@
-use Rattle.std.proofs.Common.{rules, List, [], ◌∷◌, All, None, inl, inr, refl, sym, subst, ◌∙◌}
+use Rattle.std.proofs.Common.{rules, [], ◌∷◌, All, None, inl, inr, refl, sym, subst, ◌∙◌}
 use Rattle.flow_edges.specs.Streams.{streams}
 use Rattle.watch_log.specs.Reading.{bundle_of}
-use Rattle.watch_log.specs.declared.end.WatchEnd.{WatchEnd}
-use Rattle.watch_indicators.specs.declared.hunted.Hunted.{Hunted}
 use Rattle.watch_hits.specs.Rows.{rows_of}
 use Rattle.watch_hits.specs.Hunting.{IsHuntable}
 use Rattle.stix_hunt.specs.Tasks.{task_of}

@@ -1,4 +1,4 @@
-use Rattle.std.proofs.Common.{rules, ℕ, ℤ, List, [], All, Option, Some, inl, inr, refl, sym, ap, subst, ◌∙◌}
+use Rattle.std.proofs.Common.{rules, [], All, Some, inl, inr, refl, sym, ap, subst, ◌∙◌}
 use Rattle.flow_edges.specs.Streams.{streams}
 use Rattle.match_input.specs.Ahead.{ReaderState}
 use Rattle.match_log.proofs.PendingLemmas.{written_with-nil}
@@ -49,7 +49,7 @@ returns-in-Done-clause-end g c before feed unread skipped =
     let far = read-nothing c.begins_with_none.ensures c.args.reader.now c.requires.start before.left (g.I.Source.left c.args.input.now) (g.I.Source.began c.args.input.now) unread.left_is in
     let whole = c.in-Done.ensures.end before.left [] far in
     let hunted = c.in-Ok.ensures.hunted ∙ skipped.hunted_is in
-    let cap = c.in-Ok.ensures.cap ∙ c.from.ensures in
+    let cap = c.in-Ok.ensures.cap ∙ c.from-cap.ensures in
     let behind = c.follow.new.watcher in
     let seen = seen-behind c.answers_are_the_hits.ensures task before feed skipped.hunt skipped.hunt_is written skipped.written_is start c.in-Ok.ensures.hunts hunted cap
     (Some feed) [] (λ more. refl) start [] written (takes-none start) (written_with-nil written) whole.bundles behind after.written whole.says in
@@ -64,7 +64,7 @@ returns g c = record {
       let written = g.O.Sink.written c.args.output.now in
       let after = streams (g.I.Source.left c.follow.new.input) (g.I.Source.began c.follow.new.input) (g.O.Sink.written c.follow.new.output) in
       later-ends c.answers_are_the_hits.ensures (task_of c.args.request.now) before feed skipped.hunt skipped.hunt_is written skipped.written_is
-      start c.in-Ok.ensures.hunts (c.in-Ok.ensures.hunted ∙ skipped.hunted_is) (c.in-Ok.ensures.cap ∙ c.from.ensures)
+      start c.in-Ok.ensures.hunts (c.in-Ok.ensures.hunted ∙ skipped.hunted_is) (c.in-Ok.ensures.cap ∙ c.from-cap.ensures)
       (Some feed) [] (λ more. refl) start [] written (takes-none start) (written_with-nil written) c.follow.new.watcher after c.follow.result c.in_default.not-Done
       (c.follow.ensures.end before.left [] (read-nothing c.begins_with_none.ensures c.args.reader.now c.requires.start before.left (g.I.Source.left c.args.input.now)
       (g.I.Source.began c.args.input.now) unread.left_is));
