@@ -1,4 +1,5 @@
 pub mod Tasks
+pub mod Feeding
 pub mod Telling
 pub mod Endings
 pub mod Runs

@@ -1,6 +1,6 @@
--- What a run over an input has told, by how it ended. The first bundle holds the indicators; the log is that of all bundles, the first
--- one among them.
-use Rattle.std.specs.Prelude.{◌≡◌, ◌⊎◌, ℕ, ℤ, List, [], ◌∷◌, ◌++◌}
+-- What a run over an input has told, by how it ended. The indicators are among the objects of a file, where the words name one; else the
+-- first bundle holds them. The log is that of all bundles, the first one among them.
+use Rattle.std.specs.Prelude.{◌≡◌, ◌⊎◌, ℕ, List, [], ◌∷◌, ◌++◌, Option, Some, None, MatchOption}
 use Rattle.flow_edges.specs.Flow.{IsAtEnd, written_with, WritesPrefix}
 use Rattle.flow_edges.specs.Streams.{Streams}
 use Rattle.serde_json.specs.Data.{Data}
@@ -27,10 +27,12 @@ use Rattle.stix_hunt.specs.Tasks.{HuntTask}
 
 -- ---- the hunt
 
--- the objects of the first bundle, of which some are indicators
-abbrev pub feed_of : List BundleOf → List Data
-feed_of [] = []
-feed_of (first ∷ later) = first.objects
+-- the objects of which some are indicators: those of the file, where there is one, and else of the first bundle; none are known before
+-- that has come
+abbrev pub feed_of : Option (List Data) → List BundleOf → Option (List Data)
+feed_of (Some objects) bundles = Some objects
+feed_of None [] = None
+feed_of None (first ∷ later) = Some first.objects
 
 -- the hunt of a feed over the rows of a log: which indicators are hunted and which are skipped, and the hits
 pub record HuntsRows (task : HuntTask) (feed : List Data) (rows : List Row) : Type 0 where
@@ -44,33 +46,34 @@ pub record HuntsRows (task : HuntTask) (feed : List Data) (rows : List Row) : Ty
 abbrev pub told_of : {task : HuntTask} → {feed : List Data} → {rows : List Row} → HuntsRows task feed rows → List ℕ
 told_of hunts = skipped_text hunts.hunt.skipped ++ hits_text hunts.hunt.hunted hunts.hits
 
--- ---- what is told of the bundles of an input
+-- ---- what is told of the bundles of an input, where a file holds these objects, or there is none
 
--- of none nothing
-abbrev pub TellsHits : HuntTask → List BundleOf → List ℕ → Type 0
-TellsHits task [] text = text ≡ []
-TellsHits task (first ∷ later) text = (hunts : HuntsRows task first.objects (rows_of (first ∷ later))) × (text ≡ told_of hunts)
+module _ (task : HuntTask) (file : Option (List Data)) where
+  -- nothing, where no objects are known
+  abbrev pub TellsHits : List BundleOf → List ℕ → Type 0
+  TellsHits bundles text = MatchOption (feed_of file bundles) (text ≡ [])
+      (λ feed. (hunts : HuntsRows task feed (rows_of bundles)) × (text ≡ told_of hunts))
 
--- the same, and at the end the report of what was seen
-abbrev pub TellsAll : HuntTask → List BundleOf → List ℕ → Type 0
-TellsAll task [] text = text ≡ []
-TellsAll task (first ∷ later) text = (hunts : HuntsRows task first.objects (rows_of (first ∷ later))) × (report : List ℕ)
-    × IsReport task.moment (rows_of (first ∷ later)) hunts.hits hunts.hunt.hunted report × (text ≡ told_of hunts ++ report)
+  -- the same, and at the end the report of what was seen
+  abbrev pub TellsAll : List BundleOf → List ℕ → Type 0
+  TellsAll bundles text = MatchOption (feed_of file bundles) (text ≡ [])
+      (λ feed. (hunts : HuntsRows task feed (rows_of bundles)) × (report : List ℕ)
+      × IsReport task.moment (rows_of bundles) hunts.hits hunts.hunt.hunted report × (text ≡ told_of hunts ++ report))
 
--- by how the input ends: a refused line leaves the report out
-abbrev pub TellsTo : InputEnd → HuntTask → List BundleOf → List ℕ → Type 0
-TellsTo Whole task bundles text = TellsAll task bundles text
-TellsTo (Refused line why) task bundles text = TellsHits task bundles text
+  -- by how the input ends: a refused line leaves the report out
+  abbrev pub TellsTo : InputEnd → List BundleOf → List ℕ → Type 0
+  TellsTo Whole bundles text = TellsAll bundles text
+  TellsTo (Refused line why) bundles text = TellsHits bundles text
 
 -- ---- what an end says
 
-module _ (task : HuntTask) (before after : Streams) where
+module _ (task : HuntTask) (file : Option (List Data)) (before after : Streams) where
   -- the input was read to its end, and all was told
   pub record HuntsWhole : Type 0 where
     pub bundles : List BundleOf
     pub reading : ReadsInput Lines before.left bundles Whole
     pub text : List ℕ
-    pub tells : TellsAll task bundles text
+    pub tells : TellsAll task file bundles text
     pub text_is : after.written ≡ written_with text before.written
     pub drained : IsAtEnd after.left
 
@@ -79,7 +82,7 @@ module _ (task : HuntTask) (before after : Streams) where
     pub bundles : List BundleOf
     pub reading : ReadsInput Lines before.left bundles (Refused line why)
     pub text : List ℕ
-    pub tells : TellsHits task bundles text
+    pub tells : TellsHits task file bundles text
     pub text_is : after.written ≡ written_with text before.written
     pub little : StopsIn line before.left after.left
 
@@ -88,7 +91,7 @@ module _ (task : HuntTask) (before after : Streams) where
     pub bundles : List BundleOf
     pub begins : BeginsSo Lines before.left bundles
     pub text : List ℕ
-    pub tells : TellsHits task bundles text
+    pub tells : TellsHits task file bundles text
     pub text_is : after.written ≡ written_with text before.written
     pub taken : ReadsTaken bundles before.left after.left
 
@@ -103,7 +106,9 @@ module _ (task : HuntTask) (before after : Streams) where
     pub observation : Observation
     pub later : List Observation
     pub observations_are : bundle.observations ≡ seen ++ observation ∷ later
-    pub hunts : HuntsRows task (feed_of (earlier ++ bundle ∷ [])) (rows_of earlier ++ rows_over bundle.objects seen)
+    pub feed : List Data
+    pub feed_is : feed_of file (earlier ++ bundle ∷ []) ≡ Some feed
+    pub hunts : HuntsRows task feed (rows_of earlier ++ rows_over bundle.objects seen)
     pub crowded : IsFirstCrowded (patterns_of hunts.hunt.hunted) task.cap
         ((rows_of earlier ++ rows_over bundle.objects seen) ++ row_of observation bundle.objects ∷ []) why.hunted why.number why.cap
     pub text_is : after.written ≡ written_with (told_of hunts) before.written
@@ -118,21 +123,24 @@ module _ (task : HuntTask) (before after : Streams) where
     pub seen : List Observation
     pub later : List Observation
     pub observations_are : bundle.observations ≡ seen ++ later
-    pub hunts : HuntsRows task (feed_of (earlier ++ bundle ∷ [])) (rows_of earlier ++ rows_over bundle.objects seen)
+    pub feed : List Data
+    pub feed_is : feed_of file (earlier ++ bundle ∷ []) ≡ Some feed
+    pub hunts : HuntsRows task feed (rows_of earlier ++ rows_over bundle.objects seen)
     pub text : List ℕ
-    pub tells : TellsHits task earlier text
+    pub tells : TellsHits task file earlier text
     pub more : List ℕ
     pub more_is : told_of hunts ≡ text ++ more
     pub prefix : WritesPrefix more (written_with text before.written) after.written
 
   -- the input was read to its end and its hits were told, and of the report a prefix was written
   pub record StopsReporting : Type 0 where
-    pub first : BundleOf
-    pub later : List BundleOf
-    pub reading : ReadsInput Lines before.left (first ∷ later) Whole
-    pub hunts : HuntsRows task first.objects (rows_of (first ∷ later))
+    pub bundles : List BundleOf
+    pub reading : ReadsInput Lines before.left bundles Whole
+    pub feed : List Data
+    pub feed_is : feed_of file bundles ≡ Some feed
+    pub hunts : HuntsRows task feed (rows_of bundles)
     pub report : List ℕ
-    pub tells : TellsReport task.moment (rows_of (first ∷ later)) hunts.hits hunts.hunt.hunted report
+    pub tells : TellsReport task.moment (rows_of bundles) hunts.hits hunts.hunt.hunted report
     pub prefix : WritesPrefix report (written_with (told_of hunts) before.written) after.written
     pub drained : IsAtEnd after.left
 
@@ -141,8 +149,16 @@ module _ (task : HuntTask) (before after : Streams) where
     pub bundles : List BundleOf
     pub begins : BeginsSo Lines before.left bundles
     pub text : List ℕ
-    pub tells : TellsHits task bundles text
+    pub tells : TellsHits task file bundles text
     pub text_is : after.written ≡ written_with text before.written
+
+  -- the objects of the file were known, and of what is skipped a prefix was told, before anything of the input was read
+  pub record StopsSkipping : Type 0 where
+    pub feed : List Data
+    pub file_is : file ≡ Some feed
+    pub hunts : HuntsRows task feed []
+    pub prefix : WritesPrefix (told_of hunts) before.written after.written
+    pub unread : (after.left ≡ before.left) × (after.began ≡ before.began)
 
   -- the run stopped before it knew what to hunt, and had told nothing
   abbrev pub StopsUntold : Type 0
@@ -153,6 +169,6 @@ module _ (task : HuntTask) (before after : Streams) where
   AnswersHunt Done = HuntsWhole
   AnswersHunt (Input line why) = HuntsBefore line why
   AnswersHunt ReadFault = HuntsTaken
-  AnswersHunt WriteFault = StopsWithin ⊎ StopsReporting
+  AnswersHunt WriteFault = StopsSkipping ⊎ StopsWithin ⊎ StopsReporting
   AnswersHunt (Stopped why) = StopsCrowded why
-  AnswersHunt NoMemory = StopsUntold ⊎ StopsBetween ⊎ StopsWithin ⊎ StopsReporting
+  AnswersHunt NoMemory = StopsUntold ⊎ StopsSkipping ⊎ StopsBetween ⊎ StopsWithin ⊎ StopsReporting

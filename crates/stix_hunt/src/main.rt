@@ -1,5 +1,5 @@
-//! The program `stix_hunt`: many indicators on one log. The first bundle of the input holds the indicators; each hit is told before the
-//! next line is read, and at the end what was seen of each.
+//! The program `stix_hunt`: many indicators on one log. A file holds the indicators, or the first bundle of the input; each hit is told
+//! before the next line is read, and at the end what was seen of each.
 #![tactic(auto)]
 
 mod ending;
@@ -9,6 +9,7 @@ mod words;
 use command_line::program_words;
 use command_reasons::write_no_memory;
 use flow_edges::{ReadSource, WriteSink};
+use flow_files::SystemFiles;
 use flow_values::NoMemory;
 use std::process::ExitCode;
 
@@ -23,6 +24,13 @@ fn main(rt: HostRuntime) -> ExitCode {
             return ExitCode::from(1);
         }
     };
-    let status = run::run_hunt(rt.alloc(), &words, &mut input, &mut output, &mut faults);
+    let status = run::run_hunt(
+        rt.alloc(),
+        &words,
+        &mut SystemFiles::new(&rt),
+        &mut input,
+        &mut output,
+        &mut faults,
+    );
     ExitCode::from(status)
 }

@@ -1,4 +1,4 @@
-ghost use Rattle.std.specs.Prelude.{◌≡◌, ◌<◌, ◌^◌, List, [], ◌∷◌, ◌++◌, IfOk, OnOk, OnErr};
+ghost use Rattle.std.specs.Prelude.{◌≡◌, ◌↔◌, ◌<◌, ◌^◌, List, [], ◌∷◌, ◌++◌, IsTrue, IfOk, OnOk, OnErr};
 ghost use Rattle.serde_json.specs.Data.{Data};
 ghost use Rattle.stix_json.specs.DataOf.{data_of};
 ghost use Rattle.stix_objects.specs.Breaks.{AreBreaksOf};
@@ -53,6 +53,13 @@ impl Gathering {
             kept: Vec::new(alloc),
             versions: BTreeMap::new(alloc),
         }
+    }
+
+    /// Whether so many objects came as can be counted. Takes no memory.
+    pub fn is_full(&self) -> bool
+        ensures { IsTrue result ↔ ¬ (self.now.count < 2 ^ 32) }
+    {
+        self.count > u64::from(u32::MAX)
     }
 
     /// Adds an object that breaks no rule. Without memory all is as it was.

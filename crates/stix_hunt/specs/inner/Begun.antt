@@ -1,7 +1,8 @@
--- For private clauses: where the first bundle has come, and how a report ends.
+-- For private clauses: where the indicators are known, and how a report ends.
 use Rattle.std.specs.Prelude.{◌≡◌, ℕ, ℤ, List, [], ◌∷◌, Option}
 use Rattle.flow_edges.specs.Flow.{written_with, WritesPrefix}
 use Rattle.flow_edges.specs.Streams.{Streams}
+use Rattle.serde_json.specs.Data.{Data}
 use Rattle.match_input.specs.declared.mode.Mode.TheVariants.{Lines}
 use Rattle.match_input.specs.Reading.{BundleOf}
 use Rattle.match_log.specs.Matching.{BeginsSo}
@@ -18,15 +19,20 @@ use Rattle.watch_hits.specs.Lines.{skipped_text}
 use Rattle.watch_hits.specs.Sights.{IsReport, TellsReport}
 use Rattle.stix_hunt.specs.Tasks.{HuntTask}
 
+-- nothing was read
+pub record IsUnread (before : Streams) (left began : Option (List ℕ)) : Type 0 where
+  pub left_is : left ≡ before.left
+  pub began_is : began ≡ before.began
+
 -- the first bundle was read, and no more than that
 pub record IsBegun (before : Streams) (first : BundleOf) (left began : Option (List ℕ)) : Type 0 where
   pub begins : BeginsSo Lines before.left (first ∷ [])
   pub only : ReadsOnlyTo first.line before.left left began
 
--- its hunt is known, and what is skipped was told
-pub record HasSkipped (task : HuntTask) (before : Streams) (first : BundleOf) (hunted : List Hunted) (written : Option (List ℕ)) : Type 0 where
+-- the hunt of a feed is known, and what is skipped was told
+pub record HasSkipped (task : HuntTask) (before : Streams) (feed : List Data) (hunted : List Hunted) (written : Option (List ℕ)) : Type 0 where
   pub hunt : Hunt
-  pub hunt_is : IsHuntOf first.objects task.moment hunt
+  pub hunt_is : IsHuntOf feed task.moment hunt
   pub hunted_is : hunted ≡ hunt.hunted
   pub written_is : written ≡ written_with (skipped_text hunt.skipped) before.written
 

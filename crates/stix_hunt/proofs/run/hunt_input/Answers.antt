@@ -1,4 +1,4 @@
-use Rattle.std.proofs.Common.{Option, Ok, [], ◌∷◌, refl, sym, subst}
+use Rattle.std.proofs.Common.{Option, Ok, None, [], ◌∷◌, refl, sym, subst}
 use Rattle.flow_edges.specs.Streams.{streams}
 use Rattle.match_input.specs.Ahead.{ReaderState, next_number}
 use Rattle.match_input.specs.declared.batch.Batch.{Batch}
@@ -48,7 +48,7 @@ returns-in-Ok-None-clause-end g c =
     let read = subst (λ (r : ReaderState). HasRead left r left began []) (sym c.in-Ok.ensures) (c.begins_with_none.ensures left began) in
     let answers = subst (λ (found : Option Batch). NextAnswers left [] c.in-Ok.reader c.next_bundle.new.reader left_after began_after (Ok found)) c.in-Ok-None.field-0-is
     (c.in-Ok-None.ensures.next left [] read) in
-    reads-none (task_of c.args.request) (streams left began (g.O.Sink.written c.args.output.now)) left_after began_after answers.0 answers.1
+    reads-none (task_of c.args.request.now) (streams left began (g.O.Sink.written c.args.output.now)) left_after began_after answers.0 answers.1
 
 pub returns-clause-end : goal.returns-clause-end
 returns-clause-end g c =
@@ -58,6 +58,6 @@ returns-clause-end g c =
     let began_after = g.I.Source.began c.next_bundle.new.input in
     let before = streams left began (g.O.Sink.written c.args.output.now) in
     let read = subst (λ (r : ReaderState). HasRead left r left began []) (sym c.in-Ok.ensures) (c.begins_with_none.ensures left began) in
-    subst (AnswersHunt (task_of c.args.request) before (streams left_after began_after (g.O.Sink.written c.args.output.now))) (sym c.from.ensures)
-    (read-ends (task_of c.args.request) before c.in-Ok.reader c.next_bundle.new.reader left_after began_after c.in-Err-next_bundle.end
+    subst (AnswersHunt (task_of c.args.request.now) None before (streams left_after began_after (g.O.Sink.written c.args.output.now))) (sym c.from.ensures)
+    (read-ends (task_of c.args.request.now) before c.in-Ok.reader c.next_bundle.new.reader left_after began_after c.in-Err-next_bundle.end
     (c.in-Err-next_bundle.ensures.next left [] read))

@@ -1,9 +1,11 @@
-use Rattle.std.proofs.Common.{rules, IsErr}
-use Rattle.stix_hunt.proofs.WordsLemmas.{first-word, no-moment}
+use Rattle.std.proofs.Common.{rules, ◌≡◌, None}
+use Rattle.command_line.specs.CommandLines.{texts}
+use Rattle.stix_hunt.proofs.WordsLemmas.{nothing-asked}
 use Rattle.stix_hunt.proofs.words.read_request.Goals as goal
 
-pub returns-in_err-moment-clause-none : goal.returns-in_err-moment-clause-none
-returns-in_err-moment-clause-none c =
-    let first = first-word c.args.words.now c.time-item.result c.in-len1-up.len_at_least c.time-item.is in
-    let err : IsErr c.read.result = search rules in
-    rw c.from_residual.ensures (no-moment _ _ c.as_str.result.now first.0 first.1 c.as_str.ensures.value c.read.result c.read.ensures.only err)
+pub returns-clause-none : goal.returns-clause-none
+returns-clause-none c =
+    let positions : c.read_positions.result ≡ None = search rules in
+    let ahead : c.option_ahead-ahead.result ≡ None = search rules in
+    nothing-asked (texts c.args.words.now) c.read_positions.result c.option_ahead-ahead.result c.option_behind.result positions ahead
+    c.read_positions.ensures.none c.option_ahead-ahead.ensures.none c.option_behind.ensures.none

@@ -1,0 +1,4 @@
+pub mod Line
+pub mod Feeds
+pub mod Texts
+pub mod inner

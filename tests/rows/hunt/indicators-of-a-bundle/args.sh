@@ -1,0 +1,1 @@
+printf '%s\n' --indicators "$top/tests/rows/hunt/indicators-of-a-bundle/feed" 2021-06-10T00:01:00Z
