@@ -1,4 +1,4 @@
-//! The outside in memory: sources, sinks, files, links, a door, a dial and a clock that tell all they hold, and that
+//! The outside in memory: sources, sinks, links, a door, a dial and a clock that tell all they hold, and that
 //! can be made to fail at chosen calls. What is proved over the traits is tested over these.
 #![tactic(auto)]
 
@@ -6,7 +6,6 @@ mod dialled;
 mod list_clock;
 mod memory_dial;
 mod memory_door;
-mod memory_files;
 mod memory_link;
 mod memory_sink;
 mod memory_source;
@@ -17,7 +16,6 @@ pub use dialled::Dialled;
 pub use list_clock::ListClock;
 pub use memory_dial::MemoryDial;
 pub use memory_door::MemoryDoor;
-pub use memory_files::{MemoryFile, MemoryFiles};
 pub use memory_link::MemoryLink;
 pub use memory_sink::MemorySink;
 pub use memory_source::MemorySource;
