@@ -10,31 +10,32 @@ use flow_edges::{ReadSource, WriteSink};
 use flow_links::{SystemClock, TcpDoor};
 use flow_values::NoMemory;
 use std::process::ExitCode;
-use taxii_sqlite::{SqliteKeeper, Unknown};
+use taxii_sqlite::{SqliteKeeper, Start, Unknown};
 
 fn main(rt: HostRuntime) -> ExitCode {
-    let mut input = ReadSource::new(rt.stdin());
-    let mut output = WriteSink::new(rt.stdout());
-    let mut reasons = WriteSink::new(rt.stderr());
-    let words = match program_words(&rt) {
-        Ok(words) => words,
+    match program_words(&rt) {
+        Ok(words) => ExitCode::from(run_over(rt, &words, Unknown)),
         Err(NoMemory) => {
-            let _ = write_no_memory(&mut reasons);
-            return ExitCode::from(1);
+            let _ = write_no_memory(&mut WriteSink::new(rt.stderr()));
+            ExitCode::from(1)
         }
-    };
-    let mut keeper = SqliteKeeper::new(rt.alloc(), rt, Unknown);
+    }
+}
+
+/// Runs the program over the outside that the system has, with a file that held what `S` stands for, and answers its status.
+fn run_over<S: Start>(rt: HostRuntime, words: &[String], start: S) -> u8 {
+    let mut keeper = SqliteKeeper::new(rt.alloc(), rt, start);
     let status = run::run(
         rt.alloc(),
-        &words,
-        &mut input,
-        &mut output,
-        &mut reasons,
+        words,
+        &mut ReadSource::new(rt.stdin()),
+        &mut WriteSink::new(rt.stdout()),
+        &mut WriteSink::new(rt.stderr()),
         &mut TcpDoor::new(&rt),
         &mut keeper,
         &mut SystemClock::new(&rt),
     );
     // All that was answered is in the file and its log. Where the log can't be copied into the file, they stay two.
     let _ = keeper.close();
-    ExitCode::from(status)
+    status
 }

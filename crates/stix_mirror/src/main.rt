@@ -8,29 +8,31 @@ use flow_edges::WriteSink;
 use flow_links::{SystemClock, TcpDial};
 use flow_values::NoMemory;
 use std::process::ExitCode;
-use taxii_sqlite::{SqliteKeeper, Unknown};
+use taxii_sqlite::{SqliteKeeper, Start, Unknown};
 
 fn main(rt: HostRuntime) -> ExitCode {
-    let mut output = WriteSink::new(rt.stdout());
-    let mut faults = WriteSink::new(rt.stderr());
-    let words = match program_words(&rt) {
-        Ok(words) => words,
+    match program_words(&rt) {
+        Ok(words) => ExitCode::from(mirror(rt, &words, Unknown)),
         Err(NoMemory) => {
-            let _ = write_no_memory(&mut faults);
-            return ExitCode::from(1);
+            let _ = write_no_memory(&mut WriteSink::new(rt.stderr()));
+            ExitCode::from(1)
         }
-    };
-    let mut keeper = SqliteKeeper::new(rt.alloc(), rt, Unknown);
+    }
+}
+
+/// Does what the words ask for, over a file that held what `S` stands for, and answers the program's status.
+fn mirror<S: Start>(rt: HostRuntime, words: &[String], start: S) -> u8 {
+    let mut keeper = SqliteKeeper::new(rt.alloc(), rt, start);
     let status = run_mirror(
         rt.alloc(),
-        &words,
+        words,
         &mut TcpDial::new(&rt),
         &mut keeper,
         &mut SystemClock::new(&rt),
-        &mut output,
-        &mut faults,
+        &mut WriteSink::new(rt.stdout()),
+        &mut WriteSink::new(rt.stderr()),
     );
     // All that was absorbed is in the file and its log. Where the log can't be copied into the file, they stay two.
     let _ = keeper.close();
-    ExitCode::from(status)
+    status
 }
