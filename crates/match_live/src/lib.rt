@@ -10,7 +10,6 @@
 
 mod ending;
 mod expired;
-mod heap;
 mod join;
 pub mod laws;
 mod lead;
