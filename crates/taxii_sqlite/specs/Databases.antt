@@ -1,9 +1,12 @@
 -- What a database answers and does: by statements over its file, or over rows in memory.
-use Rattle.std.specs.Prelude.{◌≡◌, ◌≢◌, ⊤, true, false, Bool, ℕ, List, [], Option}
+use Rattle.std.specs.Prelude.{◌≡◌, ◌≢◌, ⊤, true, false, Bool, ℕ, List, [], Option, None, Some}
 use Rattle.sqlite_disk.specs.declared.Disk.{Ghosts}
+use Rattle.sqlite_disk.specs.declared.Files.{Files}
+use Rattle.sqlite_wal.specs.Reads.{AreClean}
 use Rattle.sqlite_wal.specs.Recovery.{Image}
 use Rattle.sqlite.specs.State.{HasCleanDisk}
 use Rattle.sqlite.specs.Start.{FindsIn}
+use Rattle.sqlite.specs.Closing.{IsCopied}
 use Rattle.sqlite.specs.Files.{file_state, IsOpened}
 use Rattle.sqlite.specs.Held.{IsNew}
 use Rattle.taxii_rows.specs.declared.stored_row.StoredRow.{StoredRow}
@@ -69,3 +72,11 @@ module _ {D : Type 0} {disk : Ghosts D} where
       (path ≢ [])
       × (HasCleanDisk (file_state after) → (before : _) × IsNew before × IsOpened before × FindsIn files (file_state before) × IsReady file_state before after)
   IsOpenAt files path Closed = ⊥
+
+  -- what an end leaves: of a file, both of its files, of which the database alone holds what was committed last, also after a crash;
+  -- of rows in memory, nothing
+  abbrev pub Leaves : Database D disk → Option (Files D) → Type 0
+  Leaves (Disk held) (Some files) = AreClean disk files.log files.db → IsCopied held files
+  Leaves (Disk held) None = ⊥
+  Leaves (Memory _) left = left ≡ None
+  Leaves Closed left = left ≡ None

@@ -1,5 +1,5 @@
 -- What form a database has, and how one becomes a store.
-use Rattle.std.specs.Prelude.{◌≡◌, ℕ, ℤ, pos, ⊤, List, [], ◌∷◌, Ok}
+use Rattle.std.specs.Prelude.{◌≡◌, ℕ, ℤ, pos, List, [], ◌∷◌, Ok}
 use Rattle.sqlite_value.specs.declared.value.Value.{Value}
 use Rattle.sqlite_value.specs.declared.value.Value.TheVariants.{Int, Text}
 use Rattle.sqlite_value.specs.Order.{column}
@@ -10,12 +10,14 @@ use Rattle.taxii_sqlite.specs.declared.form.Form.{Form}
 use Rattle.taxii_sqlite.specs.declared.form.Form.TheVariants.{Blank, Unnamed, Named, Other}
 use Rattle.taxii_sqlite.specs.declared.schema.TheConstants.{VERSION, ROW_TABLE, MARK_TABLE, FORM_TABLE, FIRST_MARK, NAME_FORM, COUNT_TABLES, READ_VERSION}
 
--- of so many tables so many are those of rows and mark, and so many the one that names the form
+-- of so many tables so many are those of rows and mark, and so many the one that names the form: no tables, those that earlier
+-- programs made, all of a store, or any others
 abbrev pub IsFormOf : ℤ → ℤ → ℤ → Form → Type 0
-IsFormOf all rows names Blank = all ≡ pos 0
+IsFormOf all rows names Blank = (all ≡ pos 0) × (rows ≡ pos 0) × (names ≡ pos 0)
 IsFormOf all rows names Unnamed = (all ≡ pos 2) × (rows ≡ pos 2) × (names ≡ pos 0)
 IsFormOf all rows names Named = (all ≡ pos 3) × (rows ≡ pos 2) × (names ≡ pos 1)
-IsFormOf all rows names Other = ⊤
+IsFormOf all rows names Other =
+    ¬ ((all ≡ pos 0) × (rows ≡ pos 0) × (names ≡ pos 0)) × ¬ ((all ≡ pos 2) × (rows ≡ pos 2) × (names ≡ pos 0)) × ¬ ((all ≡ pos 3) × (rows ≡ pos 2) × (names ≡ pos 1))
 
 -- what the schema lists, as `COUNT_TABLES` counts it beside the three tables of a store, is of that form
 pub record AnswersForm (before after : State) (form : Form) : Type 0 where

@@ -1,13 +1,15 @@
 ghost use Rattle.std.specs.Prelude.{◌≡◌, ◌≢◌, true, [], IfOk, OnOk, OnErr};
 ghost use Rattle.sqlite_wal.specs.Files.{image_at};
+ghost use Rattle.sqlite_wal.specs.Reads.{AreClean};
 ghost use Rattle.sqlite_wal.specs.Recovery.{Image};
+ghost use Rattle.sqlite.specs.Closing.{IsCopied};
 ghost use Rattle.taxii_rows.specs.StoreState.{RiseFrom};
-ghost use Rattle.taxii_sqlite.specs.Databases.{is_open, FindsNext, FindsMark, Appends, Removes, StaysAs, IsOpenAt};
+ghost use Rattle.taxii_sqlite.specs.Databases.{is_open, FindsNext, FindsMark, Appends, Removes, StaysAs, IsOpenAt, Leaves};
 
 use crate::failure::Failure;
 use crate::{file, memory, statements};
 use flow_values::Items;
-use sqlite::{Connection, Error, ErrorCode, FileFrom, FileStore, Start};
+use sqlite::{Connection, Error, ErrorCode, FileFrom, FileStore, Files, Start};
 use sqlite_disk::Disk;
 use std::alloc::Global;
 use std::rt::HostRuntime;
@@ -34,12 +36,14 @@ impl<D: Disk + Drop> Database<D> {
         Database::Memory(rows)
     }
 
-    /// Copies the log into the file of the database, where it is in one, so that the file alone is the whole store. Without this
-    /// the two are the store together.
-    pub(crate) fn close(self) -> Result<(), Failure> {
+    /// Ends the database. Where it is in a file, the log is copied into that, so that the file alone is the whole store, and both are
+    /// given back. Without this the two are the store together.
+    pub(crate) fn close(self) -> Result<Option<Files<D>>, Failure>
+        ensures leaves { IfOk result (Leaves self) }
+    {
         match self {
-            Database::Disk(connection) => Ok(connection.close()?),
-            Database::Closed | Database::Memory(_) => Ok(()),
+            Database::Disk(connection) => Ok(Some(copy_log(connection)?)),
+            Database::Closed | Database::Memory(_) => Ok(None),
         }
     }
 
@@ -91,6 +95,19 @@ impl<D: Disk + Drop> Database<D> {
             Database::Closed => Err(CLOSED),
             Database::Memory(keeper) => Ok(keeper.remove(dates)?),
             Database::Disk(connection) => statements::remove(connection, dates),
+        }
+    }
+}
+
+/// Copies the log into the file of the database, and gives both back.
+fn copy_log<D: Disk + Drop>(connection: Connection<FileStore<D>>) -> Result<Files<D>, Failure>
+    ensures copied { IfOk result (λ files. AreClean D.Disk files.log files.db → IsCopied connection files) }
+{
+    match connection.close_files() {
+        Ok(files) => Ok(files),
+        Err((error, store)) => {
+            drop(store.close());
+            Err(Failure::from(error))
         }
     }
 }

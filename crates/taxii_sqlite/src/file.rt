@@ -1,5 +1,7 @@
 //! The file of a database, before it is opened as one.
 
+ghost use Rattle.std.specs.Prelude.{◌≡◌, Err, codes};
+
 use crate::failure::Failure;
 use std::fs::{self, OpenOptions};
 use std::io::{self, ErrorKind};
@@ -8,8 +10,13 @@ use std::rt::HostRuntime;
 use taxii_rows::FaultCause;
 
 /// Makes the file where there is none, for its owner alone to read and write, which the log beside it follows. Or tells why
-/// there can't be one, of which the database's own error says less.
-pub(crate) fn make_private(rt: &HostRuntime, path: &str) -> Result<(), Failure> {
+/// there can't be one, of which the database's own error says less. Nothing is made under a name that the database refuses.
+pub(crate) fn make_private(rt: &HostRuntime, path: &str) -> Result<(), Failure>
+    ensures reserved { path.now ≡ codes ":memory:" → result ≡ Err (Failure.Fault FaultCause.NoFile) }
+{
+    if path == ":memory:" || path.starts_with("file:") {
+        return Err(Failure::Fault(FaultCause::NoFile));
+    }
     match OpenOptions::new()
         .read(true)
         .write(true)

@@ -1,6 +1,6 @@
 //! What form a database has: what tables it has, and which version of a store they are.
 
-ghost use Rattle.std.specs.Prelude.{◌≡◌, IfOk, OnOk};
+ghost use Rattle.std.specs.Prelude.{◌≡◌, ◌<ℤ◌, Err, IfOk, OnOk};
 ghost use Rattle.sqlite.specs.Held.{state};
 ghost use Rattle.sqlite.specs.State.{HasCleanDisk};
 ghost use Rattle.taxii_sqlite.specs.Forms.{IsFormOf, AnswersForm, AnswersVersion, MakesRows, NamesForm, MakesAll, Completes, IsTaken};
@@ -70,6 +70,7 @@ impl Form {
 /// Makes the tables that a store of that form lacks.
 fn complete<S: Alter>(connection: &mut Connection<S>, form: Form) -> Result<(), Failure>
     ensures completes { HasCleanDisk (state S.Store connection.new) → OnOk result (Completes (state S.Store) form connection.old connection.new) }
+    ensures other { form ≡ Form.Other → (result ≡ Err (Failure.Fault FaultCause.OtherForm)) × (connection.new ≡ connection.old) }
     ensures clean { HasCleanDisk (state S.Store connection.new) → HasCleanDisk (state S.Store connection.old) }
 {
     match form {
@@ -141,9 +142,11 @@ fn read_version<S: Alter>(connection: &mut Connection<S>) -> Result<i64, Failure
     Ok(columns.get(0)?)
 }
 
-/// Whether the form has this version.
+/// Whether the form has this version. A later one has a cause of its own.
 fn check_version(version: i64) -> Result<(), Failure>
-    ensures { OnOk result (version ≡ VERSION) }
+    ensures this { OnOk result (version ≡ VERSION) }
+    ensures later { VERSION <ℤ version → result ≡ Err (Failure.Fault FaultCause.LaterForm) }
+    ensures earlier { version <ℤ VERSION → result ≡ Err (Failure.Fault FaultCause.OtherForm) }
 {
     if version == VERSION {
         Ok(())

@@ -2,12 +2,12 @@ ghost use Rattle.std.specs.Prelude.{◌≡◌, None, true, false, IfOk, OnOk, On
 ghost use Rattle.flow_edges.specs.Faults.{Counted};
 ghost use Rattle.sqlite_wal.specs.Files.{image_at};
 ghost use Rattle.taxii_rows.specs.StoreState.{RiseFrom};
-ghost use Rattle.taxii_sqlite.specs.Databases.{is_open, FindsNext, FindsMark, Appends, Removes, StaysAs, IsOpenAt};
+ghost use Rattle.taxii_sqlite.specs.Databases.{is_open, FindsNext, FindsMark, Appends, Removes, StaysAs, IsOpenAt, Leaves};
 ghost use Rattle.taxii_sqlite.specs.declared.connection.Database.TheVariants.{Closed};
 
 use crate::connection::{self, Database};
 use crate::failure::{Failure, Faults};
-use sqlite::{FileFrom, Start};
+use sqlite::{FileFrom, Files, Start};
 use sqlite_disk::Disk;
 use std::alloc::Global;
 use std::rt::HostRuntime;
@@ -43,8 +43,11 @@ impl<S: Start> SqliteKeeper<FileFrom<S>, S> {
     }
 
     /// Ends the keeper: where its rows are in a file, the log beside it is copied into it, so that the file alone is the whole
-    /// store. A fault of that loses nothing: the two are the store together, as they are while the keeper lives.
-    pub fn close(self) -> Result<(), KeeperRefusal> {
+    /// store, and both are given back. A fault of that loses nothing: the two are the store together, as they are while the
+    /// keeper lives.
+    pub fn close(self) -> Result<Option<Files<FileFrom<S>>>, KeeperRefusal>
+        ensures leaves { IfOk result (Leaves self.database) }
+    {
         let mut faults = self.faults;
         faults.counted(self.database.close())
     }

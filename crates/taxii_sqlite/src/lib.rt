@@ -24,4 +24,4 @@ mod schema;
 mod statements;
 
 pub use keeper::SqliteKeeper;
-pub use sqlite::{Start, Unknown};
+pub use sqlite::{Files, Start, Unknown};
