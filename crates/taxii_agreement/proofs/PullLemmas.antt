@@ -32,8 +32,9 @@ use Rattle.taxii_client.specs.declared.target.Target.{Target}
 use Rattle.taxii_client.specs.declared.turn.Turn.{Turn}
 use Rattle.taxii_client.specs.declared.turn.Turn.TheVariants.{First, Behind, Over}
 use Rattle.taxii_agreement.specs.Reading.{lines_of, IsReadAs}
-use Rattle.taxii_agreement.specs.Asking.{IsServersOwn, IsTold, IsAnswered, IsHeard, IsInstantOf, time_at, wanted_of, wanted_after}
+use Rattle.taxii_agreement.specs.Asking.{IsServersOwn, IsTold, IsAnswered, IsHeard, IsInstantOf, wanted_after}
 use Rattle.taxii_agreement.specs.Pulling.{IsServed, ServeFrom, AreServed, WritesEachRow}
+use Rattle.stix_times.specs.Reading.{IsTextOf}
 use Rattle.taxii_agreement.proofs.BytesLemmas.{AreFrom, next_seen}
 
 -- the laws: what a client writes is a fetch, a server's answers are read by the client, and a GET is answered by a page of sound rows
@@ -48,6 +49,7 @@ pub record Laws : Type 0 where
       → IsSoundState state → IsPage state.rows collection only query page more → All IsSoundRow page
   pub paged : (config : Config) (e : Exchange) (collection : ℕ) (only : Option Id) (query : Query) → IsExchange config e → e.answer.status ≡ Okay
       → AsksOf config e.request collection only query → IsPageOf e.before.library.rows collection only query IsEnvelope e.answer
+  pub instant : (text : List ℕ) (first second : ℤ) → IsTextOf text first → IsTextOf text second → first ≡ second
 
 -- ---- the rounds of runs are exchanges
 
@@ -83,19 +85,20 @@ all_seen : (bytes : List ℕ) → AreFrom 33 bytes → All (λ byte. (33 ≤ byt
 all_seen [] are = All-nil (λ byte. (33 ≤ byte) × (byte < 127))
 all_seen (b ∷ bytes) (low, high, are) = All-cons (λ byte. (33 ≤ byte) × (byte < 127)) b bytes (low, high) (all_seen bytes are)
 
-module _ (L : Type 0) (view : L → LinkView) (target : Target) (laws : Laws) where
+module _ (L : Type 0) (view : L → LinkView) (target : Target) (instant : Option ℤ) (timed : IsInstantOf target.since instant) (laws : Laws) where
   abbrev wanted : Wanted
-  wanted = wanted_of target
+  wanted = wanted_after target instant
 
-  -- where all objects are asked for, a request names no time
-  no_time : (since next : Option (List ℕ)) → since ≡ None → time_at since next ≡ None
-  no_time since None none = none
-  no_time since (Some next) none = refl
+  -- a time is of one instant
+  one_time : (since : Option (List ℕ)) (first second : Option ℤ) → IsInstantOf since first → IsInstantOf since second → first ≡ second
+  one_time None first second none other = none ∙ sym other
+  one_time (Some time) None second is other = absurd is
+  one_time (Some time) (Some first) None is other = absurd other
+  one_time (Some time) (Some first) (Some second) is other = ap (λ (its : ℤ). Some its) (laws.instant time first second is other)
 
-  fetch_of : (next : Option (List ℕ)) (round : Round) → target.since ≡ None → IsHeard target next round → IsFetch wanted next round
-  fetch_of next round none heard =
-      let instant : heard.instant ≡ None = subst (λ (time : Option (List ℕ)). IsInstantOf time heard.instant) (no_time target.since next none) heard.time in
-      subst (λ (its : Option ℤ). IsFetch (wanted_after target its) next round) instant heard.fetch
+  fetch_of : (next : Option (List ℕ)) (round : Round) → IsHeard target next round → IsFetch wanted next round
+  fetch_of next round heard =
+      subst (λ (its : Option ℤ). IsFetch (wanted_after target its) next round) (one_time target.since heard.instant instant heard.time timed) heard.fetch
 
   -- the envelope of a page that is the answer of a round with these rows
   page_read : (turn : Turn) (next : Option (List ℕ)) (page : Page L) (round : Round) (rows : List StoredRow) (more : Bool) → IsPageAt view target turn page
@@ -181,22 +184,22 @@ module _ (L : Type 0) (view : L → LinkView) (target : Target) (laws : Laws) wh
         all_seen (next_text date) (next_seen date),
       )
 
-  pub fetches : (turn : Turn) (page : Page L) (pages : List (Page L)) (round : Round) (rounds : List Round) → IsServersOwn target → target.since ≡ None
+  pub fetches : (turn : Turn) (page : Page L) (pages : List (Page L)) (round : Round) (rounds : List Round) → IsServersOwn target
       → InTurn view target turn (page ∷ pages) Over → (serve : ServeFrom view target turn (page ∷ pages) (round ∷ rounds)) → IsTold serve.0
       → All Goes (round ∷ rounds) → All (λ r. IsSoundState r.exchange.before.library) (round ∷ rounds) → FetchFrom wanted serve.0 round rounds
-  fetches turn page [] round [] own none (at, over) (next, asks, served, rest) told goes sound =
+  fetches turn page [] round [] own (at, over) (next, asks, served, rest) told goes sound =
       let own_goes : Goes round = All-head Goes round [] goes in
-      let fetch = fetch_of next round none (laws.heard target next round own told served.answered own_goes) in
+      let fetch = fetch_of next round (laws.heard target next round own told served.answered own_goes) in
       let its = answered turn next page round at served fetch own_goes (All-head (λ r. IsSoundState r.exchange.before.library) round [] sound) in
       (fetch, ends page round its (sym over))
-  fetches turn page [] round (other ∷ rounds) own none turns (next, asks, served, rest) told goes sound = absurd rest
-  fetches turn page (second ∷ pages) round [] own none turns (next, asks, served, rest) told goes sound = absurd rest
-  fetches turn page (second ∷ pages) round (other ∷ rounds) own none (at, turns) (next, asks, served, rest) told goes sound =
+  fetches turn page [] round (other ∷ rounds) own turns (next, asks, served, rest) told goes sound = absurd rest
+  fetches turn page (second ∷ pages) round [] own turns (next, asks, served, rest) told goes sound = absurd rest
+  fetches turn page (second ∷ pages) round (other ∷ rounds) own (at, turns) (next, asks, served, rest) told goes sound =
       let own_goes : Goes round = All-head Goes round (other ∷ rounds) goes in
-      let fetch = fetch_of next round none (laws.heard target next round own told served.answered own_goes) in
+      let fetch = fetch_of next round (laws.heard target next round own told served.answered own_goes) in
       let its = answered turn next page round at served fetch own_goes (All-head (λ r. IsSoundState r.exchange.before.library) round (other ∷ rounds) sound) in
       let on = goes_on page round its rest.0 rest.1 in
-      let later : FetchFrom wanted rest.0 other rounds = fetches (turn_after page.envelope) second pages other rounds own none turns rest (subst IsTold (sym on.2) on.3)
+      let later : FetchFrom wanted rest.0 other rounds = fetches (turn_after page.envelope) second pages other rounds own turns rest (subst IsTold (sym on.2) on.3)
       (All-tail Goes round (other ∷ rounds) goes) (All-tail (λ r. IsSoundState r.exchange.before.library) round (other ∷ rounds) sound) in
       (fetch, on.0, on.1, subst (λ (asked : Option (List ℕ)). FetchFrom wanted asked other rounds) on.2 later)
 
@@ -272,7 +275,7 @@ module _ (L : Type 0) (view : L → LinkView) (target : Target) (laws : Laws) wh
   whole_pull (page ∷ pages) all (first ∷ others) hear go pull served =
       let goes = among_all Goes (first ∷ others) all served.among go in
       let fetched : FetchFrom wanted None first others = subst (λ (next : Option (List ℕ)). FetchFrom wanted next first others) served.serve.1
-      (fetches First page pages first others served.own served.whole pull served.serve (subst IsTold (sym served.serve.1) tt) goes served.sound) in
+      (fetches First page pages first others served.own pull served.serve (subst IsTold (sym served.serve.1) tt) goes served.sound) in
       let hears = hear first others (record { among = served.among; start = refl; fetches = fetched }) in
       let read = all_read None First (page ∷ pages) (first ∷ others) hears.first hears.others hears.walk.goes hears.answers hears.states served.sound pull served.serve in
       record {

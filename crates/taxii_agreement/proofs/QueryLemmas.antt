@@ -25,9 +25,9 @@ use Rattle.taxii_routes.specs.Query.{Pair, pairs_of, values_of, IsQueryOf}
 use Rattle.taxii_routes.specs.Query as query
 use Rattle.taxii_routes.specs.Value.{IsLimit, IsPickText, members}
 use Rattle.taxii_walks.specs.Walk.{AsksAlike}
-use Rattle.taxii_client.specs.Requests.{behind}
+use Rattle.taxii_client.specs.Requests.{behind, since_pair, next_pair}
 use Rattle.taxii_runs.specs.Following.{sent}
-use Rattle.taxii_agreement.specs.Asking.{IsTold, IsInstantOf, time_at, query_after}
+use Rattle.taxii_agreement.specs.Asking.{IsTold, IsInstantOf, query_after}
 use Rattle.taxii_agreement.proofs.BytesLemmas.{AreFrom, seen, from_all, from_both, all_low, are_text, are_digits}
 
 -- ---- the pairs
@@ -36,9 +36,12 @@ abbrev since_pairs : Option (List ℕ) → List Pair
 since_pairs None = []
 since_pairs (Some time) = (codes "added_after", time) ∷ []
 
+abbrev next_pairs : Option (List ℕ) → List Pair
+next_pairs None = []
+next_pairs (Some next) = (codes "next", next) ∷ []
+
 abbrev pairs_behind : Option (List ℕ) → Option (List ℕ) → List Pair
-pairs_behind since None = since_pairs since
-pairs_behind since (Some next) = (codes "next", next) ∷ []
+pairs_behind since next = since_pairs since ++ next_pairs next
 
 abbrev pub pairs_for : ℕ → Option (List ℕ) → Option (List ℕ) → List Pair
 pairs_for limit since next = (codes "limit", decimal limit) ∷ (codes "match[version]", codes "all") ∷ pairs_behind since next
@@ -111,8 +114,19 @@ one_behind limit name value pair few is =
 
 serialized : (limit : ℕ) (since next : Option (List ℕ)) → limit < 2 ^ 64 → query_for limit since next ≡ extend_pairs [] (pairs_for limit since next)
 serialized limit None None few = append-nil (front_for limit ++ codes "&match%5Bversion%5D=all") ∙ sym (both_are limit few)
-serialized limit (Some time) None few = one_behind limit (codes "added_after") time (codes "added_after=" ++ byte_serialize time) few (since_pair_is time)
-serialized limit since (Some next) few = one_behind limit (codes "next") next (codes "next=" ++ byte_serialize next) few (next_pair_is next)
+serialized limit (Some time) None few =
+    ap (λ (its : List ℕ). (front_for limit ++ codes "&match%5Bversion%5D=all") ++ its) (append-nil (codes "&added_after=" ++ byte_serialize time))
+    ∙ one_behind limit (codes "added_after") time (codes "added_after=" ++ byte_serialize time) few (since_pair_is time)
+serialized limit None (Some next) few = one_behind limit (codes "next") next (codes "next=" ++ byte_serialize next) few (next_pair_is next)
+serialized limit (Some time) (Some next) few =
+    let front = (front_for limit ++ codes "&match%5Bversion%5D=all") ++ (codes "&added_after=" ++ byte_serialize time) in
+    let both = append_pair (append_pair (extend_pairs [] ((codes "limit", decimal limit) ∷ [])) (codes "match[version]") (codes "all")) (codes "added_after") time in
+    let first : front ≡ both = one_behind limit (codes "added_after") time (codes "added_after=" ++ byte_serialize time) few (since_pair_is time) in
+    let some : 0 < length front =
+    omega (arith, length-append (front_for limit ++ codes "&match%5Bversion%5D=all") (codes "&added_after=" ++ byte_serialize time), length-append (codes "&added_after=") (byte_serialize time)) in
+    sym (append_assoc (front_for limit ++ codes "&match%5Bversion%5D=all") (codes "&added_after=" ++ byte_serialize time) (codes "&next=" ++ byte_serialize next))
+    ∙ sym (one_more front (codes "next") next (codes "next=" ++ byte_serialize next) some (next_pair_is next))
+    ∙ ap (λ (form : List ℕ). append_pair form (codes "next") next) first
 
 -- ---- they are read back
 
@@ -149,7 +163,8 @@ IsSeenTime since = IfSome since (λ time. All (λ byte. (33 ≤ byte) × (byte <
 behind_are : (since next : Option (List ℕ)) → IsSeenTime since → IsTold next → AreSeen (pairs_behind since next)
 behind_are None None visible told = tt
 behind_are (Some time) None visible told = ((since_name, from_all time visible), tt)
-behind_are since (Some next) visible told = ((next_name, from_all next told), tt)
+behind_are None (Some next) visible told = ((next_name, from_all next told), tt)
+behind_are (Some time) (Some next) visible told = ((since_name, from_all time visible), ((next_name, from_all next told), tt))
 
 pairs_seen : (limit : ℕ) (since next : Option (List ℕ)) → limit < 2 ^ 64 → IsSeenTime since → IsTold next → AreSeen (pairs_for limit since next)
 pairs_seen limit since next few visible told =
@@ -198,12 +213,14 @@ pairs_are limit since next few visible told =
 pub next_values : (limit : ℕ) (since next : Option (List ℕ)) → values_of (name_of Next) (pairs_for limit since next) ≡ sent next
 next_values limit None None = refl
 next_values limit (Some time) None = refl
-next_values limit since (Some next) = refl
+next_values limit None (Some next) = refl
+next_values limit (Some time) (Some next) = refl
 
-pub instant_is : (limit : ℕ) (since next : Option (List ℕ)) (parsed : Query) → IsQueryOf (pairs_for limit since next) parsed → IsInstantOf (time_at since next) parsed.added_after
+pub instant_is : (limit : ℕ) (since next : Option (List ℕ)) (parsed : Query) → IsQueryOf (pairs_for limit since next) parsed → IsInstantOf since parsed.added_after
 instant_is limit None None parsed is = is AddedAfter
 instant_is limit (Some time) None parsed is = is AddedAfter
-instant_is limit since (Some next) parsed is = is AddedAfter
+instant_is limit None (Some next) parsed is = is AddedAfter
+instant_is limit (Some time) (Some next) parsed is = is AddedAfter
 
 -- `all` is no time
 no_time : (t : Timestamp) → t.year < 10000 → codes "all" ≡ text_of t → ⊥
@@ -241,7 +258,8 @@ alike_by limit parsed picks ids kinds specs few = record {
 pub asks_alike : (limit : ℕ) (since next : Option (List ℕ)) (parsed : Query) → IsQueryOf (pairs_for limit since next) parsed → AsksAlike (query_after parsed.added_after) parsed
 asks_alike limit None None parsed is = alike_by limit parsed (is MatchVersion) (is MatchId) (is MatchType) (is MatchSpec) (is Limit)
 asks_alike limit (Some time) None parsed is = alike_by limit parsed (is MatchVersion) (is MatchId) (is MatchType) (is MatchSpec) (is Limit)
-asks_alike limit since (Some next) parsed is = alike_by limit parsed (is MatchVersion) (is MatchId) (is MatchType) (is MatchSpec) (is Limit)
+asks_alike limit None (Some next) parsed is = alike_by limit parsed (is MatchVersion) (is MatchId) (is MatchType) (is MatchSpec) (is Limit)
+asks_alike limit (Some time) (Some next) parsed is = alike_by limit parsed (is MatchVersion) (is MatchId) (is MatchType) (is MatchSpec) (is Limit)
 
 -- ---- its bytes are visible
 
@@ -262,7 +280,13 @@ serialized_seen (b ∷ bytes) are =
         either (inr (inl plus)) = (omega (arith, plus), omega (arith, plus))
         either (inr (inr percent)) = (omega (arith, percent), omega (arith, percent))
 
+since_seen : (since : Option (List ℕ)) → AreFrom 33 (since_pair since)
+since_seen None = tt
+since_seen (Some time) = from_both 33 (codes "&added_after=") (byte_serialize time) (seen 33 (codes "&added_after=") refl) (serialized_seen (byte_serialize time) (All-byte_serialize time))
+
+next_is_seen : (next : Option (List ℕ)) → AreFrom 33 (next_pair next)
+next_is_seen None = tt
+next_is_seen (Some next) = from_both 33 (codes "&next=") (byte_serialize next) (seen 33 (codes "&next=") refl) (serialized_seen (byte_serialize next) (All-byte_serialize next))
+
 pub behind_seen : (since next : Option (List ℕ)) → AreFrom 33 (behind since next)
-behind_seen None None = tt
-behind_seen (Some time) None = from_both 33 (codes "&added_after=") (byte_serialize time) (seen 33 (codes "&added_after=") refl) (serialized_seen (byte_serialize time) (All-byte_serialize time))
-behind_seen since (Some next) = from_both 33 (codes "&next=") (byte_serialize next) (seen 33 (codes "&next=") refl) (serialized_seen (byte_serialize next) (All-byte_serialize next))
+behind_seen since next = from_both 33 (since_pair since) (next_pair next) (since_seen since) (next_is_seen next)

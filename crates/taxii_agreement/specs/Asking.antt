@@ -32,10 +32,6 @@ query_after instant = record { added_after = instant; limit = None; next = None;
 abbrev pub wanted_after : Target → Option ℤ → Wanted
 wanted_after target instant = record { collection = target.collection; only = None; query = query_after instant }
 
--- all objects of the collection
-abbrev pub wanted_of : Target → Wanted
-wanted_of target = wanted_after target None
-
 -- the request of the round is the one that a server reads in the bytes that the client writes, and it was answered with 200; the server's
 -- collections have numbers of 128 bits
 pub record IsAnswered (target : Target) (next : Option (List ℕ)) (round : Round) : Type 0 where
@@ -44,18 +40,13 @@ pub record IsAnswered (target : Target) (next : Option (List ℕ)) (round : Roun
   pub okay : round.exchange.answer.status ≡ Okay
   pub numbers : All (λ info. info.id < 2 ^ 128) round.config.collections
 
--- the time that a request names: the target's, and behind a page none
-abbrev pub time_at : Option (List ℕ) → Option (List ℕ) → Option (List ℕ)
-time_at since None = since
-time_at since (Some next) = None
-
 -- the instant of a time, where there is one
 abbrev pub IsInstantOf : Option (List ℕ) → Option ℤ → Type 0
 IsInstantOf None instant = instant ≡ None
 IsInstantOf (Some time) instant = IsSomeAnd instant (λ its. IsTextOf time its)
 
--- the round is a fetch of all versions of what the client wants, with the `next` that it sends
+-- the round is a fetch of all versions of what the client wants since its time, with the `next` that it sends
 pub record IsHeard (target : Target) (next : Option (List ℕ)) (round : Round) : Type 0 where
   pub instant : Option ℤ
-  pub time : IsInstantOf (time_at target.since next) instant
+  pub time : IsInstantOf target.since instant
   pub fetch : IsFetch (wanted_after target instant) next round

@@ -36,11 +36,9 @@ ServeFrom view target turn (page ∷ pages) [] = ⊥
 ServeFrom view target turn (page ∷ pages) (round ∷ rounds) = (next : Option (List ℕ)) × Asks turn next × IsServed view target next page round
     × ServeFrom view target (turn_after page.envelope) pages rounds
 
--- the pages are these rounds of a server, each of which found a sound store, as every library is; the first asked for the first page. All
--- objects were asked for, whenever they were added
+-- the pages are these rounds of a server, each of which found a sound store, as every library is; the first asked for the first page
 pub record AreServed {L : Type 0} (view : L → LinkView) (target : Target) (pages : List (Page L)) (all : List Round) (rounds : List Round) : Type 0 where
   pub own : IsServersOwn target
-  pub whole : target.since ≡ None
   pub among : Among rounds all
   pub serve : ServeFrom view target First pages rounds
   pub sound : All (λ round. IsSoundState round.exchange.before.library) rounds

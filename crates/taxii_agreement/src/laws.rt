@@ -1,6 +1,6 @@
 //! What follows from the definitions: the contracts are the laws, and the functions do next to nothing.
 
-ghost use Rattle.std.specs.Prelude.{◌≡◌, ◌≤◌, ◌<◌, ◌^◌, ◌++◌, ℕ, Bool, List, Option, Some, None, All, length};
+ghost use Rattle.std.specs.Prelude.{◌≡◌, ◌≤◌, ◌<◌, ◌^◌, ◌++◌, ℕ, ℤ, Bool, List, Option, Some, None, All, length};
 ghost use Rattle.http_frames.specs.declared.answer.Answer.{Answer};
 ghost use Rattle.http_frames.specs.declared.status.Status.TheVariants.{Okay};
 ghost use Rattle.http_frames.specs.Answers.{IsAnswerText};
@@ -20,11 +20,12 @@ ghost use Rattle.taxii_client.specs.Pulls.{Page, IsPull};
 ghost use Rattle.taxii_client.specs.declared.target.Target.{Target};
 ghost use Rattle.taxii_client.specs.declared.turn.Turn.TheVariants.{Over};
 ghost use Rattle.taxii_agreement.specs.Reading.{IsReadAs};
-ghost use Rattle.taxii_agreement.specs.Asking.{IsServersOwn, IsTold, IsAnswered, IsHeard, wanted_of};
+ghost use Rattle.taxii_agreement.specs.Asking.{IsServersOwn, IsTold, IsAnswered, IsHeard, IsInstantOf, wanted_after};
 ghost use Rattle.taxii_agreement.specs.Pulling.{AreServed, WritesEachRow};
 
 use flow_links::Dial;
 use stix_ids::laws::one_uuid;
+use stix_times::laws::one_instant;
 use taxii_bodies::laws::envelopes_are_json;
 use taxii_pages::laws::rows_of_pages;
 use taxii_routes::laws::{one_route, one_target};
@@ -45,8 +46,7 @@ pub fn pages_are_read_back()
 }
 
 /// A round that answers with 200 the request which a server reads in what a client writes is a fetch of the objects of the
-/// collection, in all versions, with the `next` that the client sends. The first page is asked for with the target's time, and is
-/// of what was added after it.
+/// collection, in all versions, with the `next` that the client sends: of what was added after the target's time, where it has one.
 pub fn requests_are_heard()
     ensures { (target : Target) (next : Option (List ℕ)) (round : Round) → IsServersOwn target → IsTold next → IsAnswered target next round
         → IsExchange round.config round.exchange → IsHeard target next round }
@@ -57,14 +57,16 @@ pub fn requests_are_heard()
     answered_requests_were_done();
 }
 
-/// A client that pulls a whole collection to the end, over links on which a server answers, misses nothing: it writes the stored
-/// text of each row that it wants and that is still stored at the last page, once each, in the order of dates, whatever
-/// others add and delete between two pages, and over restarts.
+/// A client that pulls a collection to the end, over links on which a server answers, misses nothing: it writes the stored text of
+/// each row that it wants (all, or those that were added after its time) and that is still stored at the last page, once each, in
+/// the order of dates, whatever others add and delete between two pages, and over restarts.
 pub fn pulls_skip_no_row<D: Dial>()
-    ensures { (view : D.Link → LinkView) (target : Target) (pages : List (Page D.Link)) (store after : StoreState) (runs : List Run) (rounds : List Round)
+    ensures { (view : D.Link → LinkView) (target : Target) (instant : Option ℤ) (pages : List (Page D.Link)) (store after : StoreState) (runs : List Run) (rounds : List Round)
         → IsDated store → store.mark ≤ LAST_DATE → GoOn store runs after → IsPull view target pages Over
-        → AreServed view target pages (rounds_of runs) rounds → WritesEachRow (wanted_of target) pages rounds }
+        → AreServed view target pages (rounds_of runs) rounds → IsInstantOf target.since instant
+        → WritesEachRow (wanted_after target instant) pages rounds }
 {
+    one_instant();
     requests_are_heard();
     answers_are_replies();
     pages_are_read_back();

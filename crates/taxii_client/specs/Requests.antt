@@ -1,5 +1,6 @@
 -- The request of a client for a page of a collection (TAXII 2.1, sections 3.4 and 5.4): the objects in all their versions, at most so
--- many of them; behind a page those that follow it, and else those that were added after a time, where there is one.
+-- many of them; where a time is given, those that were added after it; behind a page, those that follow it. All pages are asked for by
+-- the same query but for that.
 use Rattle.std.specs.Prelude.{ℕ, List, [], ◌++◌, codes, decimal, Option, Some, None}
 use Rattle.form_urlencoded.specs.Form.{byte_serialize}
 use Rattle.stix_ids.specs.Uuid.{uuid_text}
@@ -16,10 +17,9 @@ abbrev pub since_pair : Option (List ℕ) → List ℕ
 since_pair None = []
 since_pair (Some time) = codes "&added_after=" ++ byte_serialize time
 
--- behind a page what asks for its next, and else for what was added since the time
+-- what asks for what was added since a time, and for what follows a page
 abbrev pub behind : Option (List ℕ) → Option (List ℕ) → List ℕ
-behind since None = since_pair since
-behind since (Some next) = next_pair (Some next)
+behind since next = since_pair since ++ next_pair next
 
 -- the path to a collection's objects, below the root
 abbrev pub path_of : Target → List ℕ

@@ -2,7 +2,7 @@ ghost use Rattle.std.specs.Prelude.{◌≡◌, ◌++◌, codes, decimal, option_
 ghost use Rattle.form_urlencoded.specs.Form.{byte_serialize};
 ghost use Rattle.http_frames.specs.Answers.{field_line};
 ghost use Rattle.stix_ids.specs.Uuid.{uuid_text};
-ghost use Rattle.taxii_client.specs.Requests.{request_of, request_line, path_of, query_of, behind, since_pair, host_of};
+ghost use Rattle.taxii_client.specs.Requests.{request_of, request_line, path_of, query_of, behind, since_pair, next_pair, host_of};
 
 use crate::Target;
 use flow_values::{NoMemory, Text};
@@ -59,14 +59,14 @@ fn push_query(text: &mut Text, target: &Target, next: Option<&str>) -> Result<()
     Ok(())
 }
 
-/// Adds the pair that asks for what follows a page, and else the one for what was added since a time.
+/// Adds the pairs that ask for what was added since a time, and for what follows a page: a server may
+/// insist on the same query behind `next`.
 fn push_behind(text: &mut Text, target: &Target, next: Option<&str>) -> Result<(), NoMemory>
     ensures { OnOk result (text.new ≡ text.old ++ behind target.now.since (option_map (λ next. next.now) next.entry)) }
 {
-    match next {
-        Some(next) => push_pair(text, "&next=", next),
-        None => push_since(text, target),
-    }
+    push_since(text, target)?;
+    push_next(text, next)?;
+    Ok(())
 }
 
 /// Adds the pair of the time, where there is one.
@@ -75,6 +75,16 @@ fn push_since(text: &mut Text, target: &Target) -> Result<(), NoMemory>
 {
     match &target.since {
         Some(time) => push_pair(text, "&added_after=", time.as_str()),
+        None => Ok(()),
+    }
+}
+
+/// Adds the pair of what follows a page, where one came before.
+fn push_next(text: &mut Text, next: Option<&str>) -> Result<(), NoMemory>
+    ensures { OnOk result (text.new ≡ text.old ++ next_pair (option_map (λ next. next.now) next.entry)) }
+{
+    match next {
+        Some(next) => push_pair(text, "&next=", next),
         None => Ok(()),
     }
 }
