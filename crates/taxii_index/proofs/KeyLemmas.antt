@@ -1,6 +1,6 @@
 -- Sets of keys: what they have after a key is added or taken out.
 use Rattle.std.proofs.Common.{nat_eq, not, ◌||◌, ◌≡◌, ℕ, ℤ, List, [], ◌∷◌, ◌++◌, Bool, true, false, cond, inl, inr, refl, sym, ap, ◌∙◌, subst, filter, nat_cmp}
-use Rattle.std.specs.List.{Contains}
+use Rattle.std.specs.List.{Contains, list_any}
 use Rattle.std.specs.Cmp.{IsTotalOrder}
 use Rattle.std.specs.declared.cmp.Ordering.{Ordering}
 use Rattle.std.specs.declared.cmp.Ordering.TheVariants.{Less, Equal, Greater}
@@ -95,6 +95,17 @@ keys_without keys key old new apart has updates other = (
   λ holds. left keys key other (contains key_cmp old other) (is_eq (key_cmp key other)) refl (has other).0 (sym (updates other) ∙ holds),
   λ here. updates other
       ∙ stays keys key other (contains key_cmp old other) (is_eq (key_cmp key other)) refl apart here ((has other).1 (Contains-append_left keys (key ∷ []) other here)),
+)
+
+-- a set that was made of all keys at once
+pub keys_made : (keys : List Key) (set : BTreeSet Key) → ((key : Key) → contains key_cmp set key ≡ list_any (λ (other : Key). is_eq (key_cmp key other)) keys)
+    → HasKeys keys set
+keys_made keys set is key = (
+  λ holds. let found = Any-from_list_any (λ (other : Key). is_eq (key_cmp key other)) keys (sym (is key) ∙ holds) in
+      let same : key ≡ found.1 = key_same key found.1 found.4 in
+      subst (Contains keys) (sym same) (found.0, found.2, found.3),
+  λ here. is key
+      ∙ list_any_at (λ (other : Key). is_eq (key_cmp key other)) keys here.0 key here.1 (ap (λ (other : Key). is_eq (key_cmp key other)) here.2 ∙ key_itself key),
 )
 
 -- a set that was not changed

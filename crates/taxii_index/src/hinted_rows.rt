@@ -7,6 +7,7 @@ ghost use Rattle.taxii_rows.specs.Picking.{IsPicked, IsPickedBy};
 ghost use Rattle.taxii_index.specs.Names.{id_of};
 ghost use Rattle.taxii_index.specs.Index.{HasRowOf};
 ghost use Rattle.taxii_index.specs.Presence.{row_of_same as first_of_same};
+ghost use Rattle.taxii_index.specs.Hints.{AreTrueOf};
 
 use crate::IndexedRows;
 use crate::hints::Hints;
@@ -63,11 +64,32 @@ impl HintedRows {
     {
         let length = self.rows.as_slice().len();
         self.rows.append(rows)?;
-        let hinted = self.hint_from(length);
+        let hinted = self.hint_behind(length);
         if hinted.is_err() {
             self.truncate(length);
         }
         hinted
+    }
+
+    /// Gives the rows behind that many their hints.
+    fn hint_behind(&mut self, length: usize) -> Result<(), NoMemory>
+        ensures { self.new ≡ self.old }
+    {
+        if length == 0 {
+            self.hint_all()
+        } else {
+            self.hint_from(length)
+        }
+    }
+
+    /// Gives all rows their hints, where none has one yet: a pass over the index, and no look-up for a
+    /// row that is the only version of its object.
+    fn hint_all(&mut self) -> Result<(), NoMemory>
+        ensures { self.new ≡ self.old }
+    {
+        self.hints.push_all(self.rows.as_slice())?;
+        note_all_versions(&self.rows, &mut self.hints);
+        Ok(())
     }
 
     /// Gives each row from a place on its hint.
@@ -99,9 +121,7 @@ impl HintedRows {
     fn note(&mut self, first: u64, second: u64)
         ensures { self.new ≡ self.old }
     {
-        if self.rows.comes_before(first, second) {
-            self.hints.note(first, second);
-        }
+        note_versions(&self.rows, &mut self.hints, first, second);
     }
 
     /// Takes the rows behind that many out. Takes no memory, as all below.
@@ -176,5 +196,29 @@ impl HintedRows {
     {
         self.rows.as_slice();
         !self.hints.knows_earlier(place, row.date)
+    }
+}
+
+/// Notes of each version which is the one before it, and of that one which is behind it.
+fn note_all_versions(rows: &IndexedRows, hints: &mut Hints)
+    ensures { AreTrueOf rows.now hints.old.hints.items → AreTrueOf rows.now hints.new.hints.items }
+{
+    let mut name = 0;
+    let mut date = 0;
+    for key in rows.versions() {
+        let before = if key.0 == name { date } else { 0 };
+        note_versions(rows, hints, before, key.2);
+        name = key.0;
+        date = key.2;
+    }
+}
+
+/// Notes that the row of the second date is a later version than that of the first, where it is. No row
+/// has the date 0.
+fn note_versions(rows: &IndexedRows, hints: &mut Hints, first: u64, second: u64)
+    ensures { AreTrueOf rows.now hints.old.hints.items → AreTrueOf rows.now hints.new.hints.items }
+{
+    if first > 0 && second > 0 && rows.comes_before(first, second) {
+        hints.note(first, second);
     }
 }

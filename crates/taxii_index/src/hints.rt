@@ -7,6 +7,7 @@ ghost use Rattle.taxii_index.specs.Hints.{ComesBefore, AreTrueOf, forgotten as f
 use crate::dates::is_among;
 use flow_values::NoMemory;
 use std::alloc::Global;
+use taxii_rows::StoredRow;
 
 /// What is known of the row of a date: the date of a later version of its object and that of an earlier
 /// one, or 0 where none is known.
@@ -42,6 +43,17 @@ impl Hints {
             later: 0,
             earlier: 0,
         })?;
+        Ok(())
+    }
+
+    /// Hints of the dates of some rows, which are later than all others; they tell nothing yet.
+    pub(crate) fn push_all(&mut self, rows: &[StoredRow]) -> Result<(), NoMemory>
+        ensures { (all : List Row) → AreTrueOf all self.old.hints.items → AreTrueOf all self.new.hints.items }
+    {
+        self.hints.reserve(rows.len())?;
+        for row in rows {
+            self.push(row.date)?;
+        }
         Ok(())
     }
 

@@ -17,7 +17,7 @@ use crate::presence::is_same;
 use crate::row_index::RowIndex;
 use flow_values::NoMemory;
 use std::alloc::Global;
-use std::collections::btree_set::Range;
+use std::collections::btree_set::{Iter, Range};
 use std::marker::Model;
 use stix_ids::{Id, Pick};
 use taxii_rows::{Described, StoredRow, row_at};
@@ -25,6 +25,7 @@ use taxii_rows::{Described, StoredRow, row_at};
 /// The rows of a store in the order of their dates, which rise, with an index of them by object.
 #[derive(Drop)]
 pub struct IndexedRows {
+    alloc: Global,
     rows: Vec<StoredRow>,
     index: RowIndex,
 }
@@ -48,6 +49,7 @@ impl IndexedRows {
         ensures { result ≡ [] }
     {
         IndexedRows {
+            alloc,
             rows: Vec::new(alloc),
             index: RowIndex::new(alloc),
         }
@@ -93,11 +95,27 @@ impl IndexedRows {
         ensures err { OnErr result (self.new ≡ self.old) }
     {
         let length = self.rows.len();
+        if length == 0 {
+            return self.fill(rows);
+        }
         let added = self.push_all(rows);
         if added.is_err() {
             self.truncate(length);
         }
         added
+    }
+
+    /// Takes over rows where there were none: they aren't moved, and their index is made at once. Without
+    /// memory all is as it was.
+    fn fill(&mut self, rows: Vec<StoredRow>) -> Result<(), NoMemory>
+        requires rise { RiseFrom 1 (dates_of rows.items) }
+        ensures ok { OnOk result (self.new ≡ rows.items) }
+        ensures err { OnErr result (self.new ≡ self.old) }
+    {
+        let index = RowIndex::of(self.alloc, &rows)?;
+        self.index = index;
+        self.rows = rows;
+        Ok(())
     }
 
     /// Adds rows of later dates. Without memory some of them may be there.
@@ -219,6 +237,12 @@ impl IndexedRows {
             Pick::All => true,
             Pick::At(version) => row.version == version,
         }
+    }
+
+    /// The keys of all versions: those of an object stand together, in the order of its versions. They
+    /// only hint: a caller asks `comes_before`.
+    pub(crate) fn versions(&self) -> Iter<'_, Key> {
+        self.index.versions()
     }
 
     /// The dates of the rows that may stand beside the row among the versions of its object, and 0 where

@@ -1,4 +1,4 @@
-ghost use Rattle.std.specs.Prelude.{◌≡◌, ℕ, [], ◌∷◌, ◌++◌, List, OnOk, OnErr};
+ghost use Rattle.std.specs.Prelude.{◌≡◌, ℕ, [], ◌∷◌, ◌++◌, List, IfOk, OnOk, OnErr};
 ghost use Rattle.std.specs.List.{Contains};
 ghost use Rattle.std.specs.declared.ops.Bound.TheVariants.{Included, Excluded};
 ghost use Rattle.std.specs.BTreeSet.{keys_between, IsOrdered};
@@ -7,11 +7,11 @@ ghost use Rattle.taxii_index.specs.Keys.{Key as KeyValue, IsIn64Bits, HasKeys, H
 use flow_values::NoMemory;
 use std::alloc::Global;
 use std::collections::BTreeSet;
-use std::collections::btree_set::Range;
+use std::collections::btree_set::{Iter, Range};
 use std::ops::Bound;
 
 /// A name, a number, and the date of a row.
-pub(crate) type Key = (u128, i64, u64);
+pub(crate) type Key = (u64, i64, u64);
 
 /// A set of keys, by name, of one name by number, and of one number by date.
 #[derive(Drop)]
@@ -27,6 +27,19 @@ impl Keys {
         Keys {
             keys: BTreeSet::new(alloc),
         }
+    }
+
+    /// The set of these keys, made at once: a sort, and no look-up for each.
+    pub(crate) fn of(alloc: Global, keys: &[Key]) -> Result<Keys, NoMemory>
+        ensures { IfOk result (λ set. HasKeys keys.now set.keys) }
+    {
+        let set: BTreeSet<Key, Global> = keys.iter().copied().collect(alloc)?;
+        Ok(Keys { keys: set })
+    }
+
+    /// All keys, in their order.
+    pub(crate) fn iter(&self) -> Iter<'_, Key> {
+        self.keys.iter()
     }
 
     /// Adds a key. Without memory the set stays as it was.
@@ -55,7 +68,7 @@ impl Keys {
     }
 
     /// The keys of that name and number, by date.
-    pub(crate) fn of_number(&self, name: u128, number: i64) -> Range<'_, Key>
+    pub(crate) fn of_number(&self, name: u64, number: i64) -> Range<'_, Key>
         ensures keys { result ≡ keys_between key_cmp (Included (name, number, 0)) (Included (name, number, u64.MAX)) self.now.keys }
         ensures ordered { IsOrdered key_cmp self.now.keys }
     {

@@ -1,32 +1,32 @@
 ghost use Rattle.std.specs.Prelude.{◌≡◌};
 ghost use Rattle.sha2.specs.Hashers.{Holds256};
-ghost use Rattle.taxii_index.specs.Names.{half_of, id_of, object_bytes, name_of, text_name_of};
+ghost use Rattle.taxii_index.specs.Names.{start_of, id_of, object_bytes, name_of, text_name_of};
 
 use sha2::{Digest, Sha256};
 use stix_ids::Id;
 
 /// The name of an object of a collection.
-pub(crate) fn object_name(collection: u128, id: &Id) -> u128
+pub(crate) fn object_name(collection: u128, id: &Id) -> u64
     ensures { result ≡ name_of collection id.now }
 {
-    half(object_hasher(collection, id).finalize())
+    start(object_hasher(collection, id).finalize())
 }
 
 /// The name of the object of a collection that has that number and kind.
-pub(crate) fn parts_name(collection: u128, number: u128, kind: &str) -> u128
+pub(crate) fn parts_name(collection: u128, number: u128, kind: &str) -> u64
     ensures { result ≡ name_of collection (id_of number kind.now) }
 {
-    half(parts_hasher(collection, number, kind).finalize())
+    start(parts_hasher(collection, number, kind).finalize())
 }
 
 /// The name of a text of the object.
-pub(crate) fn text_name(collection: u128, id: &Id, body: &str) -> u128
+pub(crate) fn text_name(collection: u128, id: &Id, body: &str) -> u64
     ensures { result ≡ text_name_of collection id.now body.now }
 {
     let mut hasher = object_hasher(collection, id);
     hasher.update(&[0]);
     hasher.update(body);
-    half(hasher.finalize())
+    start(hasher.finalize())
 }
 
 /// A hasher that was fed what tells the object of the collection.
@@ -46,11 +46,11 @@ fn parts_hasher(collection: u128, number: u128, kind: &str) -> Sha256
     hasher
 }
 
-/// The number of the first half of a digest.
-fn half(digest: [u8; 32]) -> u128
-    ensures { result ≡ half_of digest }
+/// The number of the first 8 bytes of a digest.
+fn start(digest: [u8; 32]) -> u64
+    ensures { result ≡ start_of digest }
 {
-    let mut first = [0; 16];
-    first.copy_from_slice(&digest[..16]);
-    u128::from_be_bytes(first)
+    let mut first = [0; 8];
+    first.copy_from_slice(&digest[..8]);
+    u64::from_be_bytes(first)
 }

@@ -1,16 +1,17 @@
-ghost use Rattle.std.specs.Prelude.{◌≡◌, ℕ, [], ◌∷◌, ◌++◌, List, not, filter, OnOk, OnErr};
+ghost use Rattle.std.specs.Prelude.{◌≡◌, ℕ, [], ◌∷◌, ◌++◌, List, All, map, not, filter, IfOk, OnOk, OnErr};
 ghost use Rattle.std.specs.List.{Contains};
 ghost use Rattle.taxii_rows.specs.declared.stored_row.StoredRow.{StoredRow as Row};
 ghost use Rattle.taxii_rows.specs.StoreState.{dates_of, RiseFrom};
 ghost use Rattle.taxii_rows.specs.Keeper.{is_date_in};
 ghost use Rattle.taxii_index.specs.Index.{version_key as version_key_of, text_key as text_key_of, IsIndexOf, IsIndexBut, IsAbsent, IsBefore, LeadsToSame, LeadsToThose, LeadsToObject};
 ghost use Rattle.taxii_index.specs.Names.{id_of};
+ghost use Rattle.taxii_index.specs.Keys.{IsIn64Bits, HasKeys};
 
 use crate::keys::{Key, Keys};
 use crate::names::{object_name, parts_name, text_name};
 use flow_values::NoMemory;
 use std::alloc::Global;
-use std::collections::btree_set::Range;
+use std::collections::btree_set::{Iter, Range};
 use taxii_rows::{Described, StoredRow, row_at};
 
 /// Under which keys some rows are found: the versions of an object, and the rows of a text of it.
@@ -29,6 +30,18 @@ impl RowIndex {
             by_version: Keys::new(alloc),
             by_text: Keys::new(alloc),
         }
+    }
+
+    /// The index of these rows, made at once.
+    pub(crate) fn of(alloc: Global, rows: &[StoredRow]) -> Result<RowIndex, NoMemory>
+        ensures { IfOk result (IsIndexOf rows.now) }
+    {
+        let by_version = by_version(alloc, rows)?;
+        let by_text = by_text(alloc, rows)?;
+        Ok(RowIndex {
+            by_version,
+            by_text,
+        })
     }
 
     /// Adds a row. Without memory the index stays that of the rows before.
@@ -120,6 +133,11 @@ impl RowIndex {
             .after((parts_name(collection, number, kind), i64::MIN, 0))
     }
 
+    /// The keys of all versions: those of a name stand together, in the order of their versions.
+    pub(crate) fn versions(&self) -> Iter<'_, Key> {
+        self.by_version.iter()
+    }
+
     /// The dates of the rows beside the row among the versions of its name, and 0 where there is none.
     /// Whether they are of its object is asked of the rows.
     pub(crate) fn neighbours(&self, row: &StoredRow) -> (u64, u64) {
@@ -136,6 +154,55 @@ fn key_date(key: Option<&Key>) -> u64 {
         Some(key) => key.2,
         None => 0,
     }
+}
+
+/// Some rows among the versions of their objects.
+fn by_version(alloc: Global, rows: &[StoredRow]) -> Result<Keys, NoMemory>
+    ensures keys { IfOk result (λ set. HasKeys (map version_key_of rows.now) set.keys) }
+    ensures bits { IfOk result (λ _. All (λ row. IsIn64Bits (version_key_of row)) rows.now) }
+{
+    let keys = version_keys(alloc, rows)?;
+    Keys::of(alloc, &keys)
+}
+
+/// Some rows among the rows of their texts.
+fn by_text(alloc: Global, rows: &[StoredRow]) -> Result<Keys, NoMemory>
+    ensures { IfOk result (λ set. HasKeys (map text_key_of rows.now) set.keys) }
+{
+    let keys = text_keys(alloc, rows)?;
+    Keys::of(alloc, &keys)
+}
+
+/// The keys of some rows among the versions of their objects.
+fn version_keys(alloc: Global, rows: &[StoredRow]) -> Result<Vec<Key>, NoMemory>
+    ensures keys { IfOk result (λ keys. keys.items ≡ map version_key_of rows.now) }
+    ensures bits { IfOk result (λ _. All (λ row. IsIn64Bits (version_key_of row)) rows.now) }
+{
+    let mut keys = Vec::with_capacity(alloc, rows.len())?;
+    for row in rows {
+        push_key(&mut keys, version_key(row))?;
+    }
+    Ok(keys)
+}
+
+/// Adds a key.
+fn push_key(keys: &mut Vec<Key>, key: Key) -> Result<(), NoMemory>
+    ensures pushed { OnOk result (keys.new.items ≡ keys.old.items ++ key ∷ []) }
+    ensures bits { IsIn64Bits key }
+{
+    keys.push(key)?;
+    Ok(())
+}
+
+/// The keys of some rows among the rows of their texts.
+fn text_keys(alloc: Global, rows: &[StoredRow]) -> Result<Vec<Key>, NoMemory>
+    ensures { IfOk result (λ keys. keys.items ≡ map text_key_of rows.now) }
+{
+    let mut keys = Vec::with_capacity(alloc, rows.len())?;
+    for row in rows {
+        keys.push(text_key(row))?;
+    }
+    Ok(keys)
 }
 
 /// The key of a row among the versions of its object.
