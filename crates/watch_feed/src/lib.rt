@@ -7,6 +7,7 @@
 
 mod end;
 mod feed;
+pub mod laws;
 mod object;
 mod refusal_text;
 mod rule;

@@ -1,0 +1,6 @@
+use Rattle.flow_lines.specs.Lines.{lines_of}
+use Rattle.watch_feed.proofs.OneReadingLemmas.{one_reads}
+use Rattle.watch_feed.proofs.laws.one_reading.Goals as goal
+
+pub returns : goal.returns
+returns c = λ bytes objects others close other. one_reads c.one_list.ensures (lines_of bytes) objects others close other
