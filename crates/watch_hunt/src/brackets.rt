@@ -1,10 +1,12 @@
 //! The brackets of all patterns, and which of them hold at a row.
 
-ghost use Rattle.std.specs.Prelude.{◌≡◌, ◌≤◌, ◌<◌, ◌+◌, ◌-◌, ◌^◌, ◌++◌, ℕ, true, List, [], ◌∷◌, All, Contains, Some, length, map, slice_get, IfOk, OnOk};
+ghost use Rattle.std.specs.Prelude.{◌≡◌, ◌↔◌, ◌≤◌, ◌<◌, ◌+◌, ◌-◌, ◌^◌, ◌++◌, ℕ, IsTrue, true, List, [], ◌∷◌, All, Contains, Some, length, map, slice_get, IfOk, OnOk};
 ghost use Rattle.stix_bundles.specs.Objects.{data_in};
 ghost use Rattle.pattern_types.specs.PlainLeaf.{plain_leaf};
 ghost use Rattle.pattern_types.specs.PlainPattern.{PlainPattern, plain_pattern};
 ghost use Rattle.pattern_types.specs.Soundness.{IsSoundLeaf};
+ghost use Rattle.match_tests.specs.Tests.{LeafHolds};
+ghost use Rattle.watch_index.specs.Exact.{IsExact};
 ghost use Rattle.watch_index.specs.Candidates.{AreCandidates};
 ghost use Rattle.watch_hunt.specs.EngineAnswer.{NeverFalls};
 ghost use Rattle.watch_hunt.specs.declared.brackets.Stretch.{Stretch};
@@ -16,6 +18,7 @@ use match_tests::leaf_holds;
 use pattern_types::{Leaf, Pattern};
 use std::alloc::Global;
 use stix_bundles::{Bundle, Observation};
+use watch_index::is_exact;
 
 /// So many brackets are counted by a u32.
 const MAX_BRACKETS: usize = 4_294_967_295;
@@ -122,7 +125,7 @@ fn add_owner(owners: &mut Vec<u32>, place: u32, count: usize) -> Result<(), NoMe
 }
 
 /// Marks the brackets that hold at a row. The answer is the places of their patterns, in order and each
-/// once. Only the candidates are judged: all that hold are among them.
+/// once. Only the candidates are judged: all that hold are among them, and those that are exact hold.
 pub(crate) fn judge(
     alloc: Global,
     brackets: &Brackets<'_>,
@@ -143,12 +146,29 @@ pub(crate) fn judge(
     let mut touched = Vec::new(alloc);
     for bracket in candidates {
         let at = *bracket as usize;
-        if leaf_holds(alloc, brackets.leaves[at], observation, bundle)? {
+        if candidate_holds(alloc, brackets.leaves[at], observation, bundle)? {
             marks[at] = true;
             add_place(&mut touched, brackets.owners[at])?;
         }
     }
     Ok(Items::from_vec(touched))
+}
+
+/// Whether a candidate holds. One that is exact isn't asked: the index found what it asks for.
+fn candidate_holds(
+    alloc: Global,
+    leaf: &Leaf,
+    observation: &Observation,
+    bundle: &Bundle,
+) -> Result<bool, NoMemory>
+    requires sound { IsSoundLeaf (plain_leaf leaf.now) }
+    requires certain { IsExact (plain_leaf leaf.now) → LeafHolds (data_in bundle.now) observation.now.roots (plain_leaf leaf.now) }
+    ensures { IfOk result (λ holds. IsTrue holds ↔ LeafHolds (data_in bundle.now) observation.now.roots (plain_leaf leaf.now)) }
+{
+    if is_exact(leaf) {
+        return Ok(true);
+    }
+    leaf_holds(alloc, leaf, observation, bundle)
 }
 
 /// Adds a place behind those that are there, unless it is the last one.

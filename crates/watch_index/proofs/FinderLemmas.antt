@@ -1,11 +1,11 @@
 -- That a finder finds its brackets.
-use Rattle.std.proofs.Common.{arith, ◌≡◌, inl, inr, ℕ, ◌<◌, List, length, Some, None, slice_get, sym, subst}
+use Rattle.std.proofs.Common.{arith, ◌≡◌, inl, inr, ℕ, ◌<◌, List, length, Some, None, slice_get, sym, ap, subst, ◌∙◌}
 use Rattle.std.specs.Prelude.{All, Contains}
 use Rattle.std.specs.Borrow.{Bor}
 use Rattle.std.specs.List.Sorted.{IsPermutation}
 use Rattle.std.proofs.lemmas.List.Elements.{All-contains, All-weaker}
 use Rattle.std.proofs.lemmas.List.Sorted.{Contains-permutation, All-permutation}
-use Rattle.std.proofs.lemmas.Option.{slice_get_within}
+use Rattle.std.proofs.lemmas.Option.{same_Some, slice_get_within}
 use Rattle.serde_json.specs.Data.{Data}
 use Rattle.pattern_types.specs.declared.leaf.Leaf.{Leaf}
 use Rattle.pattern_types.specs.declared.path.Step.{Step}
@@ -13,20 +13,23 @@ use Rattle.pattern_types.specs.PlainLeaf.{plain_leaf}
 use Rattle.match_paths.specs.Selection.{IsRoot, Reaches}
 use Rattle.match_tests.specs.Tests.{HoldsAt}
 use Rattle.watch_index.specs.declared.guard.Guard.{Guard}
+use Rattle.watch_index.specs.declared.key.Key.{Key}
 use Rattle.watch_index.specs.declared.rows.Row.{Row}
 use Rattle.watch_index.specs.declared.rows.Rows.{Rows}
 use Rattle.watch_index.specs.declared.paths.Lookup.{Lookup}
 use Rattle.watch_index.specs.declared.paths.Filed.{Filed}
 use Rattle.watch_index.specs.declared.finder.Finder.{Finder}
-use Rattle.watch_index.specs.inner.Guards.{ArePlain}
-use Rattle.watch_index.specs.inner.Rows.{IsGuarded, IsCovered, AreRowsOf}
+use Rattle.watch_index.specs.Exact.{ArePlain}
+use Rattle.watch_index.specs.inner.Keys.{Fits}
+use Rattle.watch_index.specs.inner.Rows.{IsGuarded, IsCovered, IsRowIn, IsOpenIn, AreRowsOf}
 use Rattle.watch_index.specs.inner.Paths.{IsOfRow, AreAllFiled}
-use Rattle.watch_index.specs.inner.Indexed.{IsLedTo, IsFound, IsFinderOf}
+use Rattle.watch_index.specs.inner.Indexed.{IsLedTo, IsFound, IsTold, IsEntryOf, IsOpenOf, IsOfKind, IsFinderOf}
 use Rattle.watch_index.specs.inner.Finding.{AreKinds}
 use Rattle.watch_index.proofs.RowsLemmas.{row_of}
 
 module _ (brackets : List Leaf) (rows : Rows) (filed : Filed) (kinds : List (Bor (List ℕ) × ℕ)) (finder : Finder)
     (are_rows : AreRowsOf brackets (length brackets) rows) (are_filed : AreAllFiled rows.guarded.items filed) (are_kinds : AreKinds filed.paths.items kinds)
+    (only_kinds : All (IsOfKind filed.paths.items) kinds)
     (kinded : IsPermutation kinds finder.kinds.entries.items) (same : finder.paths.items ≡ filed.paths.items)
     (entered : IsPermutation filed.entries.items finder.places.entries.items) (always : finder.always.items ≡ rows.always.items) where
   led : (place : ℕ) (leaf : Leaf) → IsGuarded rows.guarded.items leaf place → (objects : List Data) (root : ℕ) → HoldsAt objects root (plain_leaf leaf)
@@ -62,14 +65,34 @@ module _ (brackets : List Leaf) (rows : Rows) (filed : Filed) (kinds : List (Bor
     | inr guarded ↦ inr (led place leaf guarded)
   ]
 
+  told : (entry : Lookup × ℕ) (own : IsOfRow filed.paths.items rows.guarded.items entry) (leaf : Leaf) → slice_get brackets entry.1 ≡ Some leaf → IsTold finder.paths.items leaf entry.0
+  told entry own leaf there exact objects root seen =
+      let row_in = All-contains (IsRowIn brackets (length brackets)) rows.guarded.items own.row are_rows.guarded own.among in
+      let row = row_in.is leaf (subst (λ (n : ℕ). slice_get brackets n ≡ Some leaf) own.placed there) in
+      let from = seen.seen in
+      let path_is : from.path ≡ own.numbered.path =
+      same_Some from.path own.numbered.path (sym from.there ∙ ap (λ (ps : List Guard). slice_get ps entry.0.path) same ∙ own.numbered.there) in
+      row.enough exact objects root (record {
+        object = seen.object;
+        is_root = subst (λ (k : List ℕ). IsRoot objects root k seen.object) (ap (λ (g : Guard). g.kind.now) path_is ∙ own.numbered.same.kind) seen.is_root;
+        value = from.value;
+        reached = subst (λ (s : List Step). Reaches objects None s seen.object from.value) (ap (λ (g : Guard). g.steps.now) path_is ∙ own.numbered.same.steps) from.reached;
+        fits = subst (λ (k : Key). Fits k from.value) own.keyed from.fits;
+      })
+
+  entry_of_bracket : (entry : Lookup × ℕ) → IsOfRow filed.paths.items rows.guarded.items entry → IsEntryOf brackets finder.paths.items entry
+  entry_of_bracket entry own =
+      let row_in = All-contains (IsRowIn brackets (length brackets)) rows.guarded.items own.row are_rows.guarded own.among in
+      record { below = omega (arith, row_in.below, own.placed); told = told entry own }
+
   pub finds_all : IsFinderOf brackets finder
   finds_all = record {
     found = λ place leaf there. found place leaf (are_rows.covered place leaf (slice_get_within brackets place leaf there) there);
-    places = All-permutation (λ (entry : Lookup × ℕ). entry.1 < length brackets) filed.entries.items finder.places.entries.items entered
-        (All-weaker (IsOfRow rows.guarded.items) (λ (entry : Lookup × ℕ). entry.1 < length brackets)
-        (λ entry own.
-        let below = All-contains (λ (row : Row). row.place < length brackets) rows.guarded.items own.row are_rows.guarded own.among in
-        omega (arith, below, own.placed))
-        filed.entries.items are_filed.only);
-    always = subst (λ (l : List ℕ). All (λ (place : ℕ). place < length brackets) l) (sym always) are_rows.always;
+    places = All-permutation (IsEntryOf brackets finder.paths.items) filed.entries.items finder.places.entries.items entered
+        (All-weaker (IsOfRow filed.paths.items rows.guarded.items) (IsEntryOf brackets finder.paths.items) entry_of_bracket filed.entries.items are_filed.only);
+    always = subst (λ (l : List ℕ). All (IsOpenOf brackets) l) (sym always)
+        (All-weaker (IsOpenIn brackets (length brackets)) (IsOpenOf brackets) (λ n own. record { below = own.below; inexact = λ leaf there. (own.is leaf there).inexact })
+        rows.always.items are_rows.always);
+    kinds = All-permutation (IsOfKind finder.paths.items) kinds finder.kinds.entries.items kinded
+        (subst (λ (ps : List Guard). All (IsOfKind ps) kinds) (sym same) only_kinds);
   }

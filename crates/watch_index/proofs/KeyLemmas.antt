@@ -1,7 +1,8 @@
 -- Look-ups that are alike are equal to the methods that are derived for them, and the other way round.
-use Rattle.std.proofs.Common.{arith, ◌≡◌, ℕ, ℤ, List, Bool, true, false, ◌&&◌, eqb, refl, subst}
-use Rattle.std.specs.declared.cmp.Ordering.TheVariants.{Equal}
-use Rattle.std.specs.Ordering.{nat_cmp, int_cmp}
+use Rattle.std.proofs.Common.{arith, ◌≡◌, ℕ, ℤ, List, Bool, true, false, ◌&&◌, eqb, refl, subst, cc, Ordering}
+use Rattle.std.specs.declared.cmp.Ordering.TheVariants.{Less, Equal, Greater}
+use Rattle.std.specs.Ordering.{nat_cmp, int_cmp, ordering_then}
+use Rattle.std.proofs.lemmas.Map.Lookups.{exact_bytes, exact_signed, exact_unsigned}
 use Rattle.std.specs.Cmp.Lexicographic.{slice_cmp}
 use Rattle.std.proofs.lemmas.Bool.{false≢true, eqb-true}
 use Rattle.std.proofs.lemmas.Bool.Decides.{Decides-int_eq}
@@ -53,3 +54,25 @@ pub alike_equal : (lookup other : Lookup) → (lookup_equality.ghosts).eq lookup
 alike_equal lookup other is =
     let both = both_true (eqb lookup.path other.path) ((key_equality.ghosts).eq lookup.key other.key) is in
     record { path = eqb-true lookup.path other.path both.0; key = key_same lookup.key other.key both.1 }
+
+-- keys that are tied stand for the same values
+key_untied : (one other : Key) → (key_order.ghosts).cmp one other ≡ Equal → AreSame one other
+key_untied Any Any is = tt
+key_untied (Integer whole) (Integer other) is = exact_signed whole other is
+key_untied (Text text) (Text other) is = exact_bytes text.now other.now is
+key_untied Any (Integer other) is = absurd (cc)
+key_untied Any (Text other) is = absurd (cc)
+key_untied (Integer whole) Any is = absurd (cc)
+key_untied (Integer whole) (Text other) is = absurd (cc)
+key_untied (Text text) Any is = absurd (cc)
+key_untied (Text text) (Integer other) is = absurd (cc)
+
+then_equal : (first second : Ordering) → ordering_then first second ≡ Equal → (first ≡ Equal) × (second ≡ Equal)
+then_equal Less second is = absurd (cc)
+then_equal Equal second is = (refl, is)
+then_equal Greater second is = absurd (cc)
+
+pub alike_untied : (lookup other : Lookup) → (lookup_order.ghosts).cmp lookup other ≡ Equal → AreAlike lookup other
+alike_untied lookup other is =
+    let both = then_equal (nat_cmp lookup.path other.path) ((key_order.ghosts).cmp lookup.key other.key) is in
+    record { path = exact_unsigned lookup.path other.path both.0; key = key_untied lookup.key other.key both.1 }

@@ -8,3 +8,4 @@ mod KeyLemmas
 mod LookupLemmas
 mod TableLemmas
 mod PlacesLemmas
+mod WalkLemmas

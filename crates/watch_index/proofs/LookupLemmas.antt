@@ -1,6 +1,7 @@
 -- What is looked up, and that it is looked up still.
-use Rattle.std.proofs.Common.{◌≡◌, ◌⊎◌, inl, inr, ℕ, List, [], ◌∷◌, ◌++◌, Option, Some, None, slice_get, refl, sym, ap, subst, ◌∙◌}
-use Rattle.std.specs.Prelude.{Contains, codes}
+use Rattle.std.proofs.Common.{◌≡◌, ◌⊎◌, inl, inr, ℕ, ℤ, List, [], ◌∷◌, ◌++◌, Option, Some, None, slice_get, refl, sym, ap, subst, ◌∙◌}
+use Rattle.std.specs.Prelude.{All, Contains, codes}
+use Rattle.std.proofs.lemmas.Map.Lookups.{exact_bytes}
 use Rattle.std.specs.Borrow.{Bor}
 use Rattle.std.specs.Ordering.{nat_cmp}
 use Rattle.std.specs.Cmp.Lexicographic.{slice_cmp}
@@ -9,18 +10,19 @@ use Rattle.std.proofs.lemmas.Cmp.{tied_itself, nat_list_cmp_total}
 use Rattle.stix_json.specs.Properties.{text_at}
 use Rattle.match_tests.proofs.ContainsLemmas.{in_more}
 use Rattle.watch_index.specs.declared.finder.Finder.{Finder}
-use Rattle.std.proofs.lemmas.List.Elements.{Contains-append_left}
+use Rattle.std.proofs.lemmas.List.Elements.{All-contains, Contains-append_left}
 use Rattle.std.proofs.lemmas.Option.{same_Some, none-some}
-use Rattle.serde_json.specs.Data.{Data}
+use Rattle.serde_json.specs.Data.{Data, number}
+use Rattle.serde_json.specs.Find.{of_integer}
 use Rattle.match_paths.specs.Selection.{Reaches}
 use Rattle.watch_index.specs.declared.guard.Guard.{Guard}
 use Rattle.watch_index.specs.declared.key.Key.{Key}
 use Rattle.watch_index.specs.declared.key.Key.TheVariants.{Any, Integer, Text}
 use Rattle.watch_index.specs.declared.paths.Lookup.{Lookup}
 use Rattle.watch_index.specs.inner.Keys.{Fits, AreSame, IsAsked}
-use Rattle.watch_index.specs.inner.Guards.{ArePlain}
-use Rattle.watch_index.specs.inner.Indexed.{IsReachedFrom}
-use Rattle.watch_index.specs.inner.Finding.{AreAlike, Keeps, AsksByPath, AskByPaths, AsksFor, AreAsked}
+use Rattle.watch_index.specs.Exact.{ArePlain}
+use Rattle.watch_index.specs.inner.Indexed.{IsReachedFrom, IsSeenFrom, IsSeen, IsOfKind}
+use Rattle.watch_index.specs.inner.Finding.{AreAlike, Keeps, AsksByPath, AskByPaths, AsksFor, AreAsked, AddsOnly, IsSeenBy, AreSeen}
 
 same_back : (one other : Key) → AreSame one other → AreSame other one
 same_back Any Any same = tt
@@ -147,3 +149,86 @@ asks_root finder objects root from kind entries lookups there typed all asks loo
     subst (λ (t : List ℕ). slice_cmp nat_cmp path.kind.now t ≡ Equal) (sym kinds) (tied_itself nat_list_cmp_total path.kind.now) in
     asks (path.kind, lookup.path) (all path.kind lookup.path tied leads.kinded) lookup refl
     (subst (λ (d : Data). IsReachedFrom finder.paths.items objects d lookup) (sym same) leads.reached)
+
+-- ---- nothing else is looked up
+
+pub only_itself : (Own : Lookup → Type 0) (lookups : List Lookup) → AddsOnly Own lookups lookups
+only_itself Own lookups lookup has = inl has
+
+pub only_more : (Own : Lookup → Type 0) (old new : List Lookup) (lookup : Lookup) → new ≡ old ++ lookup ∷ [] → Own lookup → AddsOnly Own old new
+only_more Own old new lookup is own other has = elim ((in_more old lookup other).0 (subst (λ (l : List Lookup). Contains l other) is has)) [
+  | inl before ↦ inl before
+  | inr now ↦ inr (subst Own (sym now) own)
+]
+
+pub only_through : (Own : Lookup → Type 0) (old mid new : List Lookup) → AddsOnly Own old mid → AddsOnly Own mid new → AddsOnly Own old new
+only_through Own old mid new first second lookup has = elim (second lookup has) [
+  | inl before ↦ first lookup before
+  | inr own ↦ inr own
+]
+
+pub only_weaker : (Own More : Lookup → Type 0) (old new : List Lookup) → ((lookup : Lookup) → Own lookup → More lookup) → AddsOnly Own old new → AddsOnly More old new
+only_weaker Own More old new follows only lookup has = elim (only lookup has) [
+  | inl before ↦ inl before
+  | inr own ↦ inr (follows lookup own)
+]
+
+-- a value that a path leads to is seen by it
+pub seen_value : (paths : List Guard) (objects : List Data) (from : Data) (number : ℕ) (guard : Guard) (own : Key) (value : Data) → Some guard ≡ slice_get paths number
+    → Reaches objects None guard.steps.now from value → Fits own value
+    → (number ≡ number) × IsSeenFrom paths objects from (record { path = number; key = own })
+seen_value paths objects from number guard own value there reached fits =
+    (refl, record { path = guard; there = sym there; value = value; reached = reached; fits = fits })
+
+-- what is seen by a path is seen by one of some paths
+pub seen_by : (paths : List Guard) (objects : List Data) (from : Data) (numbers : List (Bor (List ℕ) × ℕ)) (entry : Bor (List ℕ) × ℕ) → Contains numbers entry
+    → (lookup : Lookup) → (lookup.path ≡ entry.1) × IsSeenFrom paths objects from lookup → IsSeenBy paths objects from numbers lookup
+seen_by paths objects from numbers entry has lookup own = record { entry = entry; among = has; path_is = own.0; seen = own.1 }
+
+-- by the paths for a root's type it is seen from the root
+pub seen_root : (paths : List Guard) (objects : List Data) (root : ℕ) (from : Data) (kind : Bor (List ℕ)) (kinds entries : List (Bor (List ℕ) × ℕ))
+    → Some from ≡ slice_get objects root → Some kind.now ≡ text_at (codes "type") from → All (IsOfKind paths) kinds
+    → ((entry : Bor (List ℕ) × ℕ) → Contains entries entry → Contains kinds entry)
+    → ((entry : Bor (List ℕ) × ℕ) → Contains entries entry → slice_cmp nat_cmp entry.0.now kind.now ≡ Equal)
+    → (lookup : Lookup) → IsSeenBy paths objects from entries lookup → IsSeen paths objects root lookup
+seen_root paths objects root from kind kinds entries there typed are_kinds only keyed lookup by =
+    let path = by.seen.path in
+    let of_kind = All-contains (IsOfKind paths) kinds by.entry are_kinds (only by.entry by.among) in
+    let kind_is : path.kind.now ≡ kind.now =
+    of_kind path (ap (slice_get paths) (sym by.path_is) ∙ by.seen.there) ∙ exact_bytes by.entry.0.now kind.now (keyed by.entry by.among) in
+    record {
+      object = from;
+      seen = by.seen;
+      is_root = record { there = sym there; typed = sym typed ∙ ap Some (sym kind_is) };
+    }
+
+-- one root more
+pub seen_next : (paths : List Guard) (objects : List Data) (roots : List ℕ) (root : ℕ) (old new : List Lookup) → Contains roots root → AreSeen paths objects roots old
+    → AddsOnly (IsSeen paths objects root) old new → AreSeen paths objects roots new
+seen_next paths objects roots root old new has before only lookup there = elim (only lookup there) [
+  | inl earlier ↦ before lookup earlier
+  | inr now ↦ (root, has, now)
+]
+
+fits_same : (own other : Key) (value : Data) → AreSame own other → Fits other value → Fits own value
+fits_same Any other value same fits = tt
+fits_same (Integer whole) (Integer other) value same fits = fits ∙ ap (λ (n : ℤ). number (of_integer n)) (sym same)
+fits_same (Text text) (Text other) value same fits = fits ∙ ap Some (sym same)
+fits_same (Integer whole) Any value same fits = absurd same
+fits_same (Integer whole) (Text other) value same fits = absurd same
+fits_same (Text text) Any value same fits = absurd same
+fits_same (Text text) (Integer other) value same fits = absurd same
+
+-- what is alike is seen as well
+pub seen_alike : (paths : List Guard) (objects : List Data) (root : ℕ) (own lookup : Lookup) → AreAlike own lookup → IsSeen paths objects root lookup → IsSeen paths objects root own
+seen_alike paths objects root own lookup alike seen = record {
+  object = seen.object;
+  seen = record {
+    path = seen.seen.path;
+    there = ap (slice_get paths) alike.path ∙ seen.seen.there;
+    value = seen.seen.value;
+    reached = seen.seen.reached;
+    fits = fits_same own.key lookup.key seen.seen.value alike.key seen.seen.fits;
+  };
+  is_root = seen.is_root;
+}

@@ -1,15 +1,16 @@
 -- The guards of parts that are joined by AND and by OR, one part more.
 use Rattle.std.specs.Prelude.{⊤}
-use Rattle.std.proofs.Common.{◌≡◌, ◌⊎◌, inl, inr, ℕ, List, [], ◌∷◌, ◌++◌, Option, Some, None, MatchOption, Result, IfOk, refl, sym, ap, subst, rules}
-use Rattle.std.specs.Prelude.{Contains}
-use Rattle.std.proofs.lemmas.List.Elements.{Contains-append_left, Contains-append_right}
+use Rattle.std.proofs.Common.{arith, ◌≡◌, ◌⊎◌, inl, inr, ℕ, zero, suc, ◌<◌, length, get_or, List, [], ◌∷◌, ◌++◌, Option, Some, None, MatchOption, Result, Ok, Err, IfOk, refl, sym, ap, subst, rules}
+use Rattle.std.specs.Prelude.{◌↔◌, Bool, IsTrue, Contains}
+use Rattle.std.proofs.lemmas.List.Elements.{Contains-append_left, Contains-append_right, Contains-append_cases}
 use Rattle.serde_json.specs.Data.{Data}
 use Rattle.pattern_types.specs.declared.leaf.Leaf.{Leaf, Row_of-Leaf, end_of-Leaf, more_of-Leaf, items-the_row-Leaf, the_lemmas}
 use Rattle.pattern_types.specs.declared.leaf.Leaf.TheVariants as leaf
 use Rattle.pattern_types.specs.PlainLeaf.{PlainLeaf, every, some, more, plain_leaf, plain_leaves, listed}
 use Rattle.match_tests.specs.Tests.{HoldsAt, AllHold, SomeHold}
 use Rattle.watch_index.specs.declared.guard.Guard.{Guard}
-use Rattle.watch_index.specs.inner.Guards.{SomeMet, AreGuards, Guards}
+use Rattle.watch_index.specs.Exact.{IsExact, AreExact}
+use Rattle.watch_index.specs.inner.Guards.{SomeMet, AreGuards, Guards, AreEnough, Enough}
 
 plain_leaves-items : {m : _} (k : Row_of-Leaf m) → plain_leaves k ≡ listed (items-the_row-Leaf _ k)
 plain_leaves-items end_of-Leaf = refl
@@ -29,6 +30,34 @@ ok_all r parts h = subst (λ (f : PlainLeaf). IfOk r (Guards (λ objects root. H
 pub ok_any : {E : Type 0} (r : Result (Option (List Guard)) E) (parts : List Leaf) → IfOk r (Guards (λ objects root. SomeHold objects root (listed parts)))
     → IfOk r (Guards (λ objects root. HoldsAt objects root (plain_leaf (leaf.Any parts))))
 ok_any r parts h = subst (λ (f : PlainLeaf). IfOk r (Guards (λ objects root. HoldsAt objects root f))) (some_of parts) h
+
+-- parts that are joined by OR are exact where their leaf is
+pub exact_any : (truth : Bool) (parts : List Leaf) → (IsTrue truth ↔ AreExact (listed parts)) → IsTrue truth ↔ IsExact (plain_leaf (leaf.Any parts))
+exact_any truth parts h = subst (λ (f : PlainLeaf). IsTrue truth ↔ IsExact f) (some_of parts) h
+
+-- and then each of them is
+pub exact_at : (parts : List Leaf) (i : ℕ) (part : Leaf) → i < length parts → part ≡ get_or parts i part → AreExact (listed parts) → IsExact (plain_leaf part)
+exact_at [] i part below is all = absurd (omega (arith, below))
+exact_at (x ∷ parts) zero part below is all = subst (λ (l : Leaf). IsExact (plain_leaf l)) (sym is) all.0
+exact_at (x ∷ parts) (suc i) part below is all = exact_at parts i part (omega (arith, below)) is all.1
+
+-- where the leaf is exact, they are enough
+pub enough_any : {E : Type 0} (r : Result (Option (List Guard)) E) (parts : List Leaf)
+    → IfOk r (λ found. AreExact (listed parts) → Enough (λ objects root. SomeHold objects root (listed parts)) found)
+    → IfOk r (λ found. IsExact (plain_leaf (leaf.Any parts)) → Enough (λ objects root. HoldsAt objects root (plain_leaf (leaf.Any parts))) found)
+enough_any r parts h =
+    subst (λ (f : PlainLeaf). IfOk r (λ found. IsExact f → Enough (λ objects root. HoldsAt objects root f) found)) (some_of parts) h
+
+inexact_ok : {E : Type 0} (r : Result (Option (List Guard)) E) (parts : List Leaf)
+    → IfOk r (λ found. IsExact (every (listed parts)) → Enough (λ objects root. HoldsAt objects root (every (listed parts))) found)
+inexact_ok (Ok found) parts = λ exact. absurd exact
+inexact_ok (Err error) parts = tt
+
+-- one of parts that are joined by AND isn't exact
+pub enough_all : {E : Type 0} (r : Result (Option (List Guard)) E) (parts : List Leaf)
+    → IfOk r (λ found. IsExact (plain_leaf (leaf.All parts)) → Enough (λ objects root. HoldsAt objects root (plain_leaf (leaf.All parts))) found)
+enough_all r parts =
+    subst (λ (f : PlainLeaf). IfOk r (λ found. IsExact f → Enough (λ objects root. HoldsAt objects root f) found)) (every_of parts) (inexact_ok r parts)
 
 -- one of the guards is met, where there are guards
 abbrev pub MetBy : List Data → ℕ → Option (List Guard) → Type 0
@@ -83,3 +112,34 @@ some_over parts added still objects root hold = elim (still objects root hold) [
   | inl met ↦ met
   | inr none ↦ absurd none
 ]
+
+-- where the parts are exact, those that come are, and each guard that was added is enough
+pub record IsEnoughSoFar (parts here : List Leaf) (added : List Guard) : Type 0 where
+  pub exact : AreExact (listed here)
+  pub enough : AreEnough (λ objects root. SomeHold objects root (listed parts)) added
+  pub onward : (objects : List Data) (root : ℕ) → SomeHold objects root (listed here) → SomeHold objects root (listed parts)
+
+abbrev pub StillEnough : List Leaf → List Leaf → List Guard → Type 0
+StillEnough parts here added = AreExact (listed parts) → IsEnoughSoFar parts here added
+
+pub enough_none : (parts : List Leaf) → StillEnough parts parts []
+enough_none parts exact = record { exact = exact; enough = λ guard has. absurd (omega (arith, has.1)); onward = λ objects root holds. holds }
+
+module _ (parts here later : List Leaf) (part : Leaf) (added : List Guard) (cut : here ≡ part ∷ later) (still : StillEnough parts here added) where
+  pub enough_next : (own new : List Guard) → (IsExact (plain_leaf part) → AreEnough (λ objects root. HoldsAt objects root (plain_leaf part)) own) → new ≡ added ++ own
+      → StillEnough parts later new
+  enough_next own new of_part is all =
+      let before = still all in
+      let exacts = subst (λ (ls : List Leaf). AreExact (listed ls)) cut before.exact in
+      record {
+        exact = exacts.1;
+        enough = λ guard has objects root shown. elim (Contains-append_cases added own guard (subst (λ (gs : List Guard). Contains gs guard) is has)) [
+          | inl earlier ↦ before.enough guard earlier objects root shown
+          | inr now ↦ before.onward objects root (subst (λ (ls : List Leaf). SomeHold objects root (listed ls)) (sym cut) (inl (of_part exacts.0 guard now objects root shown)))
+        ];
+        onward = λ objects root holds. before.onward objects root (subst (λ (ls : List Leaf). SomeHold objects root (listed ls)) (sym cut) (inr holds));
+      }
+
+  -- a part without guards isn't exact
+  pub enough_never : (IsExact (plain_leaf part) → ⊥) → AreExact (listed parts) → ⊥
+  enough_never not all = not (subst (λ (ls : List Leaf). AreExact (listed ls)) cut (still all).exact).0

@@ -8,7 +8,8 @@ use Rattle.std.proofs.lemmas.Option.{slice_get-get_or, get_or_from_slice_get}
 use Rattle.watch_index.specs.declared.rows.Row.{Row}
 use Rattle.watch_index.specs.declared.paths.Lookup.{Lookup}
 use Rattle.watch_index.specs.declared.paths.Filed.{Filed}
-use Rattle.watch_index.specs.inner.Paths.{entry_of, AddsRow, IsFiled, IsOfRow, AreFiled, AreAllFiled}
+use Rattle.watch_index.specs.declared.guard.Guard.{Guard}
+use Rattle.watch_index.specs.inner.Paths.{entry_of, KeepsPaths, AddsRow, IsFiled, IsOfRow, AreFiled, AreAllFiled}
 
 before_or_last : (at count : ℕ) → at < count + 1 → (at < count) ⊎ (at ≡ count)
 before_or_last at count below = grind arith
@@ -19,6 +20,15 @@ still_filed row other old new adds filed = record {
   numbered = record { path = filed.numbered.path; there = adds.kept filed.number filed.numbered.path filed.numbered.there; same = filed.numbered.same };
   entered = subst (λ (es : List (Lookup × ℕ)). Contains es (entry_of filed.number other)) (sym adds.is)
       (Contains-append_left old.entries.items (entry_of adds.number row ∷ []) (entry_of filed.number other) filed.entered);
+}
+
+still_of_row : (old new : List Guard) (rows : List Row) (entry : Lookup × ℕ) → KeepsPaths old new → IsOfRow old rows entry → IsOfRow new rows entry
+still_of_row old new rows entry keeps own = record {
+  row = own.row;
+  among = own.among;
+  placed = own.placed;
+  numbered = record { path = own.numbered.path; there = keeps entry.0.path own.numbered.path own.numbered.there; same = own.numbered.same };
+  keyed = own.keyed;
 }
 
 now_filed : (row : Row) (old new : Filed) → AddsRow row old new → IsFiled new row
@@ -41,8 +51,10 @@ filed_next rows count row old new below is filed adds = record {
         let same : row ≡ other = is ∙ get_or_from_slice_get rows count other row (ap (slice_get rows) (sym last) ∙ there) in
         subst (IsFiled new) same (now_filed row old new adds)
   ];
-  only = subst (λ (es : List (Lookup × ℕ)). All (IsOfRow rows) es) (sym adds.is)
-      (All-push (IsOfRow rows) old.entries.items (entry_of adds.number row) filed.only (record { row = row; among = at_place rows count row below is; placed = refl }));
+  only = subst (λ (es : List (Lookup × ℕ)). All (IsOfRow new.paths.items rows) es) (sym adds.is)
+      (All-push (IsOfRow new.paths.items rows) old.entries.items (entry_of adds.number row)
+      (All-weaker (IsOfRow old.paths.items rows) (IsOfRow new.paths.items rows) (λ entry own. still_of_row old.paths.items new.paths.items rows entry adds.kept own) old.entries.items filed.only)
+      (record { row = row; among = at_place rows count row below is; placed = refl; numbered = adds.numbered; keyed = refl }));
 }
 
 -- all of them, in another order
@@ -52,7 +64,13 @@ all_filed rows sorted count filed moved long done = record {
   each = λ row has.
       let there = Contains-permutation rows sorted row moved has in
       done.each there.0 row (omega (arith, there.1)) (slice_get-get_or sorted there.0 row there.1 ∙ ap Some there.2);
-  only = All-weaker (IsOfRow sorted) (IsOfRow rows)
-      (λ entry own. record { row = own.row; among = Contains-permutation sorted rows own.row (IsPermutation-sym rows sorted moved) own.among; placed = own.placed })
+  only = All-weaker (IsOfRow filed.paths.items sorted) (IsOfRow filed.paths.items rows)
+      (λ entry own. record {
+        row = own.row;
+        among = Contains-permutation sorted rows own.row (IsPermutation-sym rows sorted moved) own.among;
+        placed = own.placed;
+        numbered = own.numbered;
+        keyed = own.keyed;
+      })
       filed.entries.items done.only;
 }

@@ -1,5 +1,5 @@
 -- The entries with a key stand together in a sorted list.
-use Rattle.std.proofs.Common.{arith, ◌≡◌, ℕ, ◌-◌, ◌<◌, ◌≤◌, List, length, take, drop, get_or, true, false, refl, sym, ap, subst, ◌∙◌, Ordering}
+use Rattle.std.proofs.Common.{arith, ◌≡◌, ℕ, ◌+◌, ◌-◌, ◌<◌, ◌≤◌, List, length, take, drop, get_or, true, false, refl, sym, ap, subst, ◌∙◌, Ordering}
 use Rattle.std.specs.Prelude.{Contains}
 use Rattle.std.specs.Ordering.{is_lt, is_le, ordering_index}
 use Rattle.std.specs.declared.cmp.Ordering.TheVariants.{Less, Equal, Greater}
@@ -31,6 +31,11 @@ not_below k from not = grind arith
 not_above : (k count : ℕ) → ¬ (count ≤ k) → k < count
 not_above k count not = grind arith
 
+neither : (r : Ordering) → is_le r ≡ true → is_lt r ≡ false → r ≡ Equal
+neither Less le lt = absurd (false≢true (sym lt))
+neither Equal le lt = refl
+neither Greater le lt = absurd (false≢true le)
+
 module _ {K V : Type 0} {R : K → K → Ordering} (total : IsTotalOrder R) (entries : List (K × V)) (key : K) (sorted : IsSortedByKey (λ (entry : K × V). entry.0) R entries) where
   rises : IsNonDecreasingBy (λ (entry : K × V). ordering_index (R entry.0 key)) entries
   rises = searchable_from_sorted total (λ (entry : K × V). entry.0) entries key sorted
@@ -57,3 +62,17 @@ module _ {K V : Type 0} {R : K → K → Ordering} (total : IsTotalOrder R) (ent
       let within : k - from < length (drop from entries) = omega (arith, length-drop from entries, has.1) in
       let not_behind : k - from < count = not_above (k - from) count (λ behind. false≢true (sym (subst (λ (e : K × V). is_le (R e.0 key) ≡ false) there (second.1 (k - from) entry behind within)) ∙ ap is_le alike)) in
       (k - from, omega (arith, length-take count (drop from entries)), get_or-take count (drop from entries) (k - from) entry not_behind ∙ there)
+
+  -- and with no other
+  pub keyed_between : (from count : ℕ) → IsPartitionPoint (λ (entry : K × V). is_lt (R entry.0 key) ≡ true) (λ (entry : K × V). is_lt (R entry.0 key) ≡ false) entries from
+      → IsPartitionPoint (λ (entry : K × V). is_le (R entry.0 key) ≡ true) (λ (entry : K × V). is_le (R entry.0 key) ≡ false) (drop from entries) count
+      → (entry : K × V) → Contains (take count (drop from entries)) entry → R entry.0 key ≡ Equal
+  keyed_between from count first second entry has =
+      let k = has.0 in
+      let long = length-take count (drop from entries) in
+      let before : k < count = omega (arith, long, has.1) in
+      let within : k < length (drop from entries) = omega (arith, long, has.1) in
+      let there : get_or (drop from entries) k entry ≡ entry = sym (get_or-take count (drop from entries) k entry before) ∙ has.2 in
+      let behind : get_or entries (from + k) entry ≡ entry = sym (get_or-drop from entries k entry) ∙ there in
+      neither (R entry.0 key) (subst (λ (e : K × V). is_le (R e.0 key) ≡ true) there (second.0 k entry (omega arith) before))
+      (subst (λ (e : K × V). is_lt (R e.0 key) ≡ false) behind (first.1 (from + k) entry (omega arith) (omega (arith, length-drop from entries, within))))

@@ -1,11 +1,12 @@
 //! What finds brackets by what the roots of an observation say.
 
-ghost use Rattle.std.specs.Prelude.{◌≡◌, ◌<◌, ◌^◌, ◌++◌, map, length, IfOk, OnOk};
+ghost use Rattle.std.specs.Prelude.{◌≡◌, ◌<◌, ◌^◌, ◌++◌, All, Contains, map, length, IfOk, OnOk};
 ghost use Rattle.stix_bundles.specs.Objects.{data_in};
 ghost use Rattle.stix_json.specs.DataOf.{data_of};
 ghost use Rattle.stix_json.specs.Ordered.{IsOrdered};
-ghost use Rattle.watch_index.specs.inner.Indexed.{IsFinderOf};
-ghost use Rattle.watch_index.specs.inner.Finding.{Keeps, AreAsked, AsksFor, AsksByPath, AskByPaths, FindsPlaces, AddsFound, AreKinds};
+ghost use Rattle.watch_index.specs.declared.paths.Lookup.{Lookup};
+ghost use Rattle.watch_index.specs.inner.Indexed.{IsSeenFrom, IsSeen, IsOfKind, IsFinderOf};
+ghost use Rattle.watch_index.specs.inner.Finding.{Keeps, AreAsked, AsksFor, AsksByPath, AskByPaths, AddsOnly, IsSeenBy, AreSeen, FindsPlaces, AddsFound, AreKinds};
 
 use crate::guard::Guard;
 use crate::key::{Key, key_in};
@@ -57,6 +58,7 @@ impl<'p> Finder<'p> {
         bundle: &Bundle,
         roots: &[u32],
     ) -> Result<Vec<u32>, NoMemory>
+        requires { All (IsOfKind self.now.paths.items) self.now.kinds.entries.items }
         ensures { IfOk result (λ places. FindsPlaces self.now (data_in bundle.now) roots.now places.items) }
     {
         let lookups = self.lookups(alloc, bundle, roots)?;
@@ -82,7 +84,9 @@ impl<'p> Finder<'p> {
         bundle: &'b Bundle,
         roots: &[u32],
     ) -> Result<Vec<Lookup<'b>>, NoMemory>
-        ensures { IfOk result (λ lookups. AreAsked self.now (data_in bundle.now) roots.now lookups.items) }
+        requires { All (IsOfKind self.now.paths.items) self.now.kinds.entries.items }
+        ensures asks { IfOk result (λ lookups. AreAsked self.now (data_in bundle.now) roots.now lookups.items) }
+        ensures seen { IfOk result (λ lookups. AreSeen self.now.paths.items (data_in bundle.now) roots.now lookups.items) }
     {
         let mut lookups = Vec::new(alloc);
         for root in roots {
@@ -98,8 +102,10 @@ impl<'p> Finder<'p> {
         root: u32,
         lookups: &mut Vec<Lookup<'b>>,
     ) -> Result<(), NoMemory>
+        requires { All (IsOfKind self.now.paths.items) self.now.kinds.entries.items }
         ensures keeps { OnOk result (Keeps lookups.old.items lookups.new.items) }
         ensures asks { OnOk result (AsksFor self.now (data_in bundle.now) root lookups.new.items) }
+        ensures only { OnOk result (AddsOnly (IsSeen self.now.paths.items (data_in bundle.now) root) lookups.old.items lookups.new.items) }
     {
         let Some(object) = object_at(bundle, root) else {
             return Ok(());
@@ -122,6 +128,7 @@ impl<'p> Finder<'p> {
         requires { IsOrdered (data_of object.now) }
         ensures keeps { OnOk result (Keeps lookups.old.items lookups.new.items) }
         ensures asks { OnOk result (AskByPaths self.now.paths.items (data_in bundle.now) (data_of object.now) paths.now lookups.new.items) }
+        ensures only { OnOk result (AddsOnly (IsSeenBy self.now.paths.items (data_in bundle.now) (data_of object.now) paths.now) lookups.old.items lookups.new.items) }
     {
         for (_, number) in paths {
             self.add_by_path(bundle, object, *number, lookups)?;
@@ -140,6 +147,8 @@ impl<'p> Finder<'p> {
         requires { IsOrdered (data_of object.now) }
         ensures keeps { OnOk result (Keeps lookups.old.items lookups.new.items) }
         ensures asks { OnOk result (AsksByPath self.now.paths.items (data_in bundle.now) (data_of object.now) path lookups.new.items) }
+        ensures only { OnOk result (AddsOnly (λ lookup. (lookup.path ≡ path) × IsSeenFrom self.now.paths.items (data_in bundle.now) (data_of object.now) lookup)
+            lookups.old.items lookups.new.items) }
     {
         let Some(guard) = self.paths.get(path) else {
             return Ok(());
@@ -160,7 +169,8 @@ impl<'p> Finder<'p> {
 
 /// The same look-ups, each once.
 fn each_lookup_once(mut lookups: Vec<Lookup<'_>>) -> Vec<Lookup<'_>>
-    ensures { Keeps lookups.entry.items result.items }
+    ensures keeps { Keeps lookups.entry.items result.items }
+    ensures only { (lookup : Lookup) → Contains result.items lookup → Contains lookups.entry.items lookup }
 {
     lookups.sort_unstable();
     lookups.dedup();
@@ -179,7 +189,8 @@ fn add_places(entries: &[(Lookup<'_>, u32)], places: &mut Vec<u32>) -> Result<()
 
 /// The numbers of paths, by the types of their roots.
 fn kinds_of<'p>(alloc: Global, paths: &[Guard<'p>]) -> Result<Vec<(&'p str, usize)>, NoMemory>
-    ensures { IfOk result (λ kinds. AreKinds paths.now kinds.items) }
+    ensures all { IfOk result (λ kinds. AreKinds paths.now kinds.items) }
+    ensures only { IfOk result (λ kinds. All (IsOfKind paths.now) kinds.items) }
 {
     let mut kinds = Vec::with_capacity(alloc, paths.len())?;
     for (number, path) in paths.iter().enumerate() {

@@ -5,7 +5,8 @@ ghost use Rattle.pattern_types.specs.declared.constant.Constant.{Constant};
 ghost use Rattle.pattern_types.specs.PlainLeaf.{plain_leaf, listed};
 ghost use Rattle.pattern_types.specs.declared.path.Step.{Step};
 ghost use Rattle.match_tests.specs.Tests.{TestHolds, HoldsAt, AllHold, SomeHold};
-ghost use Rattle.watch_index.specs.inner.Guards.{ArePlain, AreGuards, Guards, HasGuard, StandsFor};
+ghost use Rattle.watch_index.specs.Exact.{IsExact, AreExact, IsExactTest, ArePlain};
+ghost use Rattle.watch_index.specs.inner.Guards.{AreGuards, Guards, AreEnough, Enough, HasGuard, AreBy, StandsFor, AnswersSome};
 
 use crate::guard::Guard;
 use crate::key::{Key, key_of};
@@ -19,7 +20,8 @@ pub(crate) fn guards_of<'p>(
     alloc: Global,
     leaf: &'p Leaf,
 ) -> Result<Option<Items<Guard<'p>>>, NoMemory>
-    ensures { IfOk result (Guards (λ objects root. HoldsAt objects root (plain_leaf leaf.now))) }
+    ensures needed { IfOk result (Guards (λ objects root. HoldsAt objects root (plain_leaf leaf.now))) }
+    ensures enough { IfOk result (λ found. IsExact (plain_leaf leaf.now) → Enough (λ objects root. HoldsAt objects root (plain_leaf leaf.now)) found) }
 {
     match leaf {
         Leaf::Test(test) => {
@@ -50,7 +52,8 @@ fn guards_of_some<'p>(
     alloc: Global,
     parts: &'p [Leaf],
 ) -> Result<Option<Items<Guard<'p>>>, NoMemory>
-    ensures { IfOk result (Guards (λ objects root. SomeHold objects root (listed parts.now))) }
+    ensures needed { IfOk result (Guards (λ objects root. SomeHold objects root (listed parts.now))) }
+    ensures enough { IfOk result (λ found. AreExact (listed parts.now) → Enough (λ objects root. SomeHold objects root (listed parts.now)) found) }
 {
     let mut guards = Vec::new(alloc);
     for part in parts {
@@ -96,7 +99,8 @@ fn weight(guards: &[Guard<'_>]) -> (usize, usize) {
 /// The guards of a test. Of a negated test only the type of the root is one, since other values don't
 /// meet it; behind a `[*]` the values are many, so that the steps before it are one.
 fn guards_of_test<'p>(alloc: Global, test: &'p Test) -> Result<Items<Guard<'p>>, NoMemory>
-    ensures { IfOk result (AreGuards (λ objects root. TestHolds objects root test.now)) }
+    ensures needed { IfOk result (AreGuards (λ objects root. TestHolds objects root test.now)) }
+    ensures enough { IfOk result (λ guards. IsExactTest test.now → AreEnough (λ objects root. TestHolds objects root test.now) guards) }
 {
     let kind = test.path.kind.as_str();
     let steps = test.path.steps.as_slice();
@@ -129,7 +133,8 @@ fn one_guard<'p>(
     steps: &'p [Step],
     key: Key<'p>,
 ) -> Result<Items<Guard<'p>>, NoMemory>
-    ensures { IfOk result (HasGuard kind.now steps.now (λ own. own ≡ key.entry)) }
+    ensures has { IfOk result (HasGuard kind.now steps.now (λ own. own ≡ key.entry)) }
+    ensures by { IfOk result (AreBy kind.now steps.now (λ own. own ≡ key.entry)) }
 {
     let mut guards = Items::new(alloc);
     guards.push(Guard { kind, steps, key })?;
@@ -143,7 +148,8 @@ fn guards_by_value<'p>(
     steps: &'p [Step],
     constants: &'p [Constant],
 ) -> Result<Items<Guard<'p>>, NoMemory>
-    ensures { IfOk result (λ guards. (constant : Constant) → Contains constants.now constant → HasGuard kind.now steps.now (StandsFor constant) guards) }
+    ensures has { IfOk result (λ guards. (constant : Constant) → Contains constants.now constant → HasGuard kind.now steps.now (StandsFor constant) guards) }
+    ensures by { IfOk result (AreBy kind.now steps.now (AnswersSome constants.now)) }
 {
     let mut guards = Items::with_capacity(alloc, constants.len())?;
     for constant in constants {
@@ -160,6 +166,7 @@ fn guards_by_value<'p>(
 fn plain_front(steps: &[Step]) -> &[Step]
     ensures plain { ArePlain result.now }
     ensures front { (rest : List Step) × (steps.now ≡ result.now ++ rest) }
+    ensures whole { ArePlain steps.now → result.now ≡ steps.now }
 {
     for (at, step) in steps.iter().enumerate() {
         if matches!(step, Step::Each) {

@@ -1,6 +1,7 @@
+ghost use Rattle.std.specs.Prelude.{IfSome};
 ghost use Rattle.stix_json.specs.DataOf.{data_of};
 ghost use Rattle.watch_index.specs.inner.Keys.{Fits, IsAsked};
-ghost use Rattle.watch_index.specs.inner.Guards.{StandsFor};
+ghost use Rattle.watch_index.specs.inner.Guards.{StandsFor, Answers};
 
 use pattern_types::Constant;
 use stix_json::Json;
@@ -18,7 +19,8 @@ pub(crate) enum Key<'p> {
 
 /// What a value that equals a constant is looked up by.
 pub(crate) fn key_of(constant: &Constant) -> Key<'_>
-    ensures { StandsFor constant.now result }
+    ensures stands { StandsFor constant.now result }
+    ensures answers { Answers constant.now result }
 {
     match constant {
         Constant::Integer(whole) => Key::Integer(*whole),
@@ -30,7 +32,8 @@ pub(crate) fn key_of(constant: &Constant) -> Key<'_>
 
 /// What a value is looked up by besides that there is one.
 pub(crate) fn key_in(value: &Json) -> Option<Key<'_>>
-    ensures { (key : Key) → Fits key (data_of value.now) → IsAsked result key }
+    ensures asked { (key : Key) → Fits key (data_of value.now) → IsAsked result key }
+    ensures fits { IfSome result (λ key. Fits key (data_of value.now)) }
 {
     match value {
         Json::Integer(whole) => Some(Key::Integer(*whole)),

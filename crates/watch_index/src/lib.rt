@@ -5,6 +5,7 @@
 //! look at each of the others.
 #![tactic(auto)]
 
+mod exact;
 mod finder;
 mod guard;
 mod guarding;
@@ -16,4 +17,5 @@ mod sorting;
 mod table;
 mod walk;
 
+pub use exact::is_exact;
 pub use index::Index;

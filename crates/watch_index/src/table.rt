@@ -22,6 +22,7 @@ impl<K: Ord + Drop, V: Drop> Table<K, V> {
     pub(crate) fn find(&self, key: &K) -> &[(K, V)]
         ensures all { (own : K) (value : V) → K.cmp own key.now ≡ Equal → Contains self.now.entries.items (own, value) → Contains result.now (own, value) }
         ensures only { (entry : K × V) → Contains result.now entry → Contains self.now.entries.items entry }
+        ensures keyed { (entry : K × V) → Contains result.now entry → K.cmp entry.0 key.now ≡ Equal }
     {
         let from = self
             .entries

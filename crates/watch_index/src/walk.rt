@@ -5,7 +5,7 @@ ghost use Rattle.stix_json.specs.Ordered.{IsOrdered};
 ghost use Rattle.stix_json.specs.Properties.{text_at};
 ghost use Rattle.stix_bundles.specs.Objects.{data_in};
 ghost use Rattle.match_paths.specs.Selection.{StepReaches, Reaches};
-ghost use Rattle.watch_index.specs.inner.Guards.{IsPlain, ArePlain};
+ghost use Rattle.watch_index.specs.Exact.{IsPlain, ArePlain};
 
 use match_paths::{name_behind, selected};
 use pattern_types::Step;
@@ -19,8 +19,9 @@ pub(crate) fn value_behind<'a>(
     steps: &[Step],
 ) -> Option<&'a Json>
     requires { IsOrdered (data_of object.now) }
-    ensures { (value : Data) → ArePlain steps.now → Reaches (data_in bundle.now) None steps.now (data_of object.now) value
+    ensures all { (value : Data) → ArePlain steps.now → Reaches (data_in bundle.now) None steps.now (data_of object.now) value
         → option_map (λ tree. data_of tree.now) result ≡ Some value }
+    ensures reached { IfSome result (λ tree. Reaches (data_in bundle.now) None steps.now (data_of object.now) (data_of tree.now)) }
 {
     let mut last = None;
     let mut value = object;
@@ -44,6 +45,7 @@ fn next_value<'a>(
     requires { IsOrdered (data_of value.now) }
     ensures next { (next : Data) → IsPlain step.now → StepReaches (data_in bundle.now) (option_map (λ name. name.now) last.entry) step.now (data_of value.now) next
         → option_map (λ tree. data_of tree.now) result ≡ Some next }
+    ensures reached { IfSome result (λ tree. StepReaches (data_in bundle.now) (option_map (λ name. name.now) last.entry) step.now (data_of value.now) (data_of tree.now)) }
     ensures ordered { IfSome result (λ tree. IsOrdered (data_of tree.now)) }
 {
     selected(bundle, last, step, value).first()

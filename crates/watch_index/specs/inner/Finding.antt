@@ -6,7 +6,7 @@ use Rattle.watch_index.specs.declared.guard.Guard.{Guard}
 use Rattle.watch_index.specs.declared.paths.Lookup.{Lookup}
 use Rattle.watch_index.specs.declared.finder.Finder.{Finder}
 use Rattle.watch_index.specs.inner.Keys.{AreSame}
-use Rattle.watch_index.specs.inner.Indexed.{IsReachedFrom, Leads, IsLedTo}
+use Rattle.watch_index.specs.inner.Indexed.{IsReachedFrom, Leads, IsLedTo, IsSeenFrom, IsSeen}
 
 -- look-ups of the same thing
 pub record AreAlike (lookup other : Lookup) : Type 0 where
@@ -40,18 +40,50 @@ AsksFor finder objects root lookups = (lookup : Lookup) → Leads finder objects
 abbrev pub AreAsked : Finder → List Data → List ℕ → List Lookup → Type 0
 AreAsked finder objects roots lookups = (root : ℕ) → Contains roots root → AsksFor finder objects root lookups
 
+-- what is looked up was looked up before, or is of these
+abbrev pub AddsOnly : (Lookup → Type 0) → List Lookup → List Lookup → Type 0
+AddsOnly Own old new = (lookup : Lookup) → Contains new lookup → Contains old lookup ⊎ Own lookup
+
+-- the look-up is by one of some paths, and is seen from the object
+pub record IsSeenBy (paths : List Guard) (objects : List Data) (object : Data) (numbers : List (Bor (List ℕ) × ℕ)) (lookup : Lookup) : Type 0 where
+  pub entry : Bor (List ℕ) × ℕ
+  pub among : Contains numbers entry
+  pub path_is : lookup.path ≡ entry.1
+  pub seen : IsSeenFrom paths objects object lookup
+
+-- the look-up is seen from one of the roots
+abbrev pub IsSeenByOne : List Guard → List Data → List ℕ → Lookup → Type 0
+IsSeenByOne paths objects roots lookup = (root : ℕ) × Contains roots root × IsSeen paths objects root lookup
+
+-- each look-up is
+abbrev pub AreSeen : List Guard → List Data → List ℕ → List Lookup → Type 0
+AreSeen paths objects roots lookups = (lookup : Lookup) → Contains lookups lookup → IsSeenByOne paths objects roots lookup
+
+-- the place is that of an entry which is seen from one of the roots
+pub record IsPlaceSeen (finder : Finder) (objects : List Data) (roots : List ℕ) (place : ℕ) : Type 0 where
+  pub lookup : Lookup
+  pub seen : IsSeenByOne finder.paths.items objects roots lookup
+  pub entered : Contains finder.places.entries.items (lookup, place)
+
 -- the places of the brackets that one of the roots leads to, of those that are always looked at, and of no others
 pub record FindsPlaces (finder : Finder) (objects : List Data) (roots places : List ℕ) : Type 0 where
   pub always : (place : ℕ) → Contains finder.always.items place → Contains places place
   pub led : (place root : ℕ) → Contains roots root → IsLedTo finder place objects root → Contains places place
-  pub only : (place : ℕ) → Contains places place → Contains finder.always.items place
-      ⊎ ((lookup : Lookup) × Contains finder.places.entries.items (lookup, place))
+  pub only : (place : ℕ) → Contains places place → Contains finder.always.items place ⊎ IsPlaceSeen finder objects roots place
+
+-- the place is that of an entry of one of the look-ups
+pub record IsPlaceOf (entries : List (Lookup × ℕ)) (lookups : List Lookup) (place : ℕ) : Type 0 where
+  pub lookup : Lookup
+  pub among : Contains lookups lookup
+  pub own : Lookup
+  pub alike : AreAlike own lookup
+  pub entered : Contains entries (own, place)
 
 -- the places of the entries of some look-ups were added, and no others
 pub record AddsFound (entries : List (Lookup × ℕ)) (lookups : List Lookup) (old new : List ℕ) : Type 0 where
   pub kept : (place : ℕ) → Contains old place → Contains new place
   pub found : (lookup own : Lookup) (place : ℕ) → Contains lookups lookup → AreAlike own lookup → Contains entries (own, place) → Contains new place
-  pub only : (place : ℕ) → Contains new place → Contains old place ⊎ ((own : Lookup) × Contains entries (own, place))
+  pub only : (place : ℕ) → Contains new place → Contains old place ⊎ IsPlaceOf entries lookups place
 
 -- each path has its number beside the type of its root
 abbrev pub AreKinds : List Guard → List (Bor (List ℕ) × ℕ) → Type 0

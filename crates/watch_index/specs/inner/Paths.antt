@@ -37,18 +37,20 @@ pub record IsFiled (filed : Filed) (row : Row) : Type 0 where
   pub numbered : IsNumber filed.paths.items number row.guard
   pub entered : Contains filed.entries.items (entry_of number row)
 
--- the entry is that of a row
-pub record IsOfRow (rows : List Row) (entry : Lookup × ℕ) : Type 0 where
+-- the entry is that of a row, under the number of its path
+pub record IsOfRow (paths : List Guard) (rows : List Row) (entry : Lookup × ℕ) : Type 0 where
   pub row : Row
   pub among : Contains rows row
   pub placed : entry.1 ≡ row.place
+  pub numbered : IsNumber paths entry.0.path row.guard
+  pub keyed : entry.0.key ≡ row.guard.key
 
 -- the first so many rows are filed, and nothing else
 pub record AreFiled (rows : List Row) (count : ℕ) (filed : Filed) : Type 0 where
   pub each : (k : ℕ) (row : Row) → k < count → slice_get rows k ≡ Some row → IsFiled filed row
-  pub only : All (IsOfRow rows) filed.entries.items
+  pub only : All (IsOfRow filed.paths.items rows) filed.entries.items
 
 -- all of them are filed, in whatever order
 pub record AreAllFiled (rows : List Row) (filed : Filed) : Type 0 where
   pub each : (row : Row) → Contains rows row → IsFiled filed row
-  pub only : All (IsOfRow rows) filed.entries.items
+  pub only : All (IsOfRow filed.paths.items rows) filed.entries.items

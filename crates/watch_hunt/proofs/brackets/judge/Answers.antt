@@ -2,7 +2,7 @@
 use Rattle.std.proofs.Common.{◌≡◌, ◌<◌, ◌+◌, ℕ, get_or, set, length, arith, ap, sym, subst, List}
 use Rattle.std.specs.Prelude.{Bool, true, All, map}
 use Rattle.std.proofs.lemmas.List.{length-map}
-use Rattle.std.proofs.lemmas.List.Elements.{All-get_or}
+use Rattle.std.proofs.lemmas.List.Elements.{All-get_or, Contains-get_or}
 use Rattle.stix_bundles.specs.Objects.{data_in}
 use Rattle.pattern_types.specs.PlainLeaf.{PlainLeaf, plain_leaf}
 use Rattle.pattern_types.specs.Soundness.{IsSoundLeaf}
@@ -16,14 +16,24 @@ use Rattle.watch_hunt.proofs.brackets.judge.Goals.{then-branch+in_ok-add_place, 
 inside : (leaves : List PlainLeaf) (candidates : List ℕ) (i : ℕ) → All (λ (place : ℕ). place < length leaves) candidates → i < length candidates → get_or candidates i 0 < length leaves
 inside leaves candidates i all h = All-get_or (λ (place : ℕ). place < length leaves) candidates i 0 h all
 
-pub leaf_holds-requires : goal.leaf_holds-requires
-leaf_holds-requires c =
+pub candidate_holds-requires-clause-sound : goal.candidate_holds-requires-clause-sound
+candidate_holds-requires-clause-sound c =
     let i = c.loop-bracket.bracket-index in let at = get_or c.args.candidates.now i 0 in
     let items = c.args.brackets.now.leaves.items in
     let leaves = map plain_leaf (map (λ leaf. leaf.now) items) in
     let h = inside leaves c.args.candidates.now i c.requires.candidates.there (omega arith) in
     let long = length-map items (λ leaf. leaf.now) in let long' = length-map (map (λ leaf. leaf.now) items) plain_leaf in
     all_at IsSoundLeaf leaves at (plain_leaf c.index.result.now.now) c.requires.sound
+    (get_map_twice items (λ leaf. leaf.now) plain_leaf at c.index.result.now (omega (arith, h, long, long')) c.index.ensures)
+
+pub candidate_holds-requires-clause-certain : goal.candidate_holds-requires-clause-certain
+candidate_holds-requires-clause-certain c =
+    let i = c.loop-bracket.bracket-index in let at = get_or c.args.candidates.now i 0 in
+    let items = c.args.brackets.now.leaves.items in
+    let leaves = map plain_leaf (map (λ leaf. leaf.now) items) in
+    let h = inside leaves c.args.candidates.now i c.requires.candidates.there (omega arith) in
+    let long = length-map items (λ leaf. leaf.now) in let long' = length-map (map (λ leaf. leaf.now) items) plain_leaf in
+    c.requires.candidates.certain at (plain_leaf c.index.result.now.now) (Contains-get_or c.args.candidates.now i 0 (omega arith))
     (get_map_twice items (λ leaf. leaf.now) plain_leaf at c.index.result.now (omega (arith, h, long, long')) c.index.ensures)
 
 pub add_place-requires-clause-least : goal.add_place-requires-clause-least
@@ -54,14 +64,14 @@ loop-bracket-preserved c =
       | then-branch+in_ok-add_place w ↦
           let place = w.index-then-branch.result.now in
           let next = marked_with (data_in c.args.bundle.now) c.args.observation.now.roots leaves owners c.args.candidates.now i c.loop-bracket.marks c.loop-bracket.touched.items c.loop-bracket.invariant
-          at at_is (plain_leaf c.index.result.now.now) leaf_is (c.in_ok-leaf_holds.ensures.0 w.if-branch.true) (omega (arith, h, count)) place
+          at at_is (plain_leaf c.index.result.now.now) leaf_is (c.in_ok-candidate_holds.ensures.0 w.if-branch.true) (omega (arith, h, count)) place
           (get_read owners at place (omega (arith, h, long, long', owned)) w.index-then-branch.ensures) w.add_place.new.touched.items w.in_ok-add_place.ensures in
           subst (λ (marks : List Bool). JudgedSoFar (data_in c.args.bundle.now) c.args.observation.now.roots leaves owners c.args.candidates.now (i + 1) marks c.if-branch.touched.items) (sym w.marks-is)
           (subst (λ (touched : List ℕ). JudgedSoFar (data_in c.args.bundle.now) c.args.observation.now.roots leaves owners c.args.candidates.now (i + 1) (set c.loop-bracket.marks at true) touched)
           (sym (ap (λ v. v.items) w.touched-is)) next)
       | else-branch w ↦
           let next = left_out (data_in c.args.bundle.now) c.args.observation.now.roots leaves owners c.args.candidates.now i c.loop-bracket.marks c.loop-bracket.touched.items c.loop-bracket.invariant
-          at at_is (plain_leaf c.index.result.now.now) leaf_is (λ k. let e = c.in_ok-leaf_holds.ensures.1 k in let f = w.if-branch.false in cc) in
+          at at_is (plain_leaf c.index.result.now.now) leaf_is (λ k. let e = c.in_ok-candidate_holds.ensures.1 k in let f = w.if-branch.false in cc) in
           subst (λ (marks : List Bool). JudgedSoFar (data_in c.args.bundle.now) c.args.observation.now.roots leaves owners c.args.candidates.now (i + 1) marks c.if-branch.touched.items) (sym w.marks-is)
           (subst (λ (touched : List ℕ). JudgedSoFar (data_in c.args.bundle.now) c.args.observation.now.roots leaves owners c.args.candidates.now (i + 1) c.loop-bracket.marks touched)
           (sym (ap (λ v. v.items) w.touched-is)) next)

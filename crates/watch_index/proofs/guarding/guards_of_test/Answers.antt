@@ -11,24 +11,24 @@ use Rattle.watch_index.proofs.ListLemmas.{ok_follows}
 use Rattle.watch_index.proofs.GuardLemmas.{front_guards, value_guards, whole_front, weaker}
 use Rattle.watch_index.proofs.guarding.guards_of_test.Goals as goal
 
-pub returns-then-front-steps : goal.returns-then-front-steps
-returns-then-front-steps c =
+pub returns-then-front-steps-clause-needed : goal.returns-then-front-steps-clause-needed
+returns-then-front-steps-clause-needed c =
     let front = c.plain_front-front.result.now in
     let rest = c.plain_front-front.ensures.front in
     ok_follows c.one_guard-then-front-steps.result
     (λ guards has. front_guards c.args.test.now c.if-test.false front rest.0 guards (sym c.as_slice-steps.ensures ∙ rest.1) c.plain_front-front.ensures.plain
-    (subst (λ (kind : List ℕ). HasGuard kind front (λ own. own ≡ Any) guards) c.as_str-kind.ensures has)) c.one_guard-then-front-steps.ensures
+    (subst (λ (kind : List ℕ). HasGuard kind front (λ own. own ≡ Any) guards) c.as_str-kind.ensures has)) c.one_guard-then-front-steps.ensures.has
 
-pub returns-in-Differ : goal.returns-in-Differ
-returns-in-Differ c =
+pub returns-in-Differ-clause-needed : goal.returns-in-Differ-clause-needed
+returns-in-Differ-clause-needed c =
     let front = c.plain_front-front.result.now in
     let rest = c.plain_front-front.ensures.front in
     ok_follows c.one_guard-in-Differ.result
     (λ guards has. front_guards c.args.test.now c.if-test.false front rest.0 guards (sym c.as_slice-steps.ensures ∙ rest.1) c.plain_front-front.ensures.plain
-    (subst (λ (kind : List ℕ). HasGuard kind front (λ own. own ≡ Any) guards) c.as_str-kind.ensures has)) c.one_guard-in-Differ.ensures
+    (subst (λ (kind : List ℕ). HasGuard kind front (λ own. own ≡ Any) guards) c.as_str-kind.ensures has)) c.one_guard-in-Differ.ensures.has
 
-pub returns-in-Among : goal.returns-in-Among
-returns-in-Among c =
+pub returns-in-Among-clause-needed : goal.returns-in-Among-clause-needed
+returns-in-Among-clause-needed c =
     let test = c.args.test.now in
     let front = c.plain_front-front.result.now in
     let rest = c.plain_front-front.ensures.front in
@@ -40,4 +40,4 @@ returns-in-Among c =
     let some = subst (λ (check : Check). Meets (last_of test.path) value check) c.in-Among.is meets in
     let has = all some.0 (subst (λ (l : List Constant). Contains l some.0) (sym c.as_slice.ensures) some.1) in
     weaker test.path.kind front (StandsFor some.0) (λ own. Fits own value) guards (λ own stands. stands (last_of test.path) value some.2)
-    (subst (λ (kind : List ℕ). HasGuard kind front (StandsFor some.0) guards) c.as_str-kind.ensures has))) c.guards_by_value.ensures
+    (subst (λ (kind : List ℕ). HasGuard kind front (StandsFor some.0) guards) c.as_str-kind.ensures has))) c.guards_by_value.ensures.has

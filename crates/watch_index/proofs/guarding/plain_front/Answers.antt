@@ -2,7 +2,7 @@ use Rattle.std.proofs.Common.{drop, subst, sym, ◌∙◌}
 use Rattle.std.proofs.lemmas.Bool.{false≢true}
 use Rattle.std.proofs.lemmas.List.Elements.{All-more}
 use Rattle.match_tests.proofs.ContainsLemmas.{take_whole}
-use Rattle.watch_index.specs.inner.Guards.{IsPlain, ArePlain}
+use Rattle.watch_index.specs.Exact.{IsPlain, ArePlain}
 use Rattle.watch_index.proofs.GuardLemmas.{split_at, plain_unless}
 use Rattle.watch_index.proofs.guarding.plain_front.Goals.{in-Each, in_default}
 use Rattle.watch_index.proofs.guarding.plain_front.Goals as goal

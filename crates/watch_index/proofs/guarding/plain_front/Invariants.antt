@@ -1,5 +1,5 @@
 use Rattle.std.proofs.Common.{take}
-use Rattle.watch_index.specs.inner.Guards.{ArePlain}
+use Rattle.watch_index.specs.Exact.{ArePlain}
 use Rattle.watch_index.proofs.guarding.plain_front.Given as goal
 
 abbrev pub invariant-loop-at : goal.invariant-loop-at

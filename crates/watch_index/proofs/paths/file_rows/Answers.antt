@@ -17,5 +17,5 @@ returns c =
 pub add_each-requires : goal.add_each-requires
 add_each-requires c = record {
   each = λ k row below there. absurd (omega (arith, below));
-  only = subst (λ (entries : List (Lookup × ℕ)). All (IsOfRow c.as_slice.result.now) entries) (sym c.in_ok-with_capacity.ensures.items) (All-nil (IsOfRow c.as_slice.result.now));
+  only = subst (λ (entries : List (Lookup × ℕ)). All (IsOfRow c.new.result.items c.as_slice.result.now) entries) (sym c.in_ok-with_capacity.ensures.items) (All-nil (IsOfRow c.new.result.items c.as_slice.result.now));
 }

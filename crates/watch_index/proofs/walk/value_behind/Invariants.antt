@@ -5,9 +5,11 @@ use Rattle.stix_json.specs.Ordered.{IsOrdered}
 use Rattle.stix_bundles.specs.Objects.{data_in}
 use Rattle.match_paths.specs.Selection.{Reaches}
 use Rattle.match_tests.specs.inner.Search.{name_of}
-use Rattle.watch_index.specs.inner.Guards.{ArePlain}
+use Rattle.watch_index.specs.Exact.{ArePlain}
 use Rattle.watch_index.proofs.walk.value_behind.Given as goal
 
 abbrev pub invariant-loop-step : goal.invariant-loop-step
 invariant-loop-step l = IsOrdered (data_of l.value) × ((found : Data) → ArePlain l.steps → Reaches (data_in l.bundle) None l.steps (data_of l.object) found
     → Reaches (data_in l.bundle) (name_of l.last) (drop l.step-index l.steps) (data_of l.value) found)
+    × ((found : Data) → Reaches (data_in l.bundle) (name_of l.last) (drop l.step-index l.steps) (data_of l.value) found
+    → Reaches (data_in l.bundle) None l.steps (data_of l.object) found)

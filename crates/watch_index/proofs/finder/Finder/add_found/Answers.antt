@@ -3,7 +3,7 @@ use Rattle.std.proofs.lemmas.List.{take_more, take_all}
 use Rattle.watch_index.specs.declared.key.Key.TheVariants.{Any}
 use Rattle.watch_index.specs.declared.paths.Lookup.{Lookup}
 use Rattle.watch_index.specs.inner.Finding.{AddsFound}
-use Rattle.watch_index.proofs.KeyLemmas.{alike_tied}
+use Rattle.watch_index.proofs.KeyLemmas.{alike_tied, alike_untied}
 use Rattle.watch_index.proofs.PlacesLemmas.{found_none, found_next}
 use Rattle.watch_index.proofs.finder.Finder.add_found.Goals as goal
 
@@ -20,7 +20,7 @@ loop-lookup-preserved c =
     let new = c.add_places.new.places.items in
     subst (λ (l : List Lookup). AddsFound entries l c.args.places.now.items new) (sym (take_more lookups i none c.loop-lookup-test.true))
     (found_next entries (take i lookups) lookup c.args.places.now.items c.loop-lookup.places.items new c.find.result.now c.loop-lookup.invariant
-    (λ own place alike there. c.find.ensures.all own place (alike_tied own lookup alike) there) c.find.ensures.only c.in_ok-add_places.ensures)
+    (λ own place alike there. c.find.ensures.all own place (alike_tied own lookup alike) there) c.find.ensures.only (λ entry has. alike_untied entry.0 lookup (c.find.ensures.keyed entry has)) c.in_ok-add_places.ensures)
 
 pub returns : goal.returns
 returns c =

@@ -2,6 +2,8 @@ use Rattle.std.proofs.Common.{List, ℕ, map, refl, sym, subst}
 use Rattle.std.proofs.lemmas.List.{length-map}
 use Rattle.watch_index.specs.declared.guard.Guard.{Guard}
 use Rattle.watch_index.specs.inner.Rows.{AreRowsOf}
+use Rattle.std.specs.Prelude.{All}
+use Rattle.watch_index.specs.inner.Indexed.{IsOfKind}
 use Rattle.watch_index.specs.inner.Finding.{AreKinds}
 use Rattle.watch_index.proofs.FinderLemmas.{finds_all}
 use Rattle.watch_index.proofs.finder.Finder.new.Goals as goal
@@ -13,6 +15,7 @@ returns c =
     let filed = c.in_ok-filed.filed in
     let kinds = c.in_ok-kinds.kinds in
     let all_rows = subst (λ (n : ℕ). AreRowsOf brackets n rows) (sym (length-map c.args.brackets.now (λ leaf. leaf.now))) c.in_ok-rows.ensures in
-    let all_kinds = subst (λ (paths : List Guard). AreKinds paths kinds.items) c.as_slice.ensures.value c.in_ok-kinds.ensures in
+    let all_kinds = subst (λ (paths : List Guard). AreKinds paths kinds.items) c.as_slice.ensures.value c.in_ok-kinds.ensures.all in
+    let only_kinds = subst (λ (paths : List Guard). All (IsOfKind paths) kinds.items) c.as_slice.ensures.value c.in_ok-kinds.ensures.only in
     finds_all brackets rows filed kinds.items (record { kinds = c.new.result; paths = filed.paths; places = c.new-2.result; always = rows.always })
-    all_rows c.in_ok-filed.ensures all_kinds c.new.ensures refl c.new-2.ensures refl
+    all_rows c.in_ok-filed.ensures all_kinds only_kinds c.new.ensures refl c.new-2.ensures refl

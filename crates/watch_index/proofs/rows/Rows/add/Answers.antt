@@ -1,7 +1,9 @@
-use Rattle.std.proofs.Common.{ap, sym, subst}
+use Rattle.std.proofs.Common.{List, Option, ap, sym, subst}
 use Rattle.pattern_types.specs.PlainLeaf.{plain_leaf}
 use Rattle.match_tests.specs.Tests.{HoldsAt}
-use Rattle.watch_index.specs.inner.Guards.{AreGuards, Guards}
+use Rattle.watch_index.specs.Exact.{IsExact}
+use Rattle.watch_index.specs.declared.guard.Guard.{Guard}
+use Rattle.watch_index.specs.inner.Guards.{AreGuards, Guards, AreEnough, Enough}
 use Rattle.watch_index.proofs.ListLemmas.{on_follows}
 use Rattle.watch_index.proofs.RowsLemmas.{adds_guards}
 use Rattle.watch_index.proofs.rows.Rows.add.Goals as goal
@@ -9,7 +11,9 @@ use Rattle.watch_index.proofs.rows.Rows.add.Goals as goal
 pub returns-in-Ok-Some : goal.returns-in-Ok-Some
 returns-in-Ok-Some c =
     let leaf = c.args.leaf.now in
-    let own = subst (Guards (λ objects root. HoldsAt objects root (plain_leaf leaf))) c.in-Ok-Some.field-0-is c.in-Ok-Some.ensures in
+    let own = subst (Guards (λ objects root. HoldsAt objects root (plain_leaf leaf))) c.in-Ok-Some.field-0-is c.in-Ok-Some.ensures.needed in
     let lent = subst (AreGuards (λ objects root. HoldsAt objects root (plain_leaf leaf))) (sym c.as_slice.ensures) own in
+    let enough = subst (λ (found : Option (List Guard)). IsExact (plain_leaf leaf) → Enough (λ objects root. HoldsAt objects root (plain_leaf leaf)) found) c.in-Ok-Some.field-0-is c.in-Ok-Some.ensures.enough in
+    let lent_enough = subst (λ (guards : List Guard). IsExact (plain_leaf leaf) → AreEnough (λ objects root. HoldsAt objects root (plain_leaf leaf)) guards) (sym c.as_slice.ensures) enough in
     on_follows c.add_guards.result
-    (λ is. adds_guards leaf c.args.place c.as_slice.result.now c.args.self.now c.add_guards.new.self lent is (ap (λ always. always.items) c.add_guards.ensures.always)) c.add_guards.ensures.guarded
+    (λ is. adds_guards leaf c.args.place c.as_slice.result.now c.args.self.now c.add_guards.new.self lent lent_enough is (ap (λ always. always.items) c.add_guards.ensures.always)) c.add_guards.ensures.guarded
