@@ -1,5 +1,5 @@
 -- Look-ups that are alike are equal to the methods that are derived for them, and the other way round.
-use Rattle.std.proofs.Common.{arith, ◌≡◌, ℕ, ℤ, List, Bool, true, false, ◌&&◌, eqb, refl, subst, cc, Ordering}
+use Rattle.std.proofs.Common.{arith, ◌≡◌, ℕ, ℤ, List, Bool, true, false, ◌&&◌, eqb, refl, subst, Ordering}
 use Rattle.std.specs.declared.cmp.Ordering.TheVariants.{Less, Equal, Greater}
 use Rattle.std.specs.Ordering.{nat_cmp, int_cmp, ordering_then}
 use Rattle.std.proofs.lemmas.Map.Lookups.{exact_bytes, exact_signed, exact_unsigned}

@@ -12,7 +12,7 @@ use Rattle.match_tests.proofs.ContainsLemmas.{in_more}
 use Rattle.watch_index.specs.declared.finder.Finder.{Finder}
 use Rattle.std.proofs.lemmas.List.Elements.{All-contains, Contains-append_left}
 use Rattle.std.proofs.lemmas.Option.{same_Some, none-some}
-use Rattle.serde_json.specs.Data.{Data, number}
+use Rattle.serde_json.specs.Data.{Data, number as number_of}
 use Rattle.serde_json.specs.Find.{of_integer}
 use Rattle.match_paths.specs.Selection.{Reaches}
 use Rattle.watch_index.specs.declared.guard.Guard.{Guard}
@@ -212,7 +212,7 @@ seen_next paths objects roots root old new has before only lookup there = elim (
 
 fits_same : (own other : Key) (value : Data) → AreSame own other → Fits other value → Fits own value
 fits_same Any other value same fits = tt
-fits_same (Integer whole) (Integer other) value same fits = fits ∙ ap (λ (n : ℤ). number (of_integer n)) (sym same)
+fits_same (Integer whole) (Integer other) value same fits = fits ∙ ap (λ (n : ℤ). number_of (of_integer n)) (sym same)
 fits_same (Text text) (Text other) value same fits = fits ∙ ap Some (sym same)
 fits_same (Integer whole) Any value same fits = absurd same
 fits_same (Integer whole) (Text other) value same fits = absurd same

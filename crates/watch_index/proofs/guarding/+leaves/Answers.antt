@@ -6,7 +6,7 @@ use Rattle.watch_index.specs.Exact.{IsExact, AreExact}
 use Rattle.watch_index.specs.declared.guard.Guard.{Guard}
 use Rattle.watch_index.specs.inner.Guards.{AreGuards, Guards, AreEnough, Enough}
 use Rattle.match_tests.proofs.ContainsLemmas.{drop_next, drop_whole}
-use Rattle.watch_index.proofs.PartsLemmas.{StillAll, StillSome, ok_all, ok_any, all_next, all_over, some_next, some_over, enough_any, enough_all, enough_none, enough_next, enough_never}
+use Rattle.watch_index.proofs.PartsLemmas.{StillAll, StillSome, StillEnough, ok_all, ok_any, all_next, all_over, some_next, some_over, enough_any, enough_all, enough_none, enough_next, enough_never}
 use Rattle.watch_index.proofs.guarding.+leaves.Goals as goal
 
 pub guards_of-returns-in-All-clause-needed : goal.guards_of-returns-in-All-clause-needed
@@ -53,7 +53,11 @@ guards_of_some-loop-part-preserved t c =
     )
 
 pub guards_of_some-loop-part-init : goal.guards_of_some-loop-part-init
-guards_of_some-loop-part-init t c = (λ objects root hold. inr hold, enough_none c.args.parts.now)
+guards_of_some-loop-part-init t c =
+    let parts = c.args.parts.now in (
+      λ objects root hold. inr hold,
+      subst (StillEnough parts parts) (sym c.new-guards.ensures.items) (enough_none parts),
+    )
 
 pub guards_of_some-returns-in-Ok-None-clause-enough : goal.guards_of_some-returns-in-Ok-None-clause-enough
 guards_of_some-returns-in-Ok-None-clause-enough t c =
