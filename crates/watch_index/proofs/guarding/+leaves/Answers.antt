@@ -9,6 +9,9 @@ use Rattle.match_tests.proofs.ContainsLemmas.{drop_next, drop_whole}
 use Rattle.watch_index.proofs.PartsLemmas.{StillAll, StillSome, StillEnough, ok_all, ok_any, all_next, all_over, some_next, some_over, enough_any, enough_all, enough_none, enough_next, enough_never}
 use Rattle.watch_index.proofs.guarding.+leaves.Goals as goal
 
+pub guards_of-returns-in_ok-guards-in-Test-clause-enough : goal.guards_of-returns-in_ok-guards-in-Test-clause-enough
+guards_of-returns-in_ok-guards-in-Test-clause-enough t c = rw c.in-Test.is c.in_ok-guards-in-Test.ensures.enough
+
 pub guards_of-returns-in-All-clause-needed : goal.guards_of-returns-in-All-clause-needed
 guards_of-returns-in-All-clause-needed t c = rw c.in-All.is (ok_all c.guards_of_all.result c.in-All.parts (rw c.as_slice.ensures at c.guards_of_all.ensures))
 

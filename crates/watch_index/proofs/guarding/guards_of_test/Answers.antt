@@ -6,9 +6,11 @@ use Rattle.pattern_types.specs.declared.path.Step.{Step}
 use Rattle.match_tests.specs.Tests.{Meets, last_of}
 use Rattle.watch_index.specs.declared.key.Key.TheVariants.{Any}
 use Rattle.watch_index.specs.inner.Keys.{Fits}
-use Rattle.watch_index.specs.inner.Guards.{HasGuard, StandsFor}
+use Rattle.watch_index.specs.Exact.{ArePlain}
+use Rattle.watch_index.specs.declared.key.Key.{Key}
+use Rattle.watch_index.specs.inner.Guards.{HasGuard, AreBy, StandsFor, AnswersSome}
 use Rattle.watch_index.proofs.ListLemmas.{ok_follows}
-use Rattle.watch_index.proofs.GuardLemmas.{front_guards, value_guards, whole_front, weaker}
+use Rattle.watch_index.proofs.GuardLemmas.{front_guards, value_guards, whole_front, weaker, equal_enough, among_enough}
 use Rattle.watch_index.proofs.guarding.guards_of_test.Goals as goal
 
 pub returns-then-front-steps-clause-needed : goal.returns-then-front-steps-clause-needed
@@ -41,3 +43,27 @@ returns-in-Among-clause-needed c =
     let has = all some.0 (subst (λ (l : List Constant). Contains l some.0) (sym c.as_slice.ensures) some.1) in
     weaker test.path.kind front (StandsFor some.0) (λ own. Fits own value) guards (λ own stands. stands (last_of test.path) value some.2)
     (subst (λ (kind : List ℕ). HasGuard kind front (StandsFor some.0) guards) c.as_str-kind.ensures has))) c.guards_by_value.ensures.has
+
+pub returns-in-Equal-clause-enough : goal.returns-in-Equal-clause-enough
+returns-in-Equal-clause-enough c =
+    let test = c.args.test.now in
+    let front = c.plain_front-front.result.now in
+    let own = c.key_of.result in
+    ok_follows c.one_guard-in-Equal.result
+    (λ guards by exact.
+    let whole : test.path.steps ≡ front =
+    sym c.as_slice-steps.ensures ∙ sym (c.plain_front-front.ensures.whole (subst ArePlain (sym c.as_slice-steps.ensures) exact.plain)) in
+    equal_enough test exact c.in-Equal.constant own front guards c.in-Equal.is whole c.key_of.ensures.answers
+    (subst (λ (kind : List ℕ). AreBy kind front (λ (k : Key). k ≡ own) guards) c.as_str-kind.ensures by)) c.one_guard-in-Equal.ensures.by
+
+pub returns-in-Among-clause-enough : goal.returns-in-Among-clause-enough
+returns-in-Among-clause-enough c =
+    let test = c.args.test.now in
+    let front = c.plain_front-front.result.now in
+    ok_follows c.guards_by_value.result
+    (λ guards by exact.
+    let whole : test.path.steps ≡ front =
+    sym c.as_slice-steps.ensures ∙ sym (c.plain_front-front.ensures.whole (subst ArePlain (sym c.as_slice-steps.ensures) exact.plain)) in
+    among_enough test exact c.in-Among.constants front guards c.in-Among.is whole
+    (subst (λ (l : List Constant). AreBy test.path.kind front (AnswersSome l) guards) c.as_slice.ensures
+    (subst (λ (kind : List ℕ). AreBy kind front (AnswersSome c.as_slice.result.now) guards) c.as_str-kind.ensures by))) c.guards_by_value.ensures.by
