@@ -16,9 +16,9 @@ costs() {
   awk -v what="$2" -v part=log -f "$top/bench/hunts.awk" > "$folder/log"
   (ulimit -s 1024; exec /usr/bin/time -q -f '%U %S %M' -o "$folder/time" \
     "$hunt" --indicators "$folder/feed" 2021-06-10T00:00:00Z ${3:-} < "$folder/log" > "$folder/out" 2> "$folder/told") || status=$?
-  read -r user system most < "$folder/time"
-  awk -v name="$1" -v user="$user" -v system="$system" -v most="$most" -v lines="$(wc -l < "$folder/out")" -v status="$status" -v told="$(cat "$folder/told")" \
-    'BEGIN { printf "%-72s %6.2f s %8d KB %8d lines, status %d %s\n", name, user + system, most, lines, status, told }'
+  read -r user kernel most < "$folder/time"
+  awk -v name="$1" -v user="$user" -v kernel="$kernel" -v most="$most" -v lines="$(wc -l < "$folder/out")" -v status="$status" -v told="$(cat "$folder/told")" \
+    'BEGIN { printf "%-72s %6.2f s %8d KB %8d lines, status %d %s\n", name, user + kernel, most, lines, status, told }'
 }
 
 uptime
