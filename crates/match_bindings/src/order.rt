@@ -12,8 +12,20 @@ use crate::ranked::Ranked;
 use flow_values::NoMemory;
 use std::alloc::Global;
 
-/// Binds by greatest number and then by flat list.
+/// Binds by greatest number and then by flat list. Fewer than two are as they were, and take no memory.
 pub fn in_order(alloc: Global, binds: Vec<Bind>) -> Result<Vec<Bind>, NoMemory>
+    ensures counts { IfOk result (λ sorted. (x : BindTree) → count x (map tree_of sorted.items) ≡ count x (map tree_of binds.items)) }
+    ensures rises { IfOk result (λ sorted. IsSortedBy comes_before (map tree_of sorted.items)) }
+{
+    if binds.len() < 2 {
+        return Ok(binds);
+    }
+    let sorted = by_rank(alloc, binds)?;
+    Ok(sorted)
+}
+
+/// Binds by their ranks.
+fn by_rank(alloc: Global, binds: Vec<Bind>) -> Result<Vec<Bind>, NoMemory>
     ensures counts { IfOk result (λ sorted. (x : BindTree) → count x (map tree_of sorted.items) ≡ count x (map tree_of binds.items)) }
     ensures rises { IfOk result (λ sorted. IsSortedBy comes_before (map tree_of sorted.items)) }
 {

@@ -11,7 +11,7 @@ use Rattle.match_bindings.specs.BindTree.{BindTree, tree_of}
 use Rattle.match_bindings.specs.Flat.{rank, comes_before}
 use Rattle.match_bindings.specs.Once.{count}
 use Rattle.match_bindings.proofs.SortedLemmas.{count_permuted, sorted_map}
-use Rattle.match_bindings.proofs.order.in_order.Goals as goal
+use Rattle.match_bindings.proofs.order.by_rank.Goals as goal
 
 pub returns-clause-counts : goal.returns-clause-counts
 returns-clause-counts c x =
