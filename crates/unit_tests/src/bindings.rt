@@ -5,6 +5,7 @@ ghost use Rattle.pattern_types.specs.Leaves.{leaves};
 
 use flow_values::{Items, NoMemory};
 use match_bindings::{Bind, Log, check_binding, copy_bind, flat, listing};
+use match_windows::windows;
 use pattern_types::{Leaf, Pattern};
 use std::alloc::Global;
 use std::process::Abort;
@@ -59,6 +60,7 @@ fn lists_each_binding(rt: HostRuntime) -> Result<(), Fail> {
     let log = log(alloc, from_nanos(0).expect(&rt, "an instant"))?;
     let binds = listed(alloc, &log)?;
     assert_eq!(rt; binds.len(), 2);
+    assert_eq!(rt; windows(alloc, &both(alloc)?)?.len(), 2);
     for bind in binds.as_slice() {
         assert_eq!(rt; numbers(alloc, &log, bind)?, 2);
     }

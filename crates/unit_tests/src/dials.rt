@@ -1,10 +1,8 @@
-//! Dials in memory and over the system's network.
+//! Dials over the system's network.
 
-use crate::lists::listed;
 use flow_edges::{Source, write_whole};
 use flow_links::{Dial, TcpDial};
-use flow_memory::{MemoryDial, MemoryLink};
-use flow_values::{Fault, Items};
+use flow_values::Fault;
 use std::io::{Read, Write};
 use std::net::{Ipv4Addr, OpenListener, SocketAddr, TcpListener};
 use std::test::Fail;
@@ -21,32 +19,6 @@ fn ask<D: Dial>(dial: &mut D, host: &str, port: u16, text: &[u8]) -> Result<usiz
     dial.finish(link);
     written?;
     count
-}
-
-#[test]
-fn a_dial_in_memory_gives_its_links_and_fails(rt: HostRuntime) -> Result<(), Fail> {
-    let alloc = rt.alloc();
-    let mut links = Items::new(alloc);
-    for text in [b"first".as_slice(), b"second".as_slice()] {
-        let reads = Items::new(alloc);
-        let writes = Items::new(alloc);
-        links.push(MemoryLink::new(alloc, listed(alloc, text)?, 8, reads, 8, writes)?)?;
-    }
-    let mut dial = MemoryDial::new(alloc, links, listed(alloc, &[2])?)?;
-    assert_eq!(rt; ask(&mut dial, "localhost", 80, b"one"), Ok(5));
-    assert_eq!(rt; ask(&mut dial, "localhost", 81, b"none"), Err(Fault));
-    assert_eq!(rt; ask(&mut dial, "192.0.2.1", 82, b"two"), Ok(6));
-    assert_eq!(rt; ask(&mut dial, "localhost", 83, b"none"), Err(Fault));
-    let finished = dial.finished();
-    assert_eq!(rt; finished.len(), 2);
-    assert_eq!(rt; finished[0].bytes(), b"one".as_slice());
-    assert_eq!(rt; finished[1].bytes(), b"two".as_slice());
-    let dials = dial.dials();
-    assert_eq!(rt; dials.len(), 2);
-    assert_eq!(rt; dials[0].host(), b"localhost".as_slice());
-    assert_eq!(rt; dials[1].host(), b"192.0.2.1".as_slice());
-    assert_eq!(rt; (dials[0].port(), dials[1].port()), (80, 82));
-    Ok(())
 }
 
 #[test]

@@ -15,11 +15,12 @@ use std::test::Fail;
 const LOGIN: &str =
     "{\"type\":\"bundle\",\"id\":\"bundle--00000000-0000-4000-8000-000000000001\",\"objects\":[{\"type\":\"observed-data\",\"spec_version\":\"2.1\",\"id\":\"observed-data--00000000-0000-4000-8000-000000000001\",\"created\":\"2021-06-10T00:00:00.000Z\",\"modified\":\"2021-06-10T00:00:00.000Z\",\"first_observed\":\"2021-06-10T00:00:00Z\",\"last_observed\":\"2021-06-10T00:00:00Z\",\"number_observed\":1,\"object_refs\":[\"user-account--00000000-0000-4000-8000-000000000001\"]},{\"type\":\"user-account\",\"id\":\"user-account--00000000-0000-4000-8000-000000000001\",\"account_login\":\"a\"}]}\n";
 
-/// How a match ended, and what it wrote.
+/// How a match ended, what it wrote, and how many rows it keeps.
 #[derive(Drop)]
 struct Outcome {
     end: MatchEnd,
     output: MemorySink,
+    kept: usize,
 }
 
 /// The line twice, matched with a pattern that holds for it, read by pieces of 100 bytes, while the read and the write of
@@ -40,7 +41,8 @@ fn match_pattern(alloc: Global, pattern: &Pattern, read: u64, write: u64) -> Res
     let mut input = MemorySource::new(bytes, 100, listed(alloc, &[read])?);
     let mut output = MemorySink::new(alloc, 1_024, listed(alloc, &[write])?)?;
     let end = match_stream(alloc, &mut matcher, &mut input, &mut output, Mode::Lines);
-    Ok(Outcome { end, output })
+    let kept = matcher.kept()?.len();
+    Ok(Outcome { end, output, kept })
 }
 
 #[test]
@@ -60,7 +62,7 @@ fn what_stands_after_a_fault(rt: HostRuntime) -> Result<(), Fail> {
             MatchEnd::WriteFault => "WriteFault",
             _ => "another end",
         };
-        assert_eq!(rt; end, wanted, "{read}, {write}");
+        assert_eq!(rt; (end, outcome.kept), (wanted, 0), "{read}, {write}");
         assert_eq!(rt;
             outcome.output.bytes(),
             output.as_bytes(),

@@ -1,14 +1,12 @@
 //! The unit tests of the crates: public calls that no command of the program reaches, each once; streams, links, doors
-//! and keepers that fail in turn, under whole servers too. They stand in a crate of their own, since a crate with tests
-//! is proved twice.
+//! and keepers that fail in turn, under a whole match and a whole server. They stand in a crate of their own, since a
+//! crate with tests is proved twice.
 #![tactic(auto)]
 
 #[cfg(test)]
 mod bindings;
 #[cfg(test)]
 mod dials;
-#[cfg(test)]
-mod doors;
 #[cfg(test)]
 mod failing_streams;
 #[cfg(test)]
@@ -24,11 +22,7 @@ mod paths;
 #[cfg(test)]
 mod serving;
 #[cfg(test)]
-mod sinks;
-#[cfg(test)]
 mod sockets;
-#[cfg(test)]
-mod sources;
 #[cfg(test)]
 mod timed_streams;
 #[cfg(test)]

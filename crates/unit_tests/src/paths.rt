@@ -1,6 +1,11 @@
+ghost use Rattle.pattern_types.specs.PlainPattern.{plain_pattern};
+ghost use Rattle.pattern_types.specs.Soundness.{IsSoundPattern};
+
 use flow_values::{Items, NoMemory, Text};
 use match_paths::values;
-use pattern_types::{MAX_STEPS, Path, Step};
+use match_tests::holds;
+use pattern_reader::read_pattern;
+use pattern_types::{Leaf, MAX_STEPS, Path, Pattern, Step};
 use std::alloc::Global;
 use std::test::Fail;
 use stix_bundles::{Bundle, read_bundle};
@@ -65,5 +70,30 @@ fn selects_in_list_order(rt: HostRuntime) -> Result<(), Fail> {
         let path = path(alloc, kind, words)?;
         assert_eq!(rt; told(&bundle, root, &path), wanted);
     }
+    Ok(())
+}
+
+/// Whether a pattern of one comparison holds for the object at a position.
+fn pattern_holds(
+    alloc: Global,
+    pattern: &Pattern,
+    bundle: &Bundle,
+    root: u32,
+) -> Result<bool, NoMemory>
+    requires { IsSoundPattern (plain_pattern pattern.now) }
+{
+    match pattern {
+        Pattern::Leaf(Leaf::Test(test)) => holds(alloc, test, bundle, root),
+        _ => Ok(false),
+    }
+}
+
+#[test]
+fn a_comparison_holds_for_an_object(rt: HostRuntime) -> Result<(), Fail> {
+    let alloc = rt.alloc();
+    let bundle = read_bundle(alloc, read_json(alloc, BUNDLE.as_bytes())?)?;
+    let pattern = read_pattern(alloc, "[x-way:to_ref.n[*] = 6]")?;
+    assert!(rt; pattern_holds(alloc, &pattern, &bundle, 1)?);
+    assert!(rt; !pattern_holds(alloc, &pattern, &bundle, 2)?);
     Ok(())
 }
