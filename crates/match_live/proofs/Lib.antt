@@ -21,3 +21,4 @@ pub mod TotalLemmas
 pub mod AdmitLemmas
 pub mod OverLemmas
 pub mod PassLemmas
+pub mod InPlaceLemmas

@@ -305,54 +305,41 @@ fn alone(row: &Row) -> Piece
     }
 }
 
-/// The things of both sides of an `OR`.
+/// The things of both sides of an `OR`, in the memory that those of the one or the other have.
 #[inline(never)]
 fn either_of(alloc: Global, left: Vec<Piece>, right: Vec<Piece>) -> Result<Vec<Piece>, NoMemory>
     ensures { IfOk result (λ new. piece_trees new.items
         ≡ map (held_with First) (piece_trees left.items) ++ map (held_with Second) (piece_trees right.items)) }
 {
-    let mut new = Vec::new(alloc);
-    push_firsts(alloc, left, &mut new)?;
-    push_seconds(alloc, right, &mut new)?;
+    let mut new = left;
+    let mut seconds = right;
+    wrap_firsts(alloc, &mut new)?;
+    wrap_seconds(alloc, &mut seconds)?;
+    if new.is_empty() {
+        return Ok(seconds);
+    }
+    new.append(&mut seconds)?;
     Ok(new)
 }
 
-/// Adds the things of the left side of an `OR`.
-fn push_firsts(alloc: Global, left: Vec<Piece>, out: &mut Vec<Piece>) -> Result<(), NoMemory>
-    ensures { OnOk result (piece_trees out.new.items ≡ piece_trees out.old.items ++ map (held_with First) (piece_trees left.items)) }
+/// Makes things those of the left side of an `OR`.
+fn wrap_firsts(alloc: Global, held: &mut Vec<Piece>) -> Result<(), NoMemory>
+    ensures { OnOk result (piece_trees held.new.items ≡ map (held_with First) (piece_trees held.old.items)) }
 {
-    for held in left {
-        let Piece {
-            bind,
-            earliest,
-            latest,
-        } = held;
-        let bind = Bind::First(Box::new(alloc, bind)?);
-        out.push(Piece {
-            bind,
-            earliest,
-            latest,
-        })?;
+    for piece in held.iter_mut() {
+        let bind = mem::replace(&mut piece.bind, Bind::One(0));
+        piece.bind = Bind::First(Box::new(alloc, bind)?);
     }
     Ok(())
 }
 
-/// Adds the things of the right side of an `OR`.
-fn push_seconds(alloc: Global, right: Vec<Piece>, out: &mut Vec<Piece>) -> Result<(), NoMemory>
-    ensures { OnOk result (piece_trees out.new.items ≡ piece_trees out.old.items ++ map (held_with Second) (piece_trees right.items)) }
+/// Makes things those of the right side of an `OR`.
+fn wrap_seconds(alloc: Global, held: &mut Vec<Piece>) -> Result<(), NoMemory>
+    ensures { OnOk result (piece_trees held.new.items ≡ map (held_with Second) (piece_trees held.old.items)) }
 {
-    for held in right {
-        let Piece {
-            bind,
-            earliest,
-            latest,
-        } = held;
-        let bind = Bind::Second(Box::new(alloc, bind)?);
-        out.push(Piece {
-            bind,
-            earliest,
-            latest,
-        })?;
+    for piece in held.iter_mut() {
+        let bind = mem::replace(&mut piece.bind, Bind::One(0));
+        piece.bind = Bind::Second(Box::new(alloc, bind)?);
     }
     Ok(())
 }

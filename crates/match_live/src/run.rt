@@ -125,7 +125,7 @@ impl Run {
 fn binds_of(alloc: Global, held: Vec<Piece>) -> Result<Vec<Bind>, NoMemory>
     ensures { IfOk result (λ binds. map tree_of binds.items ≡ trees_in (piece_trees held.items)) }
 {
-    let mut binds = Vec::new(alloc);
+    let mut binds = Vec::with_capacity(alloc, held.len())?;
     for one in held {
         binds.push(one.bind)?;
     }
