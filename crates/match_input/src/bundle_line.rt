@@ -13,7 +13,7 @@ use std::alloc::Global;
 use stix_bundles::{
     Bundle, BundleRefusal, Observation, ObservationRefusal, observations, read_bundle,
 };
-use stix_json::{Json, JsonRefusal, read_json};
+use stix_json::{Json, JsonReader, JsonRefusal};
 use stix_times::Instant;
 use stix_times::laws::is_before;
 
@@ -28,6 +28,7 @@ pub(crate) struct BundleLine {
 /// observation has that number: a bundle with its observations, or why the line is refused.
 pub(crate) fn read_line(
     alloc: Global,
+    reader: &mut JsonReader,
     last: Option<Instant>,
     next: u64,
     bytes: &[u8],
@@ -38,7 +39,7 @@ pub(crate) fn read_line(
     ensures refused { IfOk result (λ outcome. IfErr outcome (IsRefusedFor last next bytes.now)) }
     ensures few { IfOk result (λ outcome. IfOk outcome (λ line. length line.observations ≤ MAX_OBJECTS)) }
 {
-    let json = match json_of(alloc, bytes)? {
+    let json = match json_of(reader, bytes)? {
         Ok(json) => json,
         Err(rule) => return Ok(Err(rule)),
     };
@@ -50,11 +51,11 @@ pub(crate) fn read_line(
 }
 
 /// The JSON value that the bytes are.
-fn json_of(alloc: Global, bytes: &[u8]) -> Result<Result<Json, InputRule>, NoMemory>
+fn json_of(reader: &mut JsonReader, bytes: &[u8]) -> Result<Result<Json, InputRule>, NoMemory>
     ensures ok { IfOk result (λ outcome. IfOk outcome (IsJsonOf bytes.now)) }
     ensures refused { (last : Option ℤ) (next : ℕ) → IfOk result (λ outcome. IfErr outcome (IsRefusedFor last next bytes.now)) }
 {
-    match read_json(alloc, bytes) {
+    match reader.read(bytes) {
         Ok(json) => Ok(Ok(json)),
         Err(JsonRefusal::NoMemory) => Err(NoMemory),
         Err(refusal) => Ok(Err(InputRule::Json(refusal))),

@@ -8,6 +8,7 @@ use crate::bundle_line::{BundleLine, last_time, read_line};
 use crate::{Batch, ReadEnd, Stage};
 use flow_edges::Source;
 use std::alloc::Global;
+use stix_json::JsonReader;
 use stix_times::Instant;
 
 /// How far an input is read, and what its observations so far leave to know.
@@ -15,6 +16,8 @@ use stix_times::Instant;
 pub(crate) struct Progress {
     pub(crate) alloc: Global,
     pub(crate) stage: Stage,
+    /// What its lines are read with.
+    pub(crate) json: JsonReader,
     /// How many observations were given.
     pub(crate) observations: u64,
     /// When the last of them was last observed.
@@ -41,6 +44,7 @@ impl Progress {
         };
         match read_line(
             self.alloc,
+            &mut self.json,
             self.last,
             self.observations + 1,
             line.bytes.as_slice(),

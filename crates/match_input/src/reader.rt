@@ -9,6 +9,7 @@ use flow_lines::Lines;
 use flow_values::NoMemory;
 use std::alloc::Global;
 use std::marker::Model;
+use stix_json::JsonReader;
 
 /// A reader of the bundles of an input, with their observations. Contracts see how far the input is
 /// read, how many observations were given, and when the last of them was last observed.
@@ -41,6 +42,7 @@ impl Reader {
             progress: Progress {
                 alloc,
                 stage,
+                json: JsonReader::new(alloc)?,
                 observations: 0,
                 last: None,
             },

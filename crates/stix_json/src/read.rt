@@ -34,6 +34,14 @@ pub fn read_json(alloc: Global, bytes: &[u8]) -> Result<Json, JsonRefusal>
     if let Some(json) = read_tokens(alloc, bytes) {
         return Ok(json);
     }
+    read_judged(alloc, bytes)
+}
+
+/// The same by way of a `Value`, which tells what stands against a text.
+pub(crate) fn read_judged(alloc: Global, bytes: &[u8]) -> Result<Json, JsonRefusal>
+    ensures ok { IfOk result (λ json. IsJsonOf bytes.now json) }
+    ensures err { IfErr result (λ refusal. IsJsonRefusedAs bytes.now refusal) }
+{
     let value = read_value(alloc, bytes)?;
     match judge(alloc, value)? {
         Entry::Good(json) => Ok(json),

@@ -26,9 +26,17 @@ pub(crate) fn read_tokens(alloc: Global, bytes: &[u8]) -> Option<Json>
     ensures value { IfSome result (λ json. IsJsonOf bytes.now json) }
     ensures fits { IfSome result (λ json. Fits MAX_LEVELS (data_of json)) }
 {
-    let text = std::str::from_utf8(bytes).ok()?;
     let mut scratch = Scratch::new(alloc);
-    let mut reader = Reader::new(text, &mut scratch).ok()?;
+    read_tokens_with(alloc, &mut scratch, bytes)
+}
+
+/// The same with a scratch that may have served other texts.
+pub(crate) fn read_tokens_with(alloc: Global, scratch: &mut Scratch, bytes: &[u8]) -> Option<Json>
+    ensures value { IfSome result (λ json. IsJsonOf bytes.now json) }
+    ensures fits { IfSome result (λ json. Fits MAX_LEVELS (data_of json)) }
+{
+    let text = std::str::from_utf8(bytes).ok()?;
+    let mut reader = Reader::new(text, scratch).ok()?;
     let json = take_value(alloc, &mut reader, MAX_LEVELS)?;
     if reader.next().is_some() {
         return None;

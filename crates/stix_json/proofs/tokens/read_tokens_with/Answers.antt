@@ -2,7 +2,7 @@ use Rattle.std.proofs.Common.{rules, ◌≡◌, []}
 use Rattle.std.specs.Prelude.{IsUtf8}
 use Rattle.json.specs.Lex.{tokens}
 use Rattle.stix_json.proofs.TokensLemmas.{json_taken}
-use Rattle.stix_json.proofs.tokens.read_tokens.Goals as goal
+use Rattle.stix_json.proofs.tokens.read_tokens_with.Goals as goal
 
 pub returns-clause-value : goal.returns-clause-value
 returns-clause-value c =

@@ -3,7 +3,7 @@ use Rattle.serde_json.specs.View.{view}
 use Rattle.stix_json.specs.declared.entry.Entry.{Entry}
 use Rattle.stix_json.specs.Reading.{IsEntryFor, IsJsonAs}
 use Rattle.stix_json.proofs.OrderedLemmas.{json_of, value_ordered}
-use Rattle.stix_json.proofs.read.read_json.Goals as goal
+use Rattle.stix_json.proofs.read.read_judged.Goals as goal
 
 pub returns-in-Good-clause-ok : goal.returns-in-Good-clause-ok
 returns-in-Good-clause-ok c =
