@@ -126,6 +126,16 @@ those_left dates keys set has key = (
   λ here. let found = Contains-from_filter (λ (k : Key). not (is_date_in dates k.2)) keys key here in (has key).1 (found.0, not-true (is_date_in dates key.2) found.1),
 )
 
+-- those of other dates, which a pass leaves
+pub keys_swept : (dates : List ℕ) (keys : List Key) (old new : BTreeSet Key) → HasKeys keys old → new.keys ≡ filter (λ key. not (is_date_in dates key.2)) old.keys
+    → HasKeysBut dates keys new
+keys_swept dates keys old new has left other = (
+  λ holds. let found = Contains-from_filter (λ (k : Key). not (is_date_in dates k.2)) old.keys other (subst (λ (ks : List Key). Contains ks other) left (contained new other holds)) in
+      ((has other).0 (contains_listed old other found.0), not-true (is_date_in dates other.2) found.1),
+  λ here. let still = Contains-filter (λ (k : Key). not (is_date_in dates k.2)) old.keys other (contained old other ((has other).1 here.0)) (not_from_false (is_date_in dates other.2) here.1) in
+      contains_listed new other (subst (λ (ks : List Key). Contains ks other) (sym left) still),
+)
+
 one_any : (b : Bool) → (b || false) ≡ b
 one_any true = refl
 one_any false = refl

@@ -2,8 +2,10 @@ ghost use Rattle.std.specs.Prelude.{◌≡◌, ℕ, [], ◌∷◌, ◌++◌, Lis
 ghost use Rattle.std.specs.List.{Contains};
 ghost use Rattle.std.specs.declared.ops.Bound.TheVariants.{Included, Excluded};
 ghost use Rattle.std.specs.BTreeSet.{keys_between, IsOrdered};
+ghost use Rattle.taxii_rows.specs.StoreState.{RiseFrom};
 ghost use Rattle.taxii_index.specs.Keys.{Key as KeyValue, IsIn64Bits, HasKeys, HasKeysBut, IsAloneIn, key_cmp};
 
+use crate::dates::is_among;
 use flow_values::NoMemory;
 use std::alloc::Global;
 use std::collections::BTreeSet;
@@ -65,6 +67,14 @@ impl Keys {
             → HasKeysBut (dates ++ key.2 ∷ []) keys self.new.keys }
     {
         self.keys.remove(&key);
+    }
+
+    /// Takes the keys of these dates out, by a pass over all.
+    pub(crate) fn remove_dates(&mut self, dates: &[u64])
+        requires { RiseFrom 0 dates.now }
+        ensures { (keys : List KeyValue) → HasKeys keys self.old.keys → HasKeysBut dates.now keys self.new.keys }
+    {
+        self.keys.retain(|key| !is_among(dates, key.2));
     }
 
     /// The keys of that name and number, by date.

@@ -14,6 +14,9 @@ use std::alloc::Global;
 use std::collections::btree_set::{Iter, Range};
 use taxii_rows::{Described, StoredRow, row_at};
 
+/// To make the keys of a row, and to find them, takes about as long as to pass over those of so many rows.
+const ROWS_A_LOOK_UP: usize = 32;
+
 /// Under which keys some rows are found: the versions of an object, and the rows of a text of it.
 #[derive(Drop)]
 pub(crate) struct RowIndex {
@@ -66,8 +69,31 @@ impl RowIndex {
         self.by_text.remove(text_key(row));
     }
 
-    /// Takes those of the rows out that are of these dates: as many look-ups as there are dates.
+    /// Takes those of the rows out that are of these dates: by their keys, or where they are many by a pass
+    /// over all keys.
     pub(crate) fn remove_dates(&mut self, rows: &[StoredRow], dates: &[u64])
+        requires rows { RiseFrom 1 (dates_of rows.now) }
+        requires dates { RiseFrom 0 dates.now }
+        ensures { IsIndexOf rows.now self.old → IsIndexOf (filter (λ row. not (is_date_in dates.now row.date)) rows.now) self.new }
+    {
+        if dates.len() < rows.len() / ROWS_A_LOOK_UP {
+            self.remove_few(rows, dates);
+        } else {
+            self.remove_many(dates);
+        }
+    }
+
+    /// Takes the rows of these dates out by a pass over all keys.
+    fn remove_many(&mut self, dates: &[u64])
+        requires { RiseFrom 0 dates.now }
+        ensures { (rows : List Row) → IsIndexOf rows self.old → IsIndexOf (filter (λ row. not (is_date_in dates.now row.date)) rows) self.new }
+    {
+        self.by_version.remove_dates(dates);
+        self.by_text.remove_dates(dates);
+    }
+
+    /// Takes those of the rows out that are of these dates: as many look-ups as there are dates.
+    fn remove_few(&mut self, rows: &[StoredRow], dates: &[u64])
         requires { RiseFrom 1 (dates_of rows.now) }
         ensures { IsIndexOf rows.now self.old → IsIndexOf (filter (λ row. not (is_date_in dates.now row.date)) rows.now) self.new }
     {
