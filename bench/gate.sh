@@ -2,7 +2,7 @@
 # A table of the crates: lines of code without tests, of definitions and of proofs, and the number of must-fail edits.
 #
 #   bench/gate.sh                  the table
-#   bench/gate.sh rt ci --anew     the same, and the processor minutes that this command takes for each crate: for
+#   bench/gate.sh rt ci            the same, and the processor minutes that this command takes for each crate: for
 #                                  its proof, for its tests' and for its edits. The command runs at the top
 #
 # `rt` states no times, so the processes of the prover are looked at each second while the command runs.
