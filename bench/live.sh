@@ -1,7 +1,8 @@
 #!/usr/bin/env bash
 # Times the streaming matcher alone, on 100,000 rows that are made in memory and on ten times as many: for each pattern the
-# bindings, the rows kept at the end, the nanoseconds a row and the greatest memory. The program is built over copies of the
-# crates, since a repository's gate takes no crate but its own.
+# bindings, the rows kept at the end, the nanoseconds a row and the greatest memory; and with 1,000, 10,000 and 100,000
+# rows held of which one expires at each row. The program is built over copies of the crates,
+# since a repository's gate takes no crate but its own.
 #
 #   bench/live.sh [PROGRAM]    a program that was built before
 set -eu
@@ -29,7 +30,7 @@ build() {
     cp "$part" "$bench/proofs/take_rows/$(basename "$part" .txt)"
   done
   echo "building; this takes some minutes" >&2
-  (cd "$bench" && rt run -- "[a:b='1']" 1 < /dev/null > "$folder/build.log" 2>&1) || { tail "$folder/build.log" >&2; exit 1; }
+  (cd "$bench" && rt run -- "[a:b='1']" 1 drawn < /dev/null > "$folder/build.log" 2>&1) || { tail "$folder/build.log" >&2; exit 1; }
   program=$bench/out/bench_live
 }
 
@@ -38,9 +39,16 @@ live() {
   local rows
   for rows in 100000 1000000; do
     printf '%-22s %7d rows: ' "$1" "$rows"
-    /usr/bin/time -f '%M' -o "$folder/memory" "$program" "$2" "$rows" | tr -d '\n'
+    /usr/bin/time -f '%M' -o "$folder/memory" "$program" "$2" "$rows" drawn | tr -d '\n'
     printf ', %s KB\n' "$(cat "$folder/memory")"
   done
+}
+
+# held SECONDS: an AND whose left side holds a row of each second, and whose right side none.
+held() {
+  printf 'AND WITHIN %7d, 1000000 rows: ' "$1"
+  /usr/bin/time -f '%M' -o "$folder/memory" "$program" "([a:b='1'] AND [a:b='2']) WITHIN $1 SECONDS" 1000000 steady | tr -d '\n'
+  printf ', %s KB\n' "$(cat "$folder/memory")"
 }
 
 program=${1:-}
@@ -52,4 +60,7 @@ for _ in 1 2 3; do
   live "AND, 60 s" "([a:b='1'] AND [a:b='2']) WITHIN 60 SECONDS"
   live "two FOLLOWEDBY, 60 s" "([a:b='1'] FOLLOWEDBY [a:b='2'] FOLLOWEDBY [a:b='3']) WITHIN 60 SECONDS"
   live "eight brackets by OR" "[a:b=1] OR [a:b=2] OR [a:b=3] OR [a:b=4] OR [a:b=5] OR [a:b=6] OR [a:b=7] OR [a:b=8]"
+  held 1000
+  held 10000
+  held 100000
 done

@@ -15,6 +15,8 @@ pub mod CountLemmas
 pub mod ListingLemmas
 pub mod PrefixLemmas
 pub mod WithinLemmas
+pub mod HeapLemmas
+pub mod ArrangedLemmas
 pub mod OldestLemmas
 pub mod WantedLemmas
 pub mod TotalLemmas

@@ -16,7 +16,7 @@ le_trans a b c h k = omega (arith, ints)
 pub le_both : (a b : ℤ) → a ≤ℤ b → b ≤ℤ a → a ≡ b
 le_both a b h k = omega (arith, ints)
 
-lt_false : (a b : ℤ) → int_lt a b ≡ false → b ≤ℤ a
+pub lt_false : (a b : ℤ) → int_lt a b ≡ false → b ≤ℤ a
 lt_false a b h = grind (arith, ints)
 
 false_lt : (a b : ℤ) → b ≤ℤ a → int_lt a b ≡ false

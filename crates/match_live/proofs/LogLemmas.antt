@@ -165,23 +165,28 @@ nothing (Repeats p n) b = no_sets (is_binding (observed_in []) p) (nothing p) n 
 nothing p x = refl
 
 -- what stands for a log stands for it at a time that no later row comes before
-early_stands : (log : List LogEntry) (t : ℤ) (p : NumberedPattern) (w : Bounds) (z : State) → LastIsBy log t → Stands (observed_in log) (all_of (observed_in log)) (time_of log) w p z →
+pub early_stands : (log : List LogEntry) (t : ℤ) (p : NumberedPattern) (w : Bounds) (z : State) → LastIsBy log t → Stands (observed_in log) (all_of (observed_in log)) (time_of log) w p z →
     (s : ℤ) × (s ≤ℤ t) × Stands (observed_in log) (all_of (observed_in log)) s w p z
 early_stands [] t p w z by st = (t, le_self t, any_time (observed_in []) nothing (time_of []) t p w z st)
 early_stands (r ∷ log) t p w z by st = (time_of (r ∷ log), time_by r log t by, st)
 
 -- A row more: what ends at it, and the stores for the longer log.
+pub take_from : (p : NumberedPattern) (log : List LogEntry) (r : LogEntry) (s : ℤ) (z : State) → IsInOrder log → LastIsBy log r.last → s ≤ℤ r.last →
+    Stands (observed_in log) (all_of (observed_in log)) s no_bounds p z →
+    AreHeld (observed_in (log ++ r ∷ [])) (ends (observed_in (log ++ r ∷ [])) (suc (length log)) r.last no_bounds p) (step_new (row_after log r) r.truths z)
+    × Stands (observed_in (log ++ r ∷ [])) (all_of (observed_in (log ++ r ∷ []))) (time_of (log ++ r ∷ [])) no_bounds p (step_state (row_after log r) r.truths z)
+take_from p log r s z order after early st =
+    let old = lasting_stands (observed_in log) (observed_in (log ++ r ∷ [])) (suc (length log)) s (goes_on log r) p no_bounds z st in
+    let law = step_law (observed_in (log ++ r ∷ [])) (row_after log r) r.truths s (given_row log r s order after early) p no_bounds z old in (
+      law.0,
+      subst (λ (u : ℤ). Stands (observed_in (log ++ r ∷ [])) (all_of (observed_in (log ++ r ∷ []))) u no_bounds p (step_state (row_after log r) r.truths z)) (sym (time_new log r)) law.1,
+    )
+
 pub take_law : (p : NumberedPattern) (log : List LogEntry) (r : LogEntry) (z : State) → IsInOrder log → LastIsBy log r.last →
     Stands (observed_in log) (all_of (observed_in log)) (time_of log) no_bounds p z →
     AreHeld (observed_in (log ++ r ∷ [])) (ends (observed_in (log ++ r ∷ [])) (suc (length log)) r.last no_bounds p) (step_new (row_after log r) r.truths z)
     × Stands (observed_in (log ++ r ∷ [])) (all_of (observed_in (log ++ r ∷ []))) (time_of (log ++ r ∷ [])) no_bounds p (step_state (row_after log r) r.truths z)
-take_law p log r z order after st =
-    let early = early_stands log r.last p no_bounds z after st in
-    let old = lasting_stands (observed_in log) (observed_in (log ++ r ∷ [])) (suc (length log)) early.0 (goes_on log r) p no_bounds z early.2 in
-    let law = step_law (observed_in (log ++ r ∷ [])) (row_after log r) r.truths early.0 (given_row log r early.0 order after early.1) p no_bounds z old in (
-      law.0,
-      subst (λ (u : ℤ). Stands (observed_in (log ++ r ∷ [])) (all_of (observed_in (log ++ r ∷ []))) u no_bounds p (step_state (row_after log r) r.truths z)) (sym (time_new log r)) law.1,
-    )
+take_law p log r z order after st = let early = early_stands log r.last p no_bounds z after st in take_from p log r early.0 z order after early.1 early.2
 
 -- ---- no rows
 

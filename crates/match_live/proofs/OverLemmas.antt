@@ -52,10 +52,10 @@ answer_is rule test ordered p log xs listing = record {
   by x h false true eb ec = rw (eb, ec) refl
   by x h false false eb ec = rw (eb, ec) refl
 
-pub count_over : Rule → ByTest → Ordered → Listed → (run : Run) (p : NumberedPattern) (before : Rattle.std.specs.Prelude.Option ℤ) (log : List LogEntry) (first last : ℤ) (truths : List Bool) →
-    Goes p (state_of run.node) run.rows before log last →
+pub count_over : Rule → ByTest → Ordered → Listed → (run : Run) (p : NumberedPattern) (log : List LogEntry) (first last : ℤ) (truths : List Bool) →
+    Goes p (state_of run.node) run.rows log last →
     IsLiveCount p (with_row log first last truths) (live_after run (next_row run.rows first last) truths)
-count_over rule test ordered listed run p before log first last truths g =
+count_over rule test ordered listed run p log first last truths g =
     let longer = with_row log first last truths in
     let new = step_new (next_row run.rows first last) truths (state_of run.node) in
     let contents = contents_of (step_state (next_row run.rows first last) truths (state_of run.node)) in
@@ -63,7 +63,7 @@ count_over rule test ordered listed run p before log first last truths g =
     let xs = last_of_it longer listing.0 in
     let answer = answer_is rule test ordered p longer listing.0 listing.1 in
     let long = length_more log (entry first last truths) in
-    let held = (both_laws rule p (state_of run.node) run.rows before log first last truths g).0 in
+    let held = (both_laws rule p (state_of run.node) run.rows log first last truths g).0 in
     let inside : (k i : ℕ) → (observed_in longer).holds k i ≡ true → i ≤ suc (length log) = λ k i h. (let within_log = holds_inside longer k i h in let most : i ≤ suc (length log) = omega (arith, within_log, long) in most) in
     let many : length xs ≡ length new = same_length xs (trees_in new) (λ x.
     answer_counts rule p longer xs answer x
@@ -74,7 +74,7 @@ count_over rule test ordered listed run p before log first last truths g =
     record {
       contents = contents;
       answer = xs;
-      live = live_then rule p (state_of run.node) run.rows before log first last truths g;
+      live = live_then rule p (state_of run.node) run.rows log first last truths g;
       ending = answer;
       sum = (let e : length new + held_count contents ≡ held_count contents + length xs = omega (arith, many) in e);
     }

@@ -1,10 +1,7 @@
 -- Rows at which nothing holds: nothing ends there, and what is kept is what hasn't expired.
-use Rattle.std.proofs.Common.{◌≡◌, ℕ, zero, suc, ◌+◌, ◌-◌, ℤ, ◌<◌, ◌≤ℤ◌, List, [], ◌∷◌, ◌++◌, length, take, drop, get_or, slice_set, refl, sym, ◌∙◌, ap, subst, arith, append-nil, append_assoc}
+use Rattle.std.proofs.Common.{◌≡◌, ℕ, zero, suc, ℤ, ◌≤ℤ◌, List, [], ◌∷◌, ◌++◌, refl, sym, ◌∙◌, ap, subst, arith, append-nil, append_assoc}
 use Rattle.std.specs.Prelude.{Bool, true, false, map, Some}
-use Rattle.std.proofs.lemmas.List.{length-map, map-set, get_or-map, take-map, drop-map}
-use Rattle.std.proofs.lemmas.List.Edits.{map_over_more}
-use Rattle.match_live.specs.declared.store.Store.{Store}
-use Rattle.match_live.specs.inner.Nodes.{store_list, store_lists}
+use Rattle.std.proofs.lemmas.List.{length-map}
 use Rattle.match_bindings.specs.declared.log_entry.LogEntry.{LogEntry}
 use Rattle.match_bindings.specs.declared.bounds.Bounds.{Bounds}
 use Rattle.match_bindings.specs.Bounds.{no_bounds, within, between}
@@ -14,7 +11,6 @@ use Rattle.match_bindings.specs.BindTree.{First, Second, Single}
 use Rattle.match_bindings.specs.Log.{LastIsBy, IsInOrder, observed_in}
 use Rattle.match_bindings.specs.Flat.{comes_before}
 use Rattle.std.specs.List.Sorted.{IsSortedBy}
-use Rattle.match_bindings.proofs.ListLemmas.{map_append}
 use Rattle.match_windows.specs.declared.window.Window.{Window}
 use Rattle.match_live.specs.declared.join.Join.{Join}
 use Rattle.match_live.specs.declared.join.Join.TheVariants as join
@@ -25,7 +21,7 @@ use Rattle.match_live.specs.MatcherState.{last_of}
 use Rattle.match_live.specs.Answer.{AnswersAfter}
 use Rattle.match_live.specs.Passing.{AreQuiet, no_answers}
 use Rattle.match_live.specs.inner.Lives.{lives}
-use Rattle.match_live.specs.inner.Steps.{held_with, joins, kept, SideStores, State, a_leaf, a_join, a_choice, a_limit, a_chain, truth_at, sides_kept, sides_after, joins_new, levels_new, levels_after, no_levels, levels_above, all_levels, counted, step_new, step_state, expired}
+use Rattle.match_live.specs.inner.Steps.{held_with, joins, kept, SideStores, State, a_leaf, a_join, a_choice, a_limit, a_chain, truth_at, sides_kept, sides_after, joins_new, levels_new, levels_after, no_levels, counted, step_new, step_state, expired}
 use Rattle.match_live.proofs.AliveLemmas.{lives_before}
 use Rattle.match_live.proofs.StepLemmas.{Stands, all_of}
 use Rattle.match_live.proofs.LivesLemmas.{le_trans, le_self}
@@ -122,16 +118,9 @@ expired_later s t h (a_chain part count w levels) =
     ap (λ y. a_chain y count w (map (kept w t) (map (kept w s) levels))) (expired_later s t h part) ∙ ap (a_chain (expired t part) count w) (levels_later w s t h levels)
 
 -- levels that aren't made hold nothing
-none_kept : (w : Window) (t : ℤ) (k : ℕ) → map (kept w t) (no_levels k) ≡ no_levels k
+pub none_kept : (w : Window) (t : ℤ) (k : ℕ) → map (kept w t) (no_levels k) ≡ no_levels k
 none_kept w t zero = refl
 none_kept w t (suc k) = ap (λ y. [] ∷ y) (none_kept w t k)
-
-pub levels_kept : (w : Window) (t : ℤ) (count : ℕ) (made xs : List (List PieceTree)) → made ≡ map (kept w t) xs → all_levels count made ≡ map (kept w t) (all_levels count xs)
-levels_kept w t count made xs e =
-    ap (all_levels count) e
-    ∙ ap (λ k. map (kept w t) xs ++ no_levels (count - 1 - k)) (length-map xs (kept w t))
-    ∙ ap (λ y. map (kept w t) xs ++ y) (sym (none_kept w t (levels_above count xs)))
-    ∙ sym (map_append (kept w t) xs (no_levels (levels_above count xs)))
 
 -- ---- the rows one after another
 
@@ -184,23 +173,6 @@ pass_law rule rise p log r (q ∷ rest) last z quiet order e st =
         more.1,
       ),
     )
-
--- ---- stores gone through in place
-
-pub stores_more : (f : List PieceTree → List PieceTree) (xs ys : List Store) (i : ℕ) (x x' : Store) → i < length xs →
-    store_lists ys ≡ map f (store_lists (take i xs)) ++ store_lists (drop i xs) → x ≡ get_or ys i x → store_list x' ≡ f (store_list x) → length ys ≡ length xs →
-    store_lists (slice_set ys i x') ≡ map f (store_lists (take (i + 1) xs)) ++ store_lists (drop (i + 1) xs)
-stores_more f xs ys i x x' h inv is done same =
-    let long = length-map xs store_list in
-    let inside : i < length (store_lists xs) = omega (arith, h, long) in
-    let inside' : i < length ys = omega (arith, h, same) in
-    let before : store_lists ys ≡ map f (take i (store_lists xs)) ++ drop i (store_lists xs)
-    = inv ∙ ap (λ y. map f y ++ store_lists (drop i xs)) (sym (take-map store_list i xs)) ∙ ap (λ y. map f (take i (store_lists xs)) ++ y) (sym (drop-map store_list i xs)) in
-    map-set store_list ys i x'
-    ∙ ap (λ y. slice_set (store_lists ys) i y) done
-    ∙ map_over_more f (store_lists xs) (store_lists ys) i (store_list x) inside before (ap store_list is ∙ sym (get_or-map store_list ys i x (store_list x) inside'))
-    ∙ ap (λ y. map f y ++ drop (i + 1) (store_lists xs)) (take-map store_list (i + 1) xs)
-    ∙ ap (λ y. map f (store_lists (take (i + 1) xs)) ++ y) (drop-map store_list (i + 1) xs)
 
 -- ---- what is kept is made for the same pattern
 

@@ -6,6 +6,8 @@ pub mod Wanted
 pub mod Totals
 pub mod Leads
 pub mod Shape
+pub mod Heaps
+pub mod Arranged
 pub mod Runs
 pub mod Numbers
 pub mod TreeCode

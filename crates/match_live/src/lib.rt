@@ -10,6 +10,7 @@
 
 mod ending;
 mod expired;
+mod heap;
 mod join;
 pub mod laws;
 mod lead;

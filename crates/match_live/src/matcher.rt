@@ -104,6 +104,10 @@ impl<'p> Matcher<'p> {
         if let Some(ending) = &self.ended {
             return Err(MatchRefusal::Ended(ending.copied()));
         }
+        if let Err(ending) = self.run.clear(last) {
+            self.ended = Some(ending.copied());
+            return Err(MatchRefusal::Stopped(ending));
+        }
         match self.run.take(first, last, truths) {
             Ok(binds) => Ok(binds),
             Err(ending) => {

@@ -5,7 +5,7 @@ ghost use Rattle.match_bindings.specs.NumberedPattern.{numbered_from};
 ghost use Rattle.match_bindings.specs.BindTree.{One, First, Second};
 ghost use Rattle.match_live.specs.inner.Pieces.{piece_tree, piece_trees};
 ghost use Rattle.match_windows.specs.Stores.{window_of};
-ghost use Rattle.match_live.specs.inner.Steps.{held_with, a_leaf, a_join, a_chain, all_levels, empty_sides, step_new, step_state, new_at_leaf, empty_state};
+ghost use Rattle.match_live.specs.inner.Steps.{held_with, a_leaf, a_join, a_choice, a_limit, a_chain, all_levels, empty_sides, step_new, step_state, new_at_leaf, empty_state};
 ghost use Rattle.match_live.specs.inner.Wanted.{wanted, closed, leads_right, leads_part};
 ghost use Rattle.match_live.specs.inner.Leads.{ahead_of, leads_of};
 ghost use Rattle.match_live.specs.inner.Totals.{held_after, IsOverAt};
@@ -30,19 +30,20 @@ use std::alloc::Global;
 use std::mem;
 use stix_times::Instant;
 
-/// What a matcher keeps for a part of its pattern.
+/// What a matcher keeps for a part of its pattern. Stores lie in boxes of their own: a node is dropped by
+/// recursion, and what it holds itself stands in each frame of that.
 #[derive(Drop)]
 pub(crate) enum Node {
     /// A leaf, by its number.
     Leaf(u32, Window),
     /// An `AND` or a `FOLLOWEDBY`.
-    Sides(Join, Box<Node>, Box<Node>, Sides),
+    Sides(Join, Box<Node>, Box<Node>, Box<Sides>),
     /// An `OR`.
     Either(Box<Node>, Box<Node>),
     /// A `WITHIN`, or a `START` and `STOP`, which the windows below it know.
     Under(Box<Node>),
     /// A `REPEATS`.
-    Repeats(Box<Node>, Levels),
+    Repeats(Box<Node>, Box<Levels>),
 }
 
 /// What is kept for a pattern under these bounds before any row, where its leftmost leaf has the number
@@ -72,15 +73,15 @@ pub(crate) fn empty_node(
         Pattern::Either(left, right) => {
             let left_node = empty_node(alloc, left, leaf, above)?;
             let right_node = empty_node(alloc, right, leaf + leaf_count(left), above)?;
-            Ok(Box::new(alloc, Node::Either(left_node, right_node))?)
+            either_node(alloc, left_node, right_node)
         }
         Pattern::Within(part, seconds) => {
             let node = empty_node(alloc, part, leaf, &above.within(*seconds))?;
-            Ok(Box::new(alloc, Node::Under(node))?)
+            under_node(alloc, node)
         }
         Pattern::Between(part, start, stop) => {
             let node = empty_node(alloc, part, leaf, &above.between(*start, *stop))?;
-            Ok(Box::new(alloc, Node::Under(node))?)
+            under_node(alloc, node)
         }
         Pattern::Repeats(part, count) => {
             let node = empty_node(alloc, part, leaf, above)?;
@@ -90,6 +91,7 @@ pub(crate) fn empty_node(
 }
 
 /// A leaf under these bounds.
+#[inline(never)]
 fn leaf_node(alloc: Global, leaf: u32, above: &Bounds) -> Result<Box<Node>, NoMemory>
     ensures { IfOk result (λ node. state_of (box_value node) ≡ a_leaf leaf (window_of above.now false)) }
 {
@@ -97,6 +99,7 @@ fn leaf_node(alloc: Global, leaf: u32, above: &Bounds) -> Result<Box<Node>, NoMe
 }
 
 /// A node that joins two sides, the right one behind the left where this is asked.
+#[inline(never)]
 fn sides_node(
     alloc: Global,
     join: Join,
@@ -108,11 +111,28 @@ fn sides_node(
     ensures { IfOk result (λ node. state_of (box_value node) ≡ a_join join (state_of (box_value left)) (state_of (box_value right))
         (empty_sides (window_of above.now false) (window_of above.now behind))) }
 {
-    let sides = Sides::new(alloc, above, behind);
+    let sides = Box::new(alloc, Sides::new(alloc, above, behind))?;
     Ok(Box::new(alloc, Node::Sides(join, left, right, sides))?)
 }
 
+/// An `OR` of two sides.
+#[inline(never)]
+fn either_node(alloc: Global, left: Box<Node>, right: Box<Node>) -> Result<Box<Node>, NoMemory>
+    ensures { IfOk result (λ node. state_of (box_value node) ≡ a_choice (state_of (box_value left)) (state_of (box_value right))) }
+{
+    Ok(Box::new(alloc, Node::Either(left, right))?)
+}
+
+/// A node under a `WITHIN`, or a `START` and `STOP`.
+#[inline(never)]
+fn under_node(alloc: Global, part: Box<Node>) -> Result<Box<Node>, NoMemory>
+    ensures { IfOk result (λ node. state_of (box_value node) ≡ a_limit (state_of (box_value part))) }
+{
+    Ok(Box::new(alloc, Node::Under(part))?)
+}
+
 /// So many repeats of a node.
+#[inline(never)]
 fn repeats_node(
     alloc: Global,
     part: Box<Node>,
@@ -122,7 +142,7 @@ fn repeats_node(
     ensures { IfOk result (λ node. state_of (box_value node)
         ≡ a_chain (state_of (box_value part)) count (window_of above.now false) (all_levels count [])) }
 {
-    let levels = Levels::new(alloc, count, store_window(above, false));
+    let levels = Box::new(alloc, Levels::new(alloc, count, store_window(above, false)))?;
     Ok(Box::new(alloc, Node::Repeats(part, levels))?)
 }
 
@@ -149,6 +169,7 @@ pub(crate) fn step(
             Ok(new)
         }
         Node::Sides(join, left, right, sides) => {
+            let sides = &mut **sides;
             sides.expire(row.last, room)?;
             let mut none = Vec::new(alloc);
             let new_left = step(alloc, left, row, truths, &mut none, room)?;
@@ -172,6 +193,7 @@ pub(crate) fn step(
         }
         Node::Under(part) => step(alloc, part, row, truths, leads, room),
         Node::Repeats(part, levels) => {
+            let levels = &mut **levels;
             let new = step_part(alloc, part, levels, row, truths, leads, room)?;
             let answer = levels.step(alloc, row.last, &new, leads, room)?;
             Ok(answer)

@@ -2,12 +2,11 @@ ghost use Rattle.std.specs.Prelude.{◌≡◌, ◌<◌, ◌+◌, ◌^◌, ◌↔
 ghost use Rattle.match_bindings.specs.BindTree.{tree_of};
 ghost use Rattle.match_live.specs.declared.ending.Ending.TheVariants as ending;
 ghost use Rattle.match_live.specs.PieceTree.{trees_in};
-ghost use Rattle.match_live.specs.MatcherState.{Falls};
 ghost use Rattle.match_live.specs.inner.Pieces.{piece_trees};
 ghost use Rattle.match_live.specs.declared.stop.Stop.TheVariants as stop;
 
 use crate::Ending;
-use crate::expired::expire;
+use crate::expired::clear;
 use crate::node::{Node, step};
 use crate::piece::Piece;
 use crate::room::Room;
@@ -29,7 +28,24 @@ pub(crate) struct Run {
 }
 
 impl Run {
-    ghost use Rattle.match_live.specs.inner.Runs.{next_row, AreSteps, TookRow, IsOver, Passed};
+    ghost use Rattle.match_live.specs.inner.Runs.{IsCleared, next_row, AreSteps, TookRow, IsOver, Passed};
+
+    /// Takes out what has expired at a time that isn't before the last row's. Takes no memory.
+    pub fn clear(&mut self, now: Instant) -> Result<(), Ending>
+        ensures out_of_order { (before time : ℤ) → (result ≡ Err (ending.OutOfOrder before time))
+            ↔ ((self.old.last ≡ Some before) × (time ≡ now) × (time <ℤ before)) }
+        ensures not_crowded { (number cap : ℕ) → ¬ (result ≡ Err (ending.Crowded number cap)) }
+        ensures cleared { OnOk result (IsCleared self.old self.new now) }
+        ensures cap { self.new.cap ≡ self.old.cap }
+    {
+        if let Some(before) = self.last {
+            if now < before {
+                return Err(Ending::OutOfOrder { last: before, now });
+            }
+        }
+        clear(&mut self.node, now);
+        Ok(())
+    }
 
     /// Takes a row, and gives the binds that end there.
     pub fn take(
@@ -39,24 +55,13 @@ impl Run {
         truths: &[bool],
     ) -> Result<Items<Bind>, Ending>
         requires { self.old.rows + 1 < 2 ^ 64 }
-        ensures out_of_order { (before now : ℤ) → (result ≡ Err (ending.OutOfOrder before now))
-            ↔ ((self.old.last ≡ Some before) × (now ≡ last) × (now <ℤ before)) }
+        ensures in_order { (before now : ℤ) → ¬ (result ≡ Err (ending.OutOfOrder before now)) }
         ensures crowded { (number cap : ℕ) → result ≡ Err (ending.Crowded number cap)
-            → (number ≡ self.old.rows + 1) × (cap ≡ self.old.cap) × (¬ (Falls self.old.last last))
-            × IsOver self.old (next_row self.old.rows first last) truths.now }
-        ensures order { OnOk result (¬ (Falls self.old.last last)) }
+            → (number ≡ self.old.rows + 1) × (cap ≡ self.old.cap) × IsOver self.old (next_row self.old.rows first last) truths.now }
         ensures took { OnOk result (TookRow self.old self.new (next_row self.old.rows first last) truths.now) }
         ensures binds { IfOk result (λ binds. AreSteps self.old (next_row self.old.rows first last) truths.now (map tree_of binds)) }
         ensures cap { self.new.cap ≡ self.old.cap }
     {
-        if let Some(before) = self.last {
-            if last < before {
-                return Err(Ending::OutOfOrder {
-                    last: before,
-                    now: last,
-                });
-            }
-        }
         let number = self.rows + 1;
         let row = Row {
             number,
@@ -81,18 +86,14 @@ impl Run {
         ensures passed { OnOk result (Passed self.old self.new rows last) }
         ensures cap { self.new.cap ≡ self.old.cap }
     {
-        if let Some(before) = self.last {
-            if last < before {
-                return Err(Ending::OutOfOrder {
-                    last: before,
-                    now: last,
-                });
+        match self.clear(last) {
+            Ok(()) => {
+                self.rows += rows;
+                self.last = Some(last);
+                Ok(())
             }
+            Err(ending) => Err(ending),
         }
-        expire(&mut self.node, last);
-        self.rows += rows;
-        self.last = Some(last);
-        Ok(())
     }
 
     /// The binds that end at a row, unless more is live after it than the cap allows.

@@ -6,6 +6,7 @@ ghost use Rattle.match_live.specs.inner.Wanted.{wanted};
 ghost use Rattle.match_live.specs.inner.Leads.{leads_of};
 ghost use Rattle.match_live.specs.declared.stop.Stop.TheVariants as stop;
 ghost use Rattle.match_live.specs.inner.Nodes.{side_stores};
+ghost use Rattle.match_live.specs.inner.Arranged.{AreSameSides};
 
 use crate::join::Join;
 use crate::lead::Lead;
@@ -42,12 +43,13 @@ impl Sides {
         }
     }
 
-    /// Takes out what has expired. Takes no memory.
+    /// Takes out what has expired, and leaves the rest in any order. Takes no memory.
+    #[inline(never)]
     pub fn clear(&mut self, now: Instant)
-        ensures { side_stores self.new ≡ sides_kept now (side_stores self.old) }
+        ensures { AreSameSides (sides_kept now (side_stores self.old)) (side_stores self.new) }
     {
-        self.left.expire(&self.left_window, now);
-        self.right.expire(&self.right_window, now);
+        self.left.clear(&self.left_window, now);
+        self.right.clear(&self.right_window, now);
     }
 
     /// Takes out what has expired, and counts what is left.

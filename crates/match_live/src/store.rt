@@ -1,9 +1,14 @@
-ghost use Rattle.std.specs.Prelude.{◌≡◌, ◌++◌, [], true, Some, OnOk, not};
+ghost use Rattle.std.specs.Prelude.{◌≡◌, ◌++◌, ◌∷◌, ◌≤◌, ◌<◌, [], true, length, not, slice_index_or, OnOk};
+ghost use Rattle.std.proofs.Props.{props};
 ghost use Rattle.match_windows.specs.Stores.{window_of};
 ghost use Rattle.match_live.specs.inner.Lives.{lives};
-ghost use Rattle.match_live.specs.inner.Pieces.{piece_trees, none_before, oldest_with};
+ghost use Rattle.match_live.specs.inner.Pieces.{piece_tree, piece_trees};
+ghost use Rattle.match_live.specs.declared.piece.Piece.{Piece};
+ghost use Rattle.match_live.specs.inner.Heaps.{IsHeap};
 ghost use Rattle.match_live.specs.inner.Steps.{kept};
+ghost use Rattle.match_live.specs.inner.Arranged.{AreSame};
 
+use crate::heap::{rise, sink};
 use crate::piece::Piece;
 use flow_values::NoMemory;
 use match_bindings::Bounds;
@@ -15,9 +20,11 @@ use stix_times::Instant;
 #[derive(Drop)]
 pub(crate) struct Store {
     pub held: Vec<Piece>,
-    /// Nothing that is held has an earlier time. While it lives, all does.
-    pub oldest: Option<Instant>,
-    ghost none_older: { none_before oldest (piece_trees held.items) ≡ true },
+    /// So many of the first things are a heap, in which what expires first stands first. The others came
+    /// after the last time that something could expire.
+    pub heaped: usize,
+    ghost heap: { IsHeap held.items heaped } by { Prim.hlevel props },
+    ghost within: { heaped ≤ length held.items },
 }
 
 impl Store {
@@ -27,21 +34,70 @@ impl Store {
     {
         Store {
             held: Vec::new(alloc),
-            oldest: None,
+            heaped: 0,
         }
     }
 
-    /// Takes out what has expired.
+    /// Takes out what has expired, and leaves the rest in any order. What stays costs nothing, and what
+    /// goes no more than the logarithm of what is held. Takes no memory.
+    pub fn clear(&mut self, window: &Window, now: Instant)
+        ensures { AreSame (kept window.now now (piece_trees self.old.held.items)) (piece_trees self.new.held.items) }
+    {
+        self.settle();
+        while let Some(first) = self.held.first() {
+            if is_live(window, first.earliest, now) {
+                return;
+            }
+            self.drop_first();
+        }
+    }
+
+    /// Makes one heap of all things.
+    fn settle(&mut self)
+        ensures same { AreSame (piece_trees self.old.held.items) (piece_trees self.new.held.items) }
+        ensures heaped { self.new.heaped ≡ length self.new.held.items }
+    {
+        while self.heaped < self.held.len() {
+            rise(&mut self.held, self.heaped);
+            self.heaped += 1;
+        }
+    }
+
+    /// Takes out the first thing, where all are one heap.
+    fn drop_first(&mut self)
+        requires some { 0 < length self.old.held.items }
+        requires heaped { self.old.heaped ≡ length self.old.held.items }
+        ensures others { (d : Piece) → AreSame (piece_trees self.old.held.items) (piece_tree (slice_index_or self.old.held.items 0 d) ∷ piece_trees self.new.held.items) }
+        ensures heaped { self.new.heaped ≡ length self.new.held.items }
+        ensures fewer { length self.new.held.items < length self.old.held.items }
+    {
+        self.held.swap_remove(0);
+        sink(&mut self.held);
+        self.heaped = self.held.len();
+    }
+
+    /// Takes out what has expired. The rest stays in its order.
     pub fn expire(&mut self, window: &Window, now: Instant)
         ensures { piece_trees self.new.held.items ≡ kept window.now now (piece_trees self.old.held.items) }
     {
-        if let Some(oldest) = self.oldest {
-            if is_live(window, oldest, now) {
-                return;
-            }
+        if self.is_cleared(window, now) {
+            return;
         }
+        self.heaped = 0;
         self.held.retain(|held| is_live(window, held.earliest, now));
-        self.oldest = oldest_of(&self.held);
+    }
+
+    /// Whether it is seen at once that nothing has expired.
+    fn is_cleared(&self, window: &Window, now: Instant) -> bool
+        ensures { result ≡ true → piece_trees self.now.held.items ≡ kept window.now now (piece_trees self.now.held.items) }
+    {
+        if self.heaped < self.held.len() {
+            return false;
+        }
+        match self.held.first() {
+            Some(first) => is_live(window, first.earliest, now),
+            None => true,
+        }
     }
 
     /// Adds what hasn't expired.
@@ -50,9 +106,7 @@ impl Store {
     {
         for held in new {
             if is_live(window, held.earliest, now) {
-                let earliest = held.earliest;
                 self.held.push(held)?;
-                self.oldest = older(self.oldest, earliest);
             }
         }
         Ok(())
@@ -68,28 +122,6 @@ pub(crate) fn store_window(above: &Bounds, behind: bool) -> Window
         start: above.start,
         stop: above.stop,
         behind,
-    }
-}
-
-/// The least earliest time of some things.
-fn oldest_of(held: &[Piece]) -> Option<Instant>
-    ensures { none_before result (piece_trees held.now) ≡ true }
-{
-    let mut oldest = None;
-    for one in held {
-        oldest = older(oldest, one.earliest);
-    }
-    oldest
-}
-
-/// The earlier of two times, the first of which may be absent.
-fn older(oldest: Option<Instant>, time: Instant) -> Option<Instant>
-    ensures { result ≡ Some (oldest_with oldest time) }
-{
-    match oldest {
-        Some(other) if other < time => Some(other),
-        Some(_) => Some(time),
-        None => Some(time),
     }
 }
 

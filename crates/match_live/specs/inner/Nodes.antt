@@ -1,7 +1,9 @@
 -- For private clauses: what the stores and nodes of a matcher hold.
 use Rattle.std.specs.Prelude.{List, map}
+use Rattle.std.specs.Box.{box_value}
 use Rattle.match_live.specs.declared.store.Store.{Store}
 use Rattle.match_live.specs.declared.sides.Sides.{Sides}
+use Rattle.match_live.specs.declared.levels.Levels.{Levels}
 use Rattle.match_live.specs.declared.node.Node.{Node}
 use Rattle.match_live.specs.declared.node.Node.TheVariants as node
 use Rattle.match_live.specs.PieceTree.{PieceTree}
@@ -22,9 +24,12 @@ side_stores sides = record {
   right_window = sides.right_window;
 }
 
+abbrev pub levels_state : State → Levels → State
+levels_state part levels = a_chain part levels.count levels.window (all_levels levels.count (store_lists levels.stores.items))
+
 abbrev pub state_of : Node → State
 state_of (node.Leaf leaf window) = a_leaf leaf window
-state_of (node.Sides' how at_left left at_right right sides) = a_join how (state_of left) (state_of right) (side_stores sides)
+state_of (node.Sides' how at_left left at_right right sides) = a_join how (state_of left) (state_of right) (side_stores (box_value sides))
 state_of (node.Either' at_left left at_right right) = a_choice (state_of left) (state_of right)
 state_of (node.Under' at_part part) = a_limit (state_of part)
-state_of (node.Repeats' at_part part levels) = a_chain (state_of part) levels.count levels.window (all_levels levels.count (store_lists levels.stores.items))
+state_of (node.Repeats' at_part part levels) = levels_state (state_of part) (box_value levels)

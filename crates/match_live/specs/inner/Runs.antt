@@ -12,6 +12,7 @@ use Rattle.match_live.specs.MatcherState.{Falls}
 use Rattle.match_live.specs.inner.Steps.{step_new, step_state, expired, contents_of}
 use Rattle.match_live.specs.inner.Totals.{Admits}
 use Rattle.match_live.specs.inner.Nodes.{state_of}
+use Rattle.match_live.specs.inner.Arranged.{IsArranged}
 
 -- the next row
 abbrev pub next_row : ℕ → ℤ → ℤ → Row
@@ -38,9 +39,15 @@ pub record TookRow (old new : Run) (row : Row) (truths : List Bool) : Type 0 whe
 abbrev pub IsOver : Run → Row → List Bool → Type 0
 IsOver run row truths = Admits row truths (state_of run.node) → run.cap < live_after run row truths
 
+-- what has expired at a time that isn't before the last row's is taken out of a run, whose other things stay as they were
+pub record IsCleared (old new : Run) (now : ℤ) : Type 0 where
+  pub order : ¬ (Falls old.last now)
+  pub node : IsArranged (expired now (state_of old.node)) (state_of new.node)
+  pub rows : new.rows ≡ old.rows
+
 -- a run took so many rows at which nothing holds
 pub record Passed (old new : Run) (rows : ℕ) (last : ℤ) : Type 0 where
   pub rows_are : new.rows ≡ old.rows + rows
   pub last_is : new.last ≡ Some last
-  pub node : state_of new.node ≡ expired last (state_of old.node)
+  pub node : IsArranged (expired last (state_of old.node)) (state_of new.node)
   pub order : ¬ (Falls old.last last)

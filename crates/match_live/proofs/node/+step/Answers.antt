@@ -7,15 +7,16 @@ use Rattle.std.proofs.lemmas.List.{length-map}
 use Rattle.match_live.specs.declared.stop.Stop.TheVariants as stop
 use Rattle.match_live.specs.declared.lead.Lead.{Lead}
 use Rattle.match_live.specs.declared.store.Store.{Store}
+use Rattle.match_live.specs.declared.sides.Sides.{Sides}
 use Rattle.match_live.specs.declared.piece.Piece.{Piece}
 use Rattle.match_live.specs.declared.row.Row.{Row}
 use Rattle.match_live.specs.PieceTree.{PieceTree}
 use Rattle.match_live.specs.inner.Pieces.{piece_tree, piece_trees}
-use Rattle.match_live.specs.inner.Steps.{State, a_leaf, all_levels, held_with, levels_new, levels_after, kept, joins_both, step_new, step_state}
+use Rattle.match_live.specs.inner.Steps.{State, a_leaf, a_join, all_levels, held_with, levels_new, levels_after, kept, joins_both, step_new, step_state}
 use Rattle.match_live.specs.inner.Wanted.{Ahead, wanted, leads_right, leads_part, chosen}
 use Rattle.match_live.specs.inner.Leads.{ahead_of, leads_of}
 use Rattle.match_live.specs.inner.Totals.{held_after, live_at, AdmitLevels, Admits}
-use Rattle.match_live.specs.inner.Nodes.{store_list, store_lists, side_stores, state_of}
+use Rattle.match_live.specs.inner.Nodes.{store_list, store_lists, side_stores, levels_state, state_of}
 use Rattle.match_live.proofs.WantedLemmas.{leads_more}
 use Rattle.match_live.proofs.TotalLemmas.{over_left, over_left_held, over_right, over_right_held, join_is, join_counted, join_kept, over_first, over_first_new, over_second, choice_is, choice_counted, over_part, over_levels, chain_is, chain_counted, chain_kept}
 use Rattle.match_live.proofs.node.+step.Goals as goal
@@ -35,8 +36,8 @@ pub step-returns-in_err-new_left-in-Sides-clause-crowded : goal.step-returns-in_
 step-returns-in_err-new_left-in-Sides-clause-crowded t c = λ e a.
     let row = c.args.row.now in let truths = c.args.truths.now in let ahead = leads_of c.args.leads.now.items in
     let l = state_of c.in-Sides.left.value in let r = state_of c.in-Sides.right.value in let z = state_of c.args.node.now in
-    let s = side_stores c.in-Sides.sides in let k = side_stores c.expire.new.self in
-    let is = ap state_of c.in-Sides.is in let kept_is = c.in_ok-expire-in-Sides.ensures.kept in let first = c.in_ok-expire-in-Sides.ensures.counted in
+    let s = side_stores c.deref_mut-sides.result.now in let k = side_stores c.expire.new.self in
+    let is = ap state_of c.in-Sides.is ∙ ap (λ (y : Sides). a_join c.in-Sides.join l r (side_stores y)) (sym c.deref_mut-sides.ensures.value) in let kept_is = c.in_ok-expire-in-Sides.ensures.kept in let first = c.in_ok-expire-in-Sides.ensures.counted in
     let el = ap state_of c.deref_mut.ensures.value in let none = ap leads_of c.new-none.ensures.items in
     let room = c.args.room.now.left in let room1 = c.expire.new.room.left in
     let failed : c.step.result ≡ Err stop.Crowded = search rules in
@@ -47,8 +48,8 @@ pub step-returns-in_err-take_admitted-in-Sides-clause-crowded : goal.step-return
 step-returns-in_err-take_admitted-in-Sides-clause-crowded t c = λ e a.
     let row = c.args.row.now in let truths = c.args.truths.now in let ahead = leads_of c.args.leads.now.items in
     let l = state_of c.in-Sides.left.value in let r = state_of c.in-Sides.right.value in let z = state_of c.args.node.now in
-    let s = side_stores c.in-Sides.sides in let k = side_stores c.expire.new.self in
-    let is = ap state_of c.in-Sides.is in let kept_is = c.in_ok-expire-in-Sides.ensures.kept in let first = c.in_ok-expire-in-Sides.ensures.counted in
+    let s = side_stores c.deref_mut-sides.result.now in let k = side_stores c.expire.new.self in
+    let is = ap state_of c.in-Sides.is ∙ ap (λ (y : Sides). a_join c.in-Sides.join l r (side_stores y)) (sym c.deref_mut-sides.ensures.value) in let kept_is = c.in_ok-expire-in-Sides.ensures.kept in let first = c.in_ok-expire-in-Sides.ensures.counted in
     let el = ap state_of c.deref_mut.ensures.value in let none = ap leads_of c.new-none.ensures.items in
     let room = c.args.room.now.left in let room1 = c.expire.new.room.left in
     let nl = piece_trees c.in_ok-new_left-in-Sides.new_left.items in
@@ -62,8 +63,8 @@ pub step-returns-in_err-new_right-in-Sides-clause-crowded : goal.step-returns-in
 step-returns-in_err-new_right-in-Sides-clause-crowded t c = λ e a.
     let row = c.args.row.now in let truths = c.args.truths.now in let ahead = leads_of c.args.leads.now.items in
     let l = state_of c.in-Sides.left.value in let r = state_of c.in-Sides.right.value in let z = state_of c.args.node.now in
-    let s = side_stores c.in-Sides.sides in let k = side_stores c.expire.new.self in
-    let is = ap state_of c.in-Sides.is in let kept_is = c.in_ok-expire-in-Sides.ensures.kept in let first = c.in_ok-expire-in-Sides.ensures.counted in
+    let s = side_stores c.deref_mut-sides.result.now in let k = side_stores c.expire.new.self in
+    let is = ap state_of c.in-Sides.is ∙ ap (λ (y : Sides). a_join c.in-Sides.join l r (side_stores y)) (sym c.deref_mut-sides.ensures.value) in let kept_is = c.in_ok-expire-in-Sides.ensures.kept in let first = c.in_ok-expire-in-Sides.ensures.counted in
     let el = ap state_of c.deref_mut.ensures.value in let none = ap leads_of c.new-none.ensures.items in
     let room = c.args.room.now.left in let room1 = c.expire.new.room.left in
     let nl = piece_trees c.in_ok-new_left-in-Sides.new_left.items in
@@ -81,8 +82,8 @@ pub step-returns-in_err-take_admitted-in-Sides-2-clause-crowded : goal.step-retu
 step-returns-in_err-take_admitted-in-Sides-2-clause-crowded t c = λ e a.
     let row = c.args.row.now in let truths = c.args.truths.now in let ahead = leads_of c.args.leads.now.items in
     let l = state_of c.in-Sides.left.value in let r = state_of c.in-Sides.right.value in let z = state_of c.args.node.now in
-    let s = side_stores c.in-Sides.sides in let k = side_stores c.expire.new.self in
-    let is = ap state_of c.in-Sides.is in let kept_is = c.in_ok-expire-in-Sides.ensures.kept in let first = c.in_ok-expire-in-Sides.ensures.counted in
+    let s = side_stores c.deref_mut-sides.result.now in let k = side_stores c.expire.new.self in
+    let is = ap state_of c.in-Sides.is ∙ ap (λ (y : Sides). a_join c.in-Sides.join l r (side_stores y)) (sym c.deref_mut-sides.ensures.value) in let kept_is = c.in_ok-expire-in-Sides.ensures.kept in let first = c.in_ok-expire-in-Sides.ensures.counted in
     let el = ap state_of c.deref_mut.ensures.value in let none = ap leads_of c.new-none.ensures.items in
     let room = c.args.room.now.left in let room1 = c.expire.new.room.left in
     let nl = piece_trees c.in_ok-new_left-in-Sides.new_left.items in
@@ -104,8 +105,8 @@ pub step-returns-in_err-new-in-Sides-clause-crowded : goal.step-returns-in_err-n
 step-returns-in_err-new-in-Sides-clause-crowded t c = λ e a.
     let row = c.args.row.now in let truths = c.args.truths.now in let ahead = leads_of c.args.leads.now.items in
     let l = state_of c.in-Sides.left.value in let r = state_of c.in-Sides.right.value in let z = state_of c.args.node.now in
-    let s = side_stores c.in-Sides.sides in let k = side_stores c.expire.new.self in
-    let is = ap state_of c.in-Sides.is in let kept_is = c.in_ok-expire-in-Sides.ensures.kept in let first = c.in_ok-expire-in-Sides.ensures.counted in
+    let s = side_stores c.deref_mut-sides.result.now in let k = side_stores c.expire.new.self in
+    let is = ap state_of c.in-Sides.is ∙ ap (λ (y : Sides). a_join c.in-Sides.join l r (side_stores y)) (sym c.deref_mut-sides.ensures.value) in let kept_is = c.in_ok-expire-in-Sides.ensures.kept in let first = c.in_ok-expire-in-Sides.ensures.counted in
     let el = ap state_of c.deref_mut.ensures.value in let none = ap leads_of c.new-none.ensures.items in
     let room = c.args.room.now.left in let room1 = c.expire.new.room.left in
     let nl = piece_trees c.in_ok-new_left-in-Sides.new_left.items in
@@ -133,8 +134,8 @@ pub step-returns-in_ok-new-in-Sides-clause-new : goal.step-returns-in_ok-new-in-
 step-returns-in_ok-new-in-Sides-clause-new t c =
     let row = c.args.row.now in let truths = c.args.truths.now in let ahead = leads_of c.args.leads.now.items in
     let l = state_of c.in-Sides.left.value in let r = state_of c.in-Sides.right.value in let z = state_of c.args.node.now in
-    let s = side_stores c.in-Sides.sides in let k = side_stores c.expire.new.self in
-    let is = ap state_of c.in-Sides.is in let kept_is = c.in_ok-expire-in-Sides.ensures.kept in let first = c.in_ok-expire-in-Sides.ensures.counted in
+    let s = side_stores c.deref_mut-sides.result.now in let k = side_stores c.expire.new.self in
+    let is = ap state_of c.in-Sides.is ∙ ap (λ (y : Sides). a_join c.in-Sides.join l r (side_stores y)) (sym c.deref_mut-sides.ensures.value) in let kept_is = c.in_ok-expire-in-Sides.ensures.kept in let first = c.in_ok-expire-in-Sides.ensures.counted in
     let el = ap state_of c.deref_mut.ensures.value in let none = ap leads_of c.new-none.ensures.items in
     let room = c.args.room.now.left in let room1 = c.expire.new.room.left in
     let nl = piece_trees c.in_ok-new_left-in-Sides.new_left.items in
@@ -158,8 +159,8 @@ pub step-returns-in_ok-new-in-Sides-clause-kept : goal.step-returns-in_ok-new-in
 step-returns-in_ok-new-in-Sides-clause-kept t c =
     let row = c.args.row.now in let truths = c.args.truths.now in let ahead = leads_of c.args.leads.now.items in
     let l = state_of c.in-Sides.left.value in let r = state_of c.in-Sides.right.value in let z = state_of c.args.node.now in
-    let s = side_stores c.in-Sides.sides in let k = side_stores c.expire.new.self in
-    let is = ap state_of c.in-Sides.is in let kept_is = c.in_ok-expire-in-Sides.ensures.kept in let first = c.in_ok-expire-in-Sides.ensures.counted in
+    let s = side_stores c.deref_mut-sides.result.now in let k = side_stores c.expire.new.self in
+    let is = ap state_of c.in-Sides.is ∙ ap (λ (y : Sides). a_join c.in-Sides.join l r (side_stores y)) (sym c.deref_mut-sides.ensures.value) in let kept_is = c.in_ok-expire-in-Sides.ensures.kept in let first = c.in_ok-expire-in-Sides.ensures.counted in
     let el = ap state_of c.deref_mut.ensures.value in let none = ap leads_of c.new-none.ensures.items in
     let room = c.args.room.now.left in let room1 = c.expire.new.room.left in
     let nl = piece_trees c.in_ok-new_left-in-Sides.new_left.items in
@@ -181,8 +182,8 @@ pub step-returns-in_ok-new-in-Sides-clause-counted : goal.step-returns-in_ok-new
 step-returns-in_ok-new-in-Sides-clause-counted t c =
     let row = c.args.row.now in let truths = c.args.truths.now in let ahead = leads_of c.args.leads.now.items in
     let l = state_of c.in-Sides.left.value in let r = state_of c.in-Sides.right.value in let z = state_of c.args.node.now in
-    let s = side_stores c.in-Sides.sides in let k = side_stores c.expire.new.self in
-    let is = ap state_of c.in-Sides.is in let kept_is = c.in_ok-expire-in-Sides.ensures.kept in let first = c.in_ok-expire-in-Sides.ensures.counted in
+    let s = side_stores c.deref_mut-sides.result.now in let k = side_stores c.expire.new.self in
+    let is = ap state_of c.in-Sides.is ∙ ap (λ (y : Sides). a_join c.in-Sides.join l r (side_stores y)) (sym c.deref_mut-sides.ensures.value) in let kept_is = c.in_ok-expire-in-Sides.ensures.kept in let first = c.in_ok-expire-in-Sides.ensures.counted in
     let el = ap state_of c.deref_mut.ensures.value in let none = ap leads_of c.new-none.ensures.items in
     let room = c.args.room.now.left in let room1 = c.expire.new.room.left in
     let nl = piece_trees c.in_ok-new_left-in-Sides.new_left.items in
@@ -288,9 +289,9 @@ step-returns-in_ok-new-in-Either-clause-counted t c =
 pub step-returns-in_err-new-in-Repeats-clause-crowded : goal.step-returns-in_err-new-in-Repeats-clause-crowded
 step-returns-in_err-new-in-Repeats-clause-crowded t c = λ e a.
     let row = c.args.row.now in let truths = c.args.truths.now in let ahead = leads_of c.args.leads.now.items in
-    let levels = c.in-Repeats.levels in let xs = store_lists levels.stores.items in let count = levels.count in let w = levels.window in
+    let levels = c.deref_mut-levels.result.now in let xs = store_lists levels.stores.items in let count = levels.count in let w = levels.window in
     let part = state_of c.in-Repeats.part.value in let z = state_of c.args.node.now in
-    let is = ap state_of c.in-Repeats.is in let ep = ap state_of c.deref_mut-in-Repeats.ensures.value in
+    let is = ap state_of c.in-Repeats.is ∙ ap (levels_state part) (sym c.deref_mut-levels.ensures.value) in let ep = ap state_of c.deref_mut-in-Repeats.ensures.value in
     let few : length xs ≤ count - 1 = omega (arith, length-map levels.stores.items store_list, levels.few) in
     let room = c.args.room.now.left in
     let failed : c.step_part.result ≡ Err stop.Crowded = search rules in
@@ -300,9 +301,9 @@ step-returns-in_err-new-in-Repeats-clause-crowded t c = λ e a.
 pub step-returns-in_err-answer-in-Repeats-clause-crowded : goal.step-returns-in_err-answer-in-Repeats-clause-crowded
 step-returns-in_err-answer-in-Repeats-clause-crowded t c = λ e a.
     let row = c.args.row.now in let truths = c.args.truths.now in let ahead = leads_of c.args.leads.now.items in
-    let levels = c.in-Repeats.levels in let xs = store_lists levels.stores.items in let count = levels.count in let w = levels.window in
+    let levels = c.deref_mut-levels.result.now in let xs = store_lists levels.stores.items in let count = levels.count in let w = levels.window in
     let part = state_of c.in-Repeats.part.value in let z = state_of c.args.node.now in
-    let is = ap state_of c.in-Repeats.is in let ep = ap state_of c.deref_mut-in-Repeats.ensures.value in
+    let is = ap state_of c.in-Repeats.is ∙ ap (levels_state part) (sym c.deref_mut-levels.ensures.value) in let ep = ap state_of c.deref_mut-in-Repeats.ensures.value in
     let few : length xs ≤ count - 1 = omega (arith, length-map levels.stores.items store_list, levels.few) in
     let room = c.args.room.now.left in
     let new = piece_trees c.deref-in-Repeats.result.now in
@@ -319,9 +320,9 @@ step-returns-in_err-answer-in-Repeats-clause-crowded t c = λ e a.
 pub step-returns-in_ok-answer-in-Repeats-clause-new : goal.step-returns-in_ok-answer-in-Repeats-clause-new
 step-returns-in_ok-answer-in-Repeats-clause-new t c =
     let row = c.args.row.now in let truths = c.args.truths.now in let ahead = leads_of c.args.leads.now.items in
-    let levels = c.in-Repeats.levels in let xs = store_lists levels.stores.items in let count = levels.count in let w = levels.window in
+    let levels = c.deref_mut-levels.result.now in let xs = store_lists levels.stores.items in let count = levels.count in let w = levels.window in
     let part = state_of c.in-Repeats.part.value in let z = state_of c.args.node.now in
-    let is = ap state_of c.in-Repeats.is in let ep = ap state_of c.deref_mut-in-Repeats.ensures.value in
+    let is = ap state_of c.in-Repeats.is ∙ ap (levels_state part) (sym c.deref_mut-levels.ensures.value) in let ep = ap state_of c.deref_mut-in-Repeats.ensures.value in
     let few : length xs ≤ count - 1 = omega (arith, length-map levels.stores.items store_list, levels.few) in
     let room = c.args.room.now.left in
     let new = piece_trees c.deref-in-Repeats.result.now in
@@ -336,9 +337,9 @@ step-returns-in_ok-answer-in-Repeats-clause-new t c =
 pub step-returns-in_ok-answer-in-Repeats-clause-kept : goal.step-returns-in_ok-answer-in-Repeats-clause-kept
 step-returns-in_ok-answer-in-Repeats-clause-kept t c =
     let row = c.args.row.now in let truths = c.args.truths.now in let ahead = leads_of c.args.leads.now.items in
-    let levels = c.in-Repeats.levels in let xs = store_lists levels.stores.items in let count = levels.count in let w = levels.window in
+    let levels = c.deref_mut-levels.result.now in let xs = store_lists levels.stores.items in let count = levels.count in let w = levels.window in
     let part = state_of c.in-Repeats.part.value in let z = state_of c.args.node.now in
-    let is = ap state_of c.in-Repeats.is in let ep = ap state_of c.deref_mut-in-Repeats.ensures.value in
+    let is = ap state_of c.in-Repeats.is ∙ ap (levels_state part) (sym c.deref_mut-levels.ensures.value) in let ep = ap state_of c.deref_mut-in-Repeats.ensures.value in
     let few : length xs ≤ count - 1 = omega (arith, length-map levels.stores.items store_list, levels.few) in
     let room = c.args.room.now.left in
     let new = piece_trees c.deref-in-Repeats.result.now in
@@ -353,9 +354,9 @@ step-returns-in_ok-answer-in-Repeats-clause-kept t c =
 pub step-returns-in_ok-answer-in-Repeats-clause-counted : goal.step-returns-in_ok-answer-in-Repeats-clause-counted
 step-returns-in_ok-answer-in-Repeats-clause-counted t c =
     let row = c.args.row.now in let truths = c.args.truths.now in let ahead = leads_of c.args.leads.now.items in
-    let levels = c.in-Repeats.levels in let xs = store_lists levels.stores.items in let count = levels.count in let w = levels.window in
+    let levels = c.deref_mut-levels.result.now in let xs = store_lists levels.stores.items in let count = levels.count in let w = levels.window in
     let part = state_of c.in-Repeats.part.value in let z = state_of c.args.node.now in
-    let is = ap state_of c.in-Repeats.is in let ep = ap state_of c.deref_mut-in-Repeats.ensures.value in
+    let is = ap state_of c.in-Repeats.is ∙ ap (levels_state part) (sym c.deref_mut-levels.ensures.value) in let ep = ap state_of c.deref_mut-in-Repeats.ensures.value in
     let few : length xs ≤ count - 1 = omega (arith, length-map levels.stores.items store_list, levels.few) in
     let room = c.args.room.now.left in
     let new = piece_trees c.deref-in-Repeats.result.now in

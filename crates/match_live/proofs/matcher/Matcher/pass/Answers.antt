@@ -1,25 +1,26 @@
 -- The law of quiet rows at the log that the matcher stands for.
-use Rattle.std.proofs.Common.{ℤ, ◌≡◌, ◌≤◌, List, [], ◌∷◌, ◌++◌, length, sym, ◌∙◌, ap, subst, arith, rules, length-append}
-use Rattle.std.specs.Prelude.{ℕ, ◌||◌, is_some}
+use Rattle.std.proofs.Common.{ℤ, ◌≡◌, ◌≤◌, List, [], ◌∷◌, ◌++◌, length, sym, ◌∙◌, arith, rules, length-append}
+use Rattle.std.specs.Prelude.{ℕ}
 use Rattle.match_bindings.specs.declared.log_entry.LogEntry.{LogEntry}
 use Rattle.match_bindings.specs.Bounds.{no_bounds}
 use Rattle.match_bindings.specs.NumberedPattern.{numbered_pattern}
 use Rattle.match_bindings.specs.Log.{observed_in}
 use Rattle.match_live.specs.declared.matcher.Matcher.TheInside.{Inside}
 use Rattle.match_live.specs.declared.ending.Ending.TheVariants as ending
-use Rattle.match_live.specs.LivePart.{IsLivePart, time_of}
+use Rattle.match_live.specs.LivePart.{time_of}
 use Rattle.match_live.specs.MatcherState.{StandsFor}
 use Rattle.match_live.specs.Answer.{AnswersAfter}
 use Rattle.match_live.specs.Passing.{GoesOnQuietly, no_answers}
-use Rattle.match_live.specs.inner.Steps.{State, contents_of, expired}
+use Rattle.match_live.specs.inner.Steps.{expired}
 use Rattle.match_live.specs.inner.Nodes.{state_of}
 use Rattle.match_live.specs.inner.Shape.{fits}
 use Rattle.match_live.specs.inner.Seen.{seen, IsMade}
 use Rattle.match_live.proofs.ShapeLemmas.{Rule, stands_from, live_from}
 use Rattle.match_live.proofs.AnswerLemmas.{Rise}
 use Rattle.match_live.proofs.StepLemmas.{Stands, all_of}
-use Rattle.match_live.proofs.TakeLemmas.{runs_fits, stopped_same, same_stopped, same_err}
-use Rattle.match_live.proofs.PassLemmas.{pass_law, fits_expired, last_of_append}
+use Rattle.match_live.proofs.TakeLemmas.{runs_fits, stays_made, stopped_same, same_stopped, same_err}
+use Rattle.match_live.proofs.PassLemmas.{pass_law, last_of_append}
+use Rattle.match_live.proofs.ArrangedLemmas.{arranged_stands, cleared_fits}
 use Rattle.match_live.proofs.matcher.Matcher.pass.Goals as goal
 
 -- what the law says, of rows that are no list of cases yet
@@ -34,8 +35,8 @@ law rule rise m log (r ∷ rest) rows last some made st g =
 
 pub invariant_of-self : goal.invariant_of-self
 invariant_of-self c =
-    let m = c.self.inside in let p = numbered_pattern m.pattern.now in
-    ap (λ b. is_some m.ended || b) (ap (fits no_bounds p) c.in-Ok.ensures.passed.node ∙ fits_expired c.args.last p no_bounds (state_of m.run.node)) ∙ c.self.invariant
+    let m = c.self.inside in let p = numbered_pattern m.pattern.now in let z = state_of m.run.node in let z' = state_of c.pass.new.self.node in
+    stays_made m.ended (fits no_bounds p z) (fits no_bounds p z') (cleared_fits p c.args.last z z' c.in-Ok.ensures.passed.node) c.self.invariant
 
 pub returns-in-Ok-clause-stands : goal.returns-in-Ok-clause-stands
 returns-in-Ok-clause-stands c =
@@ -47,8 +48,9 @@ returns-in-Ok-clause-stands c =
       runs = st.runs;
       rows = (let e : c.pass.new.self.rows ≡ length (log ++ quiet) = omega (arith, rows, count, taken, length-append log quiet) in e);
       last = c.in-Ok.ensures.passed.last_is ∙ sym (last_of_append log quiet c.args.last g.last_is);
-      live = subst (λ (z : State). IsLivePart p (log ++ quiet) (contents_of z)) (sym c.in-Ok.ensures.passed.node)
-          (live_from c.test_is_the_rule.ensures (observed_in (log ++ quiet)) (time_of (log ++ quiet)) p no_bounds (expired c.args.last (state_of m.run.node)) both.0);
+      live = live_from c.test_is_the_rule.ensures (observed_in (log ++ quiet)) (time_of (log ++ quiet)) p no_bounds (state_of c.pass.new.self.node)
+          (arranged_stands (observed_in (log ++ quiet)) (all_of (observed_in (log ++ quiet))) (time_of (log ++ quiet)) no_bounds p (expired c.args.last (state_of m.run.node))
+          (state_of c.pass.new.self.node) both.0 c.in-Ok.ensures.passed.node);
     })
 
 pub returns-in-Ok-clause-nothing_ends : goal.returns-in-Ok-clause-nothing_ends
