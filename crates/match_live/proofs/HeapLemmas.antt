@@ -5,7 +5,7 @@ use Rattle.std.proofs.lemmas.Bool.{cases_order}
 use Rattle.std.proofs.lemmas.Int.{ints}
 use Rattle.std.specs.List.{swap, swap_remove, sum_by}
 use Rattle.std.specs.List.Sorted.{IsPermutation}
-use Rattle.std.proofs.lemmas.List.{get_or_read, get_or_default}
+use Rattle.std.proofs.lemmas.List.{get_or_default}
 use Rattle.std.proofs.lemmas.List.Sums.{sum_by-cons, sum_by-swap_remove}
 use Rattle.std.proofs.lemmas.List.Edits.{Swapped, swapped_from_swap}
 use Rattle.std.proofs.lemmas.List.Sorted.{IsPermutation-map, sum_by-IsPermutation}
@@ -182,10 +182,7 @@ times_swapped xs ys a b d ha hb e =
     let s = swapped_from_swap xs ys a b d ha hb e in
     (ap (λ (x : Piece). x.earliest) s.0, ap (λ (x : Piece). x.earliest) s.1, λ m na nb. ap (λ (x : Piece). x.earliest) (s.2 m na nb))
 
--- a thing that was read at a place has the time of that place
-pub time_is : (xs : List Piece) (i : ℕ) (x d : Piece) → i < length xs → x ≡ get_or xs i x → time_at xs d i ≡ x.earliest
-time_is xs i x d h e = ap (λ (x : Piece). x.earliest) (sym (get_or_read xs i x h e d))
-
+-- a list in another order has the same things
 pub same_swapped : (xs ys : List Piece) → IsPermutation xs ys → AreSame (piece_trees xs) (piece_trees ys)
 same_swapped xs ys p weight = sum_by-IsPermutation weight (piece_trees xs) (piece_trees ys) (IsPermutation-map piece_tree xs ys p)
 

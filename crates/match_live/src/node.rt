@@ -30,7 +30,8 @@ use std::alloc::Global;
 use std::mem;
 use stix_times::Instant;
 
-/// What a matcher keeps for a part of its pattern.
+/// What a matcher keeps for a part of its pattern. Stores lie in boxes of their own: a node is dropped by
+/// recursion, and what it holds itself stands in each frame of that.
 #[derive(Drop)]
 pub(crate) enum Node {
     /// A leaf, by its number.
