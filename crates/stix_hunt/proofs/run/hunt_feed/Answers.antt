@@ -1,5 +1,6 @@
-use Rattle.std.proofs.Common.{List, All, inl, inr, refl, sym, subst}
-use Rattle.flow_edges.specs.Flow.{WritesPrefix}
+use Rattle.std.proofs.Common.{◌≡◌, List, All, inl, inr, refl, sym, subst}
+use Rattle.flow_edges.specs.Flow.{WritesPrefix, written_with}
+use Rattle.flow_edges.specs.Streams.{streams}
 use Rattle.stix_ids.specs.Kind.{IsKind}
 use Rattle.watch_indicators.specs.declared.hunted.Skipped.{Skipped}
 use Rattle.watch_hits.specs.Lines.{skipped_text}
@@ -31,3 +32,16 @@ returns-clause-end g c feed gathers =
     inr (inl (ends-unread c.answers_are_the_hits.ensures (task_of c.args.request.now) _ feed c.in-Ok.hunt (c.in-Ok.ensures.hunt feed gathers) _ _ now
     (record { left_is = refl; began_is = refl })
     (subst (λ (s : List Skipped). WritesPrefix (skipped_text s) written now) c.as_slice.ensures c.in-Err-NoMemory.ensures.err)))
+
+pub returns-in-Ok-write_skipped-clause-end : goal.returns-in-Ok-write_skipped-clause-end
+returns-in-Ok-write_skipped-clause-end g c feed gathers =
+    let written = g.O.Sink.written c.args.output.now in
+    let now = g.O.Sink.written c.write_skipped.new.output in
+    c.hunt_log.ensures.end (streams (g.I.Source.left c.args.input.now) (g.I.Source.began c.args.input.now) written) feed
+    (record { left_is = refl; began_is = refl })
+    (record {
+      hunt = c.in-Ok.hunt;
+      hunt_is = c.in-Ok.ensures.hunt feed gathers;
+      hunted_is = c.as_slice-hunted.ensures;
+      written_is = subst (λ (s : List Skipped). now ≡ written_with (skipped_text s) written) c.as_slice.ensures c.in-Ok-write_skipped.ensures.ok;
+    })
