@@ -1,5 +1,5 @@
 -- A connection that answers was open, and so was one that has committed.
-use Rattle.std.proofs.Common.{◌≡◌, ◌⊎◌, ℕ, List, [], ◌∷◌, Option, None, Some, Ok, Err, Bool, true, false, IsTrue, inl, inr, subst}
+use Rattle.std.proofs.Common.{◌≡◌, ◌⊎◌, ℕ, List, [], ◌∷◌, Option, None, Some, Ok, Err, Bool, true, false, IsTrue, MatchBool, inl, inr, subst}
 use Rattle.std.proofs.lemmas.Bool.{cases_Bool}
 use Rattle.sqlite_disk.specs.declared.Disk.{Ghosts}
 use Rattle.sqlite_value.specs.Order.{Row}
@@ -96,10 +96,18 @@ module _ {S : Type 0} (shown : Held S → State) where
   in_turn_stay step stays [] before after done still = subst (λ (h : Held S). IsTrue (shown h).is_open) done still
   in_turn_stay step stays (x ∷ xs) before after (between, first, rest) still = stays x before between first (in_turn_stay step stays xs between after rest still)
 
+  set_stays : (is_last : Bool) (mark : ℕ) → Stays (λ before after. MatchBool is_last (after ≡ before) (asked.WritesMark shown mark before after))
+  set_stays true mark before after same still = subst (λ (h : Held S). IsTrue (shown h).is_open) same still
+  set_stays false mark before after marked still = runs_stay _ _ before after marked still
+
   adds_stay : (rows : List StoredRow) (mark : ℕ) → Stays (asked.Adds shown rows mark)
   adds_stay rows mark before after (between, rows_in, marked) still =
       in_turn_stay (asked.Inserts shown) (λ row one two added. runs_stay _ added.0 one two added.2) rows before between rows_in
-      (runs_stay _ _ between after marked still)
+      (set_stays (asked.ends_at rows mark) mark between after marked still)
+
+  takes_stay : (dates : List ℕ) → Stays (asked.Takes shown dates)
+  takes_stay dates before after (between, marked, gone) still =
+      runs_stay _ _ before between marked (in_turn_stay (asked.Deletes shown) (λ date. runs_stay _ _) dates between after gone still)
 
   transacted_open : (Run : Held S → Held S → Type 0) → Stays Run → (before after : Held S) → asked.Transacts shown Run before after → IsTrue (shown (asked.begun before)).is_open
   transacted_open Run stays before after did = stays (asked.begun before) did.last did.run did.commits.0.was_open
@@ -107,8 +115,8 @@ module _ {S : Type 0} (shown : Held S → State) where
   pub appended_open : (rows : List StoredRow) (mark : ℕ) (before after : Held S) → asked.Transacts shown (asked.Adds shown rows mark) before after → IsTrue (shown (asked.begun before)).is_open
   appended_open rows mark = transacted_open (asked.Adds shown rows mark) (adds_stay rows mark)
 
-  pub removed_open : (dates : List ℕ) (before after : Held S) → asked.Transacts shown (asked.InTurn (asked.Deletes shown) dates) before after → IsTrue (shown (asked.begun before)).is_open
-  removed_open dates = transacted_open (asked.InTurn (asked.Deletes shown) dates) (in_turn_stay (asked.Deletes shown) (λ date. runs_stay _ _) dates)
+  pub removed_open : (dates : List ℕ) (before after : Held S) → asked.Transacts shown (asked.Takes shown dates) before after → IsTrue (shown (asked.begun before)).is_open
+  removed_open dates = transacted_open (asked.Takes shown dates) (takes_stay dates)
 
 conflict : (b : Bool) → b ≡ false → ¬ IsTrue b
 conflict true shut still = cc shut

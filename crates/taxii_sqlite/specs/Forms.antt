@@ -1,5 +1,5 @@
 -- What form a database has, and how one becomes a store.
-use Rattle.std.specs.Prelude.{◌≡◌, ℕ, ℤ, pos, List, [], ◌∷◌, Ok}
+use Rattle.std.specs.Prelude.{◌≡◌, ◌⊎◌, ℕ, ℤ, pos, List, [], ◌∷◌, Ok}
 use Rattle.sqlite_value.specs.declared.value.Value.{Value}
 use Rattle.sqlite_value.specs.declared.value.Value.TheVariants.{Int, Text}
 use Rattle.sqlite_value.specs.Order.{column}
@@ -8,7 +8,7 @@ use Rattle.sqlite.specs.Held.{Held}
 use Rattle.taxii_sqlite.specs.Statements.{AnswersMark, AnswersCount, Runs, Transacts}
 use Rattle.taxii_sqlite.specs.declared.form.Form.{Form}
 use Rattle.taxii_sqlite.specs.declared.form.Form.TheVariants.{Blank, Unnamed, Named, Other}
-use Rattle.taxii_sqlite.specs.declared.schema.TheConstants.{VERSION, ROW_TABLE, MARK_TABLE, FORM_TABLE, FIRST_MARK, NAME_FORM, COUNT_TABLES, READ_VERSION}
+use Rattle.taxii_sqlite.specs.declared.schema.TheConstants.{VERSION, VERSION_BEFORE, ROW_TABLE, MARK_TABLE, FORM_TABLE, FIRST_MARK, NAME_FORM, COUNT_TABLES, READ_VERSION}
 
 -- of so many tables so many are those of rows and mark, and so many the one that names the form: no tables, those that earlier
 -- programs made, all of a store, or any others
@@ -60,14 +60,23 @@ module _ {S : Type 0} (shown : Held S → State) where
   Completes Named before after = after ≡ before
   Completes Other before after = ⊥
 
-  -- the schema was asked for its form, the database got what it lacked of a store's, and its version is this one
+  -- a store of this version stayed as it was, one of the version before got this one, and nothing else
+  abbrev pub Renews : ℤ → Held S → Held S → Type 0
+  Renews version before after =
+      ((version ≡ VERSION) × (after ≡ before)) ⊎ ((version ≡ VERSION_BEFORE) × Transacts shown (Runs shown NAME_FORM.now []) before after)
+
+  -- the schema was asked for its form, the database got what it lacked of a store's, and its version is this one, or was the one
+  -- before and was made this one
   pub record IsTaken (before after : Held S) : Type 0 where
     pub form : Form
     pub listed : Held S
     pub complete : Held S
+    pub version : ℤ
+    pub read : Held S
     pub has_form : AnswersForm (shown before) (shown listed) form
     pub completes : Completes form listed complete
-    pub has_version : AnswersVersion (shown complete) (shown after) VERSION
+    pub has_version : AnswersVersion (shown complete) (shown read) version
+    pub renews : Renews version read after
 
   -- it was taken as a store, then a mark was read, and then it was counted that no row is early
   pub record IsReady (before after : Held S) : Type 0 where

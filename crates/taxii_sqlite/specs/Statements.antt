@@ -1,6 +1,6 @@
 -- Which statements are run, with which values, and what they answer. What a statement does and answers is said by `Executes` and
 -- `QueriesRow` of the crate `sqlite`.
-use Rattle.std.specs.Prelude.{◌≡◌, ℕ, ℤ, true, List, [], ◌∷◌, Option, None, Some, Ok, Err}
+use Rattle.std.specs.Prelude.{◌≡◌, ℕ, ◌-◌, ℤ, Bool, true, false, nat_eq, MatchBool, List, [], ◌∷◌, length, slice_get, Option, None, Some, Ok, Err}
 use Rattle.sqlite_value.specs.declared.value.Value.{Value}
 use Rattle.sqlite_value.specs.declared.value.Value.TheVariants.{Int}
 use Rattle.sqlite_value.specs.Order.{column}
@@ -9,7 +9,7 @@ use Rattle.sqlite.specs.Held.{Held}
 use Rattle.sqlite.specs.declared.error.Error.TheVariants.{QueryReturnedNoRows}
 use Rattle.taxii_rows.specs.declared.stored_row.StoredRow.{StoredRow}
 use Rattle.taxii_sqlite.specs.Columns.{HoldsRow, date_value}
-use Rattle.taxii_sqlite.specs.declared.schema.TheConstants.{COUNT_EARLY_ROWS, NEXT_ROW, READ_MARK, INSERT_ROW, DELETE_ROW, WRITE_MARK}
+use Rattle.taxii_sqlite.specs.declared.schema.TheConstants.{COUNT_EARLY_ROWS, NEXT_ROW, READ_MARK, INSERT_ROW, DELETE_ROW, WRITE_MARK, KEEP_MARK}
 
 -- the first row that is later than the date: the columns that `NEXT_ROW` answers hold it, or it answers no row
 abbrev pub AnswersNext : ℕ → State → State → Option StoredRow → Type 0
@@ -31,6 +31,15 @@ AnswersCount before after count =
 abbrev pub InTurn : {X H : Type 0} → (X → H → H → Type 0) → List X → H → H → Type 0
 InTurn step [] before after = after ≡ before
 InTurn step (x ∷ more) before after = (between : _) × step x before between × InTurn step more between after
+
+-- whether there is a row, and has the date
+abbrev pub has_date : Option StoredRow → ℕ → Bool
+has_date None date = false
+has_date (Some row) date = nat_eq row.date date
+
+-- whether the last of the rows has the date
+abbrev pub ends_at : List StoredRow → ℕ → Bool
+ends_at rows date = has_date (slice_get rows (length rows - 1)) date
 
 -- the same connection, in a transaction that was begun
 abbrev pub begun : {S : Type 0} → Held S → Held S
@@ -56,10 +65,18 @@ module _ {S : Type 0} (shown : Held S → State) where
   abbrev pub Deletes : ℕ → Held S → Held S → Type 0
   Deletes date = Runs DELETE_ROW.now (date_value date ∷ [])
 
-  -- the date was made the mark
+  -- the date was written as the mark
   abbrev pub WritesMark : ℕ → Held S → Held S → Type 0
   WritesMark mark = Runs WRITE_MARK.now (date_value mark ∷ [])
 
+  -- the date became the mark: where the last of the rows has it, by that row, and nothing was written; else it was written
+  abbrev pub SetsMark : List StoredRow → ℕ → Held S → Held S → Type 0
+  SetsMark rows mark before after = MatchBool (ends_at rows mark) (after ≡ before) (WritesMark mark before after)
+
   -- the rows were added in turn, and then the date was made the mark
   abbrev pub Adds : List StoredRow → ℕ → Held S → Held S → Type 0
-  Adds rows mark before after = (with_rows : Held S) × InTurn Inserts rows before with_rows × WritesMark mark with_rows after
+  Adds rows mark before after = (with_rows : Held S) × InTurn Inserts rows before with_rows × SetsMark rows mark with_rows after
+
+  -- the mark was written as it is read, so that it stands when the last row goes, and then the rows of the dates were removed in turn
+  abbrev pub Takes : List ℕ → Held S → Held S → Type 0
+  Takes dates before after = (marked : Held S) × Runs KEEP_MARK.now [] before marked × InTurn Deletes dates marked after

@@ -1,15 +1,16 @@
 //! What form a database has: what tables it has, and which version of a store they are.
 
-ghost use Rattle.std.specs.Prelude.{◌≡◌, ◌<ℤ◌, Err, IfOk, OnOk};
+ghost use Rattle.std.specs.Prelude.{◌≡◌, ◌<ℤ◌, [], Err, IfOk, OnOk};
 ghost use Rattle.sqlite.specs.Held.{state};
 ghost use Rattle.sqlite.specs.State.{HasCleanDisk};
-ghost use Rattle.taxii_sqlite.specs.Forms.{IsFormOf, AnswersForm, AnswersVersion, MakesRows, NamesForm, MakesAll, Completes, IsTaken};
-ghost use Rattle.taxii_sqlite.specs.Statements.{Transacts};
+ghost use Rattle.taxii_sqlite.specs.Forms.{IsFormOf, AnswersForm, AnswersVersion, MakesRows, NamesForm, MakesAll, Completes, Renews, IsTaken};
+ghost use Rattle.taxii_sqlite.specs.Statements.{Runs, Transacts};
 ghost use Rattle.taxii_sqlite.specs.Transactions.{GoesOn, StaysUnended};
 
 use crate::failure::Failure;
 use crate::schema::{
     COUNT_TABLES, FIRST_MARK, FORM_TABLE, MARK_TABLE, NAME_FORM, READ_VERSION, ROW_TABLE, VERSION,
+    VERSION_BEFORE,
 };
 use crate::statements::execute;
 use sqlite::{Alter, Connection, Transaction, params};
@@ -28,8 +29,8 @@ pub(crate) enum Form {
     Other,
 }
 
-/// Sees that the database is a store of this version, and makes one of it where it has no tables, or where it doesn't name its form.
-/// Nothing is written to any other.
+/// Sees that the database is a store of this version, and makes one of it where it has no tables, doesn't name its form, or is of
+/// the version before. Nothing is written to any other.
 pub(crate) fn take<S: Alter>(connection: &mut Connection<S>) -> Result<(), Failure>
     ensures taken { HasCleanDisk (state S.Store connection.new) → OnOk result (IsTaken (state S.Store) connection.old connection.new) }
     ensures clean { HasCleanDisk (state S.Store connection.new) → HasCleanDisk (state S.Store connection.old) }
@@ -37,7 +38,7 @@ pub(crate) fn take<S: Alter>(connection: &mut Connection<S>) -> Result<(), Failu
     let form = read_form(connection)?;
     complete(connection, form)?;
     let version = read_version(connection)?;
-    check_version(version)?;
+    renew(connection, version)?;
     Ok(())
 }
 
@@ -140,6 +141,34 @@ fn read_version<S: Alter>(connection: &mut Connection<S>) -> Result<i64, Failure
 {
     let columns = connection.query_row(READ_VERSION, &[])?;
     Ok(columns.get(0)?)
+}
+
+/// Makes this version of the one before. Nothing is written to any other.
+fn renew<S: Alter>(connection: &mut Connection<S>, version: i64) -> Result<(), Failure>
+    ensures renews { HasCleanDisk (state S.Store connection.new) → OnOk result (Renews (state S.Store) version connection.old connection.new) }
+    ensures later { VERSION <ℤ version → (result ≡ Err (Failure.Fault FaultCause.LaterForm)) × (connection.new ≡ connection.old) }
+    ensures earlier { version <ℤ VERSION_BEFORE → (result ≡ Err (Failure.Fault FaultCause.OtherForm)) × (connection.new ≡ connection.old) }
+    ensures clean { HasCleanDisk (state S.Store connection.new) → HasCleanDisk (state S.Store connection.old) }
+{
+    if version == VERSION_BEFORE {
+        write_version(connection)
+    } else {
+        check_version(version)
+    }
+}
+
+/// Writes this version over another one, and commits; or changes nothing.
+fn write_version<S: Alter>(connection: &mut Connection<S>) -> Result<(), Failure>
+    ensures runs { HasCleanDisk (state S.Store connection.new) → OnOk result (Transacts (state S.Store) (Runs (state S.Store) NAME_FORM.now []) connection.old connection.new) }
+    ensures clean { HasCleanDisk (state S.Store connection.new) → HasCleanDisk (state S.Store connection.old) }
+{
+    if !connection.is_autocommit() {
+        return Err(Failure::Fault(FaultCause::Closed));
+    }
+    let mut transaction = connection.transaction();
+    execute(&mut transaction, NAME_FORM, &[])?;
+    transaction.commit()?;
+    Ok(())
 }
 
 /// Whether the form has this version. A later one has a cause of its own.

@@ -2,7 +2,10 @@
 //! texts, so each of these is compiled once.
 
 /// The version of the form that the tables below have.
-pub(crate) const VERSION: i64 = 1;
+pub(crate) const VERSION: i64 = 2;
+
+/// The version before, whose stores are of this form too: each addition wrote the mark, also where its last row had that date.
+pub(crate) const VERSION_BEFORE: i64 = 1;
 
 /// The table of the rows, as the schema lists it.
 pub(crate) const ROW_TABLE: &str =
@@ -19,8 +22,8 @@ pub(crate) const FORM_TABLE: &str =
 /// The mark of a store without rows.
 pub(crate) const FIRST_MARK: &str = "INSERT INTO stix_mark (one, date) VALUES (1, 0)";
 
-/// Names the form of the tables.
-pub(crate) const NAME_FORM: &str = "INSERT INTO stix_store (one, version) VALUES (1, 1)";
+/// Names the form of the tables, with this version.
+pub(crate) const NAME_FORM: &str = "REPLACE INTO stix_store (one, version) VALUES (1, 2)";
 
 /// How many objects the schema lists that SQLite itself didn't make, how many of them are the tables of the rows and of the mark,
 /// and how many the one that names the form.
@@ -44,8 +47,14 @@ pub(crate) const INSERT_ROW: &str =
 /// Removes the row of a date.
 pub(crate) const DELETE_ROW: &str = "DELETE FROM stix_row WHERE date = ?1";
 
-/// The last date ever given.
-pub(crate) const READ_MARK: &str = "SELECT date FROM stix_mark WHERE one = 1";
+/// The last date ever given: the later of the mark that was written and the date of the last row. The engine goes over a table for a
+/// query within an expression, and not for one that is joined.
+pub(crate) const READ_MARK: &str =
+    "SELECT max(mark.date, ifnull(newest.date, mark.date)) FROM stix_mark AS mark LEFT JOIN (SELECT date FROM stix_row ORDER BY date DESC LIMIT 1) AS newest ON 1 WHERE mark.one = 1";
+
+/// Writes the mark as `READ_MARK` answers it.
+pub(crate) const KEEP_MARK: &str =
+    "REPLACE INTO stix_mark (one, date) SELECT 1, max(mark.date, ifnull(newest.date, mark.date)) FROM stix_mark AS mark LEFT JOIN (SELECT date FROM stix_row ORDER BY date DESC LIMIT 1) AS newest ON 1 WHERE mark.one = 1";
 
 /// Makes a date the last one ever given.
 pub(crate) const WRITE_MARK: &str = "REPLACE INTO stix_mark (one, date) VALUES (1, ?1)";

@@ -5,13 +5,15 @@ ghost use Rattle.sqlite.specs.Held.{state};
 ghost use Rattle.sqlite.specs.State.{HasCleanDisk};
 ghost use Rattle.sqlite.specs.Values.{bound};
 ghost use Rattle.taxii_sqlite.specs.Forms.{IsReady};
-ghost use Rattle.taxii_sqlite.specs.Statements.{AnswersNext, AnswersMark, AnswersCount, Runs, Inserts, Deletes, WritesMark, InTurn, Adds, Transacts};
+ghost use Rattle.taxii_sqlite.specs.Statements.{AnswersNext, AnswersMark, AnswersCount, Runs, Inserts, Deletes, WritesMark, ends_at, SetsMark, InTurn, Adds, Takes, Transacts};
 ghost use Rattle.taxii_sqlite.specs.Transactions.{IsUntouched, IsSettled, GoesOn, StaysUnended};
 
 use crate::failure::Failure;
 use crate::form;
 use crate::row::{bytes_of, columns_of, date_at, integer_of, read_row};
-use crate::schema::{COUNT_EARLY_ROWS, DELETE_ROW, INSERT_ROW, NEXT_ROW, READ_MARK, WRITE_MARK};
+use crate::schema::{
+    COUNT_EARLY_ROWS, DELETE_ROW, INSERT_ROW, KEEP_MARK, NEXT_ROW, READ_MARK, WRITE_MARK,
+};
 use sqlite::types::ValueRef;
 use sqlite::{Alter, Connection, Error, Transaction, params};
 use taxii_rows::{FaultCause, StoredRow};
@@ -79,21 +81,22 @@ pub(crate) fn append<S: Alter>(
     }
     let mut transaction = connection.transaction();
     insert_rows(&mut transaction, rows)?;
-    write_mark(&mut transaction, mark)?;
+    set_mark(&mut transaction, rows, mark)?;
     transaction.commit()?;
     Ok(())
 }
 
-/// Removes the rows of these dates, and commits; or changes nothing.
+/// Removes the rows of these dates, and commits; or changes nothing. The mark is written first, since the last row may go.
 pub(crate) fn remove<S: Alter>(connection: &mut Connection<S>, dates: &[u64]) -> Result<(), Failure>
     ensures ok { HasCleanDisk (state S.Store connection.new) → OnOk result (IsSettled (state S.Store connection.new)) }
     ensures err { HasCleanDisk (state S.Store connection.new) → OnErr result (IsUntouched (state S.Store connection.old) (state S.Store connection.new)) }
-    ensures runs { HasCleanDisk (state S.Store connection.new) → OnOk result (Transacts (state S.Store) (InTurn (Deletes (state S.Store)) dates.now) connection.old connection.new) }
+    ensures runs { HasCleanDisk (state S.Store connection.new) → OnOk result (Transacts (state S.Store) (Takes (state S.Store) dates.now) connection.old connection.new) }
 {
     if !connection.is_autocommit() {
         return Err(Failure::Fault(FaultCause::Closed));
     }
     let mut transaction = connection.transaction();
+    execute(&mut transaction, KEEP_MARK, &[])?;
     delete_rows(&mut transaction, dates)?;
     transaction.commit()?;
     Ok(())
@@ -150,6 +153,34 @@ fn delete_row<S: Alter>(transaction: &mut Transaction<'_, S>, date: u64) -> Resu
 {
     let date = integer_of(date)?;
     execute(transaction, DELETE_ROW, params![date])
+}
+
+/// Makes a date the mark. That of the last of the rows is it by its row.
+fn set_mark<S: Alter>(
+    transaction: &mut Transaction<'_, S>,
+    rows: &[StoredRow],
+    mark: u64,
+) -> Result<(), Failure>
+    ensures same_reference { transaction.new.conn.ghost_name ≡ transaction.old.conn.ghost_name }
+    ensures inside { GoesOn (state S.Store transaction.old.conn.now) (state S.Store transaction.new.conn.now) }
+    ensures unended { OnOk result (StaysUnended (state S.Store transaction.old.conn.now) (state S.Store transaction.new.conn.now)) }
+    ensures runs { HasCleanDisk (state S.Store transaction.new.conn.now) → OnOk result (SetsMark (state S.Store) rows.now mark transaction.old.conn.now transaction.new.conn.now) }
+{
+    if end_at(rows, mark) {
+        Ok(())
+    } else {
+        write_mark(transaction, mark)
+    }
+}
+
+/// Whether the last of the rows has the date.
+fn end_at(rows: &[StoredRow], date: u64) -> bool
+    ensures { result ≡ ends_at rows.now date }
+{
+    match rows.last() {
+        Some(row) => row.date == date,
+        None => false,
+    }
 }
 
 fn write_mark<S: Alter>(transaction: &mut Transaction<'_, S>, mark: u64) -> Result<(), Failure>
