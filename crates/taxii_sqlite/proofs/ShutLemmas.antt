@@ -1,5 +1,5 @@
 -- A connection that answers was open, and so was one that has committed.
-use Rattle.std.proofs.Common.{◌≡◌, ◌⊎◌, ℕ, List, [], ◌∷◌, Option, None, Some, Ok, Err, Bool, true, false, IsTrue, MatchBool, inl, inr, subst}
+use Rattle.std.proofs.Common.{◌≡◌, ℕ, List, [], ◌∷◌, Option, None, Some, Ok, Err, Bool, true, false, IsTrue, MatchBool, inl, inr, subst}
 use Rattle.std.proofs.lemmas.Bool.{cases_Bool}
 use Rattle.sqlite_disk.specs.declared.Disk.{Ghosts}
 use Rattle.sqlite_value.specs.Order.{Row}
@@ -9,10 +9,9 @@ use Rattle.sqlite_schema.specs.declared.command.Command.{Command}
 use Rattle.sqlite_schema.specs.declared.command.Command.TheVariants.{Select, Insert, InsertOr, Update, Delete, CreateTable, CreateIndex, DropTable, DropIndex, Begin, Commit, Rollback, Savepoint as Save, Release, RollbackTo, Nothing, CreateView, DropView, Rows}
 use Rattle.sqlite_schema.specs.declared.command.Returning.{Returning}
 use Rattle.sqlite_resolve.specs.declared.compiled.Compiled.{Compiled}
-use Rattle.sqlite.specs.declared.error.Error.{Error}
 use Rattle.sqlite.specs.declared.error.Error.TheVariants.{QueryReturnedNoRows}
 use Rattle.sqlite.specs.Clock.{timed}
-use Rattle.sqlite.specs.State.{State, Runs, RunsCommand, ShowsRows, FailsToShow, Fails, Shown, QueriesRow, FailsToQuery, IsNotRun, ExecutesIn, Executes, store_error, shows_rows, text_of}
+use Rattle.sqlite.specs.State.{State, Runs, ShowsRows, FailsToShow, Shown, QueriesRow, FailsToQuery, IsNotRun, ExecutesIn, Executes, store_error, shows_rows, text_of}
 use Rattle.sqlite.specs.Held.{Held}
 use Rattle.taxii_rows.specs.declared.stored_row.StoredRow.{StoredRow}
 use Rattle.sqlite.specs.Files.{file_state}
