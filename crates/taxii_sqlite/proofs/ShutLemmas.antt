@@ -104,8 +104,8 @@ module _ {S : Type 0} (shown : Held S → State) where
       in_turn_stay (asked.Inserts shown) (λ row one two added. runs_stay _ added.0 one two added.2) rows before between rows_in
       (set_stays (asked.ends_at rows mark) mark between after marked still)
 
-  takes_stay : (dates : List ℕ) → Stays (asked.Takes shown dates)
-  takes_stay dates before after (between, marked, gone) still =
+  deletes_stay : (dates : List ℕ) → Stays (asked.DeletesAll shown dates)
+  deletes_stay dates before after (between, marked, gone) still =
       runs_stay _ _ before between marked (in_turn_stay (asked.Deletes shown) (λ date. runs_stay _ _) dates between after gone still)
 
   transacted_open : (Run : Held S → Held S → Type 0) → Stays Run → (before after : Held S) → asked.Transacts shown Run before after → IsTrue (shown (asked.begun before)).is_open
@@ -114,8 +114,8 @@ module _ {S : Type 0} (shown : Held S → State) where
   pub appended_open : (rows : List StoredRow) (mark : ℕ) (before after : Held S) → asked.Transacts shown (asked.Adds shown rows mark) before after → IsTrue (shown (asked.begun before)).is_open
   appended_open rows mark = transacted_open (asked.Adds shown rows mark) (adds_stay rows mark)
 
-  pub removed_open : (dates : List ℕ) (before after : Held S) → asked.Transacts shown (asked.Takes shown dates) before after → IsTrue (shown (asked.begun before)).is_open
-  removed_open dates = transacted_open (asked.Takes shown dates) (takes_stay dates)
+  pub removed_open : (dates : List ℕ) (before after : Held S) → asked.Transacts shown (asked.DeletesAll shown dates) before after → IsTrue (shown (asked.begun before)).is_open
+  removed_open dates = transacted_open (asked.DeletesAll shown dates) (deletes_stay dates)
 
 conflict : (b : Bool) → b ≡ false → ¬ IsTrue b
 conflict true shut still = cc shut

@@ -11,7 +11,7 @@ use Rattle.sqlite.specs.Files.{file_state, IsOpened}
 use Rattle.sqlite.specs.Held.{IsNew}
 use Rattle.taxii_rows.specs.declared.stored_row.StoredRow.{StoredRow}
 use Rattle.taxii_rows.specs.Keeper.{row_after, with_rows, without}
-use Rattle.taxii_sqlite.specs.Statements.{AnswersNext, AnswersMark, Transacts, Adds, Takes}
+use Rattle.taxii_sqlite.specs.Statements.{AnswersNext, AnswersMark, Transacts, Adds, DeletesAll}
 use Rattle.taxii_sqlite.specs.Forms.{IsReady}
 use Rattle.taxii_sqlite.specs.Transactions.{IsUntouched}
 use Rattle.taxii_sqlite.specs.declared.connection.Database.{Database}
@@ -43,7 +43,7 @@ module _ {D : Type 0} {disk : Ghosts D} where
 
   -- the rows of the dates were removed, and the mark stayed
   abbrev pub Removes : List ℕ → Database D disk → Database D disk → Type 0
-  Removes dates (Disk before) (Disk after) = HasCleanDisk (file_state after) → Transacts file_state (Takes file_state dates) before after
+  Removes dates (Disk before) (Disk after) = HasCleanDisk (file_state after) → Transacts file_state (DeletesAll file_state dates) before after
   Removes dates (Memory before) (Memory after) = after.state ≡ without dates before.state
   Removes dates _ _ = ⊥
 

@@ -78,5 +78,5 @@ module _ {S : Type 0} (shown : Held S → State) where
   Adds rows mark before after = (with_rows : Held S) × InTurn Inserts rows before with_rows × SetsMark rows mark with_rows after
 
   -- the mark was written as it is read, so that it stands when the last row goes, and then the rows of the dates were removed in turn
-  abbrev pub Takes : List ℕ → Held S → Held S → Type 0
-  Takes dates before after = (marked : Held S) × Runs KEEP_MARK.now [] before marked × InTurn Deletes dates marked after
+  abbrev pub DeletesAll : List ℕ → Held S → Held S → Type 0
+  DeletesAll dates before after = (marked : Held S) × Runs KEEP_MARK.now [] before marked × InTurn Deletes dates marked after

@@ -5,7 +5,7 @@ ghost use Rattle.sqlite.specs.Held.{state};
 ghost use Rattle.sqlite.specs.State.{HasCleanDisk};
 ghost use Rattle.sqlite.specs.Values.{bound};
 ghost use Rattle.taxii_sqlite.specs.Forms.{IsReady};
-ghost use Rattle.taxii_sqlite.specs.Statements.{AnswersNext, AnswersMark, AnswersCount, Runs, Inserts, Deletes, WritesMark, ends_at, SetsMark, InTurn, Adds, Takes, Transacts};
+ghost use Rattle.taxii_sqlite.specs.Statements.{AnswersNext, AnswersMark, AnswersCount, Runs, Inserts, Deletes, WritesMark, ends_at, SetsMark, InTurn, Adds, DeletesAll, Transacts};
 ghost use Rattle.taxii_sqlite.specs.Transactions.{IsUntouched, IsSettled, GoesOn, StaysUnended};
 
 use crate::failure::Failure;
@@ -90,7 +90,7 @@ pub(crate) fn append<S: Alter>(
 pub(crate) fn remove<S: Alter>(connection: &mut Connection<S>, dates: &[u64]) -> Result<(), Failure>
     ensures ok { HasCleanDisk (state S.Store connection.new) → OnOk result (IsSettled (state S.Store connection.new)) }
     ensures err { HasCleanDisk (state S.Store connection.new) → OnErr result (IsUntouched (state S.Store connection.old) (state S.Store connection.new)) }
-    ensures runs { HasCleanDisk (state S.Store connection.new) → OnOk result (Transacts (state S.Store) (Takes (state S.Store) dates.now) connection.old connection.new) }
+    ensures runs { HasCleanDisk (state S.Store connection.new) → OnOk result (Transacts (state S.Store) (DeletesAll (state S.Store) dates.now) connection.old connection.new) }
 {
     if !connection.is_autocommit() {
         return Err(Failure::Fault(FaultCause::Closed));
