@@ -1,6 +1,6 @@
-ghost use Rattle.std.specs.Prelude.{◌≡◌, ◌++◌, List, ℕ, codes, decimal, IsErr};
+ghost use Rattle.std.specs.Prelude.{◌≡◌, ◌++◌, List, ℕ, codes, decimal, IsErr, OnErr};
 ghost use Rattle.flow_edges.specs.Faults.{Counted};
-ghost use Rattle.flow_edges.specs.Flow.{WritesWhole};
+ghost use Rattle.flow_edges.specs.Flow.{WritesWhole, WritesPart};
 ghost use Rattle.stix_times.specs.Writing.{IsCanonicalTextOf};
 ghost use Rattle.match_input.specs.inner.Reason.{broken_words, reason_text, path_lead};
 ghost use Rattle.match_input.specs.Texts.{at_path, line_of_text, refused_line_text, IsInputRefusalText};
@@ -13,10 +13,11 @@ use itoa::Buffer;
 use stix_times::Instant;
 
 /// Writes why a line is refused, as `line 2 refused: NotBundle at type` and a line feed. After a `Fault`
-/// a prefix of the text was written. Takes no memory.
+/// a part of the text was written, and not all of it. Takes no memory.
 pub fn write_input_refusal<S: Sink>(line: u64, rule: &InputRule, sink: &mut S) -> Result<(), Fault>
     ensures text { (text : List ℕ) × IsInputRefusalText line rule.now text
         × WritesWhole text (S.written sink.old) (S.written sink.new) result }
+    ensures part { OnErr result ((text : List ℕ) × IsInputRefusalText line rule.now text × WritesPart text (S.written sink.old) (S.written sink.new)) }
     ensures causes { Counted (IsErr result) (S.faults sink.old) (S.faults sink.new) }
 {
     match rule {
@@ -33,6 +34,7 @@ pub fn write_input_refusal<S: Sink>(line: u64, rule: &InputRule, sink: &mut S) -
 fn write_embedded<S: Sink>(line: u64, object: u32, sink: &mut S) -> Result<(), Fault>
     ensures text { WritesWhole (refused_line_text line (codes "EmbeddedObjects object " ++ decimal object))
         (S.written sink.old) (S.written sink.new) result }
+    ensures part { OnErr result (WritesPart (refused_line_text line (codes "EmbeddedObjects object " ++ decimal object)) (S.written sink.old) (S.written sink.new)) }
     ensures causes { Counted (IsErr result) (S.faults sink.old) (S.faults sink.new) }
 {
     let mut buffer = Buffer::new();
@@ -45,6 +47,7 @@ fn write_embedded<S: Sink>(line: u64, object: u32, sink: &mut S) -> Result<(), F
 /// Writes the same line, of the texts of both numbers.
 fn write_object<'a, S: Sink>(line: &'a str, object: &'a str, sink: &mut S) -> Result<(), Fault>
     ensures text { WritesWhole (line_of_text line.now (codes "EmbeddedObjects object " ++ object.now)) (S.written sink.old) (S.written sink.new) result }
+    ensures part { OnErr result (WritesPart (line_of_text line.now (codes "EmbeddedObjects object " ++ object.now)) (S.written sink.old) (S.written sink.new)) }
     ensures causes { Counted (IsErr result) (S.faults sink.old) (S.faults sink.new) }
 {
     write_pieces(
@@ -68,6 +71,7 @@ fn write_out_of_order<S: Sink>(
 ) -> Result<(), Fault>
     ensures text { (text : List ℕ) × IsInputRefusalText line (InputRule.OutOfOrder last now) text
         × WritesWhole text (S.written sink.old) (S.written sink.new) result }
+    ensures part { OnErr result ((text : List ℕ) × IsInputRefusalText line (InputRule.OutOfOrder last now) text × WritesPart text (S.written sink.old) (S.written sink.new)) }
     ensures causes { Counted (IsErr result) (S.faults sink.old) (S.faults sink.new) }
 {
     let mut buffer = Buffer::new();
@@ -93,6 +97,7 @@ fn write_times<'a, S: Sink>(
 ) -> Result<(), Fault>
     ensures text { WritesWhole (line_of_text line.now (codes "OutOfOrder last " ++ (last.now ++ (codes " now " ++ now.now))))
         (S.written sink.old) (S.written sink.new) result }
+    ensures part { OnErr result (WritesPart (line_of_text line.now (codes "OutOfOrder last " ++ (last.now ++ (codes " now " ++ now.now)))) (S.written sink.old) (S.written sink.new)) }
     ensures causes { Counted (IsErr result) (S.faults sink.old) (S.faults sink.new) }
 {
     write_pieces(
@@ -112,6 +117,7 @@ fn write_times<'a, S: Sink>(
 /// Writes the line of a reason.
 fn write_reason<S: Sink>(line: u64, said: Reason<'_>, sink: &mut S) -> Result<(), Fault>
     ensures text { WritesWhole (refused_line_text line (reason_text said.entry)) (S.written sink.old) (S.written sink.new) result }
+    ensures part { OnErr result (WritesPart (refused_line_text line (reason_text said.entry)) (S.written sink.old) (S.written sink.new)) }
     ensures causes { Counted (IsErr result) (S.faults sink.old) (S.faults sink.new) }
 {
     let mut buffer = Buffer::new();
@@ -134,6 +140,7 @@ fn write_at<'a, S: Sink>(
     sink: &mut S,
 ) -> Result<(), Fault>
     ensures text { WritesWhole (line_of_text line.now (at_path name.now path.now)) (S.written sink.old) (S.written sink.new) result }
+    ensures part { OnErr result (WritesPart (line_of_text line.now (at_path name.now path.now)) (S.written sink.old) (S.written sink.new)) }
     ensures causes { Counted (IsErr result) (S.faults sink.old) (S.faults sink.new) }
 {
     let at = lead_of(path);
@@ -161,6 +168,7 @@ fn write_broken<'a, S: Sink>(
     sink: &mut S,
 ) -> Result<(), Fault>
     ensures text { WritesWhole (line_of_text line.now (at_path (name.now ++ broken_words object.now rule.now) path.now)) (S.written sink.old) (S.written sink.new) result }
+    ensures part { OnErr result (WritesPart (line_of_text line.now (at_path (name.now ++ broken_words object.now rule.now) path.now)) (S.written sink.old) (S.written sink.new)) }
     ensures causes { Counted (IsErr result) (S.faults sink.old) (S.faults sink.new) }
 {
     let at = lead_of(path);

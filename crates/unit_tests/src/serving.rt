@@ -43,12 +43,71 @@ const NONE: Failing<'static> = Failing {
     output: &[],
 };
 
+/// What a server meets: its callers, its moments, and where it tells what it did.
+#[derive(Drop)]
+struct Outside {
+    door: MemoryDoor,
+    clock: ListClock,
+    output: MemorySink,
+}
+
+impl Outside {
+    /// A caller who sends this text, over a link whose calls fail, and one who asks what there is.
+    fn new(alloc: Global, text: &str, failing: Failing<'_>) -> Result<Outside, NoMemory> {
+        Ok(Outside {
+            door: door(alloc, text, failing)?,
+            clock: ListClock::new(Items::from_vec(vec![in alloc; MOMENT]?)),
+            output: MemorySink::new(alloc, 100, listed(alloc, failing.output)?)?,
+        })
+    }
+}
+
+fn door(alloc: Global, text: &str, failing: Failing<'_>) -> Result<MemoryDoor, NoMemory> {
+    let mut links = Items::new(alloc);
+    links.push(link(alloc, text, failing.reads, failing.writes)?)?;
+    links.push(link(alloc, DISCOVERY, &[], &[])?)?;
+    MemoryDoor::new(alloc, links, listed(alloc, failing.door)?)
+}
+
+fn link(alloc: Global, text: &str, reads: &[u64], writes: &[u64]) -> Result<MemoryLink, NoMemory> {
+    let bytes = listed(alloc, text.as_bytes())?;
+    let reads = listed(alloc, reads)?;
+    MemoryLink::new(alloc, bytes, 100, reads, 10_000, listed(alloc, writes)?)
+}
+
+/// One collection, for two callers.
+fn request(alloc: Global) -> Result<ServeRequest<'static>, NoMemory> {
+    let mut collections = Items::new(alloc);
+    collections.push(CollectionRequest {
+        id: COLLECTION,
+        can_read: true,
+        can_write: true,
+        title: "Indicators",
+    })?;
+    Ok(ServeRequest {
+        port: 8080,
+        connections: 2,
+        store: None,
+        base: None,
+        collections,
+    })
+}
+
 /// What is left when a server ends.
 #[derive(Drop)]
 struct Left {
     ending: ServeEnding,
-    door: MemoryDoor,
-    output: MemorySink,
+    outside: Outside,
+}
+
+impl Left {
+    /// What was written to the caller of that place.
+    fn heard(&self, place: usize) -> &[u8] {
+        match self.outside.door.finished().get(place) {
+            Some(link) => link.bytes(),
+            None => &[],
+        }
+    }
 }
 
 /// Serves a caller who sends this text, over a link whose calls fail, and one who asks what there is.
@@ -58,38 +117,22 @@ fn served(
     text: &str,
     failing: Failing<'_>,
 ) -> Result<Left, NoMemory> {
-    let mut collections = Items::new(alloc);
-    collections.push(CollectionRequest {
-        id: COLLECTION,
-        can_read: true,
-        can_write: true,
-        title: "Indicators",
-    })?;
-    let request = ServeRequest {
-        port: 8080,
-        connections: 2,
-        store: None,
-        base: None,
-        collections,
-    };
-    let mut links = Items::new(alloc);
-    links.push(link(alloc, text, failing.reads, failing.writes)?)?;
-    links.push(link(alloc, DISCOVERY, &[], &[])?)?;
-    let mut door = MemoryDoor::new(alloc, links, listed(alloc, failing.door)?)?;
-    let mut output = MemorySink::new(alloc, 100, listed(alloc, failing.output)?)?;
-    let mut clock = ListClock::new(Items::from_vec(vec![in alloc; MOMENT]?));
-    let ending = serve(alloc, &request, &mut output, &mut door, keeper, &mut clock);
-    Ok(Left {
-        ending,
-        door,
-        output,
-    })
+    let request = request(alloc)?;
+    let mut outside = Outside::new(alloc, text, failing)?;
+    let ending = serve(
+        alloc,
+        &request,
+        &mut outside.output,
+        &mut outside.door,
+        keeper,
+        &mut outside.clock,
+    );
+    Ok(Left { ending, outside })
 }
 
-fn link(alloc: Global, text: &str, reads: &[u64], writes: &[u64]) -> Result<MemoryLink, NoMemory> {
-    let bytes = listed(alloc, text.as_bytes())?;
-    let reads = listed(alloc, reads)?;
-    MemoryLink::new(alloc, bytes, 100, reads, 10_000, listed(alloc, writes)?)
+/// The same over rows of its own.
+fn served_alone(alloc: Global, text: &str, failing: Failing<'_>) -> Result<Left, NoMemory> {
+    served(alloc, &mut no_rows(alloc, &[])?, text, failing)
 }
 
 fn no_rows(alloc: Global, failing: &[u64]) -> Result<MemoryKeeper, NoMemory> {
@@ -97,20 +140,12 @@ fn no_rows(alloc: Global, failing: &[u64]) -> Result<MemoryKeeper, NoMemory> {
     Ok(MemoryKeeper::new(alloc, rows, 0, listed(alloc, failing)?))
 }
 
-/// What was written to the caller of that place.
-fn heard(left: &Left, place: usize) -> &[u8] {
-    match left.door.finished().get(place) {
-        Some(link) => link.bytes(),
-        None => &[],
-    }
-}
-
 #[test]
 fn a_link_that_fails_ends_alone(rt: HostRuntime) -> Result<(), Fail> {
     let alloc = rt.alloc();
-    let whole = served(alloc, &mut no_rows(alloc, &[])?, CHANGES, NONE)?;
+    let whole = served_alone(alloc, CHANGES, NONE)?;
     assert_eq!(rt;
-        whole.output.bytes(),
+        whole.outside.output.bytes(),
         b"connections 2 requests 4\n".as_slice()
     );
     for failing in 1u64..40 {
@@ -123,13 +158,23 @@ fn a_link_that_fails_ends_alone(rt: HostRuntime) -> Result<(), Fail> {
             writes: &numbers,
             ..NONE
         };
-        for faults in [reads, writes] {
-            let left = served(alloc, &mut no_rows(alloc, &[])?, CHANGES, faults)?;
-            assert_eq!(rt; left.ending.status(), 0);
-            assert!(rt; heard(&whole, 0).starts_with(heard(&left, 0)));
-            assert_eq!(rt; heard(&left, 1), DISCOVERED.as_bytes());
-        }
+        ends_alone(&rt, alloc, &whole, reads)?;
+        ends_alone(&rt, alloc, &whole, writes)?;
     }
+    Ok(())
+}
+
+/// The first caller hears the beginning of what is heard without a failure, and the second one all.
+fn ends_alone(
+    rt: &impl Abort,
+    alloc: Global,
+    whole: &Left,
+    failing: Failing<'_>,
+) -> Result<(), NoMemory> {
+    let left = served_alone(alloc, CHANGES, failing)?;
+    assert_eq!(rt; left.ending.status(), 0);
+    assert!(rt; whole.heard(0).starts_with(left.heard(0)));
+    assert_eq!(rt; left.heard(1), DISCOVERED.as_bytes());
     Ok(())
 }
 
@@ -145,17 +190,29 @@ fn a_keeper_that_fails_keeps_its_rows(rt: HostRuntime) -> Result<(), Fail> {
         (5, 0, 1),
         (6, 0, 0),
     ] {
-        let mut keeper = no_rows(alloc, &[failing])?;
-        let left = served(alloc, &mut keeper, CHANGES, NONE)?;
-        assert_eq!(rt; (failing, left.ending.status()), (failing, status));
-        assert_eq!(rt; (failing, keeper.rows().len()), (failing, rows));
-        let begins = heard(&left, 0).starts_with(STORE_FAULT.as_bytes());
-        let ends = heard(&left, 0).ends_with(STORE_FAULT.as_bytes());
-        assert_eq!(rt;
-            (failing, begins, ends),
-            (failing, failing == 4, failing == 5)
-        );
+        keeps_its_rows(&rt, alloc, failing, status, rows)?;
     }
+    Ok(())
+}
+
+/// Where the call of that number fails, the server ends with this status, and the keeper has so many rows.
+fn keeps_its_rows(
+    rt: &impl Abort,
+    alloc: Global,
+    failing: u64,
+    status: u8,
+    rows: usize,
+) -> Result<(), NoMemory> {
+    let mut keeper = no_rows(alloc, &[failing])?;
+    let left = served(alloc, &mut keeper, CHANGES, NONE)?;
+    assert_eq!(rt; (failing, left.ending.status()), (failing, status));
+    assert_eq!(rt; (failing, keeper.rows().len()), (failing, rows));
+    let begins = left.heard(0).starts_with(STORE_FAULT.as_bytes());
+    let ends = left.heard(0).ends_with(STORE_FAULT.as_bytes());
+    assert_eq!(rt;
+        (failing, begins, ends),
+        (failing, failing == 4, failing == 5)
+    );
     Ok(())
 }
 
@@ -163,22 +220,33 @@ fn a_keeper_that_fails_keeps_its_rows(rt: HostRuntime) -> Result<(), Fail> {
 fn a_door_and_an_output_fail(rt: HostRuntime) -> Result<(), Fail> {
     let alloc = rt.alloc();
     for (failing, callers) in [(1u64, 0usize), (2, 0), (3, 1)] {
-        let numbers = [failing];
-        let faults = Failing {
-            door: &numbers,
-            ..NONE
-        };
-        let left = served(alloc, &mut no_rows(alloc, &[])?, DISCOVERY, faults)?;
-        assert_eq!(rt; left.ending.status(), 8);
-        assert_eq!(rt; left.door.finished().len(), callers);
-        assert!(rt; left.output.bytes().is_empty());
+        opens_no_more(&rt, alloc, failing, callers)?;
     }
     let faults = Failing {
         output: &[1],
         ..NONE
     };
-    let left = served(alloc, &mut no_rows(alloc, &[])?, DISCOVERY, faults)?;
+    let left = served_alone(alloc, DISCOVERY, faults)?;
     assert_eq!(rt; left.ending.status(), 6);
-    assert_eq!(rt; heard(&left, 1), DISCOVERED.as_bytes());
+    assert_eq!(rt; left.heard(1), DISCOVERED.as_bytes());
+    Ok(())
+}
+
+/// Where the door's call of that number fails, so many callers were served.
+fn opens_no_more(
+    rt: &impl Abort,
+    alloc: Global,
+    failing: u64,
+    callers: usize,
+) -> Result<(), NoMemory> {
+    let numbers = [failing];
+    let faults = Failing {
+        door: &numbers,
+        ..NONE
+    };
+    let left = served_alone(alloc, DISCOVERY, faults)?;
+    assert_eq!(rt; left.ending.status(), 8);
+    assert_eq!(rt; left.outside.door.finished().len(), callers);
+    assert!(rt; left.outside.output.bytes().is_empty());
     Ok(())
 }

@@ -6,3 +6,8 @@ pub returns-clause-text : goal.returns-clause-text
 returns-clause-text g c =
     let same = broken_line c.args.line.now c.args.name.now c.args.object.now c.args.rule.now c.args.path.now in
     search (rules, same)
+
+pub returns-clause-part : goal.returns-clause-part
+returns-clause-part g c =
+    let same = broken_line c.args.line.now c.args.name.now c.args.object.now c.args.rule.now c.args.path.now in
+    search (rules, same)
