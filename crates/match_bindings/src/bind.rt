@@ -1,8 +1,10 @@
-ghost use Rattle.std.specs.Prelude.{◌≡◌, false, IfSome, IfNone, map};
-ghost use Rattle.match_bindings.specs.BindTree.{tree_of, many_of, One, Pair};
+ghost use Rattle.std.specs.Prelude.{◌≡◌, false, IfOk, IfSome, IfNone, map};
+ghost use Rattle.std.specs.Box.{box_value};
+ghost use Rattle.match_bindings.specs.BindTree.{tree_of, many_of, firsts, One, Pair, First};
 ghost use Rattle.match_bindings.specs.inner.Kinds.{is_one, is_pair, is_chain};
 
-use flow_values::Items;
+use flow_values::{Items, NoMemory};
+use std::alloc::Global;
 
 /// Which observations match which parts of a pattern. Observations are numbered from 1.
 #[derive(Drop)]
@@ -11,8 +13,8 @@ pub enum Bind {
     One(u64),
     /// What matches the sides of an `AND` or a `FOLLOWEDBY`.
     Both(Box<Bind>, Box<Bind>),
-    /// What matches the left side of an `OR`.
-    First(Box<Bind>),
+    /// What matches the left side of an `OR`, and of so many more above it, each the left side of the next.
+    First(u32, Box<Bind>),
     /// What matches the right side of an `OR`.
     Second(Box<Bind>),
     /// What matches each of the repeats of a `REPEATS`.
@@ -20,6 +22,16 @@ pub enum Bind {
 }
 
 impl Bind {
+    /// The `First` of a bind. It takes memory only where the bind is none itself.
+    pub fn first_of(alloc: Global, bind: Bind) -> Result<Bind, NoMemory>
+        ensures { IfOk result (λ first. tree_of first ≡ First (tree_of bind)) }
+    {
+        match bind {
+            Bind::First(more, part) => first_more(alloc, more, part),
+            other => Ok(Bind::First(0, Box::new(alloc, other)?)),
+        }
+    }
+
     /// The number of a `One`.
     pub(crate) fn number(&self) -> Option<u64>
         ensures some { IfSome result (λ number. tree_of self.now ≡ One number) }
@@ -27,7 +39,7 @@ impl Bind {
     {
         match self {
             Bind::One(number) => Some(*number),
-            Bind::Both(_, _) | Bind::First(_) | Bind::Second(_) => None,
+            Bind::Both(_, _) | Bind::First(_, _) | Bind::Second(_) => None,
             Bind::Many(_) => None,
         }
     }
@@ -39,7 +51,7 @@ impl Bind {
     {
         match self {
             Bind::Both(left, right) => Some((left, right)),
-            Bind::One(_) | Bind::First(_) | Bind::Second(_) => None,
+            Bind::One(_) | Bind::First(_, _) | Bind::Second(_) => None,
             Bind::Many(_) => None,
         }
     }
@@ -51,7 +63,18 @@ impl Bind {
     {
         match self {
             Bind::Many(parts) => Some(parts.as_slice()),
-            Bind::One(_) | Bind::Both(_, _) | Bind::First(_) | Bind::Second(_) => None,
+            Bind::One(_) | Bind::Both(_, _) | Bind::First(_, _) | Bind::Second(_) => None,
         }
     }
+}
+
+/// A `First` of so many more than this.
+fn first_more(alloc: Global, more: u32, part: Box<Bind>) -> Result<Bind, NoMemory>
+    ensures { IfOk result (λ first. tree_of first ≡ First (First (firsts more (tree_of (box_value part))))) }
+{
+    if more < u32::MAX {
+        return Ok(Bind::First(more + 1, part));
+    }
+    let first = Box::new(alloc, Bind::First(more, part))?;
+    Ok(Bind::First(0, first))
 }
