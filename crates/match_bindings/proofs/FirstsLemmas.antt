@@ -1,6 +1,6 @@
 -- What is true of a tree under some Firsts, by that tree.
-use Rattle.std.proofs.Common.{◌≡◌, ℕ, zero, suc, ◌+◌, List, ◌∷◌, ◌++◌, refl, sym, ◌∙◌, ap, arith, append_assoc, append-nil, ◌⊎◌, inl, inr}
-use Rattle.std.specs.Prelude.{Bool, replicate, codes}
+use Rattle.std.proofs.Common.{◌≡◌, ℕ, zero, suc, ◌+◌, ◌-◌, ◌<◌, List, ◌∷◌, ◌++◌, refl, sym, ◌∙◌, ap, arith, append_assoc, append-nil, ◌⊎◌, inl, inr}
+use Rattle.std.specs.Prelude.{replicate, codes}
 use Rattle.std.specs.List.{repeat}
 use Rattle.std.specs.Box.{box_value}
 use Rattle.match_bindings.specs.declared.bind.Bind.{Bind}
@@ -12,6 +12,24 @@ use Rattle.match_bindings.proofs.BindTreeLemmas.{tree_first, tree_second}
 
 pub firsts_more : (n : ℕ) (x : BindTree) → firsts (n + 1) x ≡ First (firsts n x)
 firsts_more n x = let e : n + 1 ≡ suc n = omega arith in ap (λ k. firsts k x) e
+
+pub firsts_first : (n : ℕ) (x : BindTree) → firsts n (First x) ≡ First (firsts n x)
+firsts_first zero x = refl
+firsts_first (suc n) x = ap First (firsts_first n x)
+
+firsts_add : (m n : ℕ) (x : BindTree) → firsts (m + n) x ≡ firsts m (firsts n x)
+firsts_add zero n x = let e : 0 + n ≡ n = omega arith in ap (λ k. firsts k x) e
+firsts_add (suc m) n x = (let e : suc m + n ≡ suc (m + n) = omega arith in ap (λ k. firsts k x) e) ∙ ap First (firsts_add m n x)
+
+-- a run of so many more
+pub run_longer : (count more : ℕ) (x : BindTree) → First (firsts (more + count) x) ≡ firsts count (First (firsts more x))
+run_longer count more x =
+    ap First ((let e : more + count ≡ count + more = omega arith in ap (λ k. firsts k x) e) ∙ firsts_add count more x)
+    ∙ sym (firsts_first count (firsts more x))
+
+pub firsts_less : (n : ℕ) (x : BindTree) → 0 < n → First (firsts (n - 1) x) ≡ firsts n x
+firsts_less zero x h = absurd (omega arith)
+firsts_less (suc n) x h = let e : suc n - 1 ≡ n = omega arith in ap (λ k. First (firsts k x)) e
 
 pub has_firsts : (m n : ℕ) (x : BindTree) → has m (firsts n x) ≡ has m x
 has_firsts m zero x = refl

@@ -14,3 +14,4 @@ pub mod SortedLemmas
 pub mod FlatLemmas
 pub mod LongerLogLemmas
 pub mod ExistenceLemmas
+pub mod RisingLemmas

@@ -1,4 +1,4 @@
-ghost use Rattle.std.specs.Prelude.{◌≡◌, false, IfOk, IfSome, IfNone, map};
+ghost use Rattle.std.specs.Prelude.{◌≡◌, ◌<◌, false, IfOk, IfSome, IfNone, map};
 ghost use Rattle.std.specs.Box.{box_value};
 ghost use Rattle.match_bindings.specs.BindTree.{tree_of, many_of, firsts, One, Pair, First};
 ghost use Rattle.match_bindings.specs.inner.Kinds.{is_one, is_pair, is_chain};
@@ -22,13 +22,16 @@ pub enum Bind {
 }
 
 impl Bind {
-    /// The `First` of a bind. It takes memory only where the bind is none itself.
-    pub fn first_of(alloc: Global, bind: Bind) -> Result<Bind, NoMemory>
-        ensures { IfOk result (λ first. tree_of first ≡ First (tree_of bind)) }
+    /// A bind under so many `First`s. It takes no memory where the bind is a `First` itself.
+    pub fn under_firsts(alloc: Global, count: u32, bind: Bind) -> Result<Bind, NoMemory>
+        ensures { IfOk result (λ above. tree_of above ≡ firsts count (tree_of bind)) }
     {
+        if count == 0 {
+            return Ok(bind);
+        }
         match bind {
-            Bind::First(more, part) => first_more(alloc, more, part),
-            other => Ok(Bind::First(0, Box::new(alloc, other)?)),
+            Bind::First(more, part) => longer_run(alloc, count, more, part),
+            other => Ok(Bind::First(count - 1, Box::new(alloc, other)?)),
         }
     }
 
@@ -68,13 +71,14 @@ impl Bind {
     }
 }
 
-/// A `First` of so many more than this.
-fn first_more(alloc: Global, more: u32, part: Box<Bind>) -> Result<Bind, NoMemory>
-    ensures { IfOk result (λ first. tree_of first ≡ First (First (firsts more (tree_of (box_value part))))) }
+/// A `First` under so many more. Where the run is as long as its count tells, there are two.
+fn longer_run(alloc: Global, count: u32, more: u32, part: Box<Bind>) -> Result<Bind, NoMemory>
+    requires { 0 < count }
+    ensures { IfOk result (λ above. tree_of above ≡ firsts count (First (firsts more (tree_of (box_value part))))) }
 {
-    if more < u32::MAX {
-        return Ok(Bind::First(more + 1, part));
+    if more < u32::MAX - count {
+        return Ok(Bind::First(more + count, part));
     }
     let first = Box::new(alloc, Bind::First(more, part))?;
-    Ok(Bind::First(0, first))
+    Ok(Bind::First(count - 1, first))
 }

@@ -1,5 +1,5 @@
 -- The letters of a First or a Second and then its part; and all binds are added.
-use Rattle.std.proofs.Common.{rules, ◌≡◌, ◌+◌, ◌++◌, sym, ◌∙◌, ap, arith}
+use Rattle.std.proofs.Common.{rules, ◌≡◌, ◌+◌, ◌++◌, ◌∙◌, ap, arith}
 use Rattle.std.specs.Prelude.{string_bytes, codes}
 use Rattle.std.specs.List.{repeat}
 use Rattle.std.specs.Box.{box_value}

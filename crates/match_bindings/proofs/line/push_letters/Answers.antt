@@ -1,7 +1,6 @@
 -- One letter more.
 use Rattle.std.proofs.Common.{rules, ◌≡◌, ◌+◌, ◌++◌, sym}
 use Rattle.std.specs.Prelude.{string_bytes, codes}
-use Rattle.std.specs.List.{repeat}
 use Rattle.match_bindings.proofs.FirstsLemmas.{repeat_more}
 use Rattle.match_bindings.proofs.ListLemmas.{added_twice}
 use Rattle.match_bindings.proofs.line.push_letters.Goals as goal
