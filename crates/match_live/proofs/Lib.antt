@@ -24,3 +24,4 @@ pub mod AdmitLemmas
 pub mod OverLemmas
 pub mod PassLemmas
 pub mod InPlaceLemmas
+pub mod UnderFirstsLemmas

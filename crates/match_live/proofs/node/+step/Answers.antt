@@ -1,7 +1,7 @@
 -- One row, node by node.
-use Rattle.std.proofs.Common.{refl, ◌-◌, ◌≡◌, ◌+◌, ◌<◌, ◌≤◌, [], ◌∷◌, List, length, Err, rules, arith, ap, sym, ◌∙◌, subst}
+use Rattle.std.proofs.Common.{refl, ◌-◌, ◌≡◌, ◌+◌, ◌<◌, ◌≤◌, [], ◌∷◌, ◌++◌, List, length, Err, rules, arith, ap, sym, ◌∙◌, subst}
 use Rattle.std.specs.Prelude.{ℕ, Bool, map}
-use Rattle.match_bindings.specs.BindTree.{Single}
+use Rattle.match_bindings.specs.BindTree.{Second, Single, firsts}
 use Rattle.match_live.specs.LivePart.{held_count}
 use Rattle.std.proofs.lemmas.List.{length-map}
 use Rattle.match_live.specs.declared.stop.Stop.TheVariants as stop
@@ -10,15 +10,17 @@ use Rattle.match_live.specs.declared.store.Store.{Store}
 use Rattle.match_live.specs.declared.sides.Sides.{Sides}
 use Rattle.match_live.specs.declared.piece.Piece.{Piece}
 use Rattle.match_live.specs.declared.row.Row.{Row}
+use Rattle.match_live.specs.declared.node.Node.{Node}
 use Rattle.match_live.specs.PieceTree.{PieceTree}
 use Rattle.match_live.specs.inner.Pieces.{piece_tree, piece_trees}
-use Rattle.match_live.specs.inner.Steps.{State, a_leaf, a_join, all_levels, held_with, levels_new, levels_after, kept, joins_both, step_new, step_state}
+use Rattle.match_live.specs.inner.Steps.{State, a_leaf, a_join, a_choice, all_levels, held_with, levels_new, levels_after, kept, joins_both, step_new, step_state}
 use Rattle.match_live.specs.inner.Wanted.{Ahead, wanted, leads_right, leads_part, chosen}
 use Rattle.match_live.specs.inner.Leads.{ahead_of, leads_of}
 use Rattle.match_live.specs.inner.Totals.{held_after, live_at, AdmitLevels, Admits}
 use Rattle.match_live.specs.inner.Nodes.{store_list, store_lists, side_stores, levels_state, state_of}
 use Rattle.match_live.proofs.WantedLemmas.{leads_more}
-use Rattle.match_live.proofs.TotalLemmas.{over_left, over_left_held, over_right, over_right_held, join_is, join_counted, join_kept, over_first, over_first_new, over_second, choice_is, choice_counted, over_part, over_levels, chain_is, chain_counted, chain_kept}
+use Rattle.match_live.proofs.TotalLemmas.{over_left, over_left_held, over_right, over_right_held, join_is, join_counted, join_kept, over_first, over_choice, choice_is, choice_counted, over_part, over_levels, chain_is, chain_counted, chain_kept}
+use Rattle.match_live.proofs.UnderFirstsLemmas.{under_none, choice_under}
 use Rattle.match_live.proofs.node.+step.Goals as goal
 
 -- what is said of a part, of the same part named otherwise
@@ -31,6 +33,10 @@ new_at row truths new a b u v e f h = h ∙ ap (λ x. wanted row.last x (step_ne
 
 held_at : (row : Row) (truths : List Bool) (left room : ℕ) (a b : State) → a ≡ b → left + held_after row truths a ≡ room → left + held_after row truths b ≡ room
 held_at row truths left room a b e h = sym (ap (λ y. left + held_after row truths y) e) ∙ h
+
+-- the state of an OR whose sides are named otherwise
+choice_at : (left right l r : Node) (z : State) → l ≡ left → r ≡ right → z ≡ a_choice (state_of left) (state_of right) → a_choice (state_of l) (state_of r) ≡ z
+choice_at left right l r z e f is = ap (λ x. a_choice (state_of x) (state_of r)) e ∙ ap (λ x. a_choice (state_of left) (state_of x)) f ∙ sym is
 
 pub step-returns-in_err-new_left-in-Sides-clause-crowded : goal.step-returns-in_err-new_left-in-Sides-clause-crowded
 step-returns-in_err-new_left-in-Sides-clause-crowded t c = λ e a.
@@ -206,85 +212,117 @@ step-returns-in_ok-new-in-Sides-clause-counted t c =
 pub step-returns-in_err-new_left-in-Either-clause-crowded : goal.step-returns-in_err-new_left-in-Either-clause-crowded
 step-returns-in_err-new_left-in-Either-clause-crowded t c = λ e a.
     let row = c.args.row.now in let truths = c.args.truths.now in let ahead = leads_of c.args.leads.now.items in
-    let l = state_of c.in-Either.left.value in let r = state_of c.in-Either.right.value in let z = state_of c.args.node.now in
-    let is = ap state_of c.in-Either.is in let el = ap state_of c.deref_mut-in-Either.ensures.value in
+    let l = state_of c.deref_mut-in-Either.result.now in let r = state_of c.in-Either.right.value in let z = state_of c.args.node.now in
+    let is = sym (choice_at c.in-Either.left.value c.in-Either.right.value c.deref_mut-in-Either.result.now c.in-Either.right.value z c.deref_mut-in-Either.ensures.value refl (ap state_of c.in-Either.is)) in
     let room = c.args.room.now.left in
-    let failed : c.step-in-Either.result ≡ Err stop.Crowded = search rules in
-    over_first row truths ahead l r z is a room (over_at row truths room (state_of c.deref_mut-in-Either.result.now) l ahead ahead el refl (c.step-in-Either.ensures.crowded failed))
+    let failed : c.step_first.result ≡ Err stop.Crowded = search rules in
+    over_first row truths ahead l r z is a room (c.step_first.ensures.crowded failed)
 
-pub step-returns-in_err-take-in-Either-clause-crowded : goal.step-returns-in_err-take-in-Either-clause-crowded
-step-returns-in_err-take-in-Either-clause-crowded t c = λ e a.
+pub step-returns-in_err-new-in-Either-clause-crowded : goal.step-returns-in_err-new-in-Either-clause-crowded
+step-returns-in_err-new-in-Either-clause-crowded t c = λ e a.
     let row = c.args.row.now in let truths = c.args.truths.now in let ahead = leads_of c.args.leads.now.items in
-    let l = state_of c.in-Either.left.value in let r = state_of c.in-Either.right.value in let z = state_of c.args.node.now in
-    let is = ap state_of c.in-Either.is in let el = ap state_of c.deref_mut-in-Either.ensures.value in
+    let l = state_of c.deref_mut-in-Either.result.now in let r = state_of c.deref_mut-in-Either-2.result.now in let z = state_of c.args.node.now in
+    let is = sym (choice_at c.in-Either.left.value c.in-Either.right.value c.deref_mut-in-Either.result.now c.deref_mut-in-Either-2.result.now z c.deref_mut-in-Either.ensures.value c.deref_mut-in-Either-2.ensures.value (ap state_of c.in-Either.is)) in
     let room = c.args.room.now.left in
-    let nl = piece_trees c.in_ok-new_left-in-Either.new_left.items in
-    let f = new_at row truths nl (state_of c.deref_mut-in-Either.result.now) l ahead ahead el refl c.in_ok-new_left-in-Either.ensures.new in
-    let room1 = c.step-in-Either.new.room.left in let first = held_at row truths room1 room (state_of c.deref_mut-in-Either.result.now) l el c.in_ok-new_left-in-Either.ensures.counted in
-    let long = length-map c.in_ok-new_left-in-Either.new_left.items piece_tree in
-    let failed : c.take.result ≡ Err stop.Crowded = search rules in
-    over_first_new row truths ahead l r z is nl f room room1 first (omega (arith, long, c.len.ensures, c.take.ensures.crowded failed))
-
-pub step-returns-in_err-new_right-in-Either-clause-crowded : goal.step-returns-in_err-new_right-in-Either-clause-crowded
-step-returns-in_err-new_right-in-Either-clause-crowded t c = λ e a.
-    let row = c.args.row.now in let truths = c.args.truths.now in let ahead = leads_of c.args.leads.now.items in
-    let l = state_of c.in-Either.left.value in let r = state_of c.in-Either.right.value in let z = state_of c.args.node.now in
-    let is = ap state_of c.in-Either.is in let el = ap state_of c.deref_mut-in-Either.ensures.value in
-    let room = c.args.room.now.left in
-    let nl = piece_trees c.in_ok-new_left-in-Either.new_left.items in
-    let f = new_at row truths nl (state_of c.deref_mut-in-Either.result.now) l ahead ahead el refl c.in_ok-new_left-in-Either.ensures.new in
-    let room1 = c.step-in-Either.new.room.left in let first = held_at row truths room1 room (state_of c.deref_mut-in-Either.result.now) l el c.in_ok-new_left-in-Either.ensures.counted in
-    let long = length-map c.in_ok-new_left-in-Either.new_left.items piece_tree in
-    let room2 = c.take.new.self.left in
-    let second : room2 + length nl ≡ room1 = omega (arith, long, c.len.ensures, c.in_ok-take-in-Either.ensures.taken) in
-    let er = ap state_of c.deref_mut-in-Either-2.ensures.value in
+    let nl = wanted row.last ahead (step_new row truths l) in
+    let room1 = c.step_first.new.room.left in let first = c.in_ok-new_left-in-Either.ensures.counted in
     let leads = ap leads_of c.in_ok-new_left-in-Either.ensures.leads in
-    let failed : c.step-in-Either-2.result ≡ Err stop.Crowded = search rules in
-    over_second row truths ahead l r z is nl f a room room1 room2 first second
-    (over_at row truths room2 (state_of c.deref_mut-in-Either-2.result.now) r (leads_of c.step-in-Either.new.leads.items) ahead er leads (c.step-in-Either-2.ensures.crowded failed))
-
-pub step-give_back-requires : goal.step-give_back-requires
-step-give_back-requires t c =
-    let taken = c.in_ok-take-in-Either.ensures.taken in
-    omega (arith, taken, c.len.ensures, c.len-in-Either.ensures, c.in_ok-new_right-in-Either.ensures.counted)
+    let long : length c.in_ok-new_left-in-Either.new_left.items ≡ length nl
+    = sym (length-map c.in_ok-new_left-in-Either.new_left.items piece_tree) ∙ ap length c.in_ok-new_left-in-Either.ensures.new ∙ length-map nl (held_with (firsts 1)) in
+    let failed : c.step_second.result ≡ Err stop.Crowded = search rules in
+    let over = subst (λ (x : List Ahead). Admits row truths r → room1 < length c.in_ok-new_left-in-Either.new_left.items + live_at row truths x r) leads (c.step_second.ensures.crowded failed) in
+    over_choice row truths ahead l r z is a room room1 first (λ b. omega (arith, long, over b))
 
 pub step-returns-in_ok-new-in-Either-clause-new : goal.step-returns-in_ok-new-in-Either-clause-new
 step-returns-in_ok-new-in-Either-clause-new t c =
     let row = c.args.row.now in let truths = c.args.truths.now in let ahead = leads_of c.args.leads.now.items in
-    let l = state_of c.in-Either.left.value in let r = state_of c.in-Either.right.value in let z = state_of c.args.node.now in
-    let is = ap state_of c.in-Either.is in let el = ap state_of c.deref_mut-in-Either.ensures.value in
+    let l = state_of c.deref_mut-in-Either.result.now in let r = state_of c.deref_mut-in-Either-2.result.now in let z = state_of c.args.node.now in
+    let is = sym (choice_at c.in-Either.left.value c.in-Either.right.value c.deref_mut-in-Either.result.now c.deref_mut-in-Either-2.result.now z c.deref_mut-in-Either.ensures.value c.deref_mut-in-Either-2.ensures.value (ap state_of c.in-Either.is)) in
     let room = c.args.room.now.left in
-    let nl = piece_trees c.in_ok-new_left-in-Either.new_left.items in
-    let f = new_at row truths nl (state_of c.deref_mut-in-Either.result.now) l ahead ahead el refl c.in_ok-new_left-in-Either.ensures.new in
-    let room1 = c.step-in-Either.new.room.left in let first = held_at row truths room1 room (state_of c.deref_mut-in-Either.result.now) l el c.in_ok-new_left-in-Either.ensures.counted in
-    let long = length-map c.in_ok-new_left-in-Either.new_left.items piece_tree in
-    let room2 = c.take.new.self.left in
-    let second : room2 + length nl ≡ room1 = omega (arith, long, c.len.ensures, c.in_ok-take-in-Either.ensures.taken) in
-    let er = ap state_of c.deref_mut-in-Either-2.ensures.value in
+    let nl = wanted row.last ahead (step_new row truths l) in
+    let room1 = c.step_first.new.room.left in let first = c.in_ok-new_left-in-Either.ensures.counted in
     let leads = ap leads_of c.in_ok-new_left-in-Either.ensures.leads in
-    let nr = piece_trees c.in_ok-new_right-in-Either.new_right.items in
-    let g = new_at row truths nr (state_of c.deref_mut-in-Either-2.result.now) r (leads_of c.step-in-Either.new.leads.items) ahead er leads c.in_ok-new_right-in-Either.ensures.new in
-    let room3 = c.step-in-Either-2.new.room.left in let third = held_at row truths room3 room2 (state_of c.deref_mut-in-Either-2.result.now) r er c.in_ok-new_right-in-Either.ensures.counted in
-    c.in_ok-new-in-Either.ensures ∙ choice_is row truths ahead l r z is nl nr f g
+    let nr = wanted row.last ahead (step_new row truths r) in
+    let g = new_at row truths (wanted row.last (leads_of c.step_first.new.leads.items) (step_new row truths r)) r r (leads_of c.step_first.new.leads.items) ahead refl leads refl in
+    c.in_ok-new-in-Either.ensures.new
+    ∙ ap (λ y. piece_trees c.in_ok-new_left-in-Either.new_left.items ++ map (held_with (firsts 0)) (map (held_with Second) y)) g
+    ∙ ap (λ y. y ++ map (held_with (firsts 0)) (map (held_with Second) nr)) c.in_ok-new_left-in-Either.ensures.new
+    ∙ choice_under 0 nl nr
+    ∙ ap (map (held_with (firsts 0))) (choice_is row truths ahead l r z is nl nr refl refl)
+    ∙ under_none (wanted row.last ahead (step_new row truths z))
 
 pub step-returns-in_ok-new-in-Either-clause-counted : goal.step-returns-in_ok-new-in-Either-clause-counted
 step-returns-in_ok-new-in-Either-clause-counted t c =
     let row = c.args.row.now in let truths = c.args.truths.now in let ahead = leads_of c.args.leads.now.items in
-    let l = state_of c.in-Either.left.value in let r = state_of c.in-Either.right.value in let z = state_of c.args.node.now in
-    let is = ap state_of c.in-Either.is in let el = ap state_of c.deref_mut-in-Either.ensures.value in
+    let l = state_of c.deref_mut-in-Either.result.now in let r = state_of c.deref_mut-in-Either-2.result.now in let z = state_of c.args.node.now in
+    let is = sym (choice_at c.in-Either.left.value c.in-Either.right.value c.deref_mut-in-Either.result.now c.deref_mut-in-Either-2.result.now z c.deref_mut-in-Either.ensures.value c.deref_mut-in-Either-2.ensures.value (ap state_of c.in-Either.is)) in
     let room = c.args.room.now.left in
-    let nl = piece_trees c.in_ok-new_left-in-Either.new_left.items in
-    let f = new_at row truths nl (state_of c.deref_mut-in-Either.result.now) l ahead ahead el refl c.in_ok-new_left-in-Either.ensures.new in
-    let room1 = c.step-in-Either.new.room.left in let first = held_at row truths room1 room (state_of c.deref_mut-in-Either.result.now) l el c.in_ok-new_left-in-Either.ensures.counted in
-    let long = length-map c.in_ok-new_left-in-Either.new_left.items piece_tree in
-    let room2 = c.take.new.self.left in
-    let second : room2 + length nl ≡ room1 = omega (arith, long, c.len.ensures, c.in_ok-take-in-Either.ensures.taken) in
-    let er = ap state_of c.deref_mut-in-Either-2.ensures.value in
-    let leads = ap leads_of c.in_ok-new_left-in-Either.ensures.leads in
-    let nr = piece_trees c.in_ok-new_right-in-Either.new_right.items in
-    let g = new_at row truths nr (state_of c.deref_mut-in-Either-2.result.now) r (leads_of c.step-in-Either.new.leads.items) ahead er leads c.in_ok-new_right-in-Either.ensures.new in
-    let room3 = c.step-in-Either-2.new.room.left in let third = held_at row truths room3 room2 (state_of c.deref_mut-in-Either-2.result.now) r er c.in_ok-new_right-in-Either.ensures.counted in
-    choice_counted row truths ahead l r z is room room1 room2 room3 c.give_back.new.self.left (length nl) first second third (omega (arith, long, c.len-in-Either.ensures, c.give_back.ensures))
+    let room1 = c.step_first.new.room.left in let first = c.in_ok-new_left-in-Either.ensures.counted in
+    choice_counted row truths ahead l r z is room room1 c.step_second.new.room.left first c.in_ok-new-in-Either.ensures.counted
+
+pub step_first-returns-in_err-new_left-clause-crowded : goal.step_first-returns-in_err-new_left-clause-crowded
+step_first-returns-in_err-new_left-clause-crowded t c = λ e a.
+    let row = c.args.row.now in let truths = c.args.truths.now in let ahead = leads_of c.args.leads.now.items in
+    let l = state_of c.deref_mut.result.now in let r = state_of c.in-Either.right.value in let z = state_of c.args.node.now in
+    let is = sym (choice_at c.in-Either.left.value c.in-Either.right.value c.deref_mut.result.now c.in-Either.right.value z c.deref_mut.ensures.value refl (ap state_of c.in-Either.is)) in
+    let room = c.args.room.now.left in
+    let failed : c.step_first.result ≡ Err stop.Crowded = search rules in
+    over_first row truths ahead l r z is a room (c.step_first.ensures.crowded failed)
+
+pub step_first-returns-in_err-new-clause-crowded : goal.step_first-returns-in_err-new-clause-crowded
+step_first-returns-in_err-new-clause-crowded t c = λ e a.
+    let row = c.args.row.now in let truths = c.args.truths.now in let ahead = leads_of c.args.leads.now.items in
+    let l = state_of c.deref_mut.result.now in let r = state_of c.deref_mut-in-Either.result.now in let z = state_of c.args.node.now in
+    let is = sym (choice_at c.in-Either.left.value c.in-Either.right.value c.deref_mut.result.now c.deref_mut-in-Either.result.now z c.deref_mut.ensures.value c.deref_mut-in-Either.ensures.value (ap state_of c.in-Either.is)) in
+    let room = c.args.room.now.left in
+    let nl = wanted row.last ahead (step_new row truths l) in
+    let room1 = c.step_first.new.room.left in let first = c.in_ok-new_left.ensures.counted in
+    let leads = ap leads_of c.in_ok-new_left.ensures.leads in
+    let long : length c.in_ok-new_left.new_left.items ≡ length nl
+    = sym (length-map c.in_ok-new_left.new_left.items piece_tree) ∙ ap length c.in_ok-new_left.ensures.new ∙ length-map nl (held_with (firsts (c.args.count + 1))) in
+    let failed : c.step_second.result ≡ Err stop.Crowded = search rules in
+    let over = subst (λ (x : List Ahead). Admits row truths r → room1 < length c.in_ok-new_left.new_left.items + live_at row truths x r) leads (c.step_second.ensures.crowded failed) in
+    over_choice row truths ahead l r z is a room room1 first (λ b. omega (arith, long, over b))
+
+pub step_first-returns-in-Either-clause-new : goal.step_first-returns-in-Either-clause-new
+step_first-returns-in-Either-clause-new t c =
+    let row = c.args.row.now in let truths = c.args.truths.now in let ahead = leads_of c.args.leads.now.items in
+    let l = state_of c.deref_mut.result.now in let r = state_of c.deref_mut-in-Either.result.now in let z = state_of c.args.node.now in
+    let is = sym (choice_at c.in-Either.left.value c.in-Either.right.value c.deref_mut.result.now c.deref_mut-in-Either.result.now z c.deref_mut.ensures.value c.deref_mut-in-Either.ensures.value (ap state_of c.in-Either.is)) in
+    let room = c.args.room.now.left in
+    let nl = wanted row.last ahead (step_new row truths l) in
+    let room1 = c.step_first.new.room.left in let first = c.in_ok-new_left.ensures.counted in
+    let leads = ap leads_of c.in_ok-new_left.ensures.leads in
+    let nr = wanted row.last ahead (step_new row truths r) in
+    let g = new_at row truths (wanted row.last (leads_of c.step_first.new.leads.items) (step_new row truths r)) r r (leads_of c.step_first.new.leads.items) ahead refl leads refl in
+    c.in_ok-new.ensures.new
+    ∙ ap (λ y. piece_trees c.in_ok-new_left.new_left.items ++ map (held_with (firsts c.args.count)) (map (held_with Second) y)) g
+    ∙ ap (λ y. y ++ map (held_with (firsts c.args.count)) (map (held_with Second) nr)) c.in_ok-new_left.ensures.new
+    ∙ choice_under c.args.count nl nr
+    ∙ ap (map (held_with (firsts c.args.count))) (choice_is row truths ahead l r z is nl nr refl refl)
+
+pub step_first-returns-in-Either-clause-counted : goal.step_first-returns-in-Either-clause-counted
+step_first-returns-in-Either-clause-counted t c =
+    let row = c.args.row.now in let truths = c.args.truths.now in let ahead = leads_of c.args.leads.now.items in
+    let l = state_of c.deref_mut.result.now in let r = state_of c.deref_mut-in-Either.result.now in let z = state_of c.args.node.now in
+    let is = sym (choice_at c.in-Either.left.value c.in-Either.right.value c.deref_mut.result.now c.deref_mut-in-Either.result.now z c.deref_mut.ensures.value c.deref_mut-in-Either.ensures.value (ap state_of c.in-Either.is)) in
+    let room = c.args.room.now.left in
+    let room1 = c.step_first.new.room.left in let first = c.in_ok-new_left.ensures.counted in
+    choice_counted row truths ahead l r z is room room1 c.step_second.new.room.left first c.in_ok-new.ensures.counted
+
+pub step_second-returns-in_err-take-clause-crowded : goal.step_second-returns-in_err-take-clause-crowded
+step_second-returns-in_err-take-clause-crowded t c = λ e a.
+    let failed : c.take.result ≡ Err stop.Crowded = search rules in
+    omega (arith, c.len.ensures, c.take.ensures.crowded failed)
+
+pub step_second-returns-in_err-new_right-clause-crowded : goal.step_second-returns-in_err-new_right-clause-crowded
+step_second-returns-in_err-new_right-clause-crowded t c = λ e a.
+    let failed : c.step.result ≡ Err stop.Crowded = search rules in
+    omega (arith, c.len.ensures, c.in_ok-take.ensures.taken, c.step.ensures.crowded failed a)
+
+pub step_second-give_back-requires : goal.step_second-give_back-requires
+step_second-give_back-requires t c =
+    omega (arith, c.in_ok-take.ensures.taken, c.len.ensures, c.len-2.ensures, c.in_ok-new_right.ensures.counted)
 
 pub step-returns-in_err-new-in-Repeats-clause-crowded : goal.step-returns-in_err-new-in-Repeats-clause-crowded
 step-returns-in_err-new-in-Repeats-clause-crowded t c = λ e a.
