@@ -1,11 +1,11 @@
-ghost use Rattle.std.specs.Prelude.{◌≡◌, ◌+◌, ◌<◌, ◌^◌, ◌++◌, [], false, IfOk, OnOk, Err, map, length};
+ghost use Rattle.std.specs.Prelude.{◌≡◌, ◌+◌, ◌<◌, ◌^◌, ◌++◌, [], false, IsTrue, IfOk, OnOk, Err, map, length};
 ghost use Rattle.std.specs.Box.{box_value};
 ghost use Rattle.pattern_types.specs.Leaves.{leaves};
 ghost use Rattle.match_bindings.specs.NumberedPattern.{numbered_from};
 ghost use Rattle.match_bindings.specs.BindTree.{One, Second, firsts};
 ghost use Rattle.match_live.specs.inner.Pieces.{piece_tree, piece_trees};
 ghost use Rattle.match_windows.specs.Stores.{window_of};
-ghost use Rattle.match_live.specs.inner.Steps.{held_with, a_leaf, a_join, a_choice, a_limit, a_chain, all_levels, empty_sides, step_new, step_state, new_at_leaf, empty_state};
+ghost use Rattle.match_live.specs.inner.Steps.{held_with, a_leaf, a_join, a_choice, a_limit, a_chain, all_levels, empty_sides, step_new, step_state, new_at_leaf, empty_state, IsIdle};
 ghost use Rattle.match_live.specs.inner.Wanted.{wanted, closed, leads_right, leads_part};
 ghost use Rattle.match_live.specs.inner.Leads.{ahead_of, leads_of};
 ghost use Rattle.match_live.specs.inner.Totals.{held_after, live_at, Admits, IsOverAt};
@@ -247,6 +247,9 @@ fn step_second(
     ensures crowded { result ≡ Err stop.Crowded → Admits row.now truths.now (state_of right.old)
         → room.old.left < length left.items + live_at row.now truths.now (leads_of leads.old.items) (state_of right.old) }
 {
+    if is_idle(right, truths) {
+        return Ok(left);
+    }
     // Read, so that it is known to fit.
     let _left = room.left;
     room.take(left.len())?;
@@ -346,6 +349,17 @@ fn nothing_ahead(alloc: Global, window: &Window, now: Instant) -> Lead
     Lead {
         left: Store::new(alloc),
         window,
+    }
+}
+
+/// Whether a node is a leaf that doesn't hold.
+fn is_idle(node: &Node, truths: &[bool]) -> bool
+    ensures { IsTrue result → IsIdle truths.now (state_of node.now) }
+{
+    match node {
+        Node::Leaf(leaf, _) => !truths.get(*leaf as usize).copied().unwrap_or(false),
+        Node::Sides(_, _, _, _) | Node::Either(_, _) => false,
+        Node::Under(_) | Node::Repeats(_, _) => false,
     }
 }
 

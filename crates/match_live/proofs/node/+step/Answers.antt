@@ -13,13 +13,14 @@ use Rattle.match_live.specs.declared.row.Row.{Row}
 use Rattle.match_live.specs.declared.node.Node.{Node}
 use Rattle.match_live.specs.PieceTree.{PieceTree}
 use Rattle.match_live.specs.inner.Pieces.{piece_tree, piece_trees}
-use Rattle.match_live.specs.inner.Steps.{State, a_leaf, a_join, a_choice, all_levels, held_with, levels_new, levels_after, kept, joins_both, step_new, step_state}
+use Rattle.match_live.specs.inner.Steps.{State, a_leaf, a_join, a_choice, all_levels, held_with, levels_new, levels_after, kept, joins_both, step_new, step_state, IsIdle}
 use Rattle.match_live.specs.inner.Wanted.{Ahead, wanted, leads_right, leads_part, chosen}
 use Rattle.match_live.specs.inner.Leads.{ahead_of, leads_of}
 use Rattle.match_live.specs.inner.Totals.{held_after, live_at, AdmitLevels, Admits}
 use Rattle.match_live.specs.inner.Nodes.{store_list, store_lists, side_stores, levels_state, state_of}
 use Rattle.match_live.proofs.WantedLemmas.{leads_more}
 use Rattle.match_live.proofs.TotalLemmas.{over_left, over_left_held, over_right, over_right_held, join_is, join_counted, join_kept, over_first, over_choice, choice_is, choice_counted, over_part, over_levels, chain_is, chain_counted, chain_kept}
+use Rattle.match_live.proofs.IdleLemmas.{idle_under, idle_state, idle_counted}
 use Rattle.match_live.proofs.UnderFirstsLemmas.{under_none, choice_under}
 use Rattle.match_live.proofs.node.+step.Goals as goal
 
@@ -309,6 +310,21 @@ step_first-returns-in-Either-clause-counted t c =
     let room = c.args.room.now.left in
     let room1 = c.step_first.new.room.left in let first = c.in_ok-new_left.ensures.counted in
     choice_counted row truths ahead l r z is room room1 c.step_second.new.room.left first c.in_ok-new.ensures.counted
+
+pub step_second-returns-then-is_idle-clause-new : goal.step_second-returns-then-is_idle-clause-new
+step_second-returns-then-is_idle-clause-new t c =
+    let idle : IsIdle c.args.truths.now (state_of c.args.right.now) = search rules in
+    idle_under c.args.row.now c.args.truths.now (state_of c.args.right.now) idle c.args.count (leads_of c.args.leads.now.items) (piece_trees c.args.left.items)
+
+pub step_second-returns-then-is_idle-clause-kept : goal.step_second-returns-then-is_idle-clause-kept
+step_second-returns-then-is_idle-clause-kept t c =
+    let idle : IsIdle c.args.truths.now (state_of c.args.right.now) = search rules in
+    idle_state c.args.row.now c.args.truths.now (state_of c.args.right.now) idle
+
+pub step_second-returns-then-is_idle-clause-counted : goal.step_second-returns-then-is_idle-clause-counted
+step_second-returns-then-is_idle-clause-counted t c =
+    let idle : IsIdle c.args.truths.now (state_of c.args.right.now) = search rules in
+    idle_counted c.args.row.now c.args.truths.now (state_of c.args.right.now) idle c.args.room.now.left
 
 pub step_second-returns-in_err-take-clause-crowded : goal.step_second-returns-in_err-take-clause-crowded
 step_second-returns-in_err-take-clause-crowded t c = λ e a.
