@@ -22,7 +22,7 @@ pub enum Bind {
 }
 
 impl Bind {
-    /// A bind under so many `First`s. It takes no memory where the bind is a `First` itself.
+    /// A bind under so many `First`s, which one that is a `First` itself counts in place.
     pub fn under_firsts(alloc: Global, count: u32, bind: Bind) -> Result<Bind, NoMemory>
         ensures { IfOk result (λ above. tree_of above ≡ firsts count (tree_of bind)) }
     {
@@ -71,7 +71,7 @@ impl Bind {
     }
 }
 
-/// A `First` under so many more. Where the run is as long as its count tells, there are two.
+/// A `First` under so many more: one run, or two where a count has no room for both.
 fn longer_run(alloc: Global, count: u32, more: u32, part: Box<Bind>) -> Result<Bind, NoMemory>
     requires { 0 < count }
     ensures { IfOk result (λ above. tree_of above ≡ firsts count (First (firsts more (tree_of (box_value part))))) }

@@ -25,4 +25,4 @@ pub mod OverLemmas
 pub mod PassLemmas
 pub mod InPlaceLemmas
 pub mod UnderFirstsLemmas
-pub mod IdleLemmas
+pub mod QuietLemmas

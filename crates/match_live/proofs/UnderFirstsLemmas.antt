@@ -1,5 +1,5 @@
 -- Things put under so many Firsts at once.
-use Rattle.std.proofs.Common.{◌≡◌, ℕ, zero, suc, ◌+◌, List, [], ◌∷◌, ◌++◌, refl, sym, ◌∙◌, ap, arith}
+use Rattle.std.proofs.Common.{◌≡◌, ℕ, zero, suc, ◌+◌, List, [], ◌∷◌, ◌++◌, refl, sym, ◌∙◌, ap, arith, append_assoc}
 use Rattle.std.specs.Prelude.{map}
 use Rattle.match_bindings.specs.BindTree.{BindTree, First, Second, firsts}
 use Rattle.match_live.specs.PieceTree.{PieceTree}
@@ -26,9 +26,18 @@ map_append f [] ys = refl
 map_append f (x ∷ xs) ys = ap (λ z. f x ∷ z) (map_append f xs ys)
 
 -- the things of both sides of an OR that is the left side of n more
-pub choice_under : (n : ℕ) (xs ys : List PieceTree) →
+choice_under : (n : ℕ) (xs ys : List PieceTree) →
     map (held_with (firsts (n + 1))) xs ++ map (held_with (firsts n)) (map (held_with Second) ys)
     ≡ map (held_with (firsts n)) (map (held_with First) xs ++ map (held_with Second) ys)
 choice_under n xs ys =
     ap (λ z. z ++ map (held_with (firsts n)) (map (held_with Second) ys)) (under_more n xs)
     ∙ sym (map_append (held_with (firsts n)) (map (held_with First) xs) (map (held_with Second) ys))
+
+-- the same behind others
+pub choice_added : (n : ℕ) (old mid new xs ys : List PieceTree) → mid ≡ old ++ map (held_with (firsts (n + 1))) xs →
+    new ≡ mid ++ map (held_with (firsts n)) (map (held_with Second) ys) → new ≡ old ++ map (held_with (firsts n)) (map (held_with First) xs ++ map (held_with Second) ys)
+choice_added n old mid new xs ys first second =
+    second
+    ∙ ap (λ z. z ++ map (held_with (firsts n)) (map (held_with Second) ys)) first
+    ∙ append_assoc old (map (held_with (firsts (n + 1))) xs) (map (held_with (firsts n)) (map (held_with Second) ys))
+    ∙ ap (λ z. old ++ z) (choice_under n xs ys)

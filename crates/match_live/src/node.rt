@@ -5,7 +5,7 @@ ghost use Rattle.match_bindings.specs.NumberedPattern.{numbered_from};
 ghost use Rattle.match_bindings.specs.BindTree.{One, Second, firsts};
 ghost use Rattle.match_live.specs.inner.Pieces.{piece_tree, piece_trees};
 ghost use Rattle.match_windows.specs.Stores.{window_of};
-ghost use Rattle.match_live.specs.inner.Steps.{held_with, a_leaf, a_join, a_choice, a_limit, a_chain, all_levels, empty_sides, step_new, step_state, new_at_leaf, empty_state, IsIdle};
+ghost use Rattle.match_live.specs.inner.Steps.{held_with, a_leaf, a_join, a_choice, a_limit, a_chain, all_levels, empty_sides, step_new, step_state, new_at_leaf, empty_state, IsQuiet};
 ghost use Rattle.match_live.specs.inner.Wanted.{wanted, closed, leads_right, leads_part};
 ghost use Rattle.match_live.specs.inner.Leads.{ahead_of, leads_of};
 ghost use Rattle.match_live.specs.inner.Totals.{held_after, live_at, Admits, IsOverAt};
@@ -182,8 +182,9 @@ pub(crate) fn step(
             Ok(new)
         }
         Node::Either(left, right) => {
-            let new_left = step_first(alloc, 1, left, row, truths, leads, room)?;
-            let new = step_second(alloc, 0, new_left, right, row, truths, leads, room)?;
+            let mut new = Vec::new(alloc);
+            step_first(alloc, 1, left, row, truths, leads, room, &mut new)?;
+            step_second(alloc, 0, right, row, truths, leads, room, &mut new)?;
             Ok(new)
         }
         Node::Under(part) => step(alloc, part, row, truths, leads, room),
@@ -196,8 +197,8 @@ pub(crate) fn step(
     }
 }
 
-/// One row at the left side of an `OR`, the innermost of so many that it is a left side of: what ends there
-/// is put under the `First`s of them all at once.
+/// One row at the left side of an `OR`, the innermost of so many that it is a left side of: adds what ends
+/// there, put under the `First`s of them all at once.
 #[cycle(step)]
 fn step_first(
     alloc: Global,
@@ -207,56 +208,60 @@ fn step_first(
     truths: &[bool],
     leads: &mut Vec<Lead>,
     room: &mut Room,
-) -> Result<Vec<Piece>, Stop>
-    ensures new { IfOk result (λ new. piece_trees new.items
-        ≡ map (held_with (firsts count)) (wanted row.now.last (leads_of leads.old.items) (step_new row.now truths.now (state_of node.old)))) }
+    out: &mut Vec<Piece>,
+) -> Result<(), Stop>
+    ensures new { OnOk result (piece_trees out.new.items ≡ piece_trees out.old.items ++ map (held_with (firsts count))
+        (wanted row.now.last (leads_of leads.old.items) (step_new row.now truths.now (state_of node.old)))) }
     ensures kept { OnOk result (state_of node.new ≡ step_state row.now truths.now (state_of node.old)) }
     ensures leads { OnOk result (leads.new.items ≡ leads.old.items) }
     ensures counted { OnOk result (room.new.left + held_after row.now truths.now (state_of node.old) ≡ room.old.left) }
-    ensures crowded { result ≡ Err stop.Crowded → IsOverAt row.now truths.now (leads_of leads.old.items) (state_of node.old) room.old.left }
+    ensures crowded { result ≡ Err stop.Crowded → Admits row.now truths.now (state_of node.old)
+        → room.old.left < length out.old.items + live_at row.now truths.now (leads_of leads.old.items) (state_of node.old) }
 {
     if count < u32::MAX {
         if let Node::Either(left, right) = node {
-            let new_left = step_first(alloc, count + 1, left, row, truths, leads, room)?;
-            let new = step_second(alloc, count, new_left, right, row, truths, leads, room)?;
-            return Ok(new);
+            step_first(alloc, count + 1, left, row, truths, leads, room, out)?;
+            step_second(alloc, count, right, row, truths, leads, room, out)?;
+            return Ok(());
         }
     }
     let mut new = step(alloc, node, row, truths, leads, room)?;
     wrap_firsts(alloc, count, &mut new)?;
-    Ok(new)
+    out.append(&mut new)?;
+    Ok(())
 }
 
-/// One row at the right side of an `OR` that is a left side of so many more, beside what ends on its left.
+/// One row at the right side of an `OR` that is a left side of so many more: adds what ends there to what
+/// ends on its left.
 #[cycle(step)]
 fn step_second(
     alloc: Global,
     count: u32,
-    left: Vec<Piece>,
-    right: &mut Node,
+    node: &mut Node,
     row: &Row,
     truths: &[bool],
     leads: &mut Vec<Lead>,
     room: &mut Room,
-) -> Result<Vec<Piece>, Stop>
-    ensures new { IfOk result (λ new. piece_trees new.items ≡ piece_trees left.items ++ map (held_with (firsts count))
-        (map (held_with Second) (wanted row.now.last (leads_of leads.old.items) (step_new row.now truths.now (state_of right.old))))) }
-    ensures kept { OnOk result (state_of right.new ≡ step_state row.now truths.now (state_of right.old)) }
+    out: &mut Vec<Piece>,
+) -> Result<(), Stop>
+    ensures new { OnOk result (piece_trees out.new.items ≡ piece_trees out.old.items ++ map (held_with (firsts count))
+        (map (held_with Second) (wanted row.now.last (leads_of leads.old.items) (step_new row.now truths.now (state_of node.old))))) }
+    ensures kept { OnOk result (state_of node.new ≡ step_state row.now truths.now (state_of node.old)) }
     ensures leads { OnOk result (leads.new.items ≡ leads.old.items) }
-    ensures counted { OnOk result (room.new.left + held_after row.now truths.now (state_of right.old) ≡ room.old.left) }
-    ensures crowded { result ≡ Err stop.Crowded → Admits row.now truths.now (state_of right.old)
-        → room.old.left < length left.items + live_at row.now truths.now (leads_of leads.old.items) (state_of right.old) }
+    ensures counted { OnOk result (room.new.left + held_after row.now truths.now (state_of node.old) ≡ room.old.left) }
+    ensures crowded { result ≡ Err stop.Crowded → Admits row.now truths.now (state_of node.old)
+        → room.old.left < length out.old.items + live_at row.now truths.now (leads_of leads.old.items) (state_of node.old) }
 {
-    if is_idle(right, truths) {
-        return Ok(left);
+    if is_quiet(node, truths) {
+        return Ok(());
     }
     // Read, so that it is known to fit.
     let _left = room.left;
-    room.take(left.len())?;
-    let new_right = step(alloc, right, row, truths, leads, room)?;
-    room.give_back(left.len());
-    let new = either_of(alloc, count, left, new_right)?;
-    Ok(new)
+    room.take(out.len())?;
+    let new = step(alloc, node, row, truths, leads, room)?;
+    room.give_back(out.len());
+    add_seconds(alloc, count, new, out)?;
+    Ok(())
 }
 
 /// One row at the right side of a node.
@@ -353,8 +358,8 @@ fn nothing_ahead(alloc: Global, window: &Window, now: Instant) -> Lead
 }
 
 /// Whether a node is a leaf that doesn't hold.
-fn is_idle(node: &Node, truths: &[bool]) -> bool
-    ensures { IsTrue result → IsIdle truths.now (state_of node.now) }
+fn is_quiet(node: &Node, truths: &[bool]) -> bool
+    ensures { IsTrue result → IsQuiet truths.now (state_of node.now) }
 {
     match node {
         Node::Leaf(leaf, _) => !truths.get(*leaf as usize).copied().unwrap_or(false),
@@ -396,27 +401,27 @@ fn alone(row: &Row) -> Piece
     }
 }
 
-/// The things of both sides of an `OR` that is the left side of so many more, in the memory that those of the
-/// one or the other have. Those of the left are wrapped already.
+/// Adds the things of the right side of an `OR` that is the left side of so many more, in the memory that
+/// they have where they are the first.
 #[inline(never)]
-fn either_of(
+fn add_seconds(
     alloc: Global,
     count: u32,
-    left: Vec<Piece>,
-    right: Vec<Piece>,
-) -> Result<Vec<Piece>, NoMemory>
-    ensures { IfOk result (λ new. piece_trees new.items
-        ≡ piece_trees left.items ++ map (held_with (firsts count)) (map (held_with Second) (piece_trees right.items))) }
+    new: Vec<Piece>,
+    out: &mut Vec<Piece>,
+) -> Result<(), NoMemory>
+    ensures { OnOk result (piece_trees out.new.items
+        ≡ piece_trees out.old.items ++ map (held_with (firsts count)) (map (held_with Second) (piece_trees new.items))) }
 {
-    let mut new = left;
-    let mut seconds = right;
+    let mut seconds = new;
     wrap_seconds(alloc, &mut seconds)?;
     wrap_firsts(alloc, count, &mut seconds)?;
-    if new.is_empty() {
-        return Ok(seconds);
+    if out.is_empty() {
+        *out = seconds;
+        return Ok(());
     }
-    new.append(&mut seconds)?;
-    Ok(new)
+    out.append(&mut seconds)?;
+    Ok(())
 }
 
 /// Makes things those of the left sides of so many `OR`s, one above another.

@@ -165,8 +165,8 @@ step_state row truths (a_chain part count window levels) =
     (levels_after window row.last (map (held_with Single) (step_new row truths part)) (step_new row truths part) levels)
 
 -- a leaf that doesn't hold
-abbrev pub IsIdle : List Bool → State → Type 0
-IsIdle truths z = (leaf : ℕ) × (window : Window) × (z ≡ a_leaf leaf window) × (truth_at truths leaf ≡ false)
+abbrev pub IsQuiet : List Bool → State → Type 0
+IsQuiet truths z = (leaf : ℕ) × (window : Window) × (z ≡ a_leaf leaf window) × (truth_at truths leaf ≡ false)
 
 -- the sides of a node without rows
 abbrev pub empty_sides : Window → Window → SideStores
