@@ -64,24 +64,24 @@ fn judge(pattern: &Pattern, leaf: u32, log: &Log, bind: &Bind) -> Option<Span>
     }
 }
 
-/// The span of a bind under so many `First`s, where it is a binding of a pattern whose leftmost leaf has the number `leaf`.
+/// The same of a bind under so many `First`s: each `OR` on the way down its left sides takes one off.
 #[cycle(judge)]
-fn judge_left(pattern: &Pattern, leaf: u32, log: &Log, depth: u32, bind: &Bind) -> Option<Span>
+fn judge_left(pattern: &Pattern, leaf: u32, log: &Log, count: u32, bind: &Bind) -> Option<Span>
     requires { leaf + leaves pattern.now < 2 ^ 32 }
-    ensures { result ≡ judged (observed_in log.now) (numbered_from leaf pattern.now) (firsts depth (tree_of bind.now)) }
+    ensures { result ≡ judged (observed_in log.now) (numbered_from leaf pattern.now) (firsts count (tree_of bind.now)) }
 {
-    if depth == 0 {
+    if count == 0 {
         return judge(pattern, leaf, log, bind);
     }
     match pattern {
-        Pattern::Either(left, _) => judge_left(left, leaf, log, depth - 1, bind),
+        Pattern::Either(left, _) => judge_left(left, leaf, log, count - 1, bind),
         Pattern::Within(part, seconds) => {
-            let span = judge_left(part, leaf, log, depth, bind)?;
+            let span = judge_left(part, leaf, log, count, bind)?;
             let is_within = span.is_within(*seconds);
             span_if(is_within, span)
         }
         Pattern::Between(part, start, stop) => {
-            let span = judge_left(part, leaf, log, depth, bind)?;
+            let span = judge_left(part, leaf, log, count, bind)?;
             let is_between = span.is_between(*start, *stop);
             span_if(is_between, span)
         }

@@ -13,7 +13,7 @@ use crate::rising::are_rising;
 use flow_values::NoMemory;
 use std::alloc::Global;
 
-/// Binds by greatest number and then by flat list. Those that are seen to be in order are as they were, and take no memory.
+/// Binds by greatest number and then by flat list. Those that are seen to be in order take no memory.
 pub fn in_order(alloc: Global, binds: Vec<Bind>) -> Result<Vec<Bind>, NoMemory>
     ensures counts { IfOk result (λ sorted. (x : BindTree) → count x (map tree_of sorted.items) ≡ count x (map tree_of binds.items)) }
     ensures rises { IfOk result (λ sorted. IsSortedBy comes_before (map tree_of sorted.items)) }
