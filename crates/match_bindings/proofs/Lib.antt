@@ -2,6 +2,7 @@ pub mod ListLemmas
 pub mod PartsLemmas
 pub mod ManyLemmas
 pub mod BindTreeLemmas
+pub mod FirstsLemmas
 pub mod LogLemmas
 pub mod IsBindingLemmas
 pub mod IsBindingTestLemmas
@@ -13,3 +14,4 @@ pub mod SortedLemmas
 pub mod FlatLemmas
 pub mod LongerLogLemmas
 pub mod ExistenceLemmas
+pub mod RisingLemmas

@@ -1,5 +1,5 @@
 -- Binds without where they lie in memory, and the numbers in them.
-use Rattle.std.specs.Prelude.{◌≡◌, ℕ, Bool, true, false, ◌&&◌, ◌||◌, not, nat_eq, max, List, [], ◌∷◌}
+use Rattle.std.specs.Prelude.{◌≡◌, ℕ, zero, suc, Bool, true, false, ◌&&◌, ◌||◌, not, nat_eq, max, List, [], ◌∷◌}
 use Rattle.match_bindings.specs.declared.bind.Bind.{Bind, fold-Bind}
 use Rattle.match_bindings.specs.declared.bind.Bind.TheOpen.{Bind-F}
 use Rattle.match_bindings.specs.declared.bind.Bind.TheOpen as bind
@@ -30,11 +30,16 @@ add_part (Single x) a = More (Single x) a
 add_part (More m x) a = More (More m x) a
 add_part _ a = Single a
 
+-- a tree under so many Firsts
+abbrev pub firsts : ℕ → BindTree → BindTree
+firsts zero x = x
+firsts (suc n) x = First (firsts n x)
+
 -- one level of a bind, whose parts are trees already
 abbrev pub tree_level : Bind-F BindTree → BindTree
 tree_level (bind.One number) = One number
 tree_level (bind.Both left right) = Pair left.value right.value
-tree_level (bind.First part) = First part.value
+tree_level (bind.First more part) = First (firsts more part.value)
 tree_level (bind.Second part) = Second part.value
 tree_level (bind.Many parts) = many_of parts
 

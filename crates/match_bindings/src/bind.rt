@@ -1,8 +1,10 @@
-ghost use Rattle.std.specs.Prelude.{◌≡◌, false, IfSome, IfNone, map};
-ghost use Rattle.match_bindings.specs.BindTree.{tree_of, many_of, One, Pair};
+ghost use Rattle.std.specs.Prelude.{◌≡◌, ◌<◌, false, IfOk, IfSome, IfNone, map};
+ghost use Rattle.std.specs.Box.{box_value};
+ghost use Rattle.match_bindings.specs.BindTree.{tree_of, many_of, firsts, One, Pair, First};
 ghost use Rattle.match_bindings.specs.inner.Kinds.{is_one, is_pair, is_chain};
 
-use flow_values::Items;
+use flow_values::{Items, NoMemory};
+use std::alloc::Global;
 
 /// Which observations match which parts of a pattern. Observations are numbered from 1.
 #[derive(Drop)]
@@ -11,8 +13,8 @@ pub enum Bind {
     One(u64),
     /// What matches the sides of an `AND` or a `FOLLOWEDBY`.
     Both(Box<Bind>, Box<Bind>),
-    /// What matches the left side of an `OR`.
-    First(Box<Bind>),
+    /// What matches the left side of an `OR`, and of so many more above it, each the left side of the next.
+    First(u32, Box<Bind>),
     /// What matches the right side of an `OR`.
     Second(Box<Bind>),
     /// What matches each of the repeats of a `REPEATS`.
@@ -20,6 +22,19 @@ pub enum Bind {
 }
 
 impl Bind {
+    /// A bind under so many `First`s, which one that is a `First` itself counts in place.
+    pub fn under_firsts(alloc: Global, count: u32, bind: Bind) -> Result<Bind, NoMemory>
+        ensures { IfOk result (λ above. tree_of above ≡ firsts count (tree_of bind)) }
+    {
+        if count == 0 {
+            return Ok(bind);
+        }
+        match bind {
+            Bind::First(more, part) => longer_run(alloc, count, more, part),
+            other => Ok(Bind::First(count - 1, Box::new(alloc, other)?)),
+        }
+    }
+
     /// The number of a `One`.
     pub(crate) fn number(&self) -> Option<u64>
         ensures some { IfSome result (λ number. tree_of self.now ≡ One number) }
@@ -27,7 +42,7 @@ impl Bind {
     {
         match self {
             Bind::One(number) => Some(*number),
-            Bind::Both(_, _) | Bind::First(_) | Bind::Second(_) => None,
+            Bind::Both(_, _) | Bind::First(_, _) | Bind::Second(_) => None,
             Bind::Many(_) => None,
         }
     }
@@ -39,7 +54,7 @@ impl Bind {
     {
         match self {
             Bind::Both(left, right) => Some((left, right)),
-            Bind::One(_) | Bind::First(_) | Bind::Second(_) => None,
+            Bind::One(_) | Bind::First(_, _) | Bind::Second(_) => None,
             Bind::Many(_) => None,
         }
     }
@@ -51,7 +66,19 @@ impl Bind {
     {
         match self {
             Bind::Many(parts) => Some(parts.as_slice()),
-            Bind::One(_) | Bind::Both(_, _) | Bind::First(_) | Bind::Second(_) => None,
+            Bind::One(_) | Bind::Both(_, _) | Bind::First(_, _) | Bind::Second(_) => None,
         }
     }
+}
+
+/// A `First` under so many more: one run, or two where a count has no room for both.
+fn longer_run(alloc: Global, count: u32, more: u32, part: Box<Bind>) -> Result<Bind, NoMemory>
+    requires { 0 < count }
+    ensures { IfOk result (λ above. tree_of above ≡ firsts count (First (firsts more (tree_of (box_value part))))) }
+{
+    if more < u32::MAX - count {
+        return Ok(Bind::First(more + count, part));
+    }
+    let first = Box::new(alloc, Bind::First(more, part))?;
+    Ok(Bind::First(count - 1, first))
 }

@@ -105,7 +105,7 @@ fn push_firsts(
 {
     for first in firsts {
         let SpannedBind { bind, span } = first;
-        let bind = Bind::First(Box::new(alloc, bind)?);
+        let bind = Bind::under_firsts(alloc, 1, bind)?;
         out.push(SpannedBind { bind, span })?;
     }
     Ok(())

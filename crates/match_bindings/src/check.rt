@@ -1,7 +1,7 @@
 ghost use Rattle.std.specs.Prelude.{◌≡◌, ◌↔◌, ◌+◌, ◌<◌, ◌^◌, ◌&&◌, IsTrue, map};
 ghost use Rattle.pattern_types.specs.Leaves.{leaves};
 ghost use Rattle.match_bindings.specs.NumberedPattern.{numbered_pattern, numbered_from};
-ghost use Rattle.match_bindings.specs.BindTree.{tree_of, many_of};
+ghost use Rattle.match_bindings.specs.BindTree.{tree_of, many_of, firsts};
 ghost use Rattle.match_bindings.specs.Log.{observed_in};
 ghost use Rattle.match_bindings.specs.Binding.{IsBinding};
 ghost use Rattle.match_bindings.specs.Test.{is_binding, are_repeats};
@@ -45,7 +45,7 @@ fn judge(pattern: &Pattern, leaf: u32, log: &Log, bind: &Bind) -> Option<Span>
             joined(Join::Then, &first_span, &second_span, apart)
         }
         Pattern::Either(left, right) => match bind {
-            Bind::First(part) => judge(left, leaf, log, part),
+            Bind::First(more, part) => judge_left(left, leaf, log, *more, part),
             Bind::Second(part) => judge(right, leaf + leaf_count(left), log, part),
             Bind::One(_) | Bind::Both(_, _) => None,
             Bind::Many(_) => None,
@@ -61,6 +61,32 @@ fn judge(pattern: &Pattern, leaf: u32, log: &Log, bind: &Bind) -> Option<Span>
             span_if(is_between, span)
         }
         Pattern::Repeats(part, count) => judge_repeats(part, leaf, log, bind.parts()?, *count),
+    }
+}
+
+/// The same of a bind under so many `First`s: each `OR` on the way down its left sides takes one off.
+#[cycle(judge)]
+fn judge_left(pattern: &Pattern, leaf: u32, log: &Log, count: u32, bind: &Bind) -> Option<Span>
+    requires { leaf + leaves pattern.now < 2 ^ 32 }
+    ensures { result ≡ judged (observed_in log.now) (numbered_from leaf pattern.now) (firsts count (tree_of bind.now)) }
+{
+    if count == 0 {
+        return judge(pattern, leaf, log, bind);
+    }
+    match pattern {
+        Pattern::Either(left, _) => judge_left(left, leaf, log, count - 1, bind),
+        Pattern::Within(part, seconds) => {
+            let span = judge_left(part, leaf, log, count, bind)?;
+            let is_within = span.is_within(*seconds);
+            span_if(is_within, span)
+        }
+        Pattern::Between(part, start, stop) => {
+            let span = judge_left(part, leaf, log, count, bind)?;
+            let is_between = span.is_between(*start, *stop);
+            span_if(is_between, span)
+        }
+        Pattern::Leaf(_) | Pattern::Both(_, _) | Pattern::Then(_, _) => None,
+        Pattern::Repeats(_, _) => None,
     }
 }
 

@@ -17,9 +17,9 @@ pub fn copy_bind(alloc: Global, bind: &Bind) -> Result<Bind, NoMemory>
             let right = copy_bind(alloc, right)?;
             Ok(Bind::Both(Box::new(alloc, left)?, Box::new(alloc, right)?))
         }
-        Bind::First(part) => {
+        Bind::First(more, part) => {
             let part = copy_bind(alloc, part)?;
-            Ok(Bind::First(Box::new(alloc, part)?))
+            Ok(Bind::First(*more, Box::new(alloc, part)?))
         }
         Bind::Second(part) => {
             let part = copy_bind(alloc, part)?;

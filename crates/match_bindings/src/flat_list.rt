@@ -1,4 +1,4 @@
-ghost use Rattle.std.specs.Prelude.{◌≡◌, ◌++◌, IfOk, OnOk, map};
+ghost use Rattle.std.specs.Prelude.{◌≡◌, ◌+◌, ◌++◌, IfOk, OnOk, map, replicate};
 ghost use Rattle.match_bindings.specs.BindTree.{tree_of, many_of};
 ghost use Rattle.match_bindings.specs.Flat.{flat};
 
@@ -27,8 +27,8 @@ pub(crate) fn push_flat(bind: &Bind, out: &mut Vec<u64>) -> Result<(), NoMemory>
             push_flat(left, out)?;
             push_flat(right, out)?;
         }
-        Bind::First(part) => {
-            out.push(0)?;
+        Bind::First(more, part) => {
+            push_zeros(*more, out)?;
             push_flat(part, out)?;
         }
         Bind::Second(part) => {
@@ -37,6 +37,15 @@ pub(crate) fn push_flat(bind: &Bind, out: &mut Vec<u64>) -> Result<(), NoMemory>
         }
         Bind::Many(parts) => push_flats(parts.as_slice(), out)?,
     }
+    Ok(())
+}
+
+/// Adds the zeros of a `First`.
+fn push_zeros(more: u32, out: &mut Vec<u64>) -> Result<(), NoMemory>
+    ensures { OnOk result (out.new.items ≡ out.old.items ++ replicate (more + 1) 0) }
+{
+    let zeros = more as usize + 1;
+    out.resize(out.len() + zeros, 0)?;
     Ok(())
 }
 

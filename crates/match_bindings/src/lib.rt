@@ -19,6 +19,7 @@ mod log_entry;
 mod numbers;
 mod order;
 mod ranked;
+mod rising;
 mod span;
 mod spanned_bind;
 

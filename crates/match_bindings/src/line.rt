@@ -1,4 +1,5 @@
-ghost use Rattle.std.specs.Prelude.{◌≡◌, ◌++◌, IfOk, OnOk, map, string_bytes, decimal};
+ghost use Rattle.std.specs.Prelude.{◌≡◌, ◌+◌, ◌++◌, IfOk, OnOk, map, string_bytes, codes, decimal};
+ghost use Rattle.std.specs.List.{repeat};
 ghost use Rattle.match_bindings.specs.BindTree.{tree_of, many_of};
 ghost use Rattle.match_bindings.specs.Line.{entries_text, line_text};
 
@@ -34,8 +35,8 @@ fn push_entries(bind: &Bind, line: &mut String) -> Result<(), NoMemory>
             push_entries(left, line)?;
             push_entries(right, line)?;
         }
-        Bind::First(part) => {
-            line.push_str(" L")?;
+        Bind::First(more, part) => {
+            push_letters(*more, line)?;
             push_entries(part, line)?;
         }
         Bind::Second(part) => {
@@ -43,6 +44,17 @@ fn push_entries(bind: &Bind, line: &mut String) -> Result<(), NoMemory>
             push_entries(part, line)?;
         }
         Bind::Many(parts) => push_all_entries(parts.as_slice(), line)?,
+    }
+    Ok(())
+}
+
+/// Adds the letters of a `First`, a space before each.
+fn push_letters(more: u32, line: &mut String) -> Result<(), NoMemory>
+    ensures { OnOk result (string_bytes line.new ≡ string_bytes line.old ++ repeat (more + 1) (codes " L")) }
+{
+    line.push_str(" L")?;
+    for _ in 0..more {
+        line.push_str(" L")?;
     }
     Ok(())
 }

@@ -9,15 +9,16 @@ use crate::Bind;
 use crate::flat_list::push_flat;
 use crate::numbers::greatest_number;
 use crate::ranked::Ranked;
+use crate::rising::are_rising;
 use flow_values::NoMemory;
 use std::alloc::Global;
 
-/// Binds by greatest number and then by flat list. Fewer than two are as they were, and take no memory.
+/// Binds by greatest number and then by flat list. Those that are seen to be in order take no memory.
 pub fn in_order(alloc: Global, binds: Vec<Bind>) -> Result<Vec<Bind>, NoMemory>
     ensures counts { IfOk result (λ sorted. (x : BindTree) → count x (map tree_of sorted.items) ≡ count x (map tree_of binds.items)) }
     ensures rises { IfOk result (λ sorted. IsSortedBy comes_before (map tree_of sorted.items)) }
 {
-    if binds.len() < 2 {
+    if binds.len() < 2 || are_rising(&binds) {
         return Ok(binds);
     }
     let sorted = by_rank(alloc, binds)?;

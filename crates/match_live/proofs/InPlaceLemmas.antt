@@ -4,10 +4,10 @@ use Rattle.std.specs.Prelude.{map}
 use Rattle.std.specs.Box.{box_value}
 use Rattle.std.proofs.lemmas.List.{length-map, map-set, get_or-map, take-map, drop-map}
 use Rattle.std.proofs.lemmas.List.Edits.{map_over_more}
-use Rattle.match_bindings.specs.declared.bind.Bind.TheVariants.{First as OfFirst, rolls-First, Second as OfSecond, rolls-Second}
+use Rattle.match_bindings.specs.declared.bind.Bind.TheVariants.{Second as OfSecond, rolls-Second}
 use Rattle.match_bindings.specs.declared.bind.Bind.TheOpen as shape
 use Rattle.match_bindings.specs.declared.bind.Bind.TheFolds.{fold-roll-Bind}
-use Rattle.match_bindings.specs.BindTree.{BindTree, First, Second, tree_level, tree_of}
+use Rattle.match_bindings.specs.BindTree.{BindTree, Second, tree_level, tree_of}
 
 -- where the items before i are changed, as they are seen, then with the i-th those before i + 1
 pub changed_more : {X W : Type 0} (see : X → W) (f : W → W) (xs ys : List X) (i : ℕ) (x x' : X) → i < length xs →
@@ -25,9 +25,6 @@ changed_more see f xs ys i x x' h inv is done same =
     ∙ ap (λ y. map f y ++ drop (i + 1) (map see xs)) (take-map see (i + 1) xs)
     ∙ ap (λ y. map f (map see (take (i + 1) xs)) ++ y) (drop-map see (i + 1) xs)
 
--- the trees of a First and a Second
-pub tree_first : (part : _) → tree_of (OfFirst part) ≡ First (tree_of (box_value part))
-tree_first part = ap tree_of (sym (rolls-First part)) ∙ fold-roll-Bind BindTree tree_level (shape.First part)
-
+-- the tree of a Second
 pub tree_second : (part : _) → tree_of (OfSecond part) ≡ Second (tree_of (box_value part))
 tree_second part = ap tree_of (sym (rolls-Second part)) ∙ fold-roll-Bind BindTree tree_level (shape.Second part)

@@ -24,3 +24,5 @@ pub mod AdmitLemmas
 pub mod OverLemmas
 pub mod PassLemmas
 pub mod InPlaceLemmas
+pub mod UnderFirstsLemmas
+pub mod QuietLemmas

@@ -1,13 +1,18 @@
 -- The numbers of what is held, as a list and as a test.
-use Rattle.std.proofs.Common.{◌≡◌, ℕ, zero, suc, ◌≤◌, ◌<◌, List, [], ◌∷◌, ◌++◌, length, refl, sym, ◌∙◌, ap, arith, append_assoc, append-nil, take, inl, inr}
+use Rattle.std.proofs.Common.{◌≡◌, ℕ, zero, suc, ◌≤◌, ◌<◌, List, [], ◌∷◌, ◌++◌, length, refl, sym, ◌∙◌, ap, arith, append_assoc, append-nil, take, ◌⊎◌, inl, inr}
 use Rattle.std.specs.Prelude.{Bool, true, false, ◌||◌, nat_eq, map, slice_index_or, ◌↔◌}
 use Rattle.std.specs.List.{flat_map, Contains}
+use Rattle.std.specs.Box.{box_value}
 use Rattle.std.proofs.lemmas.Bool.{or_cases, or_left, or_right, eqb-true, eq-eqb}
 use Rattle.std.proofs.lemmas.List.{take_all}
 use Rattle.std.proofs.lemmas.List.Concat.{flat_map-append}
 use Rattle.match_bindings.specs.declared.bind.Bind.{Bind}
-use Rattle.match_bindings.specs.BindTree.{BindTree, One, Pair, First, Second, Empty, Single, More, more_of, many_of, tree_of, has}
+use Rattle.match_bindings.specs.declared.bind.Bind.TheVariants.{First as OfFirst, rolls-First, Second as OfSecond}
+use Rattle.match_bindings.specs.declared.bind.Bind.TheOpen as shape
+use Rattle.match_bindings.specs.declared.bind.Bind.TheFolds.{fold-roll-Bind}
+use Rattle.match_bindings.specs.BindTree.{BindTree, One, Pair, First, Second, Empty, Single, More, firsts, more_of, many_of, tree_level, tree_of, has}
 use Rattle.match_live.specs.PieceTree.{PieceTree}
+use Rattle.match_live.proofs.InPlaceLemmas.{tree_second}
 use Rattle.match_live.specs.RowNumbers.{any_has, is_kept}
 use Rattle.match_live.specs.inner.Steps.{no_levels, levels_above, all_levels}
 use Rattle.match_live.specs.inner.Numbers.{numbers, store_numbers, all_numbers}
@@ -26,6 +31,18 @@ pub push_all : (old out : List ℕ) (binds : List Bind) (i : ℕ) →
     length binds ≤ i → out ≡ old ++ flat_map numbers (map tree_of (take i binds)) → out ≡ old ++ numbers (many_of (map tree_of binds))
 push_all old out binds i h e =
     e ∙ ap (λ z. old ++ flat_map numbers (map tree_of z)) (take_all i binds h) ∙ ap (λ z. old ++ z) (sym (many_numbers (map tree_of binds)))
+
+numbers_firsts : (n : ℕ) (x : BindTree) → numbers (firsts n x) ≡ numbers x
+numbers_firsts zero x = refl
+numbers_firsts (suc n) x = numbers_firsts n x
+
+-- a First or a Second has the numbers of its part
+pub numbers_of_part : (bind : Bind) (part : _) → ((n : ℕ) × (bind ≡ OfFirst n part)) ⊎ (bind ≡ OfSecond part) → numbers (tree_of bind) ≡ numbers (tree_of (box_value part))
+numbers_of_part bind part (inl is) =
+    ap (λ b. numbers (tree_of b)) (is.1 ∙ sym (rolls-First is.0 part))
+    ∙ ap numbers (fold-roll-Bind BindTree tree_level (shape.First is.0 part))
+    ∙ numbers_firsts is.0 (tree_of (box_value part))
+numbers_of_part bind part (inr is) = ap (λ b. numbers (tree_of b)) is ∙ ap numbers (tree_second part)
 
 pub numbers_append : (xs ys : List (List PieceTree)) → all_numbers (xs ++ ys) ≡ all_numbers xs ++ all_numbers ys
 numbers_append xs ys = flat_map-append store_numbers xs ys

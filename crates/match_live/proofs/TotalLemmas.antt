@@ -460,17 +460,12 @@ module _ (row : Row) (truths : List Bool) (ahead : List Ahead) (l r z : State) (
   choice_new : length (wanted row.last ahead (step_new row truths z)) ≡ length (wanted row.last ahead (step_new row truths l)) + length (wanted row.last ahead (step_new row truths r))
   choice_new = ap (λ y. length (wanted row.last ahead (step_new row truths y))) is ∙ either_count row.last ahead (step_new row truths l) (step_new row truths r)
 
-  pub over_first : Admits row truths z → (room : ℕ) → (Admits row truths l → room < live_at row truths ahead l) → room < live_at row truths ahead z
-  over_first a room over = omega (arith, choice_held, choice_new, over (subst (Admits row truths) is a).0)
+  pub over_first : Admits row truths z → (room n : ℕ) → (Admits row truths l → room < n + live_at row truths ahead l) → room < n + live_at row truths ahead z
+  over_first a room n over = omega (arith, choice_held, choice_new, over (subst (Admits row truths) is a).0)
 
-  pub over_first_new : (nl : List PieceTree) → nl ≡ wanted row.last ahead (step_new row truths l) → (room room1 : ℕ) → room1 + held_after row truths l ≡ room → room1 < length nl →
-      room < live_at row truths ahead z
-  over_first_new nl f room room1 e over = let long = ap length f in omega (arith, choice_held, choice_new, e, over, long)
-
-  pub over_second : (nl : List PieceTree) → nl ≡ wanted row.last ahead (step_new row truths l) → Admits row truths z → (room room1 room2 : ℕ) → room1 + held_after row truths l ≡ room →
-      room2 + length nl ≡ room1 → (Admits row truths r → room2 < live_at row truths ahead r) → room < live_at row truths ahead z
-  over_second nl f a room room1 room2 e e1 over =
-      let long = ap length f in omega (arith, choice_held, choice_new, e, e1, over (subst (Admits row truths) is a).1, long)
+  pub over_second : Admits row truths z → (room room1 n : ℕ) → room1 + held_after row truths l ≡ room →
+      (Admits row truths r → room1 < (n + length (wanted row.last ahead (step_new row truths l))) + live_at row truths ahead r) → room < n + live_at row truths ahead z
+  over_second a room room1 n e over = omega (arith, choice_held, choice_new, e, over (subst (Admits row truths) is a).1)
 
   pub choice_is : (nl nr : List PieceTree) → nl ≡ wanted row.last ahead (step_new row truths l) → nr ≡ wanted row.last ahead (step_new row truths r) →
       map (held_with First) nl ++ map (held_with Second) nr ≡ wanted row.last ahead (step_new row truths z)
@@ -480,9 +475,8 @@ module _ (row : Row) (truths : List Bool) (ahead : List Ahead) (l r z : State) (
       ∙ either_wanted row.last ahead (step_new row truths l) (step_new row truths r)
       ∙ sym (ap (λ y. wanted row.last ahead (step_new row truths y)) is)
 
-  pub choice_counted : (room room1 room2 room3 room4 n : ℕ) → room1 + held_after row truths l ≡ room → room2 + n ≡ room1 → room3 + held_after row truths r ≡ room2 → room4 ≡ room3 + n →
-      room4 + held_after row truths z ≡ room
-  choice_counted room room1 room2 room3 room4 n e e1 e2 e3 = omega (arith, choice_held, e, e1, e2, e3)
+  pub choice_counted : (room room1 room2 : ℕ) → room1 + held_after row truths l ≡ room → room2 + held_after row truths r ≡ room1 → room2 + held_after row truths z ≡ room
+  choice_counted room room1 room2 e e1 = omega (arith, choice_held, e, e1)
 
 -- ---- what is repeated
 

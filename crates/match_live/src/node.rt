@@ -1,14 +1,14 @@
-ghost use Rattle.std.specs.Prelude.{◌≡◌, ◌+◌, ◌<◌, ◌^◌, ◌++◌, [], false, IfOk, OnOk, Err, map};
+ghost use Rattle.std.specs.Prelude.{◌≡◌, ◌+◌, ◌<◌, ◌^◌, ◌++◌, [], false, IsTrue, IfOk, OnOk, Err, map, length};
 ghost use Rattle.std.specs.Box.{box_value};
 ghost use Rattle.pattern_types.specs.Leaves.{leaves};
 ghost use Rattle.match_bindings.specs.NumberedPattern.{numbered_from};
-ghost use Rattle.match_bindings.specs.BindTree.{One, First, Second};
+ghost use Rattle.match_bindings.specs.BindTree.{One, Second, firsts};
 ghost use Rattle.match_live.specs.inner.Pieces.{piece_tree, piece_trees};
 ghost use Rattle.match_windows.specs.Stores.{window_of};
-ghost use Rattle.match_live.specs.inner.Steps.{held_with, a_leaf, a_join, a_choice, a_limit, a_chain, all_levels, empty_sides, step_new, step_state, new_at_leaf, empty_state};
+ghost use Rattle.match_live.specs.inner.Steps.{held_with, a_leaf, a_join, a_choice, a_limit, a_chain, all_levels, empty_sides, step_new, step_state, new_at_leaf, empty_state, IsQuiet};
 ghost use Rattle.match_live.specs.inner.Wanted.{wanted, closed, leads_right, leads_part};
 ghost use Rattle.match_live.specs.inner.Leads.{ahead_of, leads_of};
-ghost use Rattle.match_live.specs.inner.Totals.{held_after, IsOverAt};
+ghost use Rattle.match_live.specs.inner.Totals.{held_after, live_at, Admits, IsOverAt};
 ghost use Rattle.match_live.specs.inner.Nodes.{side_stores, state_of};
 ghost use Rattle.match_live.specs.declared.stop.Stop.TheVariants as stop;
 
@@ -182,13 +182,9 @@ pub(crate) fn step(
             Ok(new)
         }
         Node::Either(left, right) => {
-            let new_left = step(alloc, left, row, truths, leads, room)?;
-            // Read, so that it is known to fit.
-            let _left = room.left;
-            room.take(new_left.len())?;
-            let new_right = step(alloc, right, row, truths, leads, room)?;
-            room.give_back(new_left.len());
-            let new = either_of(alloc, new_left, new_right)?;
+            let mut new = Vec::new(alloc);
+            step_first(alloc, 1, left, row, truths, leads, room, &mut new)?;
+            step_second(alloc, 0, right, row, truths, leads, room, &mut new)?;
             Ok(new)
         }
         Node::Under(part) => step(alloc, part, row, truths, leads, room),
@@ -199,6 +195,73 @@ pub(crate) fn step(
             Ok(answer)
         }
     }
+}
+
+/// One row at the left side of an `OR`, the innermost of so many that it is a left side of: adds what ends
+/// there, put under the `First`s of them all at once.
+#[cycle(step)]
+fn step_first(
+    alloc: Global,
+    count: u32,
+    node: &mut Node,
+    row: &Row,
+    truths: &[bool],
+    leads: &mut Vec<Lead>,
+    room: &mut Room,
+    out: &mut Vec<Piece>,
+) -> Result<(), Stop>
+    ensures new { OnOk result (piece_trees out.new.items ≡ piece_trees out.old.items ++ map (held_with (firsts count))
+        (wanted row.now.last (leads_of leads.old.items) (step_new row.now truths.now (state_of node.old)))) }
+    ensures kept { OnOk result (state_of node.new ≡ step_state row.now truths.now (state_of node.old)) }
+    ensures leads { OnOk result (leads.new.items ≡ leads.old.items) }
+    ensures counted { OnOk result (room.new.left + held_after row.now truths.now (state_of node.old) ≡ room.old.left) }
+    ensures crowded { result ≡ Err stop.Crowded → Admits row.now truths.now (state_of node.old)
+        → room.old.left < length out.old.items + live_at row.now truths.now (leads_of leads.old.items) (state_of node.old) }
+{
+    if count < u32::MAX {
+        if let Node::Either(left, right) = node {
+            step_first(alloc, count + 1, left, row, truths, leads, room, out)?;
+            step_second(alloc, count, right, row, truths, leads, room, out)?;
+            return Ok(());
+        }
+    }
+    let mut new = step(alloc, node, row, truths, leads, room)?;
+    wrap_firsts(alloc, count, &mut new)?;
+    out.append(&mut new)?;
+    Ok(())
+}
+
+/// One row at the right side of an `OR` that is a left side of so many more: adds what ends there to what
+/// ends on its left.
+#[cycle(step)]
+fn step_second(
+    alloc: Global,
+    count: u32,
+    node: &mut Node,
+    row: &Row,
+    truths: &[bool],
+    leads: &mut Vec<Lead>,
+    room: &mut Room,
+    out: &mut Vec<Piece>,
+) -> Result<(), Stop>
+    ensures new { OnOk result (piece_trees out.new.items ≡ piece_trees out.old.items ++ map (held_with (firsts count))
+        (map (held_with Second) (wanted row.now.last (leads_of leads.old.items) (step_new row.now truths.now (state_of node.old))))) }
+    ensures kept { OnOk result (state_of node.new ≡ step_state row.now truths.now (state_of node.old)) }
+    ensures leads { OnOk result (leads.new.items ≡ leads.old.items) }
+    ensures counted { OnOk result (room.new.left + held_after row.now truths.now (state_of node.old) ≡ room.old.left) }
+    ensures crowded { result ≡ Err stop.Crowded → Admits row.now truths.now (state_of node.old)
+        → room.old.left < length out.old.items + live_at row.now truths.now (leads_of leads.old.items) (state_of node.old) }
+{
+    if is_quiet(node, truths) {
+        return Ok(());
+    }
+    // Read, so that it is known to fit.
+    let _left = room.left;
+    room.take(out.len())?;
+    let new = step(alloc, node, row, truths, leads, room)?;
+    room.give_back(out.len());
+    add_seconds(alloc, count, new, out)?;
+    Ok(())
 }
 
 /// One row at the right side of a node.
@@ -294,6 +357,17 @@ fn nothing_ahead(alloc: Global, window: &Window, now: Instant) -> Lead
     }
 }
 
+/// Whether a node is a leaf that doesn't hold.
+fn is_quiet(node: &Node, truths: &[bool]) -> bool
+    ensures { IsTrue result → IsQuiet truths.now (state_of node.now) }
+{
+    match node {
+        Node::Leaf(leaf, _) => !truths.get(*leaf as usize).copied().unwrap_or(false),
+        Node::Sides(_, _, _, _) | Node::Either(_, _) => false,
+        Node::Under(_) | Node::Repeats(_, _) => false,
+    }
+}
+
 /// What is new at a leaf, and wanted.
 #[inline(never)]
 fn new_at_leaf(
@@ -327,30 +401,37 @@ fn alone(row: &Row) -> Piece
     }
 }
 
-/// The things of both sides of an `OR`, in the memory that those of the one or the other have.
+/// Adds the things of the right side of an `OR` that is the left side of so many more, in the memory that
+/// they have where they are the first.
 #[inline(never)]
-fn either_of(alloc: Global, left: Vec<Piece>, right: Vec<Piece>) -> Result<Vec<Piece>, NoMemory>
-    ensures { IfOk result (λ new. piece_trees new.items
-        ≡ map (held_with First) (piece_trees left.items) ++ map (held_with Second) (piece_trees right.items)) }
+fn add_seconds(
+    alloc: Global,
+    count: u32,
+    new: Vec<Piece>,
+    out: &mut Vec<Piece>,
+) -> Result<(), NoMemory>
+    ensures { OnOk result (piece_trees out.new.items
+        ≡ piece_trees out.old.items ++ map (held_with (firsts count)) (map (held_with Second) (piece_trees new.items))) }
 {
-    let mut new = left;
-    let mut seconds = right;
-    wrap_firsts(alloc, &mut new)?;
+    let mut seconds = new;
     wrap_seconds(alloc, &mut seconds)?;
-    if new.is_empty() {
-        return Ok(seconds);
+    wrap_firsts(alloc, count, &mut seconds)?;
+    if out.is_empty() {
+        *out = seconds;
+        return Ok(());
     }
-    new.append(&mut seconds)?;
-    Ok(new)
+    out.append(&mut seconds)?;
+    Ok(())
 }
 
-/// Makes things those of the left side of an `OR`.
-fn wrap_firsts(alloc: Global, held: &mut Vec<Piece>) -> Result<(), NoMemory>
-    ensures { OnOk result (piece_trees held.new.items ≡ map (held_with First) (piece_trees held.old.items)) }
+/// Makes things those of the left sides of so many `OR`s, one above another.
+fn wrap_firsts(alloc: Global, count: u32, held: &mut Vec<Piece>) -> Result<(), NoMemory>
+    ensures { OnOk result (piece_trees held.new.items ≡ map (held_with (firsts count)) (piece_trees held.old.items)) }
 {
     for piece in held.iter_mut() {
         let bind = mem::replace(&mut piece.bind, Bind::One(0));
-        piece.bind = Bind::First(Box::new(alloc, bind)?);
+        let above = Bind::under_firsts(alloc, count, bind)?;
+        piece.bind = above;
     }
     Ok(())
 }

@@ -91,7 +91,7 @@ fn push_numbers(bind: &Bind, out: &mut Vec<u64>) -> Result<(), NoMemory>
             push_numbers(left, out)?;
             push_numbers(right, out)?;
         }
-        Bind::First(part) | Bind::Second(part) => push_numbers(part, out)?,
+        Bind::First(_, part) | Bind::Second(part) => push_numbers(part, out)?,
         Bind::Many(parts) => push_all_numbers(parts.as_slice(), out)?,
     }
     Ok(())

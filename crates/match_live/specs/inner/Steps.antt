@@ -1,5 +1,5 @@
 -- For private clauses: what a matcher keeps as plain lists, and one row of it.
-use Rattle.std.specs.Prelude.{ℕ, zero, suc, ◌+◌, ◌-◌, ℤ, int_le, Bool, true, false, ◌&&◌, cond, unwrap_or, slice_get, List, [], ◌∷◌, ◌++◌, map, filter, length}
+use Rattle.std.specs.Prelude.{◌≡◌, ℕ, zero, suc, ◌+◌, ◌-◌, ℤ, int_le, Bool, true, false, ◌&&◌, cond, unwrap_or, slice_get, List, [], ◌∷◌, ◌++◌, map, filter, length}
 use Rattle.std.specs.Int.{int_min, int_max}
 use Rattle.std.specs.List.{flat_map}
 use Rattle.match_bindings.specs.declared.bounds.Bounds.{Bounds}
@@ -163,6 +163,10 @@ step_state row truths (a_limit part) = a_limit (step_state row truths part)
 step_state row truths (a_chain part count window levels) =
     a_chain (step_state row truths part) count window
     (levels_after window row.last (map (held_with Single) (step_new row truths part)) (step_new row truths part) levels)
+
+-- a leaf that doesn't hold
+abbrev pub IsQuiet : List Bool → State → Type 0
+IsQuiet truths z = (leaf : ℕ) × (window : Window) × (z ≡ a_leaf leaf window) × (truth_at truths leaf ≡ false)
 
 -- the sides of a node without rows
 abbrev pub empty_sides : Window → Window → SideStores

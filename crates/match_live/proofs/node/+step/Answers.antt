@@ -1,24 +1,27 @@
 -- One row, node by node.
-use Rattle.std.proofs.Common.{refl, ◌-◌, ◌≡◌, ◌+◌, ◌<◌, ◌≤◌, [], ◌∷◌, List, length, Err, rules, arith, ap, sym, ◌∙◌, subst}
+use Rattle.std.proofs.Common.{refl, ◌-◌, ◌≡◌, ◌+◌, ◌<◌, ◌≤◌, [], ◌∷◌, ◌++◌, List, length, Err, rules, arith, ap, sym, ◌∙◌, subst}
 use Rattle.std.specs.Prelude.{ℕ, Bool, map}
-use Rattle.match_bindings.specs.BindTree.{Single}
+use Rattle.match_bindings.specs.BindTree.{Second, Single, firsts}
 use Rattle.match_live.specs.LivePart.{held_count}
-use Rattle.std.proofs.lemmas.List.{length-map}
+use Rattle.std.proofs.lemmas.List.{length-map, length-append}
 use Rattle.match_live.specs.declared.stop.Stop.TheVariants as stop
 use Rattle.match_live.specs.declared.lead.Lead.{Lead}
 use Rattle.match_live.specs.declared.store.Store.{Store}
 use Rattle.match_live.specs.declared.sides.Sides.{Sides}
 use Rattle.match_live.specs.declared.piece.Piece.{Piece}
 use Rattle.match_live.specs.declared.row.Row.{Row}
+use Rattle.match_live.specs.declared.node.Node.{Node}
 use Rattle.match_live.specs.PieceTree.{PieceTree}
 use Rattle.match_live.specs.inner.Pieces.{piece_tree, piece_trees}
-use Rattle.match_live.specs.inner.Steps.{State, a_leaf, a_join, all_levels, held_with, levels_new, levels_after, kept, joins_both, step_new, step_state}
+use Rattle.match_live.specs.inner.Steps.{State, a_leaf, a_join, a_choice, all_levels, held_with, levels_new, levels_after, kept, joins_both, step_new, step_state, IsQuiet}
 use Rattle.match_live.specs.inner.Wanted.{Ahead, wanted, leads_right, leads_part, chosen}
 use Rattle.match_live.specs.inner.Leads.{ahead_of, leads_of}
 use Rattle.match_live.specs.inner.Totals.{held_after, live_at, AdmitLevels, Admits}
 use Rattle.match_live.specs.inner.Nodes.{store_list, store_lists, side_stores, levels_state, state_of}
 use Rattle.match_live.proofs.WantedLemmas.{leads_more}
-use Rattle.match_live.proofs.TotalLemmas.{over_left, over_left_held, over_right, over_right_held, join_is, join_counted, join_kept, over_first, over_first_new, over_second, choice_is, choice_counted, over_part, over_levels, chain_is, chain_counted, chain_kept}
+use Rattle.match_live.proofs.TotalLemmas.{over_left, over_left_held, over_right, over_right_held, join_is, join_counted, join_kept, over_first, over_second, choice_is, choice_counted, over_part, over_levels, chain_is, chain_counted, chain_kept}
+use Rattle.match_live.proofs.QuietLemmas.{quiet_under, quiet_state, quiet_counted}
+use Rattle.match_live.proofs.UnderFirstsLemmas.{under_none, choice_added}
 use Rattle.match_live.proofs.node.+step.Goals as goal
 
 -- what is said of a part, of the same part named otherwise
@@ -31,6 +34,10 @@ new_at row truths new a b u v e f h = h ∙ ap (λ x. wanted row.last x (step_ne
 
 held_at : (row : Row) (truths : List Bool) (left room : ℕ) (a b : State) → a ≡ b → left + held_after row truths a ≡ room → left + held_after row truths b ≡ room
 held_at row truths left room a b e h = sym (ap (λ y. left + held_after row truths y) e) ∙ h
+
+-- the state of an OR whose sides are named otherwise
+choice_at : (left right l r : Node) (z : State) → l ≡ left → r ≡ right → z ≡ a_choice (state_of left) (state_of right) → a_choice (state_of l) (state_of r) ≡ z
+choice_at left right l r z e f is = ap (λ x. a_choice (state_of x) (state_of r)) e ∙ ap (λ x. a_choice (state_of left) (state_of x)) f ∙ sym is
 
 pub step-returns-in_err-new_left-in-Sides-clause-crowded : goal.step-returns-in_err-new_left-in-Sides-clause-crowded
 step-returns-in_err-new_left-in-Sides-clause-crowded t c = λ e a.
@@ -203,88 +210,144 @@ step-returns-in_ok-new-in-Sides-clause-counted t c =
     let leads = ap leads_of (c.deref-in-Sides-3.ensures.value ∙ c.in_ok-new_right-in-Sides.ensures.leads) in
     join_counted row truths ahead c.in-Sides.join l r z s k m is kept_is same nl nr f g room room1 room2 room3 room4 room5 first second third fourth fifth
 
-pub step-returns-in_err-new_left-in-Either-clause-crowded : goal.step-returns-in_err-new_left-in-Either-clause-crowded
-step-returns-in_err-new_left-in-Either-clause-crowded t c = λ e a.
+pub step-returns-in_err-step_first-in-Either-clause-crowded : goal.step-returns-in_err-step_first-in-Either-clause-crowded
+step-returns-in_err-step_first-in-Either-clause-crowded t c = λ e a.
     let row = c.args.row.now in let truths = c.args.truths.now in let ahead = leads_of c.args.leads.now.items in
-    let l = state_of c.in-Either.left.value in let r = state_of c.in-Either.right.value in let z = state_of c.args.node.now in
-    let is = ap state_of c.in-Either.is in let el = ap state_of c.deref_mut-in-Either.ensures.value in
+    let l = state_of c.deref_mut-in-Either.result.now in let r = state_of c.in-Either.right.value in let z = state_of c.args.node.now in
+    let is = sym (choice_at c.in-Either.left.value c.in-Either.right.value c.deref_mut-in-Either.result.now c.in-Either.right.value z c.deref_mut-in-Either.ensures.value refl (ap state_of c.in-Either.is)) in
     let room = c.args.room.now.left in
-    let failed : c.step-in-Either.result ≡ Err stop.Crowded = search rules in
-    over_first row truths ahead l r z is a room (over_at row truths room (state_of c.deref_mut-in-Either.result.now) l ahead ahead el refl (c.step-in-Either.ensures.crowded failed))
+    let none = ap length c.new-new.ensures.items in
+    let failed : c.step_first.result ≡ Err stop.Crowded = search rules in
+    let over' = over_first row truths ahead l r z is a room 0 (λ b. let more = c.step_first.ensures.crowded failed b in omega (arith, more, none)) in omega (arith, over')
 
-pub step-returns-in_err-take-in-Either-clause-crowded : goal.step-returns-in_err-take-in-Either-clause-crowded
-step-returns-in_err-take-in-Either-clause-crowded t c = λ e a.
+pub step-returns-in_err-step_second-in-Either-clause-crowded : goal.step-returns-in_err-step_second-in-Either-clause-crowded
+step-returns-in_err-step_second-in-Either-clause-crowded t c = λ e a.
     let row = c.args.row.now in let truths = c.args.truths.now in let ahead = leads_of c.args.leads.now.items in
-    let l = state_of c.in-Either.left.value in let r = state_of c.in-Either.right.value in let z = state_of c.args.node.now in
-    let is = ap state_of c.in-Either.is in let el = ap state_of c.deref_mut-in-Either.ensures.value in
+    let l = state_of c.deref_mut-in-Either.result.now in let r = state_of c.deref_mut-in-Either-2.result.now in let z = state_of c.args.node.now in
+    let is = sym (choice_at c.in-Either.left.value c.in-Either.right.value c.deref_mut-in-Either.result.now c.deref_mut-in-Either-2.result.now z c.deref_mut-in-Either.ensures.value c.deref_mut-in-Either-2.ensures.value (ap state_of c.in-Either.is)) in
     let room = c.args.room.now.left in
-    let nl = piece_trees c.in_ok-new_left-in-Either.new_left.items in
-    let f = new_at row truths nl (state_of c.deref_mut-in-Either.result.now) l ahead ahead el refl c.in_ok-new_left-in-Either.ensures.new in
-    let room1 = c.step-in-Either.new.room.left in let first = held_at row truths room1 room (state_of c.deref_mut-in-Either.result.now) l el c.in_ok-new_left-in-Either.ensures.counted in
-    let long = length-map c.in_ok-new_left-in-Either.new_left.items piece_tree in
+    let nl = wanted row.last ahead (step_new row truths l) in
+    let room1 = c.step_first.new.room.left in let first = c.in_ok-step_first-in-Either.ensures.counted in
+    let leads = ap leads_of c.in_ok-step_first-in-Either.ensures.leads in
+    let none = ap length c.new-new.ensures.items in
+    let mid = c.step_first.new.out.items in
+    let long : length mid ≡ length c.new-new.result.items + length nl
+    = sym (length-map mid piece_tree) ∙ ap length c.in_ok-step_first-in-Either.ensures.new
+    ∙ length-append (piece_trees c.new-new.result.items) (map (held_with (firsts 1)) nl)
+    ∙ ap (λ k. k + length (map (held_with (firsts 1)) nl)) (length-map c.new-new.result.items piece_tree)
+    ∙ ap (λ k. length c.new-new.result.items + k) (length-map nl (held_with (firsts 1))) in
+    let failed : c.step_second.result ≡ Err stop.Crowded = search rules in
+    let over = subst (λ (x : List Ahead). Admits row truths r → room1 < length mid + live_at row truths x r) leads (c.step_second.ensures.crowded failed) in
+    let over' = over_second row truths ahead l r z is a room room1 0 first (λ b. let more = over b in omega (arith, long, more, none)) in omega (arith, over')
+
+pub step-returns-in_ok-step_second-in-Either-clause-new : goal.step-returns-in_ok-step_second-in-Either-clause-new
+step-returns-in_ok-step_second-in-Either-clause-new t c =
+    let row = c.args.row.now in let truths = c.args.truths.now in let ahead = leads_of c.args.leads.now.items in
+    let l = state_of c.deref_mut-in-Either.result.now in let r = state_of c.deref_mut-in-Either-2.result.now in let z = state_of c.args.node.now in
+    let is = sym (choice_at c.in-Either.left.value c.in-Either.right.value c.deref_mut-in-Either.result.now c.deref_mut-in-Either-2.result.now z c.deref_mut-in-Either.ensures.value c.deref_mut-in-Either-2.ensures.value (ap state_of c.in-Either.is)) in
+    let room = c.args.room.now.left in
+    let nl = wanted row.last ahead (step_new row truths l) in
+    let room1 = c.step_first.new.room.left in let first = c.in_ok-step_first-in-Either.ensures.counted in
+    let leads = ap leads_of c.in_ok-step_first-in-Either.ensures.leads in
+    let nr = wanted row.last ahead (step_new row truths r) in
+    let g = new_at row truths (wanted row.last (leads_of c.step_first.new.leads.items) (step_new row truths r)) r r (leads_of c.step_first.new.leads.items) ahead refl leads refl in
+    let mid = piece_trees c.step_first.new.out.items in let new = piece_trees c.step_second.new.out.items in
+    let second = c.in_ok-step_second-in-Either.ensures.new ∙ ap (λ y. mid ++ map (held_with (firsts 0)) (map (held_with Second) y)) g in
+    choice_added 0 (piece_trees c.new-new.result.items) mid new nl nr c.in_ok-step_first-in-Either.ensures.new second
+    ∙ ap (λ y. piece_trees c.new-new.result.items ++ map (held_with (firsts 0)) y) (choice_is row truths ahead l r z is nl nr refl refl)
+    ∙ ap (λ y. piece_trees y ++ map (held_with (firsts 0)) (wanted row.last ahead (step_new row truths z))) c.new-new.ensures.items
+    ∙ under_none (wanted row.last ahead (step_new row truths z))
+
+pub step-returns-in_ok-step_second-in-Either-clause-counted : goal.step-returns-in_ok-step_second-in-Either-clause-counted
+step-returns-in_ok-step_second-in-Either-clause-counted t c =
+    let row = c.args.row.now in let truths = c.args.truths.now in let ahead = leads_of c.args.leads.now.items in
+    let l = state_of c.deref_mut-in-Either.result.now in let r = state_of c.deref_mut-in-Either-2.result.now in let z = state_of c.args.node.now in
+    let is = sym (choice_at c.in-Either.left.value c.in-Either.right.value c.deref_mut-in-Either.result.now c.deref_mut-in-Either-2.result.now z c.deref_mut-in-Either.ensures.value c.deref_mut-in-Either-2.ensures.value (ap state_of c.in-Either.is)) in
+    let room = c.args.room.now.left in
+    let room1 = c.step_first.new.room.left in let first = c.in_ok-step_first-in-Either.ensures.counted in
+    choice_counted row truths ahead l r z is room room1 c.step_second.new.room.left first c.in_ok-step_second-in-Either.ensures.counted
+
+pub step_first-returns-in_err-step_first-clause-crowded : goal.step_first-returns-in_err-step_first-clause-crowded
+step_first-returns-in_err-step_first-clause-crowded t c = λ e a.
+    let row = c.args.row.now in let truths = c.args.truths.now in let ahead = leads_of c.args.leads.now.items in
+    let l = state_of c.deref_mut.result.now in let r = state_of c.in-Either.right.value in let z = state_of c.args.node.now in
+    let is = sym (choice_at c.in-Either.left.value c.in-Either.right.value c.deref_mut.result.now c.in-Either.right.value z c.deref_mut.ensures.value refl (ap state_of c.in-Either.is)) in
+    let room = c.args.room.now.left in
+    let failed : c.step_first.result ≡ Err stop.Crowded = search rules in
+    over_first row truths ahead l r z is a room (length c.args.out.now.items) (λ b. let more = c.step_first.ensures.crowded failed b in omega (arith, more))
+
+pub step_first-returns-in_err-step_second-clause-crowded : goal.step_first-returns-in_err-step_second-clause-crowded
+step_first-returns-in_err-step_second-clause-crowded t c = λ e a.
+    let row = c.args.row.now in let truths = c.args.truths.now in let ahead = leads_of c.args.leads.now.items in
+    let l = state_of c.deref_mut.result.now in let r = state_of c.deref_mut-in-Either.result.now in let z = state_of c.args.node.now in
+    let is = sym (choice_at c.in-Either.left.value c.in-Either.right.value c.deref_mut.result.now c.deref_mut-in-Either.result.now z c.deref_mut.ensures.value c.deref_mut-in-Either.ensures.value (ap state_of c.in-Either.is)) in
+    let room = c.args.room.now.left in
+    let nl = wanted row.last ahead (step_new row truths l) in
+    let room1 = c.step_first.new.room.left in let first = c.in_ok-step_first.ensures.counted in
+    let leads = ap leads_of c.in_ok-step_first.ensures.leads in
+    let mid = c.step_first.new.out.items in
+    let long : length mid ≡ length c.args.out.now.items + length nl
+    = sym (length-map mid piece_tree) ∙ ap length c.in_ok-step_first.ensures.new
+    ∙ length-append (piece_trees c.args.out.now.items) (map (held_with (firsts (c.args.count + 1))) nl)
+    ∙ ap (λ k. k + length (map (held_with (firsts (c.args.count + 1))) nl)) (length-map c.args.out.now.items piece_tree)
+    ∙ ap (λ k. length c.args.out.now.items + k) (length-map nl (held_with (firsts (c.args.count + 1)))) in
+    let failed : c.step_second.result ≡ Err stop.Crowded = search rules in
+    let over = subst (λ (x : List Ahead). Admits row truths r → room1 < length mid + live_at row truths x r) leads (c.step_second.ensures.crowded failed) in
+    over_second row truths ahead l r z is a room room1 (length c.args.out.now.items) first (λ b. let more = over b in omega (arith, long, more))
+
+pub step_first-returns-in-Either-clause-new : goal.step_first-returns-in-Either-clause-new
+step_first-returns-in-Either-clause-new t c =
+    let row = c.args.row.now in let truths = c.args.truths.now in let ahead = leads_of c.args.leads.now.items in
+    let l = state_of c.deref_mut.result.now in let r = state_of c.deref_mut-in-Either.result.now in let z = state_of c.args.node.now in
+    let is = sym (choice_at c.in-Either.left.value c.in-Either.right.value c.deref_mut.result.now c.deref_mut-in-Either.result.now z c.deref_mut.ensures.value c.deref_mut-in-Either.ensures.value (ap state_of c.in-Either.is)) in
+    let room = c.args.room.now.left in
+    let nl = wanted row.last ahead (step_new row truths l) in
+    let room1 = c.step_first.new.room.left in let first = c.in_ok-step_first.ensures.counted in
+    let leads = ap leads_of c.in_ok-step_first.ensures.leads in
+    let nr = wanted row.last ahead (step_new row truths r) in
+    let g = new_at row truths (wanted row.last (leads_of c.step_first.new.leads.items) (step_new row truths r)) r r (leads_of c.step_first.new.leads.items) ahead refl leads refl in
+    let mid = piece_trees c.step_first.new.out.items in let new = piece_trees c.step_second.new.out.items in
+    let second = c.in_ok-step_second.ensures.new ∙ ap (λ y. mid ++ map (held_with (firsts c.args.count)) (map (held_with Second) y)) g in
+    choice_added c.args.count (piece_trees c.args.out.now.items) mid new nl nr c.in_ok-step_first.ensures.new second
+    ∙ ap (λ y. piece_trees c.args.out.now.items ++ map (held_with (firsts c.args.count)) y) (choice_is row truths ahead l r z is nl nr refl refl)
+
+pub step_first-returns-in-Either-clause-counted : goal.step_first-returns-in-Either-clause-counted
+step_first-returns-in-Either-clause-counted t c =
+    let row = c.args.row.now in let truths = c.args.truths.now in let ahead = leads_of c.args.leads.now.items in
+    let l = state_of c.deref_mut.result.now in let r = state_of c.deref_mut-in-Either.result.now in let z = state_of c.args.node.now in
+    let is = sym (choice_at c.in-Either.left.value c.in-Either.right.value c.deref_mut.result.now c.deref_mut-in-Either.result.now z c.deref_mut.ensures.value c.deref_mut-in-Either.ensures.value (ap state_of c.in-Either.is)) in
+    let room = c.args.room.now.left in
+    let room1 = c.step_first.new.room.left in let first = c.in_ok-step_first.ensures.counted in
+    choice_counted row truths ahead l r z is room room1 c.step_second.new.room.left first c.in_ok-step_second.ensures.counted
+
+pub step_second-returns-then-is_quiet-clause-new : goal.step_second-returns-then-is_quiet-clause-new
+step_second-returns-then-is_quiet-clause-new t c =
+    let quiet : IsQuiet c.args.truths.now (state_of c.args.node.now) = search rules in
+    quiet_under c.args.row.now c.args.truths.now (state_of c.args.node.now) quiet c.args.count (leads_of c.args.leads.now.items) (piece_trees c.args.out.now.items)
+
+pub step_second-returns-then-is_quiet-clause-kept : goal.step_second-returns-then-is_quiet-clause-kept
+step_second-returns-then-is_quiet-clause-kept t c =
+    let quiet : IsQuiet c.args.truths.now (state_of c.args.node.now) = search rules in
+    quiet_state c.args.row.now c.args.truths.now (state_of c.args.node.now) quiet
+
+pub step_second-returns-then-is_quiet-clause-counted : goal.step_second-returns-then-is_quiet-clause-counted
+step_second-returns-then-is_quiet-clause-counted t c =
+    let quiet : IsQuiet c.args.truths.now (state_of c.args.node.now) = search rules in
+    quiet_counted c.args.row.now c.args.truths.now (state_of c.args.node.now) quiet c.args.room.now.left
+
+pub step_second-returns-in_err-take-clause-crowded : goal.step_second-returns-in_err-take-clause-crowded
+step_second-returns-in_err-take-clause-crowded t c = λ e a.
     let failed : c.take.result ≡ Err stop.Crowded = search rules in
-    over_first_new row truths ahead l r z is nl f room room1 first (omega (arith, long, c.len.ensures, c.take.ensures.crowded failed))
+    omega (arith, c.len.ensures, c.take.ensures.crowded failed)
 
-pub step-returns-in_err-new_right-in-Either-clause-crowded : goal.step-returns-in_err-new_right-in-Either-clause-crowded
-step-returns-in_err-new_right-in-Either-clause-crowded t c = λ e a.
-    let row = c.args.row.now in let truths = c.args.truths.now in let ahead = leads_of c.args.leads.now.items in
-    let l = state_of c.in-Either.left.value in let r = state_of c.in-Either.right.value in let z = state_of c.args.node.now in
-    let is = ap state_of c.in-Either.is in let el = ap state_of c.deref_mut-in-Either.ensures.value in
-    let room = c.args.room.now.left in
-    let nl = piece_trees c.in_ok-new_left-in-Either.new_left.items in
-    let f = new_at row truths nl (state_of c.deref_mut-in-Either.result.now) l ahead ahead el refl c.in_ok-new_left-in-Either.ensures.new in
-    let room1 = c.step-in-Either.new.room.left in let first = held_at row truths room1 room (state_of c.deref_mut-in-Either.result.now) l el c.in_ok-new_left-in-Either.ensures.counted in
-    let long = length-map c.in_ok-new_left-in-Either.new_left.items piece_tree in
-    let room2 = c.take.new.self.left in
-    let second : room2 + length nl ≡ room1 = omega (arith, long, c.len.ensures, c.in_ok-take-in-Either.ensures.taken) in
-    let er = ap state_of c.deref_mut-in-Either-2.ensures.value in
-    let leads = ap leads_of c.in_ok-new_left-in-Either.ensures.leads in
-    let failed : c.step-in-Either-2.result ≡ Err stop.Crowded = search rules in
-    over_second row truths ahead l r z is nl f a room room1 room2 first second
-    (over_at row truths room2 (state_of c.deref_mut-in-Either-2.result.now) r (leads_of c.step-in-Either.new.leads.items) ahead er leads (c.step-in-Either-2.ensures.crowded failed))
+pub step_second-returns-in_err-new-clause-crowded : goal.step_second-returns-in_err-new-clause-crowded
+step_second-returns-in_err-new-clause-crowded t c = λ e a.
+    let failed : c.step.result ≡ Err stop.Crowded = search rules in
+    omega (arith, c.len.ensures, c.in_ok-take.ensures.taken, c.step.ensures.crowded failed a)
 
-pub step-give_back-requires : goal.step-give_back-requires
-step-give_back-requires t c =
-    let taken = c.in_ok-take-in-Either.ensures.taken in
-    omega (arith, taken, c.len.ensures, c.len-in-Either.ensures, c.in_ok-new_right-in-Either.ensures.counted)
-
-pub step-returns-in_ok-new-in-Either-clause-new : goal.step-returns-in_ok-new-in-Either-clause-new
-step-returns-in_ok-new-in-Either-clause-new t c =
-    let row = c.args.row.now in let truths = c.args.truths.now in let ahead = leads_of c.args.leads.now.items in
-    let l = state_of c.in-Either.left.value in let r = state_of c.in-Either.right.value in let z = state_of c.args.node.now in
-    let is = ap state_of c.in-Either.is in let el = ap state_of c.deref_mut-in-Either.ensures.value in
-    let room = c.args.room.now.left in
-    let nl = piece_trees c.in_ok-new_left-in-Either.new_left.items in
-    let f = new_at row truths nl (state_of c.deref_mut-in-Either.result.now) l ahead ahead el refl c.in_ok-new_left-in-Either.ensures.new in
-    let room1 = c.step-in-Either.new.room.left in let first = held_at row truths room1 room (state_of c.deref_mut-in-Either.result.now) l el c.in_ok-new_left-in-Either.ensures.counted in
-    let long = length-map c.in_ok-new_left-in-Either.new_left.items piece_tree in
-    let room2 = c.take.new.self.left in
-    let second : room2 + length nl ≡ room1 = omega (arith, long, c.len.ensures, c.in_ok-take-in-Either.ensures.taken) in
-    let er = ap state_of c.deref_mut-in-Either-2.ensures.value in
-    let leads = ap leads_of c.in_ok-new_left-in-Either.ensures.leads in
-    let nr = piece_trees c.in_ok-new_right-in-Either.new_right.items in
-    let g = new_at row truths nr (state_of c.deref_mut-in-Either-2.result.now) r (leads_of c.step-in-Either.new.leads.items) ahead er leads c.in_ok-new_right-in-Either.ensures.new in
-    let room3 = c.step-in-Either-2.new.room.left in let third = held_at row truths room3 room2 (state_of c.deref_mut-in-Either-2.result.now) r er c.in_ok-new_right-in-Either.ensures.counted in
-    c.in_ok-new-in-Either.ensures ∙ choice_is row truths ahead l r z is nl nr f g
-
-pub step-returns-in_ok-new-in-Either-clause-counted : goal.step-returns-in_ok-new-in-Either-clause-counted
-step-returns-in_ok-new-in-Either-clause-counted t c =
-    let row = c.args.row.now in let truths = c.args.truths.now in let ahead = leads_of c.args.leads.now.items in
-    let l = state_of c.in-Either.left.value in let r = state_of c.in-Either.right.value in let z = state_of c.args.node.now in
-    let is = ap state_of c.in-Either.is in let el = ap state_of c.deref_mut-in-Either.ensures.value in
-    let room = c.args.room.now.left in
-    let nl = piece_trees c.in_ok-new_left-in-Either.new_left.items in
-    let f = new_at row truths nl (state_of c.deref_mut-in-Either.result.now) l ahead ahead el refl c.in_ok-new_left-in-Either.ensures.new in
-    let room1 = c.step-in-Either.new.room.left in let first = held_at row truths room1 room (state_of c.deref_mut-in-Either.result.now) l el c.in_ok-new_left-in-Either.ensures.counted in
-    let long = length-map c.in_ok-new_left-in-Either.new_left.items piece_tree in
-    let room2 = c.take.new.self.left in
-    let second : room2 + length nl ≡ room1 = omega (arith, long, c.len.ensures, c.in_ok-take-in-Either.ensures.taken) in
-    let er = ap state_of c.deref_mut-in-Either-2.ensures.value in
-    let leads = ap leads_of c.in_ok-new_left-in-Either.ensures.leads in
-    let nr = piece_trees c.in_ok-new_right-in-Either.new_right.items in
-    let g = new_at row truths nr (state_of c.deref_mut-in-Either-2.result.now) r (leads_of c.step-in-Either.new.leads.items) ahead er leads c.in_ok-new_right-in-Either.ensures.new in
-    let room3 = c.step-in-Either-2.new.room.left in let third = held_at row truths room3 room2 (state_of c.deref_mut-in-Either-2.result.now) r er c.in_ok-new_right-in-Either.ensures.counted in
-    choice_counted row truths ahead l r z is room room1 room2 room3 c.give_back.new.self.left (length nl) first second third (omega (arith, long, c.len-in-Either.ensures, c.give_back.ensures))
+pub step_second-give_back-requires : goal.step_second-give_back-requires
+step_second-give_back-requires t c =
+    omega (arith, c.in_ok-take.ensures.taken, c.len.ensures, c.len-2.ensures, c.in_ok-new.ensures.counted)
 
 pub step-returns-in_err-new-in-Repeats-clause-crowded : goal.step-returns-in_err-new-in-Repeats-clause-crowded
 step-returns-in_err-new-in-Repeats-clause-crowded t c = λ e a.

@@ -1,27 +1,24 @@
 use Rattle.std.proofs.Common.{rules, ◌≡◌, ◌<◌, length, slice_index_or, sym, ◌∙◌, ap, arith}
-use Rattle.std.specs.Box.{box_value}
 use Rattle.std.proofs.lemmas.List.{length-set}
-use Rattle.match_bindings.specs.BindTree.{BindTree, First, tree_of}
-use Rattle.match_bindings.specs.declared.bind.Bind as bind
+use Rattle.match_bindings.specs.BindTree.{BindTree, firsts, tree_of}
 use Rattle.match_live.specs.declared.piece.Piece.{Piece}
 use Rattle.match_live.specs.PieceTree.{PieceTree}
 use Rattle.match_live.specs.inner.Pieces.{piece_tree}
 use Rattle.match_live.specs.inner.Steps.{held_with}
-use Rattle.match_live.proofs.InPlaceLemmas.{changed_more, tree_first}
+use Rattle.match_live.proofs.InPlaceLemmas.{changed_more}
 use Rattle.match_live.proofs.node.wrap_firsts.Goals as goal
 
 pub loop-piece-preserved : goal.loop-piece-preserved
 loop-piece-preserved c =
     let items = c.loop-piece.piece-items in let index = c.loop-piece.piece-index in let x : Piece = c.piece-item.result in
     let there : Piece = slice_index_or items index x in
-    let new : Piece = record { bind = bind.First c.in_ok-new.field-0; earliest = there.earliest; latest = there.latest } in
+    let new : Piece = record { bind = c.in_ok-above.above; earliest = there.earliest; latest = there.latest } in
     let within : index < length c.args.held.now.items = omega (arith, c.loop-piece-test.true, ap length c.deref_mut-piece-items.ensures.value) in
-    let held : tree_of (box_value c.in_ok-new.field-0) ≡ tree_of x.bind = search rules in
-    let same : tree_of (bind.First c.in_ok-new.field-0) ≡ First (tree_of x.bind) = tree_first c.in_ok-new.field-0 ∙ ap First held in
+    let count = c.args.count in let same : tree_of c.in_ok-above.above ≡ firsts count (tree_of x.bind) = search rules in
     let seen : BindTree → Piece → PieceTree = λ tree p. record { tree = tree; earliest = p.earliest; latest = p.latest } in
-    let wrapped : piece_tree new ≡ held_with First (piece_tree x)
-    = ap (λ tree. seen tree there) same ∙ ap (seen (First (tree_of x.bind))) (sym c.piece-item.is) in
+    let wrapped : piece_tree new ≡ held_with (firsts count) (piece_tree x)
+    = ap (λ tree. seen tree there) same ∙ ap (seen (firsts count (tree_of x.bind))) (sym c.piece-item.is) in
     record {
-      wrapped = changed_more piece_tree (held_with First) c.args.held.now.items items index x new within c.loop-piece.invariant.wrapped c.piece-item.is wrapped c.loop-piece.invariant.length;
+      wrapped = changed_more piece_tree (held_with (firsts count)) c.args.held.now.items items index x new within c.loop-piece.invariant.wrapped c.piece-item.is wrapped c.loop-piece.invariant.length;
       length = length-set items index new ∙ c.loop-piece.invariant.length;
     }
