@@ -10,13 +10,15 @@ use Rattle.command_show.specs.declared.showing.ShowEnding.TheVariants.{Shown, Pa
 use Rattle.flow_edges.specs.Streams.{Streams, AreUntouched}
 use Rattle.command_reasons.specs.Reasons.{IsRefusedPattern, pattern_reason}
 
--- the text is read as a pattern, of which the line is the canonical text and a line feed
-pub record IsLineOf (text line : List ℕ) : Type 0 where
-  pub pattern : Pattern
-  pub read : IsReadAs text pattern
+-- the line is the canonical text of the pattern and a line feed
+pub record IsLineOfPattern (pattern : Pattern) (line : List ℕ) : Type 0 where
   pub written : List ℕ
   pub canonical : IsCanonical (plain_pattern pattern) written
   pub line_is : line ≡ written ++ codes "\n"
+
+-- the text is read as a pattern, whose line it is
+abbrev pub IsLineOf : List ℕ → List ℕ → Type 0
+IsLineOf text line = (pattern : Pattern) × IsReadAs text pattern × IsLineOfPattern pattern line
 
 abbrev pub EndsShow : List ℕ → Streams → Streams → ShowEnding → Type 0
 EndsShow pattern before after Shown = (line : List ℕ) × IsLineOf pattern line × (after.written ≡ written_with line before.written)

@@ -4,13 +4,13 @@ ghost use Rattle.flow_edges.specs.Flow.{WritesWhole};
 ghost use Rattle.pattern_reader.specs.declared.refusal.PatternRefusal.TheVariants as PatternRefusal;
 ghost use Rattle.flow_edges.specs.Streams.{streams};
 ghost use Rattle.command_reasons.specs.Reasons.{IsRefusedPattern};
-ghost use Rattle.command_show.specs.ShowEndings.{IsLineOf, EndsShow, show_status};
+ghost use Rattle.command_show.specs.ShowEndings.{IsLineOf, IsLineOfPattern, EndsShow, show_status};
 
 use command_reasons::{write_no_memory, write_pattern_reason, write_write_fault};
 use flow_edges::{Sink, write_whole};
 use flow_values::{Fault, Text};
 use pattern_reader::laws::none_refused;
-use pattern_reader::{PatternRefusal, read_pattern};
+use pattern_reader::{Pattern, PatternRefusal, read_pattern};
 use pattern_writer::write_pattern;
 use std::alloc::Global;
 
@@ -80,11 +80,22 @@ fn canonical_line(alloc: Global, pattern: &str) -> Result<Text, PatternRefusal>
     ensures err { IfErr result (λ refusal. refusal ≢ PatternRefusal.NoMemory → IsRefusedPattern pattern.now refusal) }
 {
     none_refused();
-    let read = match read_pattern(alloc, pattern) {
-        Ok(read) => read,
-        Err(refusal) => return Err(refusal),
-    };
-    let mut text = write_pattern(alloc, &read)?;
+    match read_pattern(alloc, pattern) {
+        Ok(read) => {
+            let line = line_of(alloc, &read);
+            drop(read);
+            line
+        }
+        Err(refusal) => Err(refusal),
+    }
+}
+
+/// The line of a pattern that was read.
+fn line_of(alloc: Global, pattern: &Pattern) -> Result<Text, PatternRefusal>
+    ensures ok { IfOk result (IsLineOfPattern pattern.now) }
+    ensures err { IfErr result (λ refusal. refusal ≡ PatternRefusal.NoMemory) }
+{
+    let mut text = write_pattern(alloc, pattern)?;
     text.push("\n")?;
     Ok(text)
 }
