@@ -17,8 +17,10 @@ pub record IsLineOfPattern (pattern : Pattern) (line : List ℕ) : Type 0 where
   pub line_is : line ≡ written ++ codes "\n"
 
 -- the text is read as a pattern, whose line it is
-abbrev pub IsLineOf : List ℕ → List ℕ → Type 0
-IsLineOf text line = (pattern : Pattern) × IsReadAs text pattern × IsLineOfPattern pattern line
+pub record IsLineOf (text line : List ℕ) : Type 0 where
+  pub pattern : Pattern
+  pub read : IsReadAs text pattern
+  pub line_is : IsLineOfPattern pattern line
 
 abbrev pub EndsShow : List ℕ → Streams → Streams → ShowEnding → Type 0
 EndsShow pattern before after Shown = (line : List ℕ) × IsLineOf pattern line × (after.written ≡ written_with line before.written)

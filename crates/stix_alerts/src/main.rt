@@ -2,12 +2,7 @@
 //! each before the next line is read.
 #![tactic(auto)]
 
-mod alert_line;
-mod alerter;
-mod ending;
-mod run;
-mod words;
-
+use command_alerts::run_alerts;
 use command_line::program_words;
 use command_reasons::write_no_memory;
 use flow_edges::{ReadSource, WriteSink};
@@ -25,6 +20,6 @@ fn main(rt: HostRuntime) -> ExitCode {
             return ExitCode::from(1);
         }
     };
-    let status = run::run_alerts(rt.alloc(), &words, &mut input, &mut output, &mut faults);
+    let status = run_alerts(rt.alloc(), &words, &mut input, &mut output, &mut faults);
     ExitCode::from(status)
 }

@@ -1,11 +1,9 @@
 //! The program `stix_command`: STIX 2.1 patterns matched against observed data, and a TAXII 2.1 server.
 #![tactic(auto)]
 
-mod ending;
-mod run;
-
 use command_line::program_words;
 use command_reasons::write_no_memory;
+use command_run::run;
 use flow_edges::{ReadSource, WriteSink};
 use flow_links::{SystemClock, TcpDoor};
 use flow_values::NoMemory;
@@ -25,7 +23,7 @@ fn main(rt: HostRuntime) -> ExitCode {
 /// Runs the program over the outside that the system has, with a file that held what `S` stands for, and answers its status.
 fn run_over<S: Start>(rt: HostRuntime, words: &[String], start: S) -> u8 {
     let mut keeper = SqliteKeeper::new(rt.alloc(), rt, start);
-    let status = run::run(
+    let status = run(
         rt.alloc(),
         words,
         &mut ReadSource::new(rt.stdin()),

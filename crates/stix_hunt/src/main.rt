@@ -2,10 +2,7 @@
 //! before the next line is read, and at the end what was seen of each.
 #![tactic(auto)]
 
-mod ending;
-mod run;
-mod words;
-
+use command_hunt::run_hunt;
 use command_line::program_words;
 use command_reasons::write_no_memory;
 use flow_edges::{ReadSource, WriteSink};
@@ -24,7 +21,7 @@ fn main(rt: HostRuntime) -> ExitCode {
             return ExitCode::from(1);
         }
     };
-    let status = run::run_hunt(
+    let status = run_hunt(
         rt.alloc(),
         &words,
         &mut SystemFiles::new(&rt),

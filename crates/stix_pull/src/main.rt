@@ -2,13 +2,8 @@
 //! lines, each page before the next one is asked for.
 #![tactic(auto)]
 
-mod ending;
-mod pulling;
-mod run;
-mod words;
-mod writing;
-
 use command_line::program_words;
+use command_pull::run_pull;
 use command_reasons::write_no_memory;
 use flow_edges::WriteSink;
 use flow_links::TcpDial;
@@ -26,6 +21,6 @@ fn main(rt: HostRuntime) -> ExitCode {
         }
     };
     let mut dial = TcpDial::new(&rt);
-    let status = run::run_pull(rt.alloc(), &words, &mut dial, &mut output, &mut faults);
+    let status = run_pull(rt.alloc(), &words, &mut dial, &mut output, &mut faults);
     ExitCode::from(status)
 }

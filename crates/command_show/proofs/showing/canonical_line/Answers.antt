@@ -8,4 +8,4 @@ returns-in-Err-clause-err c = λ other. record {
 }
 
 pub returns-in-Ok-clause-ok : goal.returns-in-Ok-clause-ok
-returns-in-Ok-clause-ok c = IfOk-weaker c.line_of-line.result _ _ (λ line is. (c.in-Ok.read, c.in-Ok.ensures.ok, is)) c.line_of-line.ensures.ok
+returns-in-Ok-clause-ok c = IfOk-weaker c.line_of-line.result _ _ (λ line is. record { pattern = c.in-Ok.read; read = c.in-Ok.ensures.ok; line_is = is }) c.line_of-line.ensures.ok

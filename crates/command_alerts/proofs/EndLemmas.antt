@@ -1,0 +1,123 @@
+-- What is told of the bundles of an input, and what an end of the run says of it.
+use Rattle.std.proofs.Common.{inl, inr, ℕ, List, [], ◌∷◌, ◌++◌, Option, refl, sym, subst}
+use Rattle.std.specs.declared.convert.Infallible.{Infallible}
+use Rattle.flow_edges.specs.Flow.{WritesPrefix}
+use Rattle.flow_edges.specs.Streams.{Streams}
+use Rattle.pattern_types.specs.declared.pattern.Pattern.{Pattern}
+use Rattle.pattern_types.specs.PlainPattern.{plain_pattern}
+use Rattle.match_bindings.specs.declared.log_entry.LogEntry.{LogEntry}
+use Rattle.match_input.specs.Reading.{BundleOf}
+use Rattle.match_log.specs.Entries.{AreEntriesOf, AreEntries}
+use Rattle.watch_log.specs.Watching.{SeesAll, Says, BreaksOff, StopsWithin as EndsWithin, AnswersWatch}
+use Rattle.watch_log.specs.declared.end.WatchEnd.{WatchEnd}
+use Rattle.watch_log.specs.declared.end.WatchEnd.TheVariants.{Done, Input, ReadFault, WriteFault, Stopped, NoMemory}
+use Rattle.command_alerts.specs.Alerts.{TellsLog}
+use Rattle.command_alerts.specs.Telling.{TellsBundles, StopsWithin, AnswersAlerts}
+use Rattle.command_alerts.specs.inner.Seeing.{AlerterState, IsBehind, TakesRows, SeesBundle, BeginsBundle}
+use Rattle.command_alerts.proofs.TellingLemmas.{AlertsStay, takes-none, takes-more}
+
+-- bundles were seen in turn, and this text is told of them
+record SeesBundles (bundles : List BundleOf) (before after : AlerterState) (text : List ℕ) : Type 0 where
+  rows : List LogEntry
+  entries : AreEntries (plain_pattern before.pattern) bundles rows
+  takes : TakesRows rows before after text
+
+bundles-seen : AlertsStay → (bundles : List BundleOf) (before after : AlerterState) (text : List ℕ)
+    → SeesAll SeesBundle before bundles after text → SeesBundles bundles before after text
+bundles-seen stay [] before after text (behind, is) = record {
+  rows = [];
+  entries = refl;
+  takes = subst (λ (state : AlerterState). TakesRows [] before state text) (sym behind) (subst (TakesRows [] before before) (sym is) (takes-none before));
+}
+bundles-seen stay (bundle ∷ bundles) before after text (next, own, later, sees, others, is) =
+    let rest = bundles-seen stay bundles next after later others in record {
+      rows = sees.rows ++ rest.rows;
+      entries = (
+        sees.rows,
+        rest.rows,
+        sees.entries,
+        subst (λ (p : Pattern). AreEntries (plain_pattern p) bundles rest.rows) sees.takes.pattern_is rest.entries,
+        refl,
+      );
+      takes = subst (TakesRows (sees.rows ++ rest.rows) before after) (sym is)
+          (takes-more stay sees.rows rest.rows before next after own later sees.takes rest.takes);
+    }
+
+-- a run from its start, where nothing was seen
+module _ (stay : AlertsStay) (start : AlerterState) (new : IsBehind start.watch []) where
+  log-told : (rows : List LogEntry) (after : AlerterState) (text : List ℕ) → TakesRows rows start after text
+      → TellsLog start.watch.n start.watch.x rows text
+  log-told rows after text takes = (takes.tells [] new).tells
+
+  bundles-told : (bundles : List BundleOf) (after : AlerterState) (written written_after : Option (List ℕ))
+      → Says (SeesAll SeesBundle start bundles after) written written_after
+      → TellsBundles start.pattern start.watch.n start.watch.x bundles written written_after
+  bundles-told bundles after written written_after (text, sees, is) =
+      let seen = bundles-seen stay bundles start after text sees in record {
+        log = seen.rows;
+        entries = seen.entries;
+        text = text;
+        tells = log-told seen.rows after text seen.takes;
+        text_is = is;
+      }
+
+  module _ (first began written : Option (List ℕ)) (behind : AlerterState) (after : Streams) where
+    abbrev before : Streams
+    before = record { left = first; began = began; written = written }
+
+    within : EndsWithin SeesBundle (λ at bundle. BreaksOff (BeginsBundle at bundle)) first [] start written after
+        → StopsWithin start.pattern start.watch.n start.watch.x before after
+    within ends = go ends.says ends.within
+      where
+        go : Says (SeesAll SeesBundle start ends.bundles ends.at) written ends.before → BreaksOff (BeginsBundle ends.at ends.bundle) ends.before after.written
+            → StopsWithin start.pattern start.watch.n start.watch.x before after
+        go (text, sees, is) (more, firsts, prefix) =
+            let seen = bundles-seen stay ends.bundles start ends.at text sees in
+            let own = firsts.sees in record {
+              earlier = ends.bundles;
+              bundle = ends.bundle;
+              begins = ends.begins;
+              only = ends.only;
+              seen = firsts.seen;
+              later = firsts.later;
+              observations_are = firsts.observations_are;
+              log = seen.rows;
+              own = own.rows;
+              entries = seen.entries;
+              own_entries = subst (λ (p : Pattern). AreEntriesOf (plain_pattern p) ends.bundle.objects firsts.seen own.rows) seen.takes.pattern_is own.entries;
+              text = text;
+              more = more;
+              tells = log-told seen.rows ends.at text seen.takes;
+              tells_all = log-told (seen.rows ++ own.rows) firsts.after (text ++ more)
+                  (takes-more stay seen.rows own.rows start ends.at firsts.after text more seen.takes own.takes);
+              prefix = subst (λ (w : Option (List ℕ)). WritesPrefix more w after.written) is prefix;
+            }
+
+    pub end-told : (end : WatchEnd Infallible) → AnswersWatch SeesBundle (λ _ _ _ _. ⊥) BeginsBundle first [] start behind written after end
+        → AnswersAlerts start.pattern start.watch.n start.watch.x before after end
+    end-told Done whole = record {
+      bundles = whole.bundles;
+      reading = whole.reading;
+      tells = bundles-told whole.bundles behind written after.written whole.says;
+      drained = whole.drained;
+    }
+    end-told (Input line why) up = record {
+      bundles = up.bundles;
+      reading = up.reading;
+      tells = bundles-told up.bundles behind written after.written up.says;
+      little = up.little;
+    }
+    end-told ReadFault taken = record {
+      bundles = taken.bundles;
+      begins = taken.begins;
+      tells = bundles-told taken.bundles behind written after.written taken.says;
+      taken = taken.taken;
+    }
+    end-told WriteFault ends = within ends
+    end-told (Stopped never) ends = ends.within.1
+    end-told NoMemory (inl between) = inl (record {
+      bundles = between.bundles;
+      begins = between.begins;
+      tells = bundles-told between.bundles behind written after.written between.says;
+    })
+    end-told NoMemory (inr ends) = inr (within ends)

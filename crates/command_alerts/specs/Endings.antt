@@ -1,0 +1,61 @@
+-- What an ending says of the words, the log and what was told; its status, and its reason as a text.
+use Rattle.std.specs.Prelude.{◌≡◌, ◌⊎◌, ℕ, List, [], codes}
+use Rattle.flow_edges.specs.Streams.{Streams, AreUntouched}
+use Rattle.pattern_types.specs.declared.pattern.Pattern.{Pattern}
+use Rattle.match_input.specs.Texts.{IsInputRefusalText}
+use Rattle.watch_log.specs.declared.end.WatchEnd.{WatchEnd}
+use Rattle.std.specs.declared.convert.Infallible.{Infallible}
+use Rattle.watch_log.specs.declared.end.WatchEnd.TheVariants as end
+use Rattle.command_reasons.specs.Reasons.{IsRefusedPattern, pattern_reason}
+use Rattle.command_alerts.specs.declared.ending.AlertEnding.{AlertEnding}
+use Rattle.command_alerts.specs.declared.ending.AlertEnding.TheVariants.{Usage, PatternRefused, NotLeaf, Ended, NoMemory}
+use Rattle.command_alerts.specs.Tasks.{AlertTask, AskFor, AskForNothing, IsReadAsLeaf, IsReadAsMore}
+use Rattle.command_alerts.specs.Telling.{AnswersAlerts}
+
+-- the words ask for something, of which that holds
+pub record AskSo (words : List (List ℕ)) (Holds : AlertTask → Type 0) : Type 0 where
+  pub task : AlertTask
+  pub asked : AskFor words task
+  pub holds : Holds task
+
+-- the text is read as one pair of brackets, and the alerts of the input were told
+pub record FollowsInput (before after : Streams) (ended : WatchEnd Infallible) (task : AlertTask) : Type 0 where
+  pub pattern : Pattern
+  pub read : IsReadAsLeaf task.pattern pattern
+  pub answers : AnswersAlerts pattern task.n task.seconds before after ended
+
+-- what an ending says of what is asked for
+abbrev pub EndsTask : Streams → Streams → AlertEnding → AlertTask → Type 0
+EndsTask before after Usage task = ⊥
+EndsTask before after (PatternRefused refusal) task = IsRefusedPattern task.pattern refusal × AreUntouched before after
+EndsTask before after NotLeaf task = IsReadAsMore task.pattern × AreUntouched before after
+EndsTask before after (Ended ended) task = FollowsInput before after ended task
+EndsTask before after NoMemory task = AreUntouched before after
+
+-- the words ask for nothing, and that is the ending; or they ask for something, of which it says that
+abbrev pub EndsAlerts : List (List ℕ) → Streams → Streams → AlertEnding → Type 0
+EndsAlerts words before after ending = (AskForNothing words × (ending ≡ Usage) × AreUntouched before after) ⊎ AskSo words (EndsTask before after ending)
+
+abbrev pub alert_status : AlertEnding → ℕ
+alert_status (Ended end.Done) = 0
+alert_status (Ended end.NoMemory) = 1
+alert_status NoMemory = 1
+alert_status Usage = 2
+alert_status (PatternRefused refusal) = 3
+alert_status NotLeaf = 3
+alert_status (Ended (end.Input line why)) = 4
+alert_status (Ended end.ReadFault) = 5
+alert_status (Ended end.WriteFault) = 6
+alert_status (Ended (end.Stopped never)) = elim never [ ]
+
+abbrev pub IsAlertReason : AlertEnding → List ℕ → Type 0
+IsAlertReason (Ended end.Done) text = text ≡ []
+IsAlertReason (Ended end.NoMemory) text = text ≡ codes "out of memory\n"
+IsAlertReason NoMemory text = text ≡ codes "out of memory\n"
+IsAlertReason Usage text = text ≡ codes "usage: stix_alerts PATTERN N SECONDS\n"
+IsAlertReason (PatternRefused refusal) text = text ≡ pattern_reason refusal
+IsAlertReason NotLeaf text = text ≡ codes "pattern refused: NotLeaf\n"
+IsAlertReason (Ended (end.Input line why)) text = IsInputRefusalText line why text
+IsAlertReason (Ended end.ReadFault) text = text ≡ codes "read fault\n"
+IsAlertReason (Ended end.WriteFault) text = text ≡ codes "write fault\n"
+IsAlertReason (Ended (end.Stopped never)) text = ⊥

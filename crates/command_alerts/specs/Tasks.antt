@@ -1,0 +1,51 @@
+-- What words ask for: PATTERN N SECONDS.
+use Rattle.std.specs.Prelude.{◌≡◌, ℕ, ◌≤◌, List, [], ◌∷◌}
+use Rattle.pattern_types.specs.declared.pattern.Pattern.{Pattern}
+use Rattle.pattern_types.specs.PlainLeaf.{PlainLeaf}
+use Rattle.pattern_types.specs.PlainPattern.{a_leaf, plain_pattern}
+use Rattle.pattern_reader.specs.Read.{IsReadAs}
+use Rattle.command_line.specs.CommandLines.{IsNumberIn}
+use Rattle.command_alerts.specs.declared.words.AlertRequest.{AlertRequest}
+use Rattle.command_alerts.specs.declared.words.TheConstants.{MAX_N, MAX_SECONDS}
+
+-- the alerts of a pattern, for so many matches within so many seconds
+pub record AlertTask : Type 0 where
+  pub pattern : List ℕ
+  pub n : ℕ
+  pub seconds : ℕ
+
+-- what is asked for
+abbrev pub task_of : AlertRequest → AlertTask
+task_of request = record { pattern = request.pattern.now; n = request.n; seconds = request.seconds }
+
+-- the words are PATTERN N SECONDS
+pub record AskFor (words : List (List ℕ)) (task : AlertTask) : Type 0 where
+  pub n_text : List ℕ
+  pub seconds_text : List ℕ
+  pub words_are : words ≡ task.pattern ∷ n_text ∷ seconds_text ∷ []
+  pub n_is : IsNumberIn 1 MAX_N n_text task.n
+  pub seconds_is : IsNumberIn 1 MAX_SECONDS seconds_text task.seconds
+
+-- they aren't that
+abbrev pub AskForNothing : List (List ℕ) → Type 0
+AskForNothing words = (task : AlertTask) → ¬ AskFor words task
+
+-- the numbers are such as may be asked for
+abbrev pub IsInRange : AlertTask → Type 0
+IsInRange task = (1 ≤ task.n) × (task.n ≤ MAX_N) × (1 ≤ task.seconds)
+
+-- the pattern is one pair of brackets
+abbrev pub IsOneLeaf : Pattern → Type 0
+IsOneLeaf pattern = (leaf : PlainLeaf) × (plain_pattern pattern ≡ a_leaf leaf)
+
+-- the text is read as that pattern, which is one pair of brackets
+abbrev pub IsReadAsLeaf : List ℕ → Pattern → Type 0
+IsReadAsLeaf text pattern = IsReadAs text pattern × IsOneLeaf pattern
+
+-- the text is read as a pattern that is more than one pair of brackets
+abbrev pub IsReadAsMore : List ℕ → Type 0
+IsReadAsMore text = (pattern : Pattern) × IsReadAs text pattern × ¬ IsOneLeaf pattern
+
+-- the text is read as no such pattern
+abbrev pub IsReadAsNoLeaf : List ℕ → Type 0
+IsReadAsNoLeaf text = (pattern : Pattern) → ¬ IsReadAsLeaf text pattern

@@ -1,0 +1,12 @@
+//! The alerter: at which observations of a log at least n matches of one bracket lie within x seconds, as words ask for it, each told
+//! before the next line is read.
+#![tactic(auto)]
+
+mod alert_line;
+mod alerter;
+mod ending;
+mod run;
+mod words;
+
+pub use ending::AlertEnding;
+pub use run::run_alerts;

@@ -1,0 +1,160 @@
+ghost use Rattle.std.specs.Prelude.{◌≡◌, ◌≢◌, ◌⊎◌, ℕ, List, Ok, IfOk, OnErr};
+ghost use Rattle.flow_edges.specs.Faults.{Counted};
+ghost use Rattle.flow_edges.specs.Streams.{streams};
+ghost use Rattle.pattern_reader.specs.Read.{IsReadAs};
+ghost use Rattle.command_line.specs.CommandLines.{texts};
+ghost use Rattle.command_reasons.specs.Reasons.{WritesReason};
+ghost use Rattle.command_alerts.specs.Tasks.{IsInRange, IsReadAsLeaf, task_of};
+ghost use Rattle.command_alerts.specs.Telling.{AnswersAlerts};
+ghost use Rattle.command_alerts.specs.Endings.{EndsTask, EndsAlerts, alert_status, IsAlertReason};
+ghost use Rattle.command_alerts.specs.Runs.{Ends, TellsRefusals, TellsInput};
+
+use crate::alerter::Alerter;
+use crate::ending::AlertEnding;
+use crate::words::{AlertRequest, read_request};
+use flow_edges::{Sink, Source};
+use flow_values::NoMemory;
+use match_input::{Mode, Reader};
+use pattern_reader::laws::{none_refused, one_pattern};
+use pattern_reader::{PatternRefusal, read_pattern};
+use pattern_types::Pattern;
+use std::alloc::Global;
+use std::convert::Infallible;
+use watch_alerts::Watch;
+use watch_alerts::laws::alerts_stay;
+use watch_log::laws::begins_with_none;
+use watch_log::{WatchEnd, follow};
+
+/// Tells the alerts of an input for a pattern that is one bracket.
+fn watch_input<I: Source, O: Sink>(
+    alloc: Global,
+    pattern: &Pattern,
+    request: AlertRequest<'_>,
+    input: &mut I,
+    output: &mut O,
+) -> Result<WatchEnd<Infallible>, NoMemory>
+    requires read { IsReadAsLeaf request.pattern.now pattern.now }
+    requires range { IsInRange (task_of request) }
+    ensures end { IfOk result (AnswersAlerts pattern.now request.entry.n request.entry.seconds (streams (I.left input.old) (I.began input.old) (O.written output.old))
+        (streams (I.left input.new) (I.began input.new) (O.written output.new))) }
+    ensures untouched { OnErr result ((input.new ≡ input.old) × (output.new ≡ output.old)) }
+    ensures input { Counted (result ≡ Ok WatchEnd.ReadFault) (I.faults input.old) (I.faults input.new) }
+    ensures output { Counted (result ≡ Ok WatchEnd.WriteFault) (O.faults output.old) (O.faults output.new) }
+{
+    alerts_stay();
+    begins_with_none();
+    let watch = Watch::new(alloc, request.n, request.seconds)?;
+    let mut reader = Reader::new(alloc, Mode::Lines)?;
+    let mut alerter = Alerter::new(alloc, pattern, watch);
+    Ok(follow(&mut reader, &mut alerter, input, output))
+}
+
+/// Tells the alerts of an input for a pattern.
+fn tell_alerts<I: Source, O: Sink>(
+    alloc: Global,
+    pattern: &Pattern,
+    request: AlertRequest<'_>,
+    input: &mut I,
+    output: &mut O,
+) -> AlertEnding
+    requires read { IsReadAs request.pattern.now pattern.now }
+    requires range { IsInRange (task_of request) }
+    ensures end { EndsTask (streams (I.left input.old) (I.began input.old) (O.written output.old))
+        (streams (I.left input.new) (I.began input.new) (O.written output.new)) result (task_of request.entry) }
+    ensures untouched { (alert_status result ≡ 2) ⊎ (alert_status result ≡ 3) → (input.new ≡ input.old) × (output.new ≡ output.old) }
+    ensures input { Counted (alert_status result ≡ 5) (I.faults input.old) (I.faults input.new) }
+    ensures output { Counted (alert_status result ≡ 6) (O.faults output.old) (O.faults output.new) }
+{
+    if !matches!(pattern, Pattern::Leaf(_)) {
+        return AlertEnding::NotLeaf;
+    }
+    match watch_input(alloc, pattern, request, input, output) {
+        Ok(end) => AlertEnding::Ended(end),
+        Err(NoMemory) => AlertEnding::NoMemory,
+    }
+}
+
+/// Does what is asked for.
+fn answer<I: Source, O: Sink>(
+    alloc: Global,
+    request: AlertRequest<'_>,
+    input: &mut I,
+    output: &mut O,
+) -> AlertEnding
+    requires range { IsInRange (task_of request) }
+    ensures end { EndsTask (streams (I.left input.old) (I.began input.old) (O.written output.old))
+        (streams (I.left input.new) (I.began input.new) (O.written output.new)) result (task_of request.entry) }
+    ensures untouched { (alert_status result ≡ 2) ⊎ (alert_status result ≡ 3) → (input.new ≡ input.old) × (output.new ≡ output.old) }
+    ensures input { Counted (alert_status result ≡ 5) (I.faults input.old) (I.faults input.new) }
+    ensures output { Counted (alert_status result ≡ 6) (O.faults output.old) (O.faults output.new) }
+{
+    none_refused();
+    match read_pattern(alloc, request.pattern) {
+        Ok(pattern) => tell_alerts(alloc, &pattern, request, input, output),
+        Err(PatternRefusal::NoMemory) => AlertEnding::NoMemory,
+        Err(refusal) => AlertEnding::PatternRefused(refusal),
+    }
+}
+
+/// Does what the words ask for.
+fn obey<I: Source, O: Sink>(
+    alloc: Global,
+    words: &[String],
+    input: &mut I,
+    output: &mut O,
+) -> AlertEnding
+    ensures end { EndsAlerts (texts words.now) (streams (I.left input.old) (I.began input.old) (O.written output.old))
+        (streams (I.left input.new) (I.began input.new) (O.written output.new)) result }
+    ensures untouched { (alert_status result ≡ 2) ⊎ (alert_status result ≡ 3) → (input.new ≡ input.old) × (output.new ≡ output.old) }
+    ensures input { Counted (alert_status result ≡ 5) (I.faults input.old) (I.faults input.new) }
+    ensures output { Counted (alert_status result ≡ 6) (O.faults output.old) (O.faults output.new) }
+{
+    match read_request(words) {
+        Some(request) => answer(alloc, request, input, output),
+        None => AlertEnding::Usage,
+    }
+}
+
+/// The program: tells the alerts that the words after its name ask for, each before more is read than its line, and answers
+/// its status.
+///
+/// | Status | Comes |
+/// |---|---|
+/// | 0 | the input was read to its end, and all alerts were told |
+/// | 1 | memory ran out |
+/// | 2 | exactly where the words ask for nothing |
+/// | 3 | exactly where the pattern is refused or isn't one bracket, unless memory runs out while it is read |
+/// | 4 | where a line is refused, the first such one |
+/// | 5, 6 | only where the input, the output counted a fault, and at each fault of theirs |
+///
+/// On `faults` the reason is told in one line. A failing write there changes nothing else.
+pub fn run_alerts<I: Source, O: Sink, E: Sink>(
+    alloc: Global,
+    words: &[String],
+    input: &mut I,
+    output: &mut O,
+    faults: &mut E,
+) -> u8
+    ensures ends { Ends (texts words.now) (streams (I.left input.old) (I.began input.old) (O.written output.old))
+        (streams (I.left input.new) (I.began input.new) (O.written output.new)) result
+        (λ reason. WritesReason reason (E.written faults.old) (E.written faults.new) (E.faults faults.old) (E.faults faults.new)) }
+    ensures refusals { TellsRefusals (texts words.now) result }
+    ensures told { (result ≡ 0) ⊎ (result ≡ 4) → TellsInput (texts words.now) (streams (I.left input.old) (I.began input.old) (O.written output.old))
+        (streams (I.left input.new) (I.began input.new) (O.written output.new)) result }
+    ensures untouched { (result ≡ 2) ⊎ (result ≡ 3) → (input.new ≡ input.old) × (output.new ≡ output.old) }
+    ensures input { Counted (result ≡ 5) (I.faults input.old) (I.faults input.new) }
+    ensures output { Counted (result ≡ 6) (O.faults output.old) (O.faults output.new) }
+{
+    one_pattern();
+    let ending = obey(alloc, words, input, output);
+    finish(&ending, faults)
+}
+
+/// Tells why the program ends so, and answers its status.
+fn finish<E: Sink>(ending: &AlertEnding, faults: &mut E) -> u8
+    ensures status { result ≡ alert_status ending.now }
+    ensures reason { (text : List ℕ) × IsAlertReason ending.now text × WritesReason text (E.written faults.old) (E.written faults.new) (E.faults faults.old) (E.faults faults.new) }
+{
+    let _ = ending.write_reason(faults);
+    ending.status()
+}

@@ -1,0 +1,55 @@
+-- What an ending says of the words, the file of the indicators, the log and what was told; its status, and its reason as a text.
+use Rattle.std.specs.Prelude.{◌≡◌, ◌⊎◌, ℕ, List, [], Option, codes}
+use Rattle.flow_edges.specs.Streams.{Streams, AreUntouched}
+use Rattle.serde_json.specs.Data.{Data}
+use Rattle.match_input.specs.Texts.{IsInputRefusalText}
+use Rattle.watch_log.specs.declared.end.WatchEnd.TheVariants as end
+use Rattle.watch_feed.specs.declared.end.FeedEnd.TheVariants as feed
+use Rattle.watch_feed.specs.Texts.{feed_refusal_text}
+use Rattle.command_reasons.specs.Reasons.{crowded_reason}
+use Rattle.command_hunt.specs.declared.ending.HuntEnding.{HuntEnding}
+use Rattle.command_hunt.specs.declared.ending.HuntEnding.TheVariants.{Usage, Unfed, Ended}
+use Rattle.command_hunt.specs.Tasks.{HuntTask, AskFor, AskForNothing}
+use Rattle.command_hunt.specs.Feeding.{IsFed, IsUnfed}
+use Rattle.command_hunt.specs.Telling.{AnswersHunt}
+
+-- the words ask for a hunt, of which that holds
+pub record AskSo (words : List (List ℕ)) (Holds : HuntTask → Type 0) : Type 0 where
+  pub task : HuntTask
+  pub asked : AskFor words task
+  pub holds : Holds task
+
+-- what an ending says of what is asked for
+abbrev pub EndsTask : (List ℕ → Option (List ℕ)) → Streams → Streams → HuntEnding → HuntTask → Type 0
+EndsTask contents before after Usage task = ⊥
+EndsTask contents before after (Unfed end) task = IsUnfed contents task end × AreUntouched before after
+EndsTask contents before after (Ended ended) task = (file : Option (List Data)) × IsFed contents task file × AnswersHunt task file before after ended
+
+-- the words ask for nothing, and that is the ending; or they ask for a hunt, of which it says that
+abbrev pub EndsHunt : List (List ℕ) → (List ℕ → Option (List ℕ)) → Streams → Streams → HuntEnding → Type 0
+EndsHunt words contents before after ending = (AskForNothing words × (ending ≡ Usage) × AreUntouched before after)
+    ⊎ AskSo words (EndsTask contents before after ending)
+
+abbrev pub hunt_status : HuntEnding → ℕ
+hunt_status (Ended end.Done) = 0
+hunt_status (Ended end.NoMemory) = 1
+hunt_status Usage = 2
+hunt_status (Unfed (feed.Refused line why)) = 4
+hunt_status (Unfed feed.Fault) = 5
+hunt_status (Unfed feed.NoMemory) = 1
+hunt_status (Ended (end.Input line why)) = 4
+hunt_status (Ended end.ReadFault) = 5
+hunt_status (Ended end.WriteFault) = 6
+hunt_status (Ended (end.Stopped why)) = 7
+
+abbrev pub IsHuntReason : HuntEnding → List ℕ → Type 0
+IsHuntReason (Ended end.Done) text = text ≡ []
+IsHuntReason (Ended end.NoMemory) text = text ≡ codes "out of memory\n"
+IsHuntReason Usage text = text ≡ codes "usage: stix_hunt [--indicators FILE] TIME [CAP]\n"
+IsHuntReason (Unfed (feed.Refused line why)) text = text ≡ feed_refusal_text line why
+IsHuntReason (Unfed feed.Fault) text = text ≡ codes "indicators fault\n"
+IsHuntReason (Unfed feed.NoMemory) text = text ≡ codes "out of memory\n"
+IsHuntReason (Ended (end.Input line why)) text = IsInputRefusalText line why text
+IsHuntReason (Ended end.ReadFault) text = text ≡ codes "read fault\n"
+IsHuntReason (Ended end.WriteFault) text = text ≡ codes "write fault\n"
+IsHuntReason (Ended (end.Stopped why)) text = text ≡ crowded_reason why.number why.cap

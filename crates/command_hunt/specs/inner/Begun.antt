@@ -1,0 +1,46 @@
+-- For private clauses: where the indicators are known, and how a report ends.
+use Rattle.std.specs.Prelude.{◌≡◌, ℕ, ℤ, List, [], ◌∷◌, Option}
+use Rattle.flow_edges.specs.Flow.{written_with, WritesPrefix}
+use Rattle.flow_edges.specs.Streams.{Streams}
+use Rattle.serde_json.specs.Data.{Data}
+use Rattle.match_input.specs.declared.mode.Mode.TheVariants.{Lines}
+use Rattle.match_input.specs.Reading.{BundleOf}
+use Rattle.match_log.specs.Matching.{BeginsSo}
+use Rattle.watch_log.specs.Reading.{ReadsOnlyTo}
+use Rattle.watch_log.specs.declared.end.WatchEnd.{WatchEnd}
+use Rattle.watch_log.specs.declared.end.WatchEnd.TheVariants.{Done, Input, ReadFault, WriteFault, Stopped, NoMemory}
+use Rattle.watch_indicators.specs.declared.hunted.Hunted.{Hunted}
+use Rattle.watch_indicators.specs.declared.hunted.Hunt.{Hunt}
+use Rattle.watch_indicators.specs.Indicators.{IsHuntOf}
+use Rattle.watch_hunt.specs.declared.found.Found.{Found}
+use Rattle.watch_hunt.specs.EngineLog.{Row}
+use Rattle.watch_hits.specs.declared.crowded.Crowded.{Crowded}
+use Rattle.watch_hits.specs.Lines.{skipped_text}
+use Rattle.watch_hits.specs.Sights.{IsReport, TellsReport}
+use Rattle.command_hunt.specs.Tasks.{HuntTask}
+
+-- nothing was read
+pub record IsUnread (before : Streams) (left began : Option (List ℕ)) : Type 0 where
+  pub left_is : left ≡ before.left
+  pub began_is : began ≡ before.began
+
+-- the first bundle was read, and no more than that
+pub record IsBegun (before : Streams) (first : BundleOf) (left began : Option (List ℕ)) : Type 0 where
+  pub begins : BeginsSo Lines before.left (first ∷ [])
+  pub only : ReadsOnlyTo first.line before.left left began
+
+-- the hunt of a feed is known, and what is skipped was told
+pub record HasSkipped (task : HuntTask) (before : Streams) (feed : List Data) (hunted : List Hunted) (written : Option (List ℕ)) : Type 0 where
+  pub hunt : Hunt
+  pub hunt_is : IsHuntOf feed task.moment hunt
+  pub hunted_is : hunted ≡ hunt.hunted
+  pub written_is : written ≡ written_with (skipped_text hunt.skipped) before.written
+
+-- what the end of a report says of what was written
+abbrev pub Reports : ℤ → List Row → List Found → List Hunted → Option (List ℕ) → Option (List ℕ) → WatchEnd Crowded → Type 0
+Reports moment rows hits hunted before now Done = (text : List ℕ) × IsReport moment rows hits hunted text × (now ≡ written_with text before)
+Reports moment rows hits hunted before now WriteFault = (text : List ℕ) × TellsReport moment rows hits hunted text × WritesPrefix text before now
+Reports moment rows hits hunted before now NoMemory = (text : List ℕ) × TellsReport moment rows hits hunted text × WritesPrefix text before now
+Reports moment rows hits hunted before now (Input line why) = ⊥
+Reports moment rows hits hunted before now ReadFault = ⊥
+Reports moment rows hits hunted before now (Stopped why) = ⊥

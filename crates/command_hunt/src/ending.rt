@@ -1,0 +1,80 @@
+ghost use Rattle.std.specs.Prelude.{◌≡◌, List, ℕ, IsErr};
+ghost use Rattle.flow_edges.specs.Faults.{Counted};
+ghost use Rattle.flow_edges.specs.Flow.{WritesWhole};
+ghost use Rattle.command_hunt.specs.declared.ending.HuntEnding.TheVariants.{Unfed};
+ghost use Rattle.command_hunt.specs.Endings.{hunt_status, IsHuntReason};
+
+use command_reasons::{write_crowded, write_no_memory, write_read_fault, write_write_fault};
+use flow_edges::{Sink, write_whole};
+use flow_values::Fault;
+use match_input::write_input_refusal;
+use watch_feed::{FeedEnd, write_feed_refusal};
+use watch_hits::Crowded;
+use watch_log::WatchEnd;
+
+/// How the program ends.
+#[derive(Debug, Drop)]
+pub enum HuntEnding {
+    /// The words ask for nothing.
+    Usage,
+    /// The file of the indicators isn't read to its end, and nothing of the input was read.
+    Unfed(FeedEnd),
+    /// The input was followed, and that ended so; or memory ran out before.
+    Ended(WatchEnd<Crowded>),
+}
+
+impl HuntEnding {
+    /// The status that the program ends with.
+    pub fn status(&self) -> u8
+        ensures { result ≡ hunt_status self.now }
+    {
+        match self {
+            HuntEnding::Ended(WatchEnd::Done) => 0,
+            HuntEnding::Ended(WatchEnd::NoMemory) => 1,
+            HuntEnding::Usage => 2,
+            HuntEnding::Unfed(FeedEnd::NoMemory) => 1,
+            HuntEnding::Unfed(FeedEnd::Refused { .. }) => 4,
+            HuntEnding::Unfed(FeedEnd::Fault) => 5,
+            HuntEnding::Ended(WatchEnd::Input { .. }) => 4,
+            HuntEnding::Ended(WatchEnd::ReadFault) => 5,
+            HuntEnding::Ended(WatchEnd::WriteFault) => 6,
+            HuntEnding::Ended(WatchEnd::Stopped(_)) => 7,
+        }
+    }
+
+    /// Writes why the program ends so, in one line, or nothing where all was told. Takes no memory.
+    pub fn write_reason<S: Sink>(&self, reasons: &mut S) -> Result<(), Fault>
+        ensures text { (text : List ℕ) × IsHuntReason self.now text × WritesWhole text (S.written reasons.old) (S.written reasons.new) result }
+        ensures causes { Counted (IsErr result) (S.faults reasons.old) (S.faults reasons.new) }
+    {
+        match self {
+            HuntEnding::Usage => write_whole(
+                reasons,
+                b"usage: stix_hunt [--indicators FILE] TIME [CAP]\n",
+            ),
+            HuntEnding::Unfed(end) => write_unfed(end, reasons),
+            HuntEnding::Ended(WatchEnd::Done) => write_whole(reasons, b""),
+            HuntEnding::Ended(WatchEnd::Input { line, rule }) => {
+                write_input_refusal(*line, rule, reasons)
+            }
+            HuntEnding::Ended(WatchEnd::ReadFault) => write_read_fault(reasons),
+            HuntEnding::Ended(WatchEnd::WriteFault) => write_write_fault(reasons),
+            HuntEnding::Ended(WatchEnd::Stopped(why)) => write_crowded(
+                why.number, why.cap, reasons,
+            ),
+            HuntEnding::Ended(WatchEnd::NoMemory) => write_no_memory(reasons),
+        }
+    }
+}
+
+/// Writes why the file of the indicators isn't read to its end.
+fn write_unfed<S: Sink>(end: &FeedEnd, reasons: &mut S) -> Result<(), Fault>
+    ensures text { (text : List ℕ) × IsHuntReason (Unfed end.now) text × WritesWhole text (S.written reasons.old) (S.written reasons.new) result }
+    ensures causes { Counted (IsErr result) (S.faults reasons.old) (S.faults reasons.new) }
+{
+    match end {
+        FeedEnd::Refused { line, rule } => write_feed_refusal(*line, rule, reasons),
+        FeedEnd::Fault => write_whole(reasons, b"indicators fault\n"),
+        FeedEnd::NoMemory => write_no_memory(reasons),
+    }
+}

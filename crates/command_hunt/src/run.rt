@@ -1,0 +1,350 @@
+ghost use Rattle.std.specs.Prelude.{◌≡◌, ◌≢◌, ◌⊎◌, ◌↔◌, ℕ, List, [], ◌∷◌, Option, None, Some, Err, All, IfOk};
+ghost use Rattle.flow_edges.specs.Faults.{Counted};
+ghost use Rattle.flow_edges.specs.Streams.{Streams, streams};
+ghost use Rattle.serde_json.specs.Data.{Data};
+ghost use Rattle.stix_ids.specs.Kind.{IsKind};
+ghost use Rattle.stix_bundles.specs.Objects.{data_in};
+ghost use Rattle.match_input.specs.declared.mode.Mode.TheVariants.{Lines};
+ghost use Rattle.match_input.specs.Ahead.{reader_start};
+ghost use Rattle.watch_log.specs.Reading.{HasRead, MayFollow, bundle_of};
+ghost use Rattle.watch_indicators.specs.Indicators.{IsHuntOf};
+ghost use Rattle.watch_indicators.specs.Gathering.{GathersFor};
+ghost use Rattle.watch_feed.specs.declared.rule.FeedRule.{FeedRule};
+ghost use Rattle.watch_feed.specs.Feeds.{Refused, ReadsFeed, AreUnbroken, GathersFeed};
+ghost use Rattle.watch_hunt.specs.declared.found.Found.{Found};
+ghost use Rattle.watch_hunt.specs.EngineLog.{Row};
+ghost use Rattle.watch_hits.specs.Hunting.{HuntsOver, IsHuntable};
+ghost use Rattle.command_line.specs.CommandLines.{texts};
+ghost use Rattle.command_reasons.specs.Reasons.{WritesReason};
+ghost use Rattle.command_hunt.specs.Tasks.{AskForNothing, task_of};
+ghost use Rattle.command_hunt.specs.Feeding.{CountedByOne};
+ghost use Rattle.command_hunt.specs.Telling.{AnswersHunt};
+ghost use Rattle.command_hunt.specs.Endings.{AskSo, EndsTask, EndsHunt, hunt_status, IsHuntReason};
+ghost use Rattle.command_hunt.specs.Runs.{Ends, HuntsOrRefuses, HuntsToCrowd, AskForFile};
+ghost use Rattle.command_hunt.specs.inner.Begun.{IsUnread, IsBegun, HasSkipped, Reports};
+
+use crate::ending::HuntEnding;
+use crate::words::{HuntRequest, read_request};
+use flow_edges::{Sink, Source};
+use flow_files::Files;
+use flow_values::{Fault, NoMemory};
+use std::alloc::Global;
+use stix_bundles::Bundle;
+use stix_times::Instant;
+use watch_feed::{FeedEnd, gather};
+use watch_hits::laws::{answers_are_the_hits, hunted_are_huntable, skipped_can_be_told};
+use watch_hits::{Crowded, Hunter, write_report, write_skipped};
+use watch_indicators::{Gathering, Hunt, Hunted, hunt};
+use watch_log::laws::{begins_with_none, read_bundles_come_first};
+use watch_log::{Batch, CutShort, Mode, Reader, WatchEnd, Watcher, follow, next_bundle};
+
+/// The hunt of a bundle: each indicator of it can be hunted and told.
+fn hunt_of(alloc: Global, bundle: &Bundle, moment: Instant) -> Result<Hunt, NoMemory>
+    ensures hunt { IfOk result (IsHuntOf (data_in bundle.now) moment) }
+    ensures hunted { IfOk result (λ hunt. All IsHuntable hunt.hunted) }
+    ensures skipped { IfOk result (λ hunt. All (λ s. IsKind s.id.kind) hunt.skipped) }
+{
+    hunted_are_huntable();
+    skipped_can_be_told();
+    let _unbroken = bundle.objects();
+    hunt(alloc, bundle, moment)
+}
+
+/// The hunt of what is kept of a feed: each indicator of it can be hunted and told.
+fn hunt_of_feed(gathering: Gathering, moment: Instant) -> Result<Hunt, NoMemory>
+    ensures hunt { (feed : List Data) → GathersFor gathering feed → IfOk result (IsHuntOf feed moment) }
+    ensures hunted { (feed : List Data) → GathersFor gathering feed → AreUnbroken feed → IfOk result (λ hunt. All IsHuntable hunt.hunted) }
+    ensures skipped { (feed : List Data) → GathersFor gathering feed → AreUnbroken feed → IfOk result (λ hunt. All (λ s. IsKind s.id.kind) hunt.skipped) }
+{
+    hunted_are_huntable();
+    skipped_can_be_told();
+    gathering.hunt(moment)
+}
+
+/// Tells at the end of the input what was seen.
+fn report<O: Sink>(
+    alloc: Global,
+    request: &HuntRequest<'_>,
+    hunter: &Hunter<'_>,
+    output: &mut O,
+) -> WatchEnd<Crowded>
+    requires huntable { All IsHuntable hunter.now.hunted }
+    ensures end { (rows : List Row) (hits : List Found) → HuntsOver hunter.now rows hits
+        → Reports request.now.moment rows hits hunter.now.hunted (O.written output.old) (O.written output.new) result }
+    ensures unread { result ≢ WatchEnd.ReadFault }
+    ensures causes { Counted (result ≡ WatchEnd.WriteFault) (O.faults output.old) (O.faults output.new) }
+{
+    match write_report(alloc, hunter, request.moment, output) {
+        Ok(()) => WatchEnd::Done,
+        Err(CutShort::WriteFault) => WatchEnd::WriteFault,
+        Err(CutShort::NoMemory) => WatchEnd::NoMemory,
+    }
+}
+
+/// Hunts for some indicators over an input: the first bundle has come, and then what follows.
+fn hunt_for<I: Source, O: Sink>(
+    alloc: Global,
+    request: &HuntRequest<'_>,
+    hunted: &[Hunted],
+    first: &Batch,
+    reader: &mut Reader,
+    input: &mut I,
+    output: &mut O,
+) -> WatchEnd<Crowded>
+    requires huntable { All IsHuntable hunted.now }
+    requires read { (start : Option (List ℕ)) × HasRead start reader.old (I.left input.old) (I.began input.old) (bundle_of first.now ∷ []) }
+    requires follow { MayFollow None 1 first.now.observations }
+    ensures end { (before : Streams) → HasRead before.left reader.old (I.left input.old) (I.began input.old) (bundle_of first.now ∷ [])
+        → IsBegun before (bundle_of first.now) (I.left input.old) (I.began input.old)
+        → HasSkipped (task_of request.now) before (bundle_of first.now).objects hunted.now (O.written output.old)
+        → AnswersHunt (task_of request.now) None before (streams (I.left input.new) (I.began input.new) (O.written output.new)) result }
+    ensures input { Counted (result ≡ WatchEnd.ReadFault) (I.faults input.old) (I.faults input.new) }
+    ensures output { Counted (result ≡ WatchEnd.WriteFault) (O.faults output.old) (O.faults output.new) }
+{
+    answers_are_the_hits();
+    let mut hunter = match Hunter::new(alloc, hunted, u64::from(request.cap)) {
+        Ok(hunter) => hunter,
+        Err(NoMemory) => return WatchEnd::NoMemory,
+    };
+    if let Err(end) = hunter.see(first, output) {
+        return WatchEnd::from(end);
+    }
+    match follow(reader, &mut hunter, input, output) {
+        WatchEnd::Done => report(alloc, request, &hunter, output),
+        end => end,
+    }
+}
+
+/// Hunts over an input, whose first bundle has come: it holds the indicators.
+fn hunt_from<I: Source, O: Sink>(
+    alloc: Global,
+    request: &HuntRequest<'_>,
+    first: &Batch,
+    reader: &mut Reader,
+    input: &mut I,
+    output: &mut O,
+) -> WatchEnd<Crowded>
+    requires read { (start : Option (List ℕ)) × HasRead start reader.old (I.left input.old) (I.began input.old) (bundle_of first.now ∷ []) }
+    requires follow { MayFollow None 1 first.now.observations }
+    ensures end { (before : Streams) → HasRead before.left reader.old (I.left input.old) (I.began input.old) (bundle_of first.now ∷ [])
+        → IsBegun before (bundle_of first.now) (I.left input.old) (I.began input.old) → before.written ≡ O.written output.old
+        → AnswersHunt (task_of request.now) None before (streams (I.left input.new) (I.began input.new) (O.written output.new)) result }
+    ensures input { Counted (result ≡ WatchEnd.ReadFault) (I.faults input.old) (I.faults input.new) }
+    ensures output { Counted (result ≡ WatchEnd.WriteFault) (O.faults output.old) (O.faults output.new) }
+{
+    answers_are_the_hits();
+    let hunt = match hunt_of(alloc, &first.bundle, request.moment) {
+        Ok(hunt) => hunt,
+        Err(NoMemory) => return WatchEnd::NoMemory,
+    };
+    match write_skipped(alloc, hunt.skipped.as_slice(), output) {
+        Ok(()) => {
+            let hunted = hunt.hunted.as_slice();
+            hunt_for(alloc, request, hunted, first, reader, input, output)
+        }
+        Err(CutShort::WriteFault) => WatchEnd::WriteFault,
+        Err(CutShort::NoMemory) => WatchEnd::NoMemory,
+    }
+}
+
+/// Hunts over an input.
+fn hunt_input<I: Source, O: Sink>(
+    alloc: Global,
+    request: &HuntRequest<'_>,
+    input: &mut I,
+    output: &mut O,
+) -> WatchEnd<Crowded>
+    ensures end { AnswersHunt (task_of request.now) None (streams (I.left input.old) (I.began input.old) (O.written output.old))
+        (streams (I.left input.new) (I.began input.new) (O.written output.new)) result }
+    ensures input { Counted (result ≡ WatchEnd.ReadFault) (I.faults input.old) (I.faults input.new) }
+    ensures output { Counted (result ≡ WatchEnd.WriteFault) (O.faults output.old) (O.faults output.new) }
+{
+    begins_with_none();
+    read_bundles_come_first();
+    let mut reader = match Reader::new(alloc, Mode::Lines) {
+        Ok(reader) => reader,
+        Err(NoMemory) => return WatchEnd::NoMemory,
+    };
+    match next_bundle(&mut reader, input) {
+        Ok(Some(first)) => hunt_from(alloc, request, &first, &mut reader, input, output),
+        Ok(None) => WatchEnd::Done,
+        Err(end) => WatchEnd::from(end),
+    }
+}
+
+/// Hunts for some indicators over an input, of which nothing was read.
+fn hunt_log<I: Source, O: Sink>(
+    alloc: Global,
+    request: &HuntRequest<'_>,
+    hunted: &[Hunted],
+    reader: &mut Reader,
+    input: &mut I,
+    output: &mut O,
+) -> WatchEnd<Crowded>
+    requires huntable { All IsHuntable hunted.now }
+    requires start { reader.old ≡ reader_start Lines }
+    ensures end { (before : Streams) (feed : List Data) → IsUnread before (I.left input.old) (I.began input.old)
+        → HasSkipped (task_of request.now) before feed hunted.now (O.written output.old)
+        → AnswersHunt (task_of request.now) (Some feed) before (streams (I.left input.new) (I.began input.new) (O.written output.new)) result }
+    ensures input { Counted (result ≡ WatchEnd.ReadFault) (I.faults input.old) (I.faults input.new) }
+    ensures output { Counted (result ≡ WatchEnd.WriteFault) (O.faults output.old) (O.faults output.new) }
+{
+    answers_are_the_hits();
+    begins_with_none();
+    let cap = u64::from(request.cap);
+    let mut hunter = match Hunter::new(alloc, hunted, cap) {
+        Ok(hunter) => hunter,
+        Err(NoMemory) => return WatchEnd::NoMemory,
+    };
+    match follow(reader, &mut hunter, input, output) {
+        WatchEnd::Done => report(alloc, request, &hunter, output),
+        end => end,
+    }
+}
+
+/// Hunts for the indicators of a feed over an input, of which nothing was read.
+fn hunt_feed<I: Source, O: Sink>(
+    alloc: Global,
+    request: &HuntRequest<'_>,
+    gathering: Gathering,
+    input: &mut I,
+    output: &mut O,
+) -> WatchEnd<Crowded>
+    requires fed { (feed : List Data) × GathersFor gathering feed × AreUnbroken feed }
+    ensures end { (feed : List Data) → GathersFor gathering feed
+        → AnswersHunt (task_of request.now) (Some feed) (streams (I.left input.old) (I.began input.old) (O.written output.old))
+        (streams (I.left input.new) (I.began input.new) (O.written output.new)) result }
+    ensures input { Counted (result ≡ WatchEnd.ReadFault) (I.faults input.old) (I.faults input.new) }
+    ensures output { Counted (result ≡ WatchEnd.WriteFault) (O.faults output.old) (O.faults output.new) }
+{
+    answers_are_the_hits();
+    let hunt = match hunt_of_feed(gathering, request.moment) {
+        Ok(hunt) => hunt,
+        Err(NoMemory) => return WatchEnd::NoMemory,
+    };
+    let mut reader = match Reader::new(alloc, Mode::Lines) {
+        Ok(reader) => reader,
+        Err(NoMemory) => return WatchEnd::NoMemory,
+    };
+    match write_skipped(alloc, hunt.skipped.as_slice(), output) {
+        Ok(()) => {
+            let hunted = hunt.hunted.as_slice();
+            hunt_log(alloc, request, hunted, &mut reader, input, output)
+        }
+        Err(CutShort::WriteFault) => WatchEnd::WriteFault,
+        Err(CutShort::NoMemory) => WatchEnd::NoMemory,
+    }
+}
+
+/// What is kept of the feed that a file is.
+fn read_feed<F: Files>(alloc: Global, name: &str, files: &mut F) -> Result<Gathering, FeedEnd>
+    ensures whole { IfOk result (λ gathering. (feed : List Data) × GathersFeed (F.contents files.old name.now) gathering feed) }
+    ensures refused { (line : ℕ) (why : FeedRule) → result ≡ Err (FeedEnd.Refused line why)
+        → (feed : List Data) × ReadsFeed (F.contents files.old name.now) feed (Refused line why) }
+    ensures causes { Counted (result ≡ Err FeedEnd.Fault) (F.faults files.old) (F.faults files.new) }
+{
+    match files.open(name) {
+        Ok(()) => gather(alloc, files),
+        Err(Fault) => Err(FeedEnd::Fault),
+    }
+}
+
+/// Hunts for the indicators of a file over an input.
+fn hunt_file<F: Files, I: Source, O: Sink>(
+    alloc: Global,
+    request: &HuntRequest<'_>,
+    name: &str,
+    files: &mut F,
+    input: &mut I,
+    output: &mut O,
+) -> HuntEnding
+    ensures end { (task_of request.now).file ≡ Some name.now
+        → EndsTask (F.contents files.old) (streams (I.left input.old) (I.began input.old) (O.written output.old))
+        (streams (I.left input.new) (I.began input.new) (O.written output.new)) result (task_of request.now) }
+    ensures files { Counted (result ≡ HuntEnding.Unfed FeedEnd.Fault) (F.faults files.old) (F.faults files.new) }
+    ensures input { Counted (result ≡ HuntEnding.Ended WatchEnd.ReadFault) (I.faults input.old) (I.faults input.new) }
+    ensures output { Counted (hunt_status result ≡ 6) (O.faults output.old) (O.faults output.new) }
+{
+    match read_feed(alloc, name, files) {
+        Ok(gathering) => HuntEnding::Ended(hunt_feed(alloc, request, gathering, input, output)),
+        Err(end) => HuntEnding::Unfed(end),
+    }
+}
+
+/// Does what the words ask for.
+fn obey<F: Files, I: Source, O: Sink>(
+    alloc: Global,
+    words: &[String],
+    files: &mut F,
+    input: &mut I,
+    output: &mut O,
+) -> HuntEnding
+    ensures end { EndsHunt (texts words.now) (F.contents files.old) (streams (I.left input.old) (I.began input.old) (O.written output.old))
+        (streams (I.left input.new) (I.began input.new) (O.written output.new)) result }
+    ensures untouched { hunt_status result ≡ 2 → (files.new ≡ files.old) × (input.new ≡ input.old) × (output.new ≡ output.old) }
+    ensures unopened { ¬ AskForFile (texts words.now) → files.new ≡ files.old }
+    ensures reads { CountedByOne (AskForFile (texts words.now)) (hunt_status result ≡ 5) (I.faults input.old) (I.faults input.new)
+        (F.faults files.old) (F.faults files.new) }
+    ensures output { Counted (hunt_status result ≡ 6) (O.faults output.old) (O.faults output.new) }
+{
+    let Some(request) = read_request(words) else {
+        return HuntEnding::Usage;
+    };
+    match request.file {
+        Some(name) => hunt_file(alloc, &request, name, files, input, output),
+        None => HuntEnding::Ended(hunt_input(alloc, &request, input, output)),
+    }
+}
+
+/// Hunts many indicators over an input, as words ask for it. The words are TIME, the moment at which indicators have to be valid, and
+/// perhaps CAP: how much may be live of one pattern; and perhaps `--indicators FILE`. Then the objects of the file, a line each, hold the
+/// indicators; else the first bundle of the input does, which is of the log itself. The input is one of `match`.
+///
+/// `output` gets a line for each indicator whose pattern isn't read; then each hit, which is the identifier of an indicator and a
+/// binding of its pattern, by the observation at which it ends and by the indicator's place, before more is read; and at the end of
+/// the input, where there was a hit, an envelope of sightings, one for each indicator that was seen.
+///
+/// | Status | Comes |
+/// |---|---|
+/// | 0 | the input was read to its end, and all was told |
+/// | 1 | memory ran out |
+/// | 2 | exactly where the words ask for nothing |
+/// | 4 | where a line is refused, of the file or else of the input, the first such one |
+/// | 5 | only where the input or the files counted a fault, and at each fault of theirs |
+/// | 6 | only where the output counted a fault, and at each fault of it |
+/// | 7 | where more of a pattern is live at an observation than the cap allows, the first such one |
+///
+/// On `faults` the reason is told in one line. A failing write there changes nothing else.
+pub fn run_hunt<F: Files, I: Source, O: Sink, E: Sink>(
+    alloc: Global,
+    words: &[String],
+    files: &mut F,
+    input: &mut I,
+    output: &mut O,
+    faults: &mut E,
+) -> u8
+    ensures ends { Ends (texts words.now) (F.contents files.old) (streams (I.left input.old) (I.began input.old) (O.written output.old))
+        (streams (I.left input.new) (I.began input.new) (O.written output.new)) result
+        (λ reason. WritesReason reason (E.written faults.old) (E.written faults.new) (E.faults faults.old) (E.faults faults.new)) }
+    ensures refusals { (result ≡ 2) ↔ AskForNothing (texts words.now) }
+    ensures told { (result ≡ 0) ⊎ (result ≡ 4) → AskSo (texts words.now) (HuntsOrRefuses (F.contents files.old)
+        (streams (I.left input.old) (I.began input.old) (O.written output.old)) (streams (I.left input.new) (I.began input.new) (O.written output.new)) result) }
+    ensures crowded { result ≡ 7 → AskSo (texts words.now) (HuntsToCrowd (F.contents files.old)
+        (streams (I.left input.old) (I.began input.old) (O.written output.old)) (streams (I.left input.new) (I.began input.new) (O.written output.new))) }
+    ensures untouched { result ≡ 2 → (files.new ≡ files.old) × (input.new ≡ input.old) × (output.new ≡ output.old) }
+    ensures unopened { ¬ AskForFile (texts words.now) → files.new ≡ files.old }
+    ensures reads { CountedByOne (AskForFile (texts words.now)) (result ≡ 5) (I.faults input.old) (I.faults input.new) (F.faults files.old) (F.faults files.new) }
+    ensures output { Counted (result ≡ 6) (O.faults output.old) (O.faults output.new) }
+{
+    let ending = obey(alloc, words, files, input, output);
+    finish(&ending, faults)
+}
+
+/// Tells why the program ends so, and answers its status.
+fn finish<E: Sink>(ending: &HuntEnding, faults: &mut E) -> u8
+    ensures status { result ≡ hunt_status ending.now }
+    ensures reason { (text : List ℕ) × IsHuntReason ending.now text × WritesReason text (E.written faults.old) (E.written faults.new) (E.faults faults.old) (E.faults faults.new) }
+{
+    let _ = ending.write_reason(faults);
+    ending.status()
+}

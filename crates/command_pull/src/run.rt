@@ -1,0 +1,97 @@
+ghost use Rattle.std.specs.Prelude.{◌≡◌, ◌↔◌, ℕ, List};
+ghost use Rattle.flow_edges.specs.Faults.{Counted};
+ghost use Rattle.command_line.specs.CommandLines.{texts};
+ghost use Rattle.command_reasons.specs.Reasons.{WritesReason};
+ghost use Rattle.taxii_client.specs.Outside.{link_view};
+ghost use Rattle.command_peer.specs.Words.{IsHost};
+ghost use Rattle.command_pull.specs.Words.{AskForNothing, target_of};
+ghost use Rattle.command_pull.specs.Pulling.{outside};
+ghost use Rattle.command_pull.specs.Endings.{EndsPull, EndsWords, pull_status, end_reason};
+ghost use Rattle.command_pull.specs.Runs.{Ends, PullsAll, CountsDial};
+
+use crate::ending::{PullEnd, PullEnding};
+use crate::pulling::pull_all;
+use crate::words::{PullRequest, read_request};
+use flow_edges::Sink;
+use flow_links::Dial;
+use flow_values::NoMemory;
+use std::alloc::Global;
+
+/// Does what is asked for.
+fn answer<D: Dial, O: Sink>(
+    alloc: Global,
+    request: &PullRequest<'_>,
+    dial: &mut D,
+    output: &mut O,
+) -> PullEnd
+    requires { IsHost request.now.peer.host.now }
+    ensures end { EndsPull (link_view D.Link.left D.Link.written D.Link.Source.faults D.Link.Sink.faults) (target_of request.now)
+        (outside (D.told dial.old) (D.faults dial.old) (O.written output.old)) (outside (D.told dial.new) (D.faults dial.new) (O.written output.new))
+        result.skipped result.ending }
+    ensures output { Counted (pull_status result.ending ≡ 6) (O.faults output.old) (O.faults output.new) }
+{
+    match request.target(alloc) {
+        Ok(target) => pull_all(alloc, &target, dial, output),
+        Err(NoMemory) => PullEnd::before_pages(PullEnding::NoMemory),
+    }
+}
+
+/// Does what the words ask for.
+fn obey<D: Dial, O: Sink>(alloc: Global, words: &[String], dial: &mut D, output: &mut O) -> PullEnd
+    ensures end { EndsWords (link_view D.Link.left D.Link.written D.Link.Source.faults D.Link.Sink.faults) (texts words.now)
+        (outside (D.told dial.old) (D.faults dial.old) (O.written output.old)) (outside (D.told dial.new) (D.faults dial.new) (O.written output.new)) result }
+    ensures untouched { pull_status result.ending ≡ 2 → (dial.new ≡ dial.old) × (output.new ≡ output.old) }
+    ensures output { Counted (pull_status result.ending ≡ 6) (O.faults output.old) (O.faults output.new) }
+{
+    match read_request(words) {
+        Some(request) => answer(alloc, &request, dial, output),
+        None => PullEnd::before_pages(PullEnding::Usage),
+    }
+}
+
+/// The program: writes all objects of the collection that the words after its name ask for, a line each, page by page,
+/// and answers its status.
+///
+/// | Status | Comes |
+/// |---|---|
+/// | 0 | the last page came, and all good entries were written |
+/// | 1 | memory ran out |
+/// | 2 | exactly where the words ask for nothing |
+/// | 5 | only where the dial or a link that it gave counted a fault |
+/// | 6 | only where the output counted a fault, and at each fault of it |
+/// | 11 | exactly where a reply is refused |
+/// | 12 | exactly where a link's bytes end inside a reply |
+/// | 13 | exactly where 1,000,000 pages came, and the last has more behind it |
+///
+/// On `faults` the number of the bad entries that were skipped is told in a line, where some were, and then the reason.
+/// A failing write there changes nothing else.
+pub fn run_pull<D: Dial, O: Sink, E: Sink>(
+    alloc: Global,
+    words: &[String],
+    dial: &mut D,
+    output: &mut O,
+    faults: &mut E,
+) -> u8
+    ensures ends { Ends (link_view D.Link.left D.Link.written D.Link.Source.faults D.Link.Sink.faults) (texts words.now)
+        (outside (D.told dial.old) (D.faults dial.old) (O.written output.old)) (outside (D.told dial.new) (D.faults dial.new) (O.written output.new)) result
+        (λ reason. WritesReason reason (E.written faults.old) (E.written faults.new) (E.faults faults.old) (E.faults faults.new)) }
+    ensures refusals { (result ≡ 2) ↔ AskForNothing (texts words.now) }
+    ensures untouched { result ≡ 2 → (dial.new ≡ dial.old) × (output.new ≡ output.old) }
+    ensures all { result ≡ 0 → PullsAll (link_view D.Link.left D.Link.written D.Link.Source.faults D.Link.Sink.faults) (texts words.now)
+        (outside (D.told dial.old) (D.faults dial.old) (O.written output.old)) (outside (D.told dial.new) (D.faults dial.new) (O.written output.new)) }
+    ensures dial { CountsDial (link_view D.Link.left D.Link.written D.Link.Source.faults D.Link.Sink.faults) (texts words.now)
+        (outside (D.told dial.old) (D.faults dial.old) (O.written output.old)) (outside (D.told dial.new) (D.faults dial.new) (O.written output.new)) result }
+    ensures output { Counted (result ≡ 6) (O.faults output.old) (O.faults output.new) }
+{
+    let end = obey(alloc, words, dial, output);
+    finish(&end, faults)
+}
+
+/// Tells why the program ends so, and answers its status.
+fn finish<E: Sink>(end: &PullEnd, faults: &mut E) -> u8
+    ensures status { result ≡ pull_status end.now.ending }
+    ensures reason { WritesReason (end_reason end.now) (E.written faults.old) (E.written faults.new) (E.faults faults.old) (E.faults faults.new) }
+{
+    let _ = end.write_reason(faults);
+    end.ending.status()
+}

@@ -1,0 +1,177 @@
+-- What stands when the program ended, by the command that it ran and how that ended.
+use Rattle.std.specs.Prelude.{◌≡◌, ◌≢◌, ◌⊎◌, ℕ, List, Option, codes}
+use Rattle.flow_edges.specs.Flow.{written_with}
+use Rattle.pattern_types.specs.declared.pattern.Pattern.{Pattern}
+use Rattle.pattern_types.specs.PlainPattern.{plain_pattern}
+use Rattle.pattern_reader.specs.Read.{IsReadAs}
+use Rattle.match_input.specs.Reading.{BundleOf, Whole}
+use Rattle.match_bindings.specs.declared.log_entry.LogEntry.{LogEntry}
+use Rattle.match_bindings.specs.BindTree.{BindTree}
+use Rattle.match_log.specs.Entries.{AreEntries}
+use Rattle.match_log.specs.Listing.{AreBindings, listing_text}
+use Rattle.match_log.specs.Matching.{ReadsInput}
+use Rattle.command_match.specs.declared.matching.MatchEnding.{MatchEnding}
+use Rattle.command_check.specs.declared.checking.CheckEnding.{CheckEnding}
+use Rattle.command_show.specs.declared.showing.ShowEnding.{ShowEnding}
+use Rattle.command_run.specs.declared.ending.Ending.{Ending}
+use Rattle.command_make.specs.declared.making.MakeEnding.{MakeEnding}
+use Rattle.command_run.specs.declared.ending.Ending.TheVariants.{Match, Check, Show, Make, Serve, Usage, NoMemory}
+use Rattle.command_line.specs.CommandLines.{PlainRequest, PlainService, IsCommandLine}
+use Rattle.command_serve.specs.declared.ending.ServeEnding.{ServeEnding}
+use Rattle.command_serve.specs.ServeEndings.{EndsServe, serve_status, serve_reason}
+use Rattle.command_match.specs.Tasks.{MatchTask}
+use Rattle.command_run.specs.Requests.{IsMatchLine, IsShowLine, IsCheckLine, IsMakeLine, IsServeLine}
+use Rattle.flow_edges.specs.Streams.{Streams, streams}
+use Rattle.flow_links.specs.Doors.{DoorState}
+use Rattle.taxii_rows.specs.Keeper.{Kept}
+use Rattle.taxii_server.specs.Outside.{LinkView}
+use Rattle.command_serve.specs.Services.{Places}
+use Rattle.command_reasons.specs.Reasons.{IsUnread}
+use Rattle.command_match.specs.MatchEndings.{EndsMatch, match_status, IsMatchReason}
+use Rattle.command_check.specs.CheckEndings.{EndsCheck, check_status, IsCheckReason}
+use Rattle.command_show.specs.ShowEndings.{EndsShow, show_status, IsShowReason}
+use Rattle.command_make.specs.MakeEndings.{IsTextOfLog, EndsMake, make_status, IsMakeReason}
+
+-- the words are no command line
+abbrev pub IsNoCommand : List (List ℕ) → Type 0
+IsNoCommand words = (request : PlainRequest) → ¬ IsCommandLine words request
+
+-- what stands outside at one moment of a run: what is left of the input, and was when its last read began, and the places around
+-- a server, among them the output
+pub record Outside (L : Type 0) : Type 0 where
+  pub left : Option (List ℕ)
+  pub began : Option (List ℕ)
+  pub places : Places L
+
+-- the same, from what each object tells
+abbrev pub outside : {L : Type 0} → Option (List ℕ) → Option (List ℕ) → Option (List ℕ) → Option (DoorState L) → Kept → (ℕ → Option ℕ) → ℕ → Outside L
+outside left began written door kept moments faults = record {
+  left = left;
+  began = began;
+  places = record { door = door; kept = kept; written = written; around = record { moments = moments; faults = faults } };
+}
+
+-- the input and the output alone
+abbrev pub streams_of : {L : Type 0} → Outside L → Streams
+streams_of around = streams around.left around.began around.places.written
+
+-- the words are `match` with that request, which ended so
+pub record RunsMatch (words : List (List ℕ)) (before after : Streams) (ending : MatchEnding) : Type 0 where
+  pub request : MatchTask
+  pub command : IsMatchLine words request
+  pub match_ends : EndsMatch request before after ending
+
+-- the words are `check`, which ended so
+pub record RunsCheck (words : List (List ℕ)) (before after : Streams) (ending : CheckEnding) : Type 0 where
+  pub command : IsCheckLine words
+  pub check_ends : EndsCheck before after ending
+
+-- the words are `show` with a pattern, which ended so; nothing was read
+pub record RunsShow (words : List (List ℕ)) (before after : Streams) (ending : ShowEnding) : Type 0 where
+  pub pattern : List ℕ
+  pub command : IsShowLine words pattern
+  pub show_ends : EndsShow pattern before after ending
+  pub unread : after.left ≡ before.left
+
+-- the words are `make` with a seed and a count, which ended so; nothing was read
+pub record RunsMake (words : List (List ℕ)) (before after : Streams) (ending : MakeEnding) : Type 0 where
+  pub seed : ℕ
+  pub count : ℕ
+  pub command : IsMakeLine words seed count
+  pub make_ends : EndsMake seed count before.written after.written ending
+  pub unread : after.left ≡ before.left
+
+-- the words are `serve` with a service, which ended so; nothing was read
+pub record RunsServe {L : Type 0} (view : L → LinkView) (words : List (List ℕ)) (before after : Outside L) (ending : ServeEnding) : Type 0 where
+  pub service : PlainService
+  pub command : IsServeLine words service
+  pub serve_ends : EndsServe view service before.places after.places ending
+  pub unread : after.left ≡ before.left
+
+-- what an ending says of the words and of what is outside
+abbrev pub EndsRun : {L : Type 0} → (L → LinkView) → List (List ℕ) → Outside L → Outside L → Ending → Type 0
+EndsRun view words before after (Match ending) = RunsMatch words (streams_of before) (streams_of after) ending
+EndsRun view words before after (Check ending) = RunsCheck words (streams_of before) (streams_of after) ending
+EndsRun view words before after (Show ending) = RunsShow words (streams_of before) (streams_of after) ending
+EndsRun view words before after (Make ending) = RunsMake words (streams_of before) (streams_of after) ending
+EndsRun view words before after (Serve ending) = RunsServe view words before after ending
+EndsRun view words before after Usage = IsNoCommand words × (after ≡ before)
+EndsRun view words before after NoMemory = after ≡ before
+
+abbrev pub status_of : Ending → ℕ
+status_of (Match ending) = match_status ending
+status_of (Check ending) = check_status ending
+status_of (Show ending) = show_status ending
+status_of (Make ending) = make_status ending
+status_of (Serve ending) = serve_status ending
+status_of Usage = 2
+status_of NoMemory = 1
+
+-- what is written on the sink for reasons
+abbrev pub IsReasonOf : Ending → List ℕ → Type 0
+IsReasonOf (Match ending) text = IsMatchReason ending text
+IsReasonOf (Check ending) text = IsCheckReason ending text
+IsReasonOf (Show ending) text = IsShowReason ending text
+IsReasonOf (Make ending) text = IsMakeReason ending text
+IsReasonOf (Serve ending) text = text ≡ serve_reason ending
+IsReasonOf Usage text = text ≡ codes "usage: stix_command (match | check | show | serve | make) WORDS\n"
+IsReasonOf NoMemory text = text ≡ codes "out of memory\n"
+
+-- the words are `match` with a text that is read as no pattern
+pub record RefusesMatch (words : List (List ℕ)) : Type 0 where
+  pub request : MatchTask
+  pub command : IsMatchLine words request
+  pub none : IsUnread request.pattern
+
+-- the words are `show` with a text that is read as no pattern
+pub record RefusesShow (words : List (List ℕ)) : Type 0 where
+  pub pattern : List ℕ
+  pub command : IsShowLine words pattern
+  pub none : IsUnread pattern
+
+-- the words are a command, and its pattern is refused
+abbrev pub RefusesPattern : List (List ℕ) → Type 0
+RefusesPattern words = RefusesMatch words ⊎ RefusesShow words
+
+-- the statuses 2 and 3 tell that the words are no command line, and that their pattern is refused; only want of memory comes instead
+pub record TellsRefusals (words : List (List ℕ)) (status : ℕ) : Type 0 where
+  pub usage : status ≡ 2 → IsNoCommand words
+  pub no_line : IsNoCommand words → (status ≡ 2) ⊎ (status ≡ 1)
+  pub pattern : status ≡ 3 → RefusesPattern words
+  pub refused : RefusesPattern words → (status ≡ 3) ⊎ (status ≡ 1)
+
+-- the program ended in one of its ways, with that status and that reason
+pub record Ends {L : Type 0} (view : L → LinkView) (words : List (List ℕ)) (before after : Outside L) (status : ℕ) (Writes : List ℕ → Type 0) : Type 0 where
+  pub ending : Ending
+  pub status_is : status ≡ status_of ending
+  pub stands : EndsRun view words before after ending
+  pub text : List ℕ
+  pub reason_is : IsReasonOf ending text
+  pub reason : Writes text
+  pub refusals : TellsRefusals words status
+
+-- the text is read as a pattern, the whole input as bundles, and these make a log for it: all bindings of the pattern over
+-- that log are written, and nothing else
+pub record ListsBindings (request : MatchTask) (before after : Streams) : Type 0 where
+  pub pattern : Pattern
+  pub read : IsReadAs request.pattern pattern
+  pub bundles : List BundleOf
+  pub reading : ReadsInput request.mode before.left bundles Whole
+  pub log : List LogEntry
+  pub entries : AreEntries (plain_pattern pattern) bundles log
+  pub trees : List BindTree
+  pub bindings : AreBindings pattern log trees
+  pub text : after.written ≡ written_with (listing_text trees) before.written
+
+-- the numbers of the generated log were written, and nothing else
+abbrev pub TellsNumbers : ℕ → ℕ → Streams → Streams → Type 0
+TellsNumbers seed count before after = (text : List ℕ) × IsTextOfLog seed count text × (after.written ≡ written_with text before.written)
+
+-- what was asked for was done: a `match` wrote the listing, a `make` the numbers
+pub record IsDone (words : List (List ℕ)) (before after : Streams) : Type 0 where
+  pub listing : (task : MatchTask) → IsMatchLine words task → ListsBindings task before after
+  pub numbers : (seed count : ℕ) → IsMakeLine words seed count → TellsNumbers seed count before after
+
+-- a run with that status served no caller
+abbrev pub ServesNone : ℕ → Type 0
+ServesNone status = (status ≢ 0) × (status ≢ 6) × (status ≢ 8)

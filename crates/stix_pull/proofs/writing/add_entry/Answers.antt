@@ -1,7 +1,0 @@
-use Rattle.taxii_client.specs.Telling.{line_of}
-use Rattle.stix_pull.proofs.WritingLemmas.{fails_so}
-use Rattle.stix_pull.proofs.writing.add_entry.Goals as goal
-
-pub returns-in_err-line-clause-err : goal.returns-in_err-line-clause-err
-returns-in_err-line-clause-err g c before first way =
-    fails_so c.from_residual.result (c.parts_on_their_way.ensures.prefix before c.args.pending.now (line_of c.args.entry.now) first _ way)
