@@ -90,7 +90,11 @@ fn answer<I: Source, O: Sink>(
 {
     none_refused();
     match read_pattern(alloc, request.pattern) {
-        Ok(pattern) => tell_alerts(alloc, &pattern, request, input, output),
+        Ok(pattern) => {
+            let ending = tell_alerts(alloc, &pattern, request, input, output);
+            drop(pattern);
+            ending
+        }
         Err(PatternRefusal::NoMemory) => AlertEnding::NoMemory,
         Err(refusal) => AlertEnding::PatternRefused(refusal),
     }

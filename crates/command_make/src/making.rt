@@ -97,7 +97,11 @@ fn numbers_of(alloc: Global, seed: u32, count: u32) -> Result<Numbers, MakeEndin
     ensures err { IfErr result (StopsEarly seed count) }
 {
     match read_pattern(alloc, PATTERN) {
-        Ok(pattern) => matched(alloc, &pattern, seed, count),
+        Ok(pattern) => {
+            let numbers = matched(alloc, &pattern, seed, count);
+            drop(pattern);
+            numbers
+        }
         // No other refusal comes: the text is a pattern, as tests show.
         Err(_) => Err(MakeEnding::NoMemory),
     }

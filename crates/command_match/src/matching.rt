@@ -121,7 +121,11 @@ pub fn match_bindings<I: Source, O: Sink>(
 {
     none_refused();
     match read_pattern(alloc, request.pattern) {
-        Ok(read) => match_pattern(alloc, &read, request, input, output),
+        Ok(read) => {
+            let ending = match_pattern(alloc, &read, request, input, output);
+            drop(read);
+            ending
+        }
         Err(PatternRefusal::NoMemory) => MatchEnding::NoMemory,
         Err(refusal) => MatchEnding::PatternRefused(refusal),
     }

@@ -26,3 +26,4 @@ pub mod PassLemmas
 pub mod InPlaceLemmas
 pub mod UnderFirstsLemmas
 pub mod QuietLemmas
+pub mod LeavesLemmas

@@ -26,7 +26,7 @@ map_append f [] ys = refl
 map_append f (x ∷ xs) ys = ap (λ z. f x ∷ z) (map_append f xs ys)
 
 -- the things of both sides of an OR that is the left side of n more
-choice_under : (n : ℕ) (xs ys : List PieceTree) →
+pub choice_under : (n : ℕ) (xs ys : List PieceTree) →
     map (held_with (firsts (n + 1))) xs ++ map (held_with (firsts n)) (map (held_with Second) ys)
     ≡ map (held_with (firsts n)) (map (held_with First) xs ++ map (held_with Second) ys)
 choice_under n xs ys =

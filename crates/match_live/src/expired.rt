@@ -18,7 +18,7 @@ pub(crate) fn clear(node: &mut Node, now: Instant)
     ensures { IsArranged (expired now (state_of node.old)) (state_of node.new) }
 {
     match node {
-        Node::Leaf(_, _) => {}
+        Node::Leaves(_) => {}
         Node::Sides(_, left, right, sides) => {
             sides.clear(now);
             clear(left, now);

@@ -14,6 +14,7 @@ mod heap;
 mod join;
 pub mod laws;
 mod lead;
+mod leaves;
 mod level_step;
 mod levels;
 mod matcher;

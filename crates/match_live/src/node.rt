@@ -1,11 +1,11 @@
-ghost use Rattle.std.specs.Prelude.{◌≡◌, ◌+◌, ◌<◌, ◌^◌, ◌++◌, [], false, IsTrue, IfOk, OnOk, Err, map, length};
+ghost use Rattle.std.specs.Prelude.{◌≡◌, ◌+◌, ◌<◌, ◌^◌, ◌++◌, [], false, IsTrue, IfOk, IfSome, OnOk, Err, map, length};
 ghost use Rattle.std.specs.Box.{box_value};
 ghost use Rattle.pattern_types.specs.Leaves.{leaves};
 ghost use Rattle.match_bindings.specs.NumberedPattern.{numbered_from};
 ghost use Rattle.match_bindings.specs.BindTree.{One, Second, firsts};
 ghost use Rattle.match_live.specs.inner.Pieces.{piece_tree, piece_trees};
 ghost use Rattle.match_windows.specs.Stores.{window_of};
-ghost use Rattle.match_live.specs.inner.Steps.{held_with, a_leaf, a_join, a_choice, a_limit, a_chain, all_levels, empty_sides, step_new, step_state, new_at_leaf, empty_state, IsQuiet};
+ghost use Rattle.match_live.specs.inner.Steps.{held_with, a_leaf, a_join, a_choice, a_limit, a_chain, leaves_state, all_levels, empty_sides, step_new, step_state, empty_state, IsQuiet};
 ghost use Rattle.match_live.specs.inner.Wanted.{wanted, closed, leads_right, leads_part};
 ghost use Rattle.match_live.specs.inner.Leads.{ahead_of, leads_of};
 ghost use Rattle.match_live.specs.inner.Totals.{held_after, live_at, Admits, IsOverAt};
@@ -14,14 +14,14 @@ ghost use Rattle.match_live.specs.declared.stop.Stop.TheVariants as stop;
 
 use crate::join::Join;
 use crate::lead::Lead;
+use crate::leaves::Leaves;
 use crate::levels::Levels;
 use crate::piece::Piece;
 use crate::room::Room;
 use crate::row::Row;
 use crate::sides::Sides;
 use crate::stop::Stop;
-use crate::store::{Store, is_live, store_window};
-use crate::wanted::is_wanted;
+use crate::store::{Store, store_window};
 use flow_values::NoMemory;
 use match_bindings::{Bind, Bounds};
 use match_windows::Window;
@@ -34,11 +34,11 @@ use stix_times::Instant;
 /// recursion, and what it holds itself stands in each frame of that.
 #[derive(Drop)]
 pub(crate) enum Node {
-    /// A leaf, by its number.
-    Leaf(u32, Window),
+    /// A leaf, or some of them in a chain of `OR`s.
+    Leaves(Leaves),
     /// An `AND` or a `FOLLOWEDBY`.
     Sides(Join, Box<Node>, Box<Node>, Box<Sides>),
-    /// An `OR`.
+    /// Another `OR`.
     Either(Box<Node>, Box<Node>),
     /// A `WITHIN`, or a `START` and `STOP`, which the windows below it know.
     Under(Box<Node>),
@@ -95,7 +95,8 @@ pub(crate) fn empty_node(
 fn leaf_node(alloc: Global, leaf: u32, above: &Bounds) -> Result<Box<Node>, NoMemory>
     ensures { IfOk result (λ node. state_of (box_value node) ≡ a_leaf leaf (window_of above.now false)) }
 {
-    Ok(Box::new(alloc, Node::Leaf(leaf, store_window(above, false)))?)
+    let leaves = Leaves::one(leaf, store_window(above, false));
+    Ok(Box::new(alloc, Node::Leaves(leaves))?)
 }
 
 /// A node that joins two sides, the right one behind the left where this is asked.
@@ -115,12 +116,25 @@ fn sides_node(
     Ok(Box::new(alloc, Node::Sides(join, left, right, sides))?)
 }
 
-/// An `OR` of two sides.
+/// An `OR` of two sides, of which the right one joins the leaves on its left where it is the next of them.
 #[inline(never)]
 fn either_node(alloc: Global, left: Box<Node>, right: Box<Node>) -> Result<Box<Node>, NoMemory>
     ensures { IfOk result (λ node. state_of (box_value node) ≡ a_choice (state_of (box_value left)) (state_of (box_value right))) }
 {
-    Ok(Box::new(alloc, Node::Either(left, right))?)
+    match with_leaf(&left, &right) {
+        Some(leaves) => Ok(Box::new(alloc, Node::Leaves(leaves))?),
+        None => Ok(Box::new(alloc, Node::Either(left, right))?),
+    }
+}
+
+/// Leaves with the one on their right, where it is the next of them.
+fn with_leaf(left: &Node, right: &Node) -> Option<Leaves>
+    ensures { IfSome result (λ leaves. leaves_state leaves.first leaves.more leaves.window ≡ a_choice (state_of left.now) (state_of right.now)) }
+{
+    match (left, right) {
+        (Node::Leaves(leaves), Node::Leaves(next)) => leaves.with(next),
+        _ => None,
+    }
 }
 
 /// A node under a `WITHIN`, or a `START` and `STOP`.
@@ -164,8 +178,8 @@ pub(crate) fn step(
     ensures crowded { result ≡ Err stop.Crowded → IsOverAt row.now truths.now (leads_of leads.old.items) (state_of node.old) room.old.left }
 {
     match node {
-        Node::Leaf(leaf, window) => {
-            let new = new_at_leaf(alloc, *leaf, window, row, truths, leads)?;
+        Node::Leaves(leaves) => {
+            let new = leaves.wanted(alloc, row, truths, leads)?;
             Ok(new)
         }
         Node::Sides(join, left, right, sides) => {
@@ -357,47 +371,14 @@ fn nothing_ahead(alloc: Global, window: &Window, now: Instant) -> Lead
     }
 }
 
-/// Whether a node is a leaf that doesn't hold.
+/// Whether a node is leaves of which none holds.
 fn is_quiet(node: &Node, truths: &[bool]) -> bool
     ensures { IsTrue result → IsQuiet truths.now (state_of node.now) }
 {
     match node {
-        Node::Leaf(leaf, _) => !truths.get(*leaf as usize).copied().unwrap_or(false),
+        Node::Leaves(leaves) => !leaves.any_holds(truths),
         Node::Sides(_, _, _, _) | Node::Either(_, _) => false,
         Node::Under(_) | Node::Repeats(_, _) => false,
-    }
-}
-
-/// What is new at a leaf, and wanted.
-#[inline(never)]
-fn new_at_leaf(
-    alloc: Global,
-    leaf: u32,
-    window: &Window,
-    row: &Row,
-    truths: &[bool],
-    leads: &[Lead],
-) -> Result<Vec<Piece>, NoMemory>
-    ensures { IfOk result (λ new. piece_trees new.items ≡ wanted row.now.last (leads_of leads.now) (new_at_leaf row.now truths.now leaf window.now)) }
-{
-    let mut new = Vec::new(alloc);
-    if truths.get(leaf as usize).copied().unwrap_or(false) && is_live(window, row.first, row.last) {
-        let piece = alone(row);
-        if is_wanted(alloc, &piece, row.last, leads)? {
-            new.push(piece)?;
-        }
-    }
-    Ok(new)
-}
-
-/// A row alone.
-fn alone(row: &Row) -> Piece
-    ensures { piece_tree result ≡ record { tree = One row.now.number; earliest = row.now.first; latest = row.now.last } }
-{
-    Piece {
-        bind: Bind::One(row.number),
-        earliest: row.first,
-        latest: row.last,
     }
 }
 

@@ -31,7 +31,7 @@ fn push_node(node: &Node, out: &mut Vec<u64>) -> Result<(), NoMemory>
     ensures { OnOk result (out.new.items ≡ out.old.items ++ all_numbers (contents_of (state_of node.now))) }
 {
     match node {
-        Node::Leaf(_, _) => {}
+        Node::Leaves(_) => {}
         Node::Sides(_, left, right, sides) => {
             push_store(&sides.left, out)?;
             push_store(&sides.right, out)?;

@@ -10,7 +10,7 @@ use stix_times::Instant;
 
 /// How long a store holds a thing: what the qualifiers above the store leave it, and whether the store
 /// is the right side of a `FOLLOWEDBY`.
-#[derive(Clone, Copy, Debug)]
+#[derive(Clone, Copy, Debug, PartialEq, Eq)]
 pub struct Window {
     /// The least seconds of a `WITHIN` above, where there is one.
     pub seconds: Option<u32>,

@@ -8,7 +8,7 @@ use Rattle.match_live.specs.declared.node.Node.{Node}
 use Rattle.match_live.specs.declared.node.Node.TheVariants as node
 use Rattle.match_live.specs.PieceTree.{PieceTree}
 use Rattle.match_live.specs.inner.Pieces.{piece_trees}
-use Rattle.match_live.specs.inner.Steps.{SideStores, State, a_leaf, a_join, a_choice, a_limit, a_chain, all_levels}
+use Rattle.match_live.specs.inner.Steps.{SideStores, State, a_join, a_choice, a_limit, a_chain, leaves_state, all_levels}
 
 abbrev pub store_list : Store → List PieceTree
 store_list store = piece_trees store.held.items
@@ -28,7 +28,7 @@ abbrev pub levels_state : State → Levels → State
 levels_state part levels = a_chain part levels.count levels.window (all_levels levels.count (store_lists levels.stores.items))
 
 abbrev pub state_of : Node → State
-state_of (node.Leaf leaf window) = a_leaf leaf window
+state_of (node.Leaves leaves) = leaves_state leaves.first leaves.more leaves.window
 state_of (node.Sides' how at_left left at_right right sides) = a_join how (state_of left) (state_of right) (side_stores (box_value sides))
 state_of (node.Either' at_left left at_right right) = a_choice (state_of left) (state_of right)
 state_of (node.Under' at_part part) = a_limit (state_of part)

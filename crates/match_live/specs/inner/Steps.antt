@@ -67,10 +67,18 @@ pub data State : Type 0 where
 abbrev pub truth_at : List Bool → ℕ → Bool
 truth_at truths leaf = unwrap_or (slice_get truths leaf) false
 
+-- a row alone
+abbrev pub row_alone : Row → PieceTree
+row_alone row = record { tree = One row.number; earliest = row.first; latest = row.last }
+
 -- what is new at a leaf
 abbrev pub new_at_leaf : Row → List Bool → ℕ → Window → List PieceTree
-new_at_leaf row truths leaf window =
-    cond (truth_at truths leaf && lives window row.first row.last) (record { tree = One row.number; earliest = row.first; latest = row.last } ∷ []) []
+new_at_leaf row truths leaf window = cond (truth_at truths leaf && lives window row.first row.last) (row_alone row ∷ []) []
+
+-- a leaf, and so many that follow it, each on the right of an OR of all before it
+abbrev pub leaves_state : ℕ → ℕ → Window → State
+leaves_state first zero window = a_leaf first window
+leaves_state first (suc more) window = a_choice (leaves_state first more window) (a_leaf (first + more + 1) window)
 
 -- the sides without what has expired, and how much they hold
 abbrev pub sides_kept : ℤ → SideStores → SideStores
@@ -164,9 +172,11 @@ step_state row truths (a_chain part count window levels) =
     a_chain (step_state row truths part) count window
     (levels_after window row.last (map (held_with Single) (step_new row truths part)) (step_new row truths part) levels)
 
--- a leaf that doesn't hold
+-- leaves in ORs, of which none holds
 abbrev pub IsQuiet : List Bool → State → Type 0
-IsQuiet truths z = (leaf : ℕ) × (window : Window) × (z ≡ a_leaf leaf window) × (truth_at truths leaf ≡ false)
+IsQuiet truths (a_leaf leaf window) = truth_at truths leaf ≡ false
+IsQuiet truths (a_choice l r) = IsQuiet truths l × IsQuiet truths r
+IsQuiet truths _ = ⊥
 
 -- the sides of a node without rows
 abbrev pub empty_sides : Window → Window → SideStores

@@ -13,7 +13,7 @@ use Rattle.match_live.specs.declared.row.Row.{Row}
 use Rattle.match_live.specs.declared.node.Node.{Node}
 use Rattle.match_live.specs.PieceTree.{PieceTree}
 use Rattle.match_live.specs.inner.Pieces.{piece_tree, piece_trees}
-use Rattle.match_live.specs.inner.Steps.{State, a_leaf, a_join, a_choice, all_levels, held_with, levels_new, levels_after, kept, joins_both, step_new, step_state, IsQuiet}
+use Rattle.match_live.specs.inner.Steps.{State, a_join, a_choice, leaves_state, all_levels, held_with, levels_new, levels_after, kept, joins_both, step_new, step_state, IsQuiet}
 use Rattle.match_live.specs.inner.Wanted.{Ahead, wanted, leads_right, leads_part, chosen}
 use Rattle.match_live.specs.inner.Leads.{ahead_of, leads_of}
 use Rattle.match_live.specs.inner.Totals.{held_after, live_at, AdmitLevels, Admits}
@@ -22,6 +22,7 @@ use Rattle.match_live.proofs.WantedLemmas.{leads_more}
 use Rattle.match_live.proofs.TotalLemmas.{over_left, over_left_held, over_right, over_right_held, join_is, join_counted, join_kept, over_first, over_second, choice_is, choice_counted, over_part, over_levels, chain_is, chain_counted, chain_kept}
 use Rattle.match_live.proofs.QuietLemmas.{quiet_under, quiet_state, quiet_counted}
 use Rattle.match_live.proofs.UnderFirstsLemmas.{under_none, choice_added}
+use Rattle.match_live.proofs.LeavesLemmas.{leaves_stay, leaves_count}
 use Rattle.match_live.proofs.node.+step.Goals as goal
 
 -- what is said of a part, of the same part named otherwise
@@ -429,10 +430,25 @@ step-returns-in_ok-answer-in-Repeats-clause-counted t c =
     let leads = ap leads_of (c.deref-in-Repeats-2.ensures.value ∙ c.in_ok-new-in-Repeats.ensures.leads) in
     chain_counted row truths ahead part z count w xs is few new f room room1 c.step-in-Repeats.new.room.left first c.in_ok-answer-in-Repeats.ensures.counted
 
-pub step-returns-in_ok-new-in-Leaf-clause-new : goal.step-returns-in_ok-new-in-Leaf-clause-new
-step-returns-in_ok-new-in-Leaf-clause-new t c =
-    c.in_ok-new-in-Leaf.ensures ∙ ap (λ (y : List Lead). wanted c.args.row.now.last (leads_of y) (step_new c.args.row.now c.args.truths.now (a_leaf c.in-Leaf.leaf c.in-Leaf.window))) c.deref.ensures.value
-    ∙ sym (ap (λ y. wanted c.args.row.now.last (leads_of c.args.leads.now.items) (step_new c.args.row.now c.args.truths.now y)) (ap state_of c.in-Leaf.is))
+pub step-returns-in_ok-new-in-Leaves-clause-new : goal.step-returns-in_ok-new-in-Leaves-clause-new
+step-returns-in_ok-new-in-Leaves-clause-new t c =
+    let row = c.args.row.now in let truths = c.args.truths.now in let leaves = c.in-Leaves.leaves in
+    c.in_ok-new-in-Leaves.ensures
+    ∙ ap (λ (y : List Lead). wanted row.last (leads_of y) (step_new row truths (leaves_state leaves.first leaves.more leaves.window))) c.deref.ensures.value
+    ∙ sym (ap (λ y. wanted row.last (leads_of c.args.leads.now.items) (step_new row truths y)) (ap state_of c.in-Leaves.is))
+
+pub step-returns-in_ok-new-in-Leaves-clause-kept : goal.step-returns-in_ok-new-in-Leaves-clause-kept
+step-returns-in_ok-new-in-Leaves-clause-kept t c =
+    let leaves = c.in-Leaves.leaves in
+    sym (leaves_stay c.args.row.now c.args.truths.now leaves.first leaves.more leaves.window)
+    ∙ sym (ap (λ z. step_state c.args.row.now c.args.truths.now (state_of z)) c.in-Leaves.is)
+
+pub step-returns-in_ok-new-in-Leaves-clause-counted : goal.step-returns-in_ok-new-in-Leaves-clause-counted
+step-returns-in_ok-new-in-Leaves-clause-counted t c =
+    let leaves = c.in-Leaves.leaves in let row = c.args.row.now in let truths = c.args.truths.now in
+    let none : held_after row truths (state_of c.args.node.now) ≡ 0
+    = ap (λ z. held_after row truths (state_of z)) c.in-Leaves.is ∙ leaves_count row truths leaves.first leaves.more leaves.window in
+    omega (arith, none)
 
 pub step_part-returns-in_err-new-in-0-clause-crowded : goal.step_part-returns-in_err-new-in-0-clause-crowded
 step_part-returns-in_err-new-in-0-clause-crowded t c = λ e a.

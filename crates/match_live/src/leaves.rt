@@ -1,0 +1,183 @@
+//! Leaves in a chain of `OR`s, which take a row at once.
+
+ghost use Rattle.std.specs.Prelude.{◌≡◌, ◌+◌, ◌<◌, ◌≤◌, ◌^◌, ◌++◌, ◌∷◌, [], ℕ, true, false, IsTrue, IfOk, IfSome, OnOk};
+ghost use Rattle.match_bindings.specs.BindTree.{Second, firsts, tree_of};
+ghost use Rattle.match_live.specs.inner.Pieces.{piece_tree, piece_trees};
+ghost use Rattle.match_live.specs.inner.Lives.{lives};
+ghost use Rattle.match_live.specs.inner.Steps.{held_with, a_leaf, a_choice, leaves_state, row_alone, truth_at, IsQuiet, step_new};
+ghost use Rattle.match_live.specs.inner.Wanted.{is_wanted, wanted};
+ghost use Rattle.match_live.specs.inner.Leads.{leads_of};
+
+use crate::lead::Lead;
+use crate::piece::Piece;
+use crate::row::Row;
+use crate::store::is_live;
+use crate::wanted::is_wanted;
+use flow_values::NoMemory;
+use match_bindings::Bind;
+use match_windows::Window;
+use std::alloc::Global;
+
+/// A leaf of a pattern and those that follow it, each on the right of an `OR` of all before it.
+#[derive(Clone, Copy)]
+pub(crate) struct Leaves {
+    /// The number of the first.
+    pub first: u32,
+    /// How many follow it.
+    pub more: u32,
+    /// When what matches one of them lives.
+    pub window: Window,
+    ghost few: { first + more < 2 ^ 32 },
+}
+
+impl Leaves {
+    /// A leaf alone.
+    pub fn one(leaf: u32, window: Window) -> Leaves
+        ensures { leaves_state result.first result.more result.window ≡ a_leaf leaf window }
+    {
+        Leaves {
+            first: leaf,
+            more: 0,
+            window,
+        }
+    }
+
+    /// These with one more, where it follows them and lives when they do.
+    pub fn with(&self, next: &Leaves) -> Option<Leaves>
+        ensures { IfSome result (λ longer. leaves_state longer.first longer.more longer.window
+            ≡ a_choice (leaves_state self.now.first self.now.more self.now.window) (leaves_state next.now.first next.now.more next.now.window)) }
+    {
+        let last = self.first + self.more;
+        if next.more == 0
+            && last < next.first
+            && next.first - last == 1
+            && self.window == next.window
+        {
+            return Some(Leaves {
+                first: self.first,
+                more: self.more + 1,
+                window: self.window,
+            });
+        }
+        None
+    }
+
+    /// Whether one of them holds.
+    pub fn any_holds(&self, truths: &[bool]) -> bool
+        ensures { result ≡ false → IsQuiet truths.now (leaves_state self.now.first self.now.more self.now.window) }
+    {
+        if holds(truths, self.first) {
+            return true;
+        }
+        for at in 0..self.more {
+            if holds(truths, self.first + at + 1) {
+                return true;
+            }
+        }
+        false
+    }
+
+    /// One row: what is new at one of them, and wanted.
+    #[inline(never)]
+    pub fn wanted(
+        &self,
+        alloc: Global,
+        row: &Row,
+        truths: &[bool],
+        leads: &[Lead],
+    ) -> Result<Vec<Piece>, NoMemory>
+        ensures { IfOk result (λ new. piece_trees new.items
+            ≡ wanted row.now.last (leads_of leads.now) (step_new row.now truths.now (leaves_state self.now.first self.now.more self.now.window))) }
+    {
+        if self.any_is_wanted(alloc, row, truths, leads)? {
+            let new = self.all_new(alloc, row, truths)?;
+            return Ok(new);
+        }
+        Ok(Vec::new(alloc))
+    }
+
+    /// Whether what is new at one of them is wanted: all of it, or none, since it is the row alone.
+    fn any_is_wanted(
+        &self,
+        alloc: Global,
+        row: &Row,
+        truths: &[bool],
+        leads: &[Lead],
+    ) -> Result<bool, NoMemory>
+        ensures all { IfOk result (λ is. is ≡ true → wanted row.now.last (leads_of leads.now)
+            (step_new row.now truths.now (leaves_state self.now.first self.now.more self.now.window))
+            ≡ step_new row.now truths.now (leaves_state self.now.first self.now.more self.now.window)) }
+        ensures none { IfOk result (λ is. is ≡ false → wanted row.now.last (leads_of leads.now)
+            (step_new row.now truths.now (leaves_state self.now.first self.now.more self.now.window)) ≡ []) }
+        ensures live { IfOk result (λ is. is ≡ true → lives self.now.window row.now.first row.now.last ≡ true) }
+    {
+        if !self.any_holds(truths) || !is_live(&self.window, row.first, row.last) {
+            return Ok(false);
+        }
+        let is = alone_is_wanted(alloc, row, leads)?;
+        Ok(is)
+    }
+
+    /// What is new at one of them.
+    fn all_new(&self, alloc: Global, row: &Row, truths: &[bool]) -> Result<Vec<Piece>, NoMemory>
+        requires live { lives self.now.window row.now.first row.now.last ≡ true }
+        ensures { IfOk result (λ new. piece_trees new.items ≡ step_new row.now truths.now (leaves_state self.now.first self.now.more self.now.window)) }
+    {
+        let mut new = Vec::new(alloc);
+        if holds(truths, self.first) {
+            let bind = Bind::under_firsts(alloc, self.more, Bind::One(row.number))?;
+            new.push(piece(bind, row))?;
+        }
+        for at in 0..self.more {
+            if holds(truths, self.first + at + 1) {
+                push_second(alloc, self.more - at - 1, row, &mut new)?;
+            }
+        }
+        Ok(new)
+    }
+}
+
+/// Whether a leaf holds.
+fn holds(truths: &[bool], leaf: u32) -> bool
+    ensures { result ≡ truth_at truths.now leaf }
+{
+    truths.get(leaf as usize).copied().unwrap_or(false)
+}
+
+/// A row alone.
+fn alone(row: &Row) -> Piece
+    ensures { piece_tree result ≡ row_alone row.now }
+{
+    piece(Bind::One(row.number), row)
+}
+
+/// Whether a row alone is wanted.
+fn alone_is_wanted(alloc: Global, row: &Row, leads: &[Lead]) -> Result<bool, NoMemory>
+    ensures { IfOk result (λ is. is ≡ is_wanted row.now.last (leads_of leads.now) (row_alone row.now)) }
+{
+    let piece = alone(row);
+    let is = is_wanted(alloc, &piece, row.last, leads);
+    drop(piece);
+    is
+}
+
+/// A bind of a row alone.
+fn piece(bind: Bind, row: &Row) -> Piece
+    ensures { piece_tree result ≡ record { tree = tree_of bind; earliest = row.now.first; latest = row.now.last } }
+{
+    Piece {
+        bind,
+        earliest: row.first,
+        latest: row.last,
+    }
+}
+
+/// Adds a row alone, under a `Second` and so many `First`s.
+fn push_second(alloc: Global, above: u32, row: &Row, new: &mut Vec<Piece>) -> Result<(), NoMemory>
+    ensures { OnOk result (piece_trees new.new.items ≡ piece_trees new.old.items ++ held_with (firsts above) (held_with Second (row_alone row.now)) ∷ []) }
+{
+    let one = Box::new(alloc, Bind::One(row.number))?;
+    let bind = Bind::under_firsts(alloc, above, Bind::Second(one))?;
+    new.push(piece(bind, row))?;
+    Ok(())
+}
