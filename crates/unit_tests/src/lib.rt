@@ -1,6 +1,5 @@
-//! The unit tests of the crates: public calls that no command of the program reaches, each once; streams, links, doors
-//! and keepers that fail in turn, under a whole match and a whole server. They stand in a crate of their own, since a
-//! crate with tests is proved twice.
+//! The unit tests of the crates: public calls that no command of the program reaches, each once; streams that fail in
+//! turn, under a whole match. They stand in a crate of their own, since a crate with tests is proved twice.
 #![tactic(auto)]
 
 #[cfg(test)]
@@ -19,8 +18,6 @@ mod lines;
 mod lists;
 #[cfg(test)]
 mod paths;
-#[cfg(test)]
-mod serving;
 #[cfg(test)]
 mod sockets;
 #[cfg(test)]
