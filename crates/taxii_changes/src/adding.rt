@@ -9,7 +9,8 @@ ghost use Rattle.taxii_requests.specs.Answers.{body_answer as answer_with};
 ghost use Rattle.taxii_changes.specs.Adding.{IsAdding, CannotAdd, with_added};
 
 use crate::prepared::Prepared;
-use http_frames::{Answer, Status};
+use http_frames::Status;
+use taxii_headers::Answer;
 use std::alloc::Global;
 use taxii_bodies::Problem;
 use taxii_requests::{Refusal, body_answer};

@@ -11,7 +11,8 @@ ghost use Rattle.taxii_requests.specs.Answers.{bare_answer as bare};
 ghost use Rattle.taxii_changes.specs.Deleting.{AreDeleted, AllowsStandard, deleted_picks, without_dates};
 
 use flow_values::{Items, NoMemory};
-use http_frames::{Answer, Status};
+use http_frames::Status;
+use taxii_headers::Answer;
 use std::alloc::Global;
 use stix_ids::{Id, Pick};
 use taxii_bodies::Problem;

@@ -4,7 +4,7 @@ use Rattle.std.specs.Prelude.{◌≡◌, ◌⊎◌, ⊤, ℕ, List, [], ◌∷�
 use Rattle.std.specs.List.{Contains}
 use Rattle.stix_ids.specs.declared.id.Id.{Id}
 use Rattle.stix_ids.specs.Identifier.{IsTextOf}
-use Rattle.http_frames.specs.declared.answer.Answer.{Answer}
+use Rattle.taxii_headers.specs.declared.answer.Answer.{Answer}
 use Rattle.http_frames.specs.declared.method.Method.TheVariants.{Get}
 use Rattle.http_frames.specs.declared.request.Request.{Request}
 use Rattle.http_frames.specs.declared.status.Status.TheVariants.{Okay}

@@ -2,7 +2,8 @@ ghost use Rattle.std.specs.Prelude.{◌≡◌};
 ghost use Rattle.taxii_requests.specs.Answers.{status_of};
 
 use flow_values::NoMemory;
-use http_frames::{Allow, Status};
+use http_frames::Status;
+use taxii_headers::Allow;
 use taxii_bodies::Problem;
 
 /// Why a request isn't answered as it asks.

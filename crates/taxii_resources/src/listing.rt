@@ -4,7 +4,7 @@ ghost use Rattle.taxii_bodies.specs.Versions.{AreVersions};
 ghost use Rattle.taxii_resources.specs.Reading.{IsPageOf, IsEnvelope};
 
 use flow_values::NoMemory;
-use http_frames::Answer;
+use taxii_headers::Answer;
 use std::alloc::Global;
 use stix_ids::Id;
 use taxii_bodies::laws::sound_rows_are_writable;

@@ -13,7 +13,8 @@ ghost use Rattle.stix_ids.specs.Identifier.{IsTextOf};
 ghost use Rattle.taxii_step.specs.inner.Performing.{PostChanges, DeleteChanges, Changes};
 
 use flow_values::NoMemory;
-use http_frames::{Answer, Method, Request};
+use http_frames::{Method, Request};
+use taxii_headers::Answer;
 use std::alloc::Global;
 use stix_ids::{Id, IdRefusal, read_id};
 use taxii_changes::{add_objects, delete_object};
