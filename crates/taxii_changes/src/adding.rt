@@ -10,9 +10,9 @@ ghost use Rattle.taxii_changes.specs.Adding.{IsAdding, CannotAdd, with_added};
 
 use crate::prepared::Prepared;
 use http_frames::Status;
-use taxii_headers::Answer;
 use std::alloc::Global;
 use taxii_bodies::Problem;
+use taxii_headers::Answer;
 use taxii_requests::{Refusal, body_answer};
 use taxii_rows::{Keeper, KeeperRefusal};
 use taxii_state::State;

@@ -12,10 +12,10 @@ ghost use Rattle.taxii_changes.specs.Deleting.{AreDeleted, AllowsStandard, delet
 
 use flow_values::{Items, NoMemory};
 use http_frames::Status;
-use taxii_headers::Answer;
 use std::alloc::Global;
 use stix_ids::{Id, Pick};
 use taxii_bodies::Problem;
+use taxii_headers::Answer;
 use taxii_requests::{Refusal, bare_answer};
 use taxii_routes::Query;
 use taxii_rows::{Keeper, KeeperRefusal};

@@ -1,6 +1,6 @@
 ghost use Rattle.std.specs.Prelude.{◌≡◌, ◌+◌, ◌≤◌, [], ◌++◌, length, Option, List, ℕ, Some, option_map, IfSome, codes, decimal, if◌then◌else◌};
-ghost use Rattle.taxii_headers.specs.declared.answer.TheConstants.{MAX_DATE};
 ghost use Rattle.http_frames.specs.Lines.{status_line, field_line, line_if_some};
+ghost use Rattle.taxii_headers.specs.declared.answer.TheConstants.{MAX_DATE};
 ghost use Rattle.taxii_headers.specs.Answers.{media_type, methods_of, body_of, HasDates};
 ghost use Rattle.taxii_headers.specs.inner.HeadText.{PushesDate, IsHeadText};
 

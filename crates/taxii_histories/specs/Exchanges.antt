@@ -1,7 +1,7 @@
 -- What a server did: requests at moments, in turn, each with its answer and what the server had before and after it.
 use Rattle.std.specs.Prelude.{◌≡◌, ℕ, List, [], ◌∷◌, All}
-use Rattle.taxii_headers.specs.declared.answer.Answer.{Answer}
 use Rattle.http_frames.specs.declared.request.Request.{Request}
+use Rattle.taxii_headers.specs.declared.answer.Answer.{Answer}
 use Rattle.taxii_headers.specs.Answers.{no_memory_answer}
 use Rattle.taxii_requests.specs.declared.config.Config.{Config}
 use Rattle.taxii_state.specs.declared.state.State.{State}

@@ -5,9 +5,9 @@ ghost use Rattle.taxii_requests.specs.declared.refusal.Refusal.TheVariants as Re
 
 use crate::{Refusal, Rights};
 use http_frames::{Method, Request};
-use taxii_headers::Allow;
 use std::alloc::Global;
 use taxii_bodies::Problem;
+use taxii_headers::Allow;
 use taxii_routes::{Query, QueryRefusal, accepts, is_taxii, read_query};
 
 /// What the query of a request asks for, or the first reason against the request: the methods that the

@@ -3,8 +3,8 @@ ghost use Rattle.taxii_requests.specs.Answers.{status_of};
 
 use flow_values::NoMemory;
 use http_frames::Status;
-use taxii_headers::Allow;
 use taxii_bodies::Problem;
+use taxii_headers::Allow;
 
 /// Why a request isn't answered as it asks.
 #[derive(Clone, Copy, Debug, PartialEq, Eq)]

@@ -8,8 +8,8 @@ ghost use Rattle.taxii_step.specs.inner.Performing.{RouteChanges};
 
 use crate::perform::perform;
 use http_frames::Request;
-use taxii_headers::Answer;
 use taxii_bodies::Problem;
+use taxii_headers::Answer;
 use taxii_requests::{Config, Refusal, check};
 use taxii_resources::{allow_of, rights_for};
 use taxii_routes::Route;
