@@ -8,7 +8,7 @@ set -eu
 top=$(cd "$(dirname "$0")/.." && pwd)
 folder=$(mktemp -d)
 trap 'rm -rf "$folder"' EXIT
-crates="flow_values flow_edges stix_times http_frames"
+crates="flow_values http_frames"
 
 # build: the program, in $program.
 build() {

@@ -1,4 +1,3 @@
-pub mod AnswerLemmas
 pub mod FrameLemmas
 pub mod GrammarLemmas
 pub mod HeadLemmas

@@ -1,4 +1,3 @@
-pub mod HeadText
 pub mod Parsing
 pub mod Searching
 pub mod Sessions

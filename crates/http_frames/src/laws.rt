@@ -1,14 +1,10 @@
 //! What follows from the definitions: the contracts are the laws, and the functions do next to nothing.
 
-ghost use Rattle.std.specs.Prelude.{◌≡◌, ◌≢◌, ◌<◌, ◌+◌, ◌++◌, ℕ, List, length, Bool};
+ghost use Rattle.std.specs.Prelude.{◌≡◌, ◌≢◌, ◌<◌, ◌+◌, ◌++◌, ℕ, List, length};
 ghost use Rattle.http_frames.specs.declared.frame.Frame.{Frame};
 ghost use Rattle.http_frames.specs.declared.frame.TheConstants.{MAX_HEAD};
 ghost use Rattle.http_frames.specs.declared.request.Request.{Request};
-ghost use Rattle.http_frames.specs.declared.answer.Answer.{Answer};
 ghost use Rattle.http_frames.specs.Frames.{IsFirstFrame};
-ghost use Rattle.http_frames.specs.Answers.{IsAnswerText};
-
-use stix_times::laws::one_text_of_digits;
 
 /// Bytes have at most one first frame.
 pub fn one_first_frame()
@@ -36,11 +32,3 @@ pub fn few_bytes_want_more()
     ensures { (greatest : ℕ) (bytes rest : List ℕ) → IsFirstFrame greatest bytes Frame.More rest
         → length bytes < MAX_HEAD + greatest }
 {}
-
-/// An answer has at most one text.
-pub fn one_answer_text()
-    ensures { (answer : Answer) (close : Bool) (text other : List ℕ)
-        → IsAnswerText answer close text → IsAnswerText answer close other → text ≡ other }
-{
-    one_text_of_digits();
-}

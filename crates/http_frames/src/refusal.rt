@@ -1,5 +1,5 @@
 ghost use Rattle.std.specs.Prelude.{◌≡◌};
-ghost use Rattle.http_frames.specs.Answers.{status_of, title_of};
+ghost use Rattle.http_frames.specs.Statuses.{status_of, title_of};
 
 use crate::Status;
 use std::fmt;
@@ -34,7 +34,7 @@ impl Refusal {
     }
 
     /// The title of the answer.
-    pub(crate) fn title(self) -> &'static str
+    pub fn title(self) -> &'static str
         ensures { result.now ≡ title_of self }
     {
         match self {

@@ -1,6 +1,6 @@
 ghost use Rattle.std.specs.Prelude.{◌≡◌, Some};
 ghost use Rattle.http.specs.StatusCode.{reason_phrase};
-ghost use Rattle.http_frames.specs.Answers.{code_of, phrase_of};
+ghost use Rattle.http_frames.specs.Statuses.{code_of, phrase_of};
 
 use http::StatusCode;
 

@@ -14,12 +14,13 @@ use Rattle.httparse.specs.Grammar.{is_token_byte, is_value_byte, is_ows, skip_ow
 use Rattle.httparse.specs.Spans.{name_and_value}
 use Rattle.httparse.proofs.GrammarLemmas.{print_response-append}
 use Rattle.httparse.proofs.TrimLemmas.{AllPass-reverse, trim_ows_space}
-use Rattle.http_frames.specs.declared.answer.Allow.{Allow}
-use Rattle.http_frames.specs.declared.answer.Allow.TheVariants.{Get, GetPost, GetDelete}
-use Rattle.http_frames.specs.declared.answer.Answer.{Answer}
 use Rattle.http_frames.specs.declared.status.Status.TheVariants.{Okay}
-use Rattle.http_frames.specs.Answers.{status_line, line_end, field_line, line_if_some, media_type, methods_of, body_of, head_text, IsDateText}
+use Rattle.http_frames.specs.Lines.{status_line, line_end, field_line, line_if_some}
 use Rattle.http_frames.specs.Fields.{values_among}
+use Rattle.taxii_headers.specs.declared.answer.Allow.{Allow}
+use Rattle.taxii_headers.specs.declared.answer.Allow.TheVariants.{Get, GetPost, GetDelete}
+use Rattle.taxii_headers.specs.declared.answer.Answer.{Answer}
+use Rattle.taxii_headers.specs.Answers.{media_type, methods_of, body_of, head_text, IsDateText}
 use Rattle.taxii_agreement.proofs.BytesLemmas.{passes, AreFrom, from_both, from_less, are_values, are_digits}
 use Rattle.stix_times.specs.Timestamp.{Timestamp, IsShaped, two_digits, text_of, fraction_text}
 

@@ -7,10 +7,10 @@ use Rattle.std.proofs.lemmas.List.{take_at}
 use Rattle.httparse.specs.Grammar.{ResponseHead, ReadsResponse, print_response}
 use Rattle.httparse.specs.Spans.{name_and_value}
 use Rattle.httparse.proofs.GrammarLemmas.{response_unique}
-use Rattle.http_frames.specs.declared.answer.Answer.{Answer}
 use Rattle.http_frames.specs.declared.status.Status.TheVariants.{Okay}
-use Rattle.http_frames.specs.Answers.{body_of, head_text, IsAnswerText}
 use Rattle.http_frames.specs.Fields.{values_among, first_length, length_of, is_length}
+use Rattle.taxii_headers.specs.declared.answer.Answer.{Answer}
+use Rattle.taxii_headers.specs.Answers.{body_of, head_text, IsAnswerText}
 use Rattle.http_replies.specs.declared.refusal.HeadRefusal.{HeadRefusal}
 use Rattle.http_replies.specs.declared.refusal.HeadRefusal.TheVariants.{Status, Coding, NoLength, TooLarge}
 use Rattle.http_replies.specs.declared.refusal.TheConstants.{MAX_REPLY}

@@ -11,7 +11,7 @@ use Rattle.httparse.proofs.GrammarLemmas.{request_unique, print_request-append}
 use Rattle.uuid.specs.Text.{by_index, hex_digit, nibble, digit_place, is_hyphen_place, lower}
 use Rattle.uuid.proofs.TextLemmas.{by_index_length}
 use Rattle.stix_ids.specs.Uuid.{uuid_text}
-use Rattle.http_frames.specs.Answers.{line_end, field_line}
+use Rattle.http_frames.specs.Lines.{line_end, field_line}
 use Rattle.http_frames.specs.Fields.{HeadParts, parts_of, method_of}
 use Rattle.http_frames.specs.Frames.{GivesRequest}
 use Rattle.http_frames.specs.Heads.{is_line_byte}

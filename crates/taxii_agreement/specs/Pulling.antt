@@ -2,7 +2,7 @@
 -- answered (TAXII 2.1, sections 3.4 and 5.4). Whatever others ask stands between, and so may the server's restarts.
 use Rattle.std.specs.Prelude.{◌≡◌, ⊤, ℕ, ◌<◌, ◌^◌, Bool, List, [], ◌∷◌, ◌++◌, All, map, length, Option, Some, None}
 use Rattle.std.specs.List.{Contains}
-use Rattle.http_frames.specs.Answers.{IsAnswerText}
+use Rattle.taxii_headers.specs.Answers.{IsAnswerText}
 use Rattle.taxii_rows.specs.declared.stored_row.StoredRow.{StoredRow}
 use Rattle.taxii_rows.specs.StoreState.{dates_of, RiseFrom}
 use Rattle.taxii_rows.specs.SoundRow.{IsSoundState}

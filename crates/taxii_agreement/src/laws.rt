@@ -1,9 +1,9 @@
 //! What follows from the definitions: the contracts are the laws, and the functions do next to nothing.
 
 ghost use Rattle.std.specs.Prelude.{◌≡◌, ◌≤◌, ◌<◌, ◌^◌, ◌++◌, ℕ, ℤ, Bool, List, Option, Some, None, All, length};
-ghost use Rattle.http_frames.specs.declared.answer.Answer.{Answer};
 ghost use Rattle.http_frames.specs.declared.status.Status.TheVariants.{Okay};
-ghost use Rattle.http_frames.specs.Answers.{IsAnswerText};
+ghost use Rattle.taxii_headers.specs.declared.answer.Answer.{Answer};
+ghost use Rattle.taxii_headers.specs.Answers.{IsAnswerText};
 ghost use Rattle.http_replies.specs.Replies.{IsReply};
 ghost use Rattle.stix_json.specs.declared.envelope.Envelope.{Envelope};
 ghost use Rattle.stix_json.specs.Envelopes.{IsEnvelopeOf};

@@ -1,7 +1,7 @@
 -- One thing stands first against a request, and where nothing does it is done.
 use Rattle.std.proofs.Common.{◌≡◌, ◌⊎◌, inl, inr, ℕ, List, Bool, true, false, refl, sym, ap, ◌∙◌}
-use Rattle.http_frames.specs.declared.answer.Allow.{Allow}
 use Rattle.http_frames.specs.declared.request.Request.{Request}
+use Rattle.taxii_headers.specs.declared.answer.Allow.{Allow}
 use Rattle.taxii_routes.specs.declared.query.Query.{Query}
 use Rattle.taxii_routes.specs.declared.refusal.QueryRefusal.{QueryRefusal}
 use Rattle.taxii_routes.specs.declared.refusal.QueryRefusal.TheVariants as query

@@ -1,9 +1,9 @@
 //! What follows from the definitions: the contracts are the laws, and the functions do next to nothing.
 
 ghost use Rattle.std.specs.Prelude.{◌≡◌, ◌≢◌, ℕ};
-ghost use Rattle.http_frames.specs.declared.answer.Answer.{Answer};
 ghost use Rattle.http_frames.specs.declared.method.Method.TheVariants as method;
 ghost use Rattle.http_frames.specs.declared.request.Request.{Request};
+ghost use Rattle.taxii_headers.specs.declared.answer.Answer.{Answer};
 ghost use Rattle.taxii_requests.specs.declared.config.Config.{Config};
 ghost use Rattle.taxii_state.specs.declared.state.State.{State};
 ghost use Rattle.taxii_step.specs.Step.{Step};

@@ -9,9 +9,10 @@ ghost use Rattle.taxii_requests.specs.Answers.{body_answer as answer_with};
 ghost use Rattle.taxii_changes.specs.Adding.{IsAdding, CannotAdd, with_added};
 
 use crate::prepared::Prepared;
-use http_frames::{Answer, Status};
+use http_frames::Status;
 use std::alloc::Global;
 use taxii_bodies::Problem;
+use taxii_headers::Answer;
 use taxii_requests::{Refusal, body_answer};
 use taxii_rows::{Keeper, KeeperRefusal};
 use taxii_state::State;

@@ -11,10 +11,11 @@ ghost use Rattle.taxii_requests.specs.Answers.{bare_answer as bare};
 ghost use Rattle.taxii_changes.specs.Deleting.{AreDeleted, AllowsStandard, deleted_picks, without_dates};
 
 use flow_values::{Items, NoMemory};
-use http_frames::{Answer, Status};
+use http_frames::Status;
 use std::alloc::Global;
 use stix_ids::{Id, Pick};
 use taxii_bodies::Problem;
+use taxii_headers::Answer;
 use taxii_requests::{Refusal, bare_answer};
 use taxii_routes::Query;
 use taxii_rows::{Keeper, KeeperRefusal};

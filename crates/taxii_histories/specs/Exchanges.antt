@@ -1,8 +1,8 @@
 -- What a server did: requests at moments, in turn, each with its answer and what the server had before and after it.
 use Rattle.std.specs.Prelude.{◌≡◌, ℕ, List, [], ◌∷◌, All}
-use Rattle.http_frames.specs.declared.answer.Answer.{Answer}
 use Rattle.http_frames.specs.declared.request.Request.{Request}
-use Rattle.http_frames.specs.Answers.{no_memory_answer}
+use Rattle.taxii_headers.specs.declared.answer.Answer.{Answer}
+use Rattle.taxii_headers.specs.Answers.{no_memory_answer}
 use Rattle.taxii_requests.specs.declared.config.Config.{Config}
 use Rattle.taxii_state.specs.declared.state.State.{State}
 use Rattle.taxii_step.specs.Step.{Step, FailsToKeep}

@@ -3,12 +3,12 @@
 use Rattle.std.specs.Prelude.{ℕ, List, [], ◌∷◌, Option, Some, None}
 use Rattle.std.specs.List.{last_or}
 use Rattle.serde_json.specs.Written.{compact_text}
-use Rattle.http_frames.specs.declared.answer.Allow.{Allow}
-use Rattle.http_frames.specs.declared.answer.Answer.{Answer}
 use Rattle.http_frames.specs.declared.method.Method.{Method}
 use Rattle.http_frames.specs.declared.method.Method.TheVariants.{Get, Head, Post, Delete, Other}
 use Rattle.http_frames.specs.declared.status.Status.{Status}
 use Rattle.http_frames.specs.declared.status.Status.TheVariants as status
+use Rattle.taxii_headers.specs.declared.answer.Allow.{Allow}
+use Rattle.taxii_headers.specs.declared.answer.Answer.{Answer}
 use Rattle.taxii_rows.specs.declared.stored_row.StoredRow.{StoredRow}
 use Rattle.taxii_rows.specs.StoreState.{dates_of}
 use Rattle.taxii_bodies.specs.declared.problem.Problem.{Problem}

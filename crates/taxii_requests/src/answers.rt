@@ -5,9 +5,10 @@ ghost use Rattle.taxii_requests.specs.Answers as spec;
 
 use crate::refusal::status_of_problem;
 use flow_values::{NoMemory, Text};
-use http_frames::{Allow, Answer, Method, Status};
+use http_frames::{Method, Status};
 use std::alloc::Global;
 use taxii_bodies::{Problem, last_date, problem_body};
+use taxii_headers::{Allow, Answer};
 use taxii_rows::StoredRow;
 
 /// An answer with a body and no more.

@@ -4,9 +4,10 @@ ghost use Rattle.taxii_requests.specs.Checking.{allows as allow_it, IsAccepted, 
 ghost use Rattle.taxii_requests.specs.declared.refusal.Refusal.TheVariants as Refused;
 
 use crate::{Refusal, Rights};
-use http_frames::{Allow, Method, Request};
+use http_frames::{Method, Request};
 use std::alloc::Global;
 use taxii_bodies::Problem;
+use taxii_headers::Allow;
 use taxii_routes::{Query, QueryRefusal, accepts, is_taxii, read_query};
 
 /// What the query of a request asks for, or the first reason against the request: the methods that the

@@ -2,8 +2,9 @@ ghost use Rattle.std.specs.Prelude.{◌≡◌};
 ghost use Rattle.taxii_requests.specs.Answers.{status_of};
 
 use flow_values::NoMemory;
-use http_frames::{Allow, Status};
+use http_frames::Status;
 use taxii_bodies::Problem;
+use taxii_headers::Allow;
 
 /// Why a request isn't answered as it asks.
 #[derive(Clone, Copy, Debug, PartialEq, Eq)]

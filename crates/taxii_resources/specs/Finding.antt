@@ -1,8 +1,8 @@
 -- Which resources there are (TAXII 2.1, sections 4 and 5), what a client may do with them, and which methods they allow.
 use Rattle.std.specs.Prelude.{◌≡◌, ◌≢◌, ℕ, List, Any, Some, None}
 use Rattle.stix_ids.specs.Identifier.{IsTextOf}
-use Rattle.http_frames.specs.declared.answer.Allow.{Allow}
-use Rattle.http_frames.specs.declared.answer.Allow.TheVariants.{Get, GetPost, GetDelete}
+use Rattle.taxii_headers.specs.declared.answer.Allow.{Allow}
+use Rattle.taxii_headers.specs.declared.answer.Allow.TheVariants.{Get, GetPost, GetDelete}
 use Rattle.taxii_routes.specs.declared.route.Route.{Route}
 use Rattle.taxii_routes.specs.declared.route.Route.TheVariants.{Discovery, Root, Status, Collections, Collection, Manifest, Objects, Object, Versions, None as NoRoute}
 use Rattle.taxii_rows.specs.declared.stored_row.StoredRow.{StoredRow}

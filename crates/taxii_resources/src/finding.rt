@@ -6,8 +6,8 @@ ghost use Rattle.taxii_requests.specs.Config.{collection_named, rights_of, all_r
 ghost use Rattle.taxii_statuses.specs.Statuses.{body_of};
 ghost use Rattle.taxii_resources.specs.Finding.{allowed_of, Names, NamesRowOf, IsFound};
 
-use http_frames::Allow;
 use stix_ids::Parts;
+use taxii_headers::Allow;
 use taxii_requests::{Config, Rights};
 use taxii_routes::Route;
 use taxii_state::State;

@@ -4,11 +4,11 @@ ghost use Rattle.taxii_bodies.specs.Versions.{AreVersions};
 ghost use Rattle.taxii_resources.specs.Reading.{IsPageOf, IsEnvelope};
 
 use flow_values::NoMemory;
-use http_frames::Answer;
 use std::alloc::Global;
 use stix_ids::Id;
 use taxii_bodies::laws::sound_rows_are_writable;
 use taxii_bodies::{envelope_body, manifest_body, versions_body};
+use taxii_headers::Answer;
 use taxii_pages::laws::rows_of_pages;
 use taxii_pages::page_of;
 use taxii_requests::page_answer;

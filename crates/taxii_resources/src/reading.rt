@@ -17,10 +17,11 @@ ghost use Rattle.taxii_resources.specs.Reading.{HasBody, IsPageOf, IsEnvelope, I
 
 use crate::listing::{list_manifest, list_objects, list_versions};
 use flow_values::{Items, NoMemory, Text};
-use http_frames::{Answer, Status};
+use http_frames::Status;
 use std::alloc::Global;
 use stix_ids::{Id, IdRefusal, Pick, read_id};
 use taxii_bodies::{Problem, collection_body, collections_body, discovery_body, root_body};
+use taxii_headers::Answer;
 use taxii_requests::{Config, Refusal, body_answer};
 use taxii_routes::{Query, Route};
 use taxii_state::State;

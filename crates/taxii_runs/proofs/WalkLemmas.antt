@@ -1,7 +1,7 @@
 -- The fetches of a client are the stops of a walk.
 use Rattle.std.proofs.Common.{◌≡◌, ◌⊎◌, inl, inr, ℕ, ◌^◌, ◌<◌, ◌≤◌, List, [], ◌∷◌, ◌++◌, map, true, false, Option, Some, None, unwrap_or, refl, sym, ap, subst, ◌∙◌, arith}
 use Rattle.std.specs.Prelude.{codes, IsSomeAnd}
-use Rattle.http_frames.specs.declared.answer.Answer.{Answer}
+use Rattle.taxii_headers.specs.declared.answer.Answer.{Answer}
 use Rattle.taxii_routes.specs.declared.param.Param.TheVariants.{Next}
 use Rattle.taxii_routes.specs.declared.query.Query.{Query}
 use Rattle.taxii_routes.specs.Param.{name_of}

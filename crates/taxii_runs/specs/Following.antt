@@ -2,8 +2,8 @@
 -- more, for the next one, with the `next` that the answer gave. Whatever others ask stands between, and so may the server's restarts.
 use Rattle.std.specs.Prelude.{◌≡◌, ◌⊎◌, ⊤, ℕ, List, [], ◌∷◌, ◌++◌, All, map, codes, length, Option, Some, None, unwrap_or}
 use Rattle.std.specs.List.{Contains}
-use Rattle.http_frames.specs.declared.answer.Answer.{Answer}
 use Rattle.http_frames.specs.declared.status.Status.TheVariants.{Okay}
+use Rattle.taxii_headers.specs.declared.answer.Answer.{Answer}
 use Rattle.taxii_routes.specs.declared.param.Param.TheVariants.{Next}
 use Rattle.taxii_routes.specs.declared.query.Query.{Query}
 use Rattle.taxii_routes.specs.Param.{name_of}

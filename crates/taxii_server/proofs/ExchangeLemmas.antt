@@ -4,10 +4,10 @@ use Rattle.std.specs.Prelude.{slice_get}
 use Rattle.flow_edges.specs.Faults.{Counted}
 use Rattle.flow_edges.specs.Flow.{written_with, WritesPart}
 use Rattle.flow_links.specs.Moments.{IsNext, GoesOn}
-use Rattle.http_frames.specs.declared.answer.Answer.{Answer}
 use Rattle.http_frames.specs.declared.request.Request.{Request}
 use Rattle.http_frames.specs.declared.status.Status.TheVariants.{InternalServerError}
-use Rattle.http_frames.specs.Answers.{IsAnswerText, no_memory_answer}
+use Rattle.taxii_headers.specs.declared.answer.Answer.{Answer}
+use Rattle.taxii_headers.specs.Answers.{IsAnswerText, no_memory_answer}
 use Rattle.taxii_requests.specs.declared.config.Config.{Config}
 use Rattle.taxii_state.specs.declared.state.State.{State}
 use Rattle.taxii_requests.proofs.AnswerLemmas.{told_fault}

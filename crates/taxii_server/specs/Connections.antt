@@ -2,12 +2,12 @@
 use Rattle.std.specs.Prelude.{◌≡◌, ◌⊎◌, ⊤, ℕ, ◌+◌, ◌-◌, ◌<◌, List, [], ◌∷◌, ◌++◌, length, map, Bool, true, false, ◌||◌, if◌then◌else◌, nat_eq, Option, Some, None, IfSome}
 use Rattle.flow_edges.specs.Faults.{Rose}
 use Rattle.flow_edges.specs.Flow.{written_with, WritesPart, IsAtEnd}
-use Rattle.http_frames.specs.declared.answer.Answer.{Answer}
 use Rattle.http_frames.specs.declared.frame.Frame.TheVariants.{More, Request as Given, Refused}
 use Rattle.http_frames.specs.declared.refusal.Refusal.{Refusal}
 use Rattle.http_frames.specs.declared.request.Request.{Request}
-use Rattle.http_frames.specs.Answers.{IsAnswerText, answer_to, no_memory_answer}
 use Rattle.http_frames.specs.Frames.{IsFirstFrame}
+use Rattle.taxii_headers.specs.declared.answer.Answer.{Answer}
+use Rattle.taxii_headers.specs.Answers.{IsAnswerText, answer_to, no_memory_answer}
 use Rattle.taxii_requests.specs.declared.config.Config.{Config}
 use Rattle.taxii_state.specs.declared.state.State.{State}
 use Rattle.taxii_histories.specs.Exchanges.{Course, Exchange, HasServed}

@@ -2,13 +2,13 @@
 use Rattle.std.proofs.Common.{◌≡◌, ◌≢◌, ◌∙◌, inl, inr, ℕ, List, Option, ap, sym, subst}
 use Rattle.std.specs.Prelude.{Bool}
 use Rattle.stix_ids.specs.declared.id.Id.{Id}
-use Rattle.http_frames.specs.declared.answer.Allow.{Allow}
-use Rattle.http_frames.specs.declared.answer.Answer.{Answer}
 use Rattle.http_frames.specs.declared.method.Method.{Method}
 use Rattle.http_frames.specs.declared.method.Method.TheVariants.{Get, Head, Post, Delete, Other}
 use Rattle.http_frames.specs.declared.request.Request.{Request}
 use Rattle.http_frames.specs.declared.status.Status.{Status as Code}
 use Rattle.http_frames.specs.declared.status.Status.TheVariants.{InternalServerError}
+use Rattle.taxii_headers.specs.declared.answer.Allow.{Allow}
+use Rattle.taxii_headers.specs.declared.answer.Answer.{Answer}
 use Rattle.taxii_bodies.specs.declared.problem.Problem.{Problem as Trouble}
 use Rattle.taxii_bodies.specs.declared.problem.Problem.TheVariants.{NotFound, StoreFault}
 use Rattle.taxii_routes.specs.declared.query.Query.{Query}

@@ -4,15 +4,15 @@ use Rattle.std.specs.Prelude.{IfSome, Bool}
 use Rattle.std.specs.List.{Contains, last_or}
 use Rattle.std.proofs.lemmas.List.Elements.{All-contains}
 use Rattle.stix_ids.specs.declared.id.Id.{Id}
-use Rattle.http_frames.specs.declared.answer.Answer.{Answer}
-use Rattle.http_frames.specs.declared.answer.TheConstants.{MAX_DATE}
 use Rattle.http_frames.specs.declared.method.Method.{Method}
 use Rattle.http_frames.specs.declared.method.Method.TheVariants.{Get, Head, Post, Delete, Other}
 use Rattle.http_frames.specs.declared.request.Request.{Request}
+use Rattle.taxii_headers.specs.declared.answer.Answer.{Answer}
+use Rattle.taxii_headers.specs.declared.answer.TheConstants.{MAX_DATE}
 use Rattle.taxii_bodies.specs.declared.problem.Problem.{Problem as AnyProblem}
 use Rattle.taxii_requests.specs.declared.refusal.Refusal.{Refusal}
 use Rattle.taxii_requests.specs.declared.refusal.Refusal.TheVariants.{NotAllowed, Problem, NoMemory}
-use Rattle.http_frames.specs.Answers.{HasDates}
+use Rattle.taxii_headers.specs.Answers.{HasDates}
 use Rattle.taxii_routes.specs.declared.query.Query.{Query}
 use Rattle.taxii_routes.specs.declared.route.Route.{Route}
 use Rattle.taxii_rows.specs.declared.stored_row.StoredRow.{StoredRow}

@@ -17,7 +17,7 @@ use Rattle.taxii_rows.specs.Keeper.{is_date_in, without}
 use Rattle.http_frames.specs.declared.status.Status.TheVariants.{InternalServerError}
 use Rattle.taxii_bodies.specs.declared.problem.Problem.{Problem as Trouble}
 use Rattle.taxii_bodies.specs.declared.problem.Problem.TheVariants.{BadValue, Repeated, Forbidden, NotFound, NotAcceptable, UnsupportedMediaType, NotJson, NotList, StoreFault, DatesUsedUp}
-use Rattle.http_frames.specs.declared.answer.Answer.{Answer}
+use Rattle.taxii_headers.specs.declared.answer.Answer.{Answer}
 use Rattle.taxii_requests.specs.Answers.{status_of}
 use Rattle.taxii_requests.specs.declared.refusal.Refusal.{Refusal}
 use Rattle.taxii_requests.specs.declared.refusal.Refusal.TheVariants.{NotAllowed, Problem, NoMemory}

@@ -2,11 +2,11 @@
 use Rattle.std.specs.Prelude.{◌≡◌, ◌≢◌, ◌⊎◌, ℕ, List, [], Option, Some, None, unwrap_or}
 use Rattle.stix_ids.specs.declared.id.Id.{Id}
 use Rattle.stix_ids.specs.Identifier.{IsTextOf}
-use Rattle.http_frames.specs.declared.answer.Answer.{Answer}
 use Rattle.http_frames.specs.declared.method.Method.{Method}
 use Rattle.http_frames.specs.declared.method.Method.TheVariants.{Get, Head, Post, Delete, Other}
 use Rattle.http_frames.specs.declared.request.Request.{Request}
 use Rattle.http_frames.specs.declared.status.Status.TheVariants.{Okay, Accepted, MethodNotAllowed}
+use Rattle.taxii_headers.specs.declared.answer.Answer.{Answer}
 use Rattle.taxii_routes.specs.declared.query.Query.{Query}
 use Rattle.taxii_routes.specs.declared.route.Route.{Route}
 use Rattle.taxii_routes.specs.declared.route.Route.TheVariants.{Discovery, Root, Status, Collections, Collection, Manifest, Objects, Object, Versions, None as NoRoute}

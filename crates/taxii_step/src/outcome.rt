@@ -7,8 +7,9 @@ ghost use Rattle.taxii_step.specs.Step.{IsRefused, IsDone};
 ghost use Rattle.taxii_step.specs.inner.Performing.{RouteChanges};
 
 use crate::perform::perform;
-use http_frames::{Answer, Request};
+use http_frames::Request;
 use taxii_bodies::Problem;
+use taxii_headers::Answer;
 use taxii_requests::{Config, Refusal, check};
 use taxii_resources::{allow_of, rights_for};
 use taxii_routes::Route;

@@ -13,10 +13,11 @@ ghost use Rattle.stix_ids.specs.Identifier.{IsTextOf};
 ghost use Rattle.taxii_step.specs.inner.Performing.{PostChanges, DeleteChanges, Changes};
 
 use flow_values::NoMemory;
-use http_frames::{Answer, Method, Request};
+use http_frames::{Method, Request};
 use std::alloc::Global;
 use stix_ids::{Id, IdRefusal, read_id};
 use taxii_changes::{add_objects, delete_object};
+use taxii_headers::Answer;
 use taxii_requests::{Config, Refusal};
 use taxii_resources::read;
 use taxii_routes::{Query, Route};

@@ -1,7 +1,7 @@
 ghost use Rattle.std.specs.Prelude.{◌≡◌, ◌⊎◌, [], IfOk, IsOk, OnErr, option_map, unwrap_or, IsOkAnd};
 ghost use Rattle.flow_edges.specs.Faults.{Counted};
 ghost use Rattle.http_frames.specs.declared.status.Status.TheVariants as Code;
-ghost use Rattle.http_frames.specs.Answers.{HasDates};
+ghost use Rattle.taxii_headers.specs.Answers.{HasDates};
 ghost use Rattle.taxii_bodies.specs.declared.problem.Problem.TheVariants as Trouble;
 ghost use Rattle.taxii_requests.specs.Answers as spec;
 ghost use Rattle.taxii_requests.specs.declared.refusal.Refusal.TheVariants as Refused;
@@ -11,9 +11,10 @@ ghost use Rattle.taxii_step.specs.inner.Performing.{RouteChanges};
 
 use crate::outcome::outcome;
 use flow_values::NoMemory;
-use http_frames::{Answer, Method, Request, Status};
+use http_frames::{Method, Request, Status};
 use std::alloc::Global;
 use taxii_bodies::Problem;
+use taxii_headers::Answer;
 use taxii_pages::laws::rows_of_pages;
 use taxii_requests::{Config, Refusal, answer_to_problem, bare_answer};
 use taxii_routes::{Route, split_target};

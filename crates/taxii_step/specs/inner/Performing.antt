@@ -1,7 +1,7 @@
 -- What a change would have done where the keeper failed.
 use Rattle.std.specs.Prelude.{◌≢◌, ℕ, List}
-use Rattle.http_frames.specs.declared.answer.Answer.{Answer}
 use Rattle.http_frames.specs.declared.request.Request.{Request}
+use Rattle.taxii_headers.specs.declared.answer.Answer.{Answer}
 use Rattle.taxii_routes.specs.declared.query.Query.{Query}
 use Rattle.taxii_routes.specs.declared.route.Route.{Route}
 use Rattle.taxii_requests.specs.declared.config.Config.{Config}

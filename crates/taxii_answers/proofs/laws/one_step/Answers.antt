@@ -1,6 +1,6 @@
 use Rattle.std.proofs.Common.{ℕ}
-use Rattle.http_frames.specs.declared.answer.Answer.{Answer}
 use Rattle.http_frames.specs.declared.request.Request.{Request}
+use Rattle.taxii_headers.specs.declared.answer.Answer.{Answer}
 use Rattle.taxii_requests.specs.declared.config.Config.{Config}
 use Rattle.taxii_state.specs.declared.state.State.{State}
 use Rattle.taxii_step.specs.Step.{Step}

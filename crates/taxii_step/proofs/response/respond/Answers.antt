@@ -1,5 +1,5 @@
 use Rattle.std.proofs.Common.{◌≡◌, ◌⊎◌, inl, inr, ℕ, List, [], unwrap_or, option_map, subst}
-use Rattle.http_frames.specs.declared.answer.Answer.{Answer}
+use Rattle.taxii_headers.specs.declared.answer.Answer.{Answer}
 use Rattle.taxii_bodies.specs.declared.problem.Problem.TheVariants.{StoreFault}
 use Rattle.taxii_requests.specs.Answers.{answer_to_problem}
 use Rattle.taxii_routes.specs.Route.{IsPathOf}

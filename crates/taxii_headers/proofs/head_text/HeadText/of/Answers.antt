@@ -1,5 +1,5 @@
-use Rattle.http_frames.proofs.AnswerLemmas.{head_of_lines}
-use Rattle.http_frames.proofs.head_text.HeadText.of.Goals as goal
+use Rattle.taxii_headers.proofs.AnswerLemmas.{head_of_lines}
+use Rattle.taxii_headers.proofs.head_text.HeadText.of.Goals as goal
 
 pub returns : goal.returns
 returns c =

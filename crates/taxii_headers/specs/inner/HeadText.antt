@@ -1,7 +1,8 @@
 -- What the private parts that write the head of an answer leave. No public contract cites these.
 use Rattle.std.specs.Prelude.{◌≡◌, ℕ, Bool, List, ◌++◌, Option}
-use Rattle.http_frames.specs.declared.answer.Answer.{Answer}
-use Rattle.http_frames.specs.Answers.{head_text, line_if_some, IsDateText}
+use Rattle.http_frames.specs.Lines.{line_if_some}
+use Rattle.taxii_headers.specs.declared.answer.Answer.{Answer}
+use Rattle.taxii_headers.specs.Answers.{head_text, IsDateText}
 
 -- the field of a date was added, where there is a date
 pub record PushesDate (name : List ℕ) (date : Option ℕ) (before after : List ℕ) : Type 0 where

@@ -1,5 +1,5 @@
-use Rattle.http_frames.proofs.AnswerLemmas.{some_is, pushes_date}
-use Rattle.http_frames.proofs.head_text.HeadText.push_micros.Goals as goal
+use Rattle.taxii_headers.proofs.AnswerLemmas.{some_is, pushes_date}
+use Rattle.taxii_headers.proofs.head_text.HeadText.push_micros.Goals as goal
 
 pub returns-clause-line : goal.returns-clause-line
 returns-clause-line c =

@@ -2,9 +2,10 @@
 use Rattle.std.proofs.Common.{◌≡◌, ℕ, ◌*◌, Bool, List, [], ◌++◌, length, Option, Some, None, ℤ, pos, subst, sym, refl, ap, ◌∙◌, codes}
 use Rattle.std.specs.Prelude.{SomeIff, decimal, option_map, if◌then◌else◌}
 use Rattle.stix_times.specs.Writing.{IsTextOfDigits}
-use Rattle.http_frames.specs.declared.answer.Answer.{Answer}
-use Rattle.http_frames.specs.Answers.{field_line, line_if_some, line_end, status_line, media_type, methods_of, body_of, head_text, IsDateText, IsAnswerText}
-use Rattle.http_frames.specs.inner.HeadText.{PushesDate, IsHeadText}
+use Rattle.http_frames.specs.Lines.{field_line, line_if_some, line_end, status_line}
+use Rattle.taxii_headers.specs.declared.answer.Answer.{Answer}
+use Rattle.taxii_headers.specs.Answers.{media_type, methods_of, body_of, head_text, IsDateText, IsAnswerText}
+use Rattle.taxii_headers.specs.inner.HeadText.{PushesDate, IsHeadText}
 
 pub some_is : (found : Option ℤ) (P : Type 0) (v i : ℤ) → SomeIff found P v → found ≡ Some i → i ≡ v
 some_is None P v i holds is = absurd (cc is)

@@ -1,9 +1,11 @@
 ghost use Rattle.std.specs.Prelude.{◌≡◌, ◌+◌, ◌≤◌, [], ◌++◌, length, Option, List, ℕ, Some, option_map, IfSome, codes, decimal, if◌then◌else◌};
-ghost use Rattle.http_frames.specs.declared.answer.TheConstants.{MAX_DATE};
-ghost use Rattle.http_frames.specs.Answers.{status_line, field_line, line_if_some, media_type, methods_of, body_of, HasDates};
-ghost use Rattle.http_frames.specs.inner.HeadText.{PushesDate, IsHeadText};
+ghost use Rattle.http_frames.specs.Lines.{status_line, field_line, line_if_some};
+ghost use Rattle.taxii_headers.specs.declared.answer.TheConstants.{MAX_DATE};
+ghost use Rattle.taxii_headers.specs.Answers.{media_type, methods_of, body_of, HasDates};
+ghost use Rattle.taxii_headers.specs.inner.HeadText.{PushesDate, IsHeadText};
 
-use crate::{Answer, Status};
+use crate::Answer;
+use http_frames::Status;
 use itoa::Buffer;
 use std::marker::Model;
 use stix_times::{from_micros, write_micros};

@@ -1,8 +1,8 @@
 ghost use Rattle.std.specs.Prelude.{◌≡◌, ◌++◌, IfOk, codes};
-ghost use Rattle.http_frames.specs.Answers.{answer_to, methods_of};
+ghost use Rattle.taxii_headers.specs.Answers.{answer_to, methods_of};
 
-use crate::{Refusal, Status};
 use flow_values::{NoMemory, Text};
+use http_frames::{Refusal, Status};
 use std::alloc::Global;
 
 /// The last microsecond that a date may have: the end of the year 9999.

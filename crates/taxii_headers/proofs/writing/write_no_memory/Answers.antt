@@ -1,7 +1,7 @@
 use Rattle.std.proofs.Common.{refl, None}
 use Rattle.std.specs.Fmt.{digits}
-use Rattle.http_frames.specs.Answers.{head_text}
-use Rattle.http_frames.proofs.writing.write_no_memory.Goals as goal
+use Rattle.taxii_headers.specs.Answers.{head_text}
+use Rattle.taxii_headers.proofs.writing.write_no_memory.Goals as goal
 
 pub returns-clause-text : goal.returns-clause-text
 unfolding head_text digits

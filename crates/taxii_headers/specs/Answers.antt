@@ -1,68 +1,16 @@
--- The bytes of an answer (RFC 9112, sections 4 to 6; RFC 9110, sections 8.6 and 10.2.1; TAXII 2.1, section 3.1).
+-- The bytes of an answer (RFC 9112, section 6; RFC 9110, sections 8.6 and 10.2.1; TAXII 2.1, section 3.1).
 use Rattle.std.specs.Prelude.{◌≡◌, ℕ, ◌*◌, ◌≤◌, Bool, if◌then◌else◌, ⊤, List, [], ◌++◌, length, codes, decimal, pos, Option, Some, None, option_map, IfSome, Result, OnErr}
 use Rattle.flow_edges.specs.Flow.{WritesWhole, WritesPart}
 use Rattle.stix_times.specs.Writing.{IsTextOfDigits}
-use Rattle.http_frames.specs.declared.answer.Allow.{Allow}
-use Rattle.http_frames.specs.declared.answer.Allow.TheVariants.{Get, GetPost, GetDelete}
-use Rattle.http_frames.specs.declared.answer.Answer.{Answer}
-use Rattle.http_frames.specs.declared.answer.TheConstants.{MAX_DATE}
 use Rattle.http_frames.specs.declared.refusal.Refusal.{Refusal}
-use Rattle.http_frames.specs.declared.refusal.Refusal.TheVariants as refusal
 use Rattle.http_frames.specs.declared.status.Status.{Status}
 use Rattle.http_frames.specs.declared.status.Status.TheVariants as status
-
--- a status in digits (RFC 9110, section 15)
-abbrev pub code_of : Status → ℕ
-code_of status.Okay = 200
-code_of status.Accepted = 202
-code_of status.BadRequest = 400
-code_of status.Forbidden = 403
-code_of status.NotFound = 404
-code_of status.MethodNotAllowed = 405
-code_of status.NotAcceptable = 406
-code_of status.LengthRequired = 411
-code_of status.PayloadTooLarge = 413
-code_of status.UnsupportedMediaType = 415
-code_of status.UnprocessableEntity = 422
-code_of status.HeadTooLarge = 431
-code_of status.InternalServerError = 500
-code_of status.NotImplemented = 501
-code_of status.ServiceUnavailable = 503
-
--- the phrase of a status (RFC 9110, section 15)
-abbrev pub phrase_of : Status → List ℕ
-phrase_of status.Okay = codes "OK"
-phrase_of status.Accepted = codes "Accepted"
-phrase_of status.BadRequest = codes "Bad Request"
-phrase_of status.Forbidden = codes "Forbidden"
-phrase_of status.NotFound = codes "Not Found"
-phrase_of status.MethodNotAllowed = codes "Method Not Allowed"
-phrase_of status.NotAcceptable = codes "Not Acceptable"
-phrase_of status.LengthRequired = codes "Length Required"
-phrase_of status.PayloadTooLarge = codes "Payload Too Large"
-phrase_of status.UnsupportedMediaType = codes "Unsupported Media Type"
-phrase_of status.UnprocessableEntity = codes "Unprocessable Entity"
-phrase_of status.HeadTooLarge = codes "Request Header Fields Too Large"
-phrase_of status.InternalServerError = codes "Internal Server Error"
-phrase_of status.NotImplemented = codes "Not Implemented"
-phrase_of status.ServiceUnavailable = codes "Service Unavailable"
-
--- the end of a line
-abbrev pub line_end : List ℕ
-line_end = codes "\r\n"
-
--- status-line = HTTP-version SP status-code SP [ reason-phrase ]
-abbrev pub status_line : Status → List ℕ
-status_line status = codes "HTTP/1.1 " ++ decimal (code_of status) ++ codes " " ++ phrase_of status ++ line_end
-
--- field-line = field-name ":" OWS field-value
-abbrev pub field_line : List ℕ → List ℕ → List ℕ
-field_line name value = name ++ codes ": " ++ value ++ line_end
-
--- the line of a field that has a value
-abbrev pub line_if_some : List ℕ → Option (List ℕ) → List ℕ
-line_if_some name None = []
-line_if_some name (Some value) = field_line name value
+use Rattle.http_frames.specs.Lines.{status_line, field_line, line_if_some, line_end}
+use Rattle.http_frames.specs.Statuses.{status_of, title_of}
+use Rattle.taxii_headers.specs.declared.answer.Allow.{Allow}
+use Rattle.taxii_headers.specs.declared.answer.Allow.TheVariants.{Get, GetPost, GetDelete}
+use Rattle.taxii_headers.specs.declared.answer.Answer.{Answer}
+use Rattle.taxii_headers.specs.declared.answer.TheConstants.{MAX_DATE}
 
 -- the media type of every body
 abbrev pub media_type : List ℕ
@@ -117,22 +65,6 @@ pub record WritesAnswer {T E : Type 0} (answer : Answer) (close : Bool) (before 
   pub text_is : IsAnswerText answer close text
   pub writes : WritesWhole text before now result
   pub part : OnErr result (WritesPart text before now)
-
--- the status of a refusal
-abbrev pub status_of : Refusal → Status
-status_of refusal.BadRequest = status.BadRequest
-status_of refusal.LengthRequired = status.LengthRequired
-status_of refusal.BodyTooLarge = status.PayloadTooLarge
-status_of refusal.HeadTooLarge = status.HeadTooLarge
-status_of refusal.TransferCoding = status.NotImplemented
-
--- the title of a refusal
-abbrev pub title_of : Refusal → List ℕ
-title_of refusal.BadRequest = codes "bad request"
-title_of refusal.LengthRequired = codes "length required"
-title_of refusal.BodyTooLarge = codes "body too large"
-title_of refusal.HeadTooLarge = codes "head too large"
-title_of refusal.TransferCoding = codes "transfer coding"
 
 -- an answer that says no more than a title (TAXII 2.1, section 3.6.1)
 abbrev pub titled : Status → List ℕ → Answer

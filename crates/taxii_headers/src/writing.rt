@@ -1,7 +1,7 @@
 ghost use Rattle.std.specs.Prelude.{◌≡◌, ◌++◌, true, OnErr, IsErr};
 ghost use Rattle.flow_edges.specs.Faults.{Counted};
 ghost use Rattle.flow_edges.specs.Flow.{WritesWhole, WritesPart};
-ghost use Rattle.http_frames.specs.Answers.{HasDates, WritesAnswer, no_memory_answer};
+ghost use Rattle.taxii_headers.specs.Answers.{HasDates, WritesAnswer, no_memory_answer};
 
 use crate::Answer;
 use crate::head_text::HeadText;

@@ -1,5 +1,0 @@
-use Rattle.http_frames.proofs.AnswerLemmas.{one_text}
-use Rattle.http_frames.proofs.laws.one_answer_text.Goals as goal
-
-pub returns : goal.returns
-returns c = one_text c.one_text_of_digits.ensures
