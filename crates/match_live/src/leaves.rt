@@ -4,7 +4,7 @@ ghost use Rattle.std.specs.Prelude.{◌≡◌, ◌+◌, ◌<◌, ◌≤◌, ◌^
 ghost use Rattle.match_bindings.specs.BindTree.{Second, firsts, tree_of};
 ghost use Rattle.match_live.specs.inner.Pieces.{piece_tree, piece_trees};
 ghost use Rattle.match_live.specs.inner.Lives.{lives};
-ghost use Rattle.match_live.specs.inner.Steps.{held_with, a_leaf, a_choice, leaves_state, row_alone, truth_at, IsQuiet, step_new};
+ghost use Rattle.match_live.specs.inner.Steps.{held_with, a_leaf, a_choice, row_alone, truth_at, IsQuiet, step_new};
 ghost use Rattle.match_live.specs.inner.Wanted.{is_wanted, wanted};
 ghost use Rattle.match_live.specs.inner.Leads.{leads_of};
 
@@ -31,9 +31,11 @@ pub(crate) struct Leaves {
 }
 
 impl Leaves {
+    ghost use Rattle.match_live.specs.inner.Nodes.{leaves_of};
+
     /// A leaf alone.
     pub fn one(leaf: u32, window: Window) -> Leaves
-        ensures { leaves_state result.first result.more result.window ≡ a_leaf leaf window }
+        ensures { leaves_of result ≡ a_leaf leaf window }
     {
         Leaves {
             first: leaf,
@@ -44,8 +46,7 @@ impl Leaves {
 
     /// These with one more, where it follows them and lives when they do.
     pub fn with(&self, next: &Leaves) -> Option<Leaves>
-        ensures { IfSome result (λ longer. leaves_state longer.first longer.more longer.window
-            ≡ a_choice (leaves_state self.now.first self.now.more self.now.window) (leaves_state next.now.first next.now.more next.now.window)) }
+        ensures { IfSome result (λ longer. leaves_of longer ≡ a_choice (leaves_of self.now) (leaves_of next.now)) }
     {
         let last = self.first + self.more;
         if next.more == 0
@@ -64,7 +65,7 @@ impl Leaves {
 
     /// Whether one of them holds.
     pub fn any_holds(&self, truths: &[bool]) -> bool
-        ensures { result ≡ false → IsQuiet truths.now (leaves_state self.now.first self.now.more self.now.window) }
+        ensures { result ≡ false → IsQuiet truths.now (leaves_of self.now) }
     {
         if holds(truths, self.first) {
             return true;
@@ -86,8 +87,7 @@ impl Leaves {
         truths: &[bool],
         leads: &[Lead],
     ) -> Result<Vec<Piece>, NoMemory>
-        ensures { IfOk result (λ new. piece_trees new.items
-            ≡ wanted row.now.last (leads_of leads.now) (step_new row.now truths.now (leaves_state self.now.first self.now.more self.now.window))) }
+        ensures { IfOk result (λ new. piece_trees new.items ≡ wanted row.now.last (leads_of leads.now) (step_new row.now truths.now (leaves_of self.now))) }
     {
         if self.any_is_wanted(alloc, row, truths, leads)? {
             let new = self.all_new(alloc, row, truths)?;
@@ -104,11 +104,10 @@ impl Leaves {
         truths: &[bool],
         leads: &[Lead],
     ) -> Result<bool, NoMemory>
-        ensures all { IfOk result (λ is. is ≡ true → wanted row.now.last (leads_of leads.now)
-            (step_new row.now truths.now (leaves_state self.now.first self.now.more self.now.window))
-            ≡ step_new row.now truths.now (leaves_state self.now.first self.now.more self.now.window)) }
-        ensures none { IfOk result (λ is. is ≡ false → wanted row.now.last (leads_of leads.now)
-            (step_new row.now truths.now (leaves_state self.now.first self.now.more self.now.window)) ≡ []) }
+        ensures all { IfOk result (λ is. is ≡ true
+            → wanted row.now.last (leads_of leads.now) (step_new row.now truths.now (leaves_of self.now)) ≡ step_new row.now truths.now (leaves_of self.now)) }
+        ensures none { IfOk result (λ is. is ≡ false
+            → wanted row.now.last (leads_of leads.now) (step_new row.now truths.now (leaves_of self.now)) ≡ []) }
         ensures live { IfOk result (λ is. is ≡ true → lives self.now.window row.now.first row.now.last ≡ true) }
     {
         if !self.any_holds(truths) || !is_live(&self.window, row.first, row.last) {
@@ -121,7 +120,7 @@ impl Leaves {
     /// What is new at one of them.
     fn all_new(&self, alloc: Global, row: &Row, truths: &[bool]) -> Result<Vec<Piece>, NoMemory>
         requires live { lives self.now.window row.now.first row.now.last ≡ true }
-        ensures { IfOk result (λ new. piece_trees new.items ≡ step_new row.now truths.now (leaves_state self.now.first self.now.more self.now.window)) }
+        ensures { IfOk result (λ new. piece_trees new.items ≡ step_new row.now truths.now (leaves_of self.now)) }
     {
         let mut new = Vec::new(alloc);
         if holds(truths, self.first) {

@@ -5,11 +5,11 @@ ghost use Rattle.match_bindings.specs.NumberedPattern.{numbered_from};
 ghost use Rattle.match_bindings.specs.BindTree.{One, Second, firsts};
 ghost use Rattle.match_live.specs.inner.Pieces.{piece_tree, piece_trees};
 ghost use Rattle.match_windows.specs.Stores.{window_of};
-ghost use Rattle.match_live.specs.inner.Steps.{held_with, a_leaf, a_join, a_choice, a_limit, a_chain, leaves_state, all_levels, empty_sides, step_new, step_state, empty_state, IsQuiet};
+ghost use Rattle.match_live.specs.inner.Steps.{held_with, a_leaf, a_join, a_choice, a_limit, a_chain, all_levels, empty_sides, step_new, step_state, empty_state, IsQuiet};
 ghost use Rattle.match_live.specs.inner.Wanted.{wanted, closed, leads_right, leads_part};
 ghost use Rattle.match_live.specs.inner.Leads.{ahead_of, leads_of};
 ghost use Rattle.match_live.specs.inner.Totals.{held_after, live_at, Admits, IsOverAt};
-ghost use Rattle.match_live.specs.inner.Nodes.{side_stores, state_of};
+ghost use Rattle.match_live.specs.inner.Nodes.{side_stores, leaves_of, state_of};
 ghost use Rattle.match_live.specs.declared.stop.Stop.TheVariants as stop;
 
 use crate::join::Join;
@@ -129,7 +129,7 @@ fn either_node(alloc: Global, left: Box<Node>, right: Box<Node>) -> Result<Box<N
 
 /// Leaves with the one on their right, where it is the next of them.
 fn with_leaf(left: &Node, right: &Node) -> Option<Leaves>
-    ensures { IfSome result (λ leaves. leaves_state leaves.first leaves.more leaves.window ≡ a_choice (state_of left.now) (state_of right.now)) }
+    ensures { IfSome result (λ leaves. leaves_of leaves ≡ a_choice (state_of left.now) (state_of right.now)) }
 {
     match (left, right) {
         (Node::Leaves(leaves), Node::Leaves(next)) => leaves.with(next),

@@ -4,6 +4,7 @@ use Rattle.std.specs.Box.{box_value}
 use Rattle.match_live.specs.declared.store.Store.{Store}
 use Rattle.match_live.specs.declared.sides.Sides.{Sides}
 use Rattle.match_live.specs.declared.levels.Levels.{Levels}
+use Rattle.match_live.specs.declared.leaves.Leaves.{Leaves}
 use Rattle.match_live.specs.declared.node.Node.{Node}
 use Rattle.match_live.specs.declared.node.Node.TheVariants as node
 use Rattle.match_live.specs.PieceTree.{PieceTree}
@@ -27,8 +28,11 @@ side_stores sides = record {
 abbrev pub levels_state : State → Levels → State
 levels_state part levels = a_chain part levels.count levels.window (all_levels levels.count (store_lists levels.stores.items))
 
+abbrev pub leaves_of : Leaves → State
+leaves_of leaves = leaves_state leaves.first leaves.more leaves.window
+
 abbrev pub state_of : Node → State
-state_of (node.Leaves leaves) = leaves_state leaves.first leaves.more leaves.window
+state_of (node.Leaves leaves) = leaves_of leaves
 state_of (node.Sides' how at_left left at_right right sides) = a_join how (state_of left) (state_of right) (side_stores (box_value sides))
 state_of (node.Either' at_left left at_right right) = a_choice (state_of left) (state_of right)
 state_of (node.Under' at_part part) = a_limit (state_of part)
