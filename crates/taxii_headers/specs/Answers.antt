@@ -1,4 +1,4 @@
--- The bytes of an answer (RFC 9112, section 6; RFC 9110, sections 8.6 and 10.2.1; TAXII 2.1, section 3.1).
+-- The bytes of an answer (RFC 9112, section 6; RFC 9110, sections 8.6 and 10.2.1; TAXII 2.1, section 3.2).
 use Rattle.std.specs.Prelude.{◌≡◌, ℕ, ◌*◌, ◌≤◌, Bool, if◌then◌else◌, ⊤, List, [], ◌++◌, length, codes, decimal, pos, Option, Some, None, option_map, IfSome, Result, OnErr}
 use Rattle.flow_edges.specs.Flow.{WritesWhole, WritesPart}
 use Rattle.stix_times.specs.Writing.{IsTextOfDigits}

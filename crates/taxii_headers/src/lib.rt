@@ -1,4 +1,4 @@
-//! An answer with the header fields that TAXII gives it (TAXII 2.1, section 3.1, "HTTP Headers"), and
+//! An answer with the header fields that TAXII gives it (TAXII 2.1, section 3.2, "HTTP Headers"), and
 //! its bytes.
 //!
 //! An answer has one text, a function of its status, its body, its dates and the methods that it names.
