@@ -40,14 +40,26 @@ fn log(alloc: Global, time: Instant) -> Result<Log, NoMemory> {
 /// The listing of the pattern.
 fn listed(alloc: Global, log: &Log) -> Result<Items<Bind>, NoMemory> {
     let pattern = both(alloc)?;
-    listing(alloc, &pattern, log)
+    let binds = listing(alloc, &pattern, log);
+    drop(pattern);
+    binds
+}
+
+/// How many windows the stores of the pattern have.
+fn window_count(alloc: Global) -> Result<usize, NoMemory> {
+    let pattern = both(alloc)?;
+    let windows = windows(alloc, &pattern);
+    drop(pattern);
+    Ok(windows?.len())
 }
 
 /// Whether a copy of a bind binds the pattern, and how many numbers it has.
 fn numbers(alloc: Global, log: &Log, bind: &Bind) -> Result<usize, NoMemory> {
-    let pattern = both(alloc)?;
     let copy = copy_bind(alloc, bind)?;
-    if check_binding(&pattern, log, &copy) {
+    let pattern = both(alloc)?;
+    let is_binding = check_binding(&pattern, log, &copy);
+    drop(pattern);
+    if is_binding {
         Ok(flat(alloc, &copy)?.len())
     } else {
         Ok(0)
@@ -60,7 +72,7 @@ fn lists_each_binding(rt: HostRuntime) -> Result<(), Fail> {
     let log = log(alloc, from_nanos(0).expect(&rt, "an instant"))?;
     let binds = listed(alloc, &log)?;
     assert_eq!(rt; binds.len(), 2);
-    assert_eq!(rt; windows(alloc, &both(alloc)?)?.len(), 2);
+    assert_eq!(rt; window_count(alloc)?, 2);
     for bind in binds.as_slice() {
         assert_eq!(rt; numbers(alloc, &log, bind)?, 2);
     }

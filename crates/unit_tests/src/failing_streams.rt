@@ -27,7 +27,9 @@ struct Outcome {
 /// these numbers fail.
 fn match_with_faults(alloc: Global, read: u64, write: u64) -> Result<Outcome, Fail> {
     let pattern = read_pattern(alloc, "[user-account:account_login = 'a']")?;
-    match_pattern(alloc, &pattern, read, write)
+    let outcome = match_pattern(alloc, &pattern, read, write);
+    drop(pattern);
+    outcome
 }
 
 /// The same, of a pattern.

@@ -93,7 +93,9 @@ fn a_comparison_holds_for_an_object(rt: HostRuntime) -> Result<(), Fail> {
     let alloc = rt.alloc();
     let bundle = read_bundle(alloc, read_json(alloc, BUNDLE.as_bytes())?)?;
     let pattern = read_pattern(alloc, "[x-way:to_ref.n[*] = 6]")?;
-    assert!(rt; pattern_holds(alloc, &pattern, &bundle, 1)?);
-    assert!(rt; !pattern_holds(alloc, &pattern, &bundle, 2)?);
+    let first = pattern_holds(alloc, &pattern, &bundle, 1);
+    let second = pattern_holds(alloc, &pattern, &bundle, 2);
+    drop(pattern);
+    assert_eq!(rt; (first?, second?), (true, false));
     Ok(())
 }
