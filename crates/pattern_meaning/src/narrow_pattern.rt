@@ -1,4 +1,5 @@
 ghost use Rattle.std.specs.Prelude.{◌≡◌, IfOk};
+ghost use Rattle.std.specs.Box.{box_value};
 ghost use Rattle.pattern_types.specs.PlainLeaf.{plain_leaf};
 ghost use Rattle.pattern_types.specs.PlainPattern.{plain_pattern, a_leaf, a_limited};
 ghost use Rattle.pattern_types.specs.Width.{width as width_of, brackets as brackets_of};
@@ -33,6 +34,7 @@ impl NarrowPattern {
         ensures { UnlessTooWide (plain_pattern pattern) result }
     {
         if width > u64::from(MAX_WIDTH) || brackets > u64::from(MAX_BRACKETS) {
+            drop(pattern);
             return None;
         }
         Some(NarrowPattern {
@@ -101,12 +103,35 @@ fn join(
 ) -> Result<Pattern, NoMemory>
     ensures { IfOk result (λ p. plain_pattern p ≡ meant_by operator (plain_pattern left) (plain_pattern right)) }
 {
-    let left = Box::new(alloc, left)?;
-    let right = Box::new(alloc, right)?;
+    let (left, right) = boxed(alloc, left, right)?;
     match operator {
         Operator::Both => Ok(Pattern::Both(left, right)),
         Operator::Either => Ok(Pattern::Either(left, right)),
         Operator::Then => Ok(Pattern::Then(left, right)),
+    }
+}
+
+/// Two patterns, each in a box.
+fn boxed(
+    alloc: Global,
+    left: Pattern,
+    right: Pattern,
+) -> Result<(Box<Pattern>, Box<Pattern>), NoMemory>
+    ensures { IfOk result (λ both. (box_value both.0 ≡ left) × (box_value both.1 ≡ right)) }
+{
+    let left = match Box::new(alloc, left) {
+        Ok(left) => left,
+        Err(failed) => {
+            drop(right);
+            return Err(NoMemory::from(failed));
+        }
+    };
+    match Box::new(alloc, right) {
+        Ok(right) => Ok((left, right)),
+        Err(failed) => {
+            drop(left);
+            Err(NoMemory::from(failed))
+        }
     }
 }
 
