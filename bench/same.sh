@@ -19,7 +19,8 @@ for crate in flow_values flow_edges flow_lines stix_json; do
 done
 copy stix_json long_json
 find "$folder/repo/crates/long_json" -type f -exec sed -i 's/stix_json/long_json/g' {} +
-sed -i '/if let Some(json) = read_tokens/,/^    }/d; /^use crate::tokens/d' "$folder/repo/crates/long_json/src/read.rt"
+sed -i '/if let Some(json) = \(read_tokens\|take_whole\)/,/^    }/d; /let mut scratch = Scratch::new/d; /^use json::Scratch/d; /^use crate::tokens/d' \
+  "$folder/repo/crates/long_json/src/read.rt"
 cp "$top/bench/same/main.rt.txt" "$folder/repo/crates/bench_same/src/main.rt"
 {
   grep -E '^(flow_values|flow_edges|flow_lines|stix_json):' "$top/crates.txt"

@@ -1,9 +1,8 @@
-ghost use Rattle.std.specs.Prelude.{◌≡◌, ◌≢◌, IfOk, IfErr};
+ghost use Rattle.std.specs.Prelude.{◌≡◌, ◌≢◌, IfOk};
 ghost use Rattle.stix_json.specs.declared.refusal.JsonRefusal.TheVariants as json_refusal;
 ghost use Rattle.stix_bundles.specs.Objects.{data_in};
 ghost use Rattle.stix_json.specs.DataOf.{data_of};
 ghost use Rattle.stix_json.specs.Ordered.{IsOrdered};
-ghost use Rattle.stix_json.specs.Reading.{IsJsonOf, IsJsonRefusedAs};
 ghost use Rattle.command_check.specs.Verdicts.{IsJudged, IsBundleJudged, AreJudged};
 
 use crate::verdict::Verdict;
@@ -11,25 +10,17 @@ use flow_values::{Items, NoMemory};
 use match_input::InputRule;
 use std::alloc::Global;
 use stix_bundles::{Bundle, BundleRefusal, read_bundle};
-use stix_json::{Json, JsonRefusal, read_json};
+use stix_json::{Json, JsonRefusal, read_owned};
 use stix_versions::{marking_breaks, version_breaks};
 
-/// What bytes are, as a bundle. They are let go once they are read, before the objects are judged.
+/// What bytes are, as a bundle. They are taken over: the texts of its objects lie in them.
 pub(crate) fn judge(alloc: Global, bytes: Items<u8>) -> Result<Verdict, NoMemory>
     ensures { IfOk result (IsJudged bytes) }
 {
-    match value_of(alloc, bytes) {
+    match read_owned(alloc, bytes) {
         Ok(value) => judge_value(alloc, value),
         Err(refusal) => refuse(refusal),
     }
-}
-
-/// The value of bytes, which are let go.
-fn value_of(alloc: Global, bytes: Items<u8>) -> Result<Json, JsonRefusal>
-    ensures ok { IfOk result (λ json. IsJsonOf bytes json) }
-    ensures err { IfErr result (λ refusal. IsJsonRefusedAs bytes refusal) }
-{
-    read_json(alloc, bytes.as_slice())
 }
 
 /// The verdict on bytes that are refused as JSON.

@@ -1,3 +1,5 @@
+pub mod GivenNames
+pub mod Texts
 pub mod Naming
 pub mod Flaws
 pub mod Fits

@@ -7,7 +7,7 @@ ghost use Rattle.stix_json.specs.inner.Flaws.{first_flaw, items_flaw, members_fl
 
 use crate::flaw::{Flaw, Halt, Reason};
 use crate::place::Place;
-use crate::{Field, Json, MAX_WHOLE};
+use crate::{Field, Json, JsonText, MAX_WHOLE, Name};
 use flow_values::{Items, Text};
 use serde_json::{Map, Number, Value};
 use std::alloc::Global;
@@ -58,7 +58,10 @@ pub(crate) fn convert(alloc: Global, value: Value) -> Result<Json, Halt>
         })),
         Value::Bool(truth) => Ok(Json::Bool(truth)),
         Value::Number(number) => convert_number(number),
-        Value::String(words) => Ok(Json::String(Text::from_string(words))),
+        Value::String(words) => {
+            let text = JsonText::from_text(alloc, Text::from_string(words))?;
+            Ok(Json::String(text))
+        }
         Value::Array(items) => Ok(Json::Array(convert_items(alloc, items)?)),
         Value::Object(members) => Ok(Json::Object(convert_members(alloc, members)?)),
     }
@@ -90,7 +93,7 @@ fn convert_members(alloc: Global, members: Map<String, Value>) -> Result<Items<F
     for (name, member) in members {
         match convert(alloc, member) {
             Ok(value) => fields.push(Field {
-                name: Text::from_string(name),
+                name: Name::from_text(alloc, name.as_str())?,
                 value,
             })?,
             Err(halt) => return Err(halt.below(alloc, name.as_str())),

@@ -6,8 +6,8 @@ ghost use Rattle.stix_json.specs.DataOf.{data_of, field_data, members_of};
 ghost use Rattle.stix_json.specs.Ordered.{MembersAreOrdered};
 ghost use Rattle.stix_json.specs.inner.Naming.{IsFreePlace};
 
-use crate::{Field, Json};
-use flow_values::{Items, Text};
+use crate::{Field, Json, Name};
+use flow_values::Items;
 use std::alloc::Global;
 
 /// Among more fields than these none is put before another: each would move all that follow it, which for
@@ -33,7 +33,7 @@ pub(crate) fn put_field(
     if at < fields.len() && fields.len() > MAX_MOVED {
         return None;
     }
-    let name = Text::from_text(alloc, name).ok()?;
+    let name = Name::from_text(alloc, name).ok()?;
     fields.insert(at, Field { name, value }).ok()?;
     Some(())
 }

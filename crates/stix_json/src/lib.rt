@@ -1,4 +1,5 @@
-//! JSON values without fractions and null (RFC 8259), which own their texts and lists.
+//! JSON values without fractions and null (RFC 8259), which own their lists; their texts lie in the
+//! text that they were read from, which they keep.
 //!
 //! `read_json` gives the value that `serde_json`'s definition of reading gives, or the first reason
 //! against it, with its path. `write_json` writes a value so that it reads back.
@@ -12,10 +13,12 @@ mod envelope;
 mod fields;
 mod flaw;
 mod json_reader;
+mod json_text;
 mod judge;
 pub mod laws;
 mod limits;
 mod lookup;
+mod name;
 mod ordered;
 mod place;
 mod property;
@@ -30,11 +33,13 @@ pub use entries::read_entries;
 pub use entry::Entry;
 pub use envelope::{Envelope, read_envelope};
 pub use json_reader::JsonReader;
+pub use json_text::JsonText;
 pub use limits::{MAX_LEVELS, MAX_WHOLE};
 pub use lookup::{get, get_ordered, take};
+pub use name::Name;
 pub use ordered::is_ordered;
 pub use property::{list_at, list_of, text_at, text_of};
-pub use read::read_json;
+pub use read::{read_json, read_owned};
 pub use refusal::JsonRefusal;
 pub use value::{Field, Json};
 pub use write::write_json;

@@ -4,10 +4,13 @@ ghost use Rattle.stix_json.specs.Reading.{IsValueOf, HasNoValue, IsJsonOf, IsJso
 ghost use Rattle.stix_json.specs.declared.refusal.JsonRefusal.TheVariants.{NotJson, NoMemory as OutOfMemory};
 
 use crate::judge::judge;
-use crate::tokens::read_tokens;
+use crate::tokens::{read_tokens, take_whole};
 use crate::{Entry, Json, JsonRefusal};
+use flow_values::{Items, Text};
+use json::Scratch;
 use serde_json::{Category, Value};
 use std::alloc::Global;
+use std::rc::Rc;
 
 /// The JSON value that bytes are.
 pub(crate) fn read_value(alloc: Global, bytes: &[u8]) -> Result<Value, JsonRefusal>
@@ -35,6 +38,32 @@ pub fn read_json(alloc: Global, bytes: &[u8]) -> Result<Json, JsonRefusal>
         return Ok(json);
     }
     read_judged(alloc, bytes)
+}
+
+/// The same of bytes that are taken over: the value's texts lie in them, where `read_json` copies them first.
+pub fn read_owned(alloc: Global, bytes: Items<u8>) -> Result<Json, JsonRefusal>
+    ensures ok { IfOk result (λ json. IsJsonOf bytes json) }
+    ensures err { IfErr result (λ refusal. IsJsonRefusedAs bytes refusal) }
+{
+    let Ok(text) = String::from_utf8(bytes.into_vec()) else {
+        return Err(JsonRefusal::NotJson);
+    };
+    match Rc::new(alloc, Text::from_string(text)) {
+        Ok(whole) => read_lent(alloc, &whole),
+        Err(_) => Err(JsonRefusal::NoMemory),
+    }
+}
+
+/// The JSON value of a text, which the value's texts keep.
+fn read_lent(alloc: Global, whole: &Rc<Text>) -> Result<Json, JsonRefusal>
+    ensures ok { IfOk result (λ json. IsJsonOf whole.now.value json) }
+    ensures err { IfErr result (λ refusal. IsJsonRefusedAs whole.now.value refusal) }
+{
+    let mut scratch = Scratch::new(alloc);
+    if let Some(json) = take_whole(alloc, &mut scratch, whole) {
+        return Ok(json);
+    }
+    read_judged(alloc, whole.as_str().as_bytes())
 }
 
 /// The same by way of a `Value`, which tells what stands against a text.

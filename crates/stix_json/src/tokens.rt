@@ -16,10 +16,11 @@ ghost use Rattle.stix_json.specs.inner.Fits.{text_levels, Fits, ItemsFit, Member
 
 use crate::fields::{fitted, put_field};
 use crate::whole::whole_of;
-use crate::{Field, Json, MAX_LEVELS};
+use crate::{Field, Json, JsonText, MAX_LEVELS};
 use flow_values::{Items, Text};
 use json::{Reader, Scratch, Token};
 use std::alloc::Global;
+use std::rc::Rc;
 
 /// The `Json` of some bytes, where nothing stands against it.
 pub(crate) fn read_tokens(alloc: Global, bytes: &[u8]) -> Option<Json>
@@ -36,37 +37,53 @@ pub(crate) fn read_tokens_with(alloc: Global, scratch: &mut Scratch, bytes: &[u8
     ensures fits { IfSome result (λ json. Fits MAX_LEVELS (data_of json)) }
 {
     let text = std::str::from_utf8(bytes).ok()?;
+    let whole = Rc::new(alloc, Text::from_text(alloc, text).ok()?).ok()?;
+    take_whole(alloc, scratch, &whole)
+}
+
+/// The `Json` of a whole text, which the value's texts keep.
+pub(crate) fn take_whole(alloc: Global, scratch: &mut Scratch, whole: &Rc<Text>) -> Option<Json>
+    ensures value { IfSome result (λ json. IsJsonOf whole.now.value json) }
+    ensures fits { IfSome result (λ json. Fits MAX_LEVELS (data_of json)) }
+{
+    let text = std::str::from_utf8(whole.as_str().as_bytes()).ok()?;
     let mut reader = Reader::new(text, scratch).ok()?;
-    let json = take_value(alloc, &mut reader, MAX_LEVELS)?;
+    let json = take_value(alloc, whole, &mut reader, MAX_LEVELS)?;
     if reader.next().is_some() {
         return None;
     }
     Some(json)
 }
 
-/// The next value, with at most so many levels.
+/// The next value of the whole text, with at most so many levels.
 #[cycle(take)]
-fn take_value(alloc: Global, reader: &mut Reader<'_>, levels: usize) -> Option<Json>
+fn take_value(
+    alloc: Global,
+    whole: &Rc<Text>,
+    reader: &mut Reader<'_>,
+    levels: usize,
+) -> Option<Json>
     ensures ok { IfSome result
         (λ json. converted of_json (value (text_levels levels) reader.old) ≡ Some (data_of json, reader.new)) }
     ensures fits { IfSome result (λ json. Fits levels (data_of json)) }
     ensures shorter { OnSome result (length reader.new < length reader.old) }
 {
+    let place = reader.offset().saturating_add(1);
     match reader.next()? {
-        Token::String(text) => Some(Json::String(Text::from_text(alloc, text).ok()?)),
+        Token::String(text) => Some(Json::String(JsonText::within(alloc, whole, place, text)?)),
         Token::Number(text) => Some(Json::Integer(whole_of(text)?)),
         Token::Bool(truth) => Some(Json::Bool(truth)),
         Token::BeginArray => {
             if levels == 0 {
                 return None;
             }
-            Some(Json::Array(take_items(alloc, reader, levels - 1)?))
+            Some(Json::Array(take_items(alloc, whole, reader, levels - 1)?))
         }
         Token::BeginObject => {
             if levels == 0 {
                 return None;
             }
-            Some(Json::Object(take_fields(alloc, reader, levels - 1)?))
+            Some(Json::Object(take_fields(alloc, whole, reader, levels - 1)?))
         }
         Token::Null | Token::EndObject | Token::EndArray | Token::Key(_) | Token::Bad => None,
     }
@@ -74,7 +91,12 @@ fn take_value(alloc: Global, reader: &mut Reader<'_>, levels: usize) -> Option<J
 
 /// The items up to the bracket that closes their list.
 #[cycle(take)]
-fn take_items(alloc: Global, reader: &mut Reader<'_>, levels: usize) -> Option<Items<Json>>
+fn take_items(
+    alloc: Global,
+    whole: &Rc<Text>,
+    reader: &mut Reader<'_>,
+    levels: usize,
+) -> Option<Items<Json>>
     ensures ok { IfSome result
         (λ row. converted of_items (items (value (text_levels levels)) (length reader.old) reader.old)
         ≡ Some (items_of (map data_of row), reader.new)) }
@@ -84,7 +106,7 @@ fn take_items(alloc: Global, reader: &mut Reader<'_>, levels: usize) -> Option<I
     // Lists nest, and most have one item: without this each would keep room for four.
     let mut row = Vec::with_capacity(alloc, 1).ok()?;
     'items: while !reader.take_end_array() {
-        let item = take_value(alloc, reader, levels)?;
+        let item = take_value(alloc, whole, reader, levels)?;
         row.push(item).ok()?;
     }
     fitted(alloc, row)
@@ -92,7 +114,12 @@ fn take_items(alloc: Global, reader: &mut Reader<'_>, levels: usize) -> Option<I
 
 /// The fields up to the brace that closes their object.
 #[cycle(take)]
-fn take_fields(alloc: Global, reader: &mut Reader<'_>, levels: usize) -> Option<Items<Field>>
+fn take_fields(
+    alloc: Global,
+    whole: &Rc<Text>,
+    reader: &mut Reader<'_>,
+    levels: usize,
+) -> Option<Items<Field>>
     ensures ok { IfSome result
         (λ fields. converted (λ found. of_members found no_members)
         (members (value (text_levels levels)) (length reader.old) reader.old)
@@ -102,7 +129,7 @@ fn take_fields(alloc: Global, reader: &mut Reader<'_>, levels: usize) -> Option<
 {
     let mut fields = Vec::new(alloc);
     'fields: while let Some(name) = reader.next_key().ok()? {
-        let value = take_value(alloc, reader, levels)?;
+        let value = take_value(alloc, whole, reader, levels)?;
         put_field(alloc, &mut fields, name, value)?;
     }
     fitted(alloc, fields)

@@ -1,4 +1,5 @@
-use flow_values::{Items, Text};
+use crate::{JsonText, Name};
+use flow_values::Items;
 
 /// A JSON value without fractions and null.
 #[derive(Drop)]
@@ -9,7 +10,7 @@ pub enum Json {
     /// A whole number.
     Integer(i64),
     /// A text.
-    String(Text),
+    String(JsonText),
     /// A list.
     Array(Items<Json>),
     /// An object. It is ordered where its names rise strictly by bytes.
@@ -20,6 +21,6 @@ pub enum Json {
 #[derive(Drop)]
 #[cycle(json)]
 pub struct Field {
-    pub name: Text,
+    pub name: Name,
     pub value: Json,
 }

@@ -1,13 +1,15 @@
 -- The names of a status are in order, whichever of its lists it has.
-use Rattle.std.proofs.Common.{ℕ, ◌+◌, List, [], ◌∷◌, refl, Option, Some, None}
+use Rattle.std.proofs.Common.{◌≡◌, ℕ, ◌+◌, List, [], ◌∷◌, ◌++◌, refl, Option, Some, None}
 use Rattle.std.specs.Prelude.{map, codes}
 use Rattle.serde_json.specs.Data.{Data, unsigned, string, object, no_members, member}
 use Rattle.serde_json.specs.Data as json
 use Rattle.serde_json.specs.View.{items_of}
+use Rattle.stix_json.specs.DataOf.{Member, members_of}
 use Rattle.stix_json.specs.Ordered.{IsOrdered, ItemsAreOrdered, MembersAreOrdered}
 use Rattle.taxii_bodies.specs.declared.details.Detail.{Detail}
 use Rattle.taxii_bodies.specs.declared.status.StatusReport.{StatusReport}
 use Rattle.taxii_bodies.specs.Page.{list_before}
+use Rattle.taxii_bodies.specs.inner.Members.{list_member, middle_members}
 use Rattle.taxii_bodies.specs.Status.{status_id_of, message_before, detail_data, status_data}
 
 told_ordered : (id version : List ℕ) (message : Option (List ℕ))
@@ -48,3 +50,41 @@ pub status_ordered : (report : StatusReport) (moment : List ℕ) → IsOrdered (
 status_ordered report moment =
     members_ordered report moment (map detail_data report.failures) (map detail_data report.successes)
     (details_ordered report.failures) (details_ordered report.successes)
+
+-- the members in a row, as they are added
+abbrev pub added_members : StatusReport → List ℕ → List Data → List Data → List Member
+added_members report moment failures successes =
+    ((((record { name = codes "failure_count"; value = json.number (unsigned report.failure_count) } ∷ []) ++ list_member (codes "failures") failures)
+    ++ middle_members report moment) ++ list_member (codes "successes") successes)
+    ++ record { name = codes "total_count"; value = json.number (unsigned (report.success_count + report.failure_count)) } ∷ []
+
+all_members : (report : StatusReport) (moment : List ℕ) (failures successes : List Data)
+    → object (members_of (added_members report moment failures successes)) ≡ object
+    (member (codes "failure_count") (json.number (unsigned report.failure_count))
+    (list_before (codes "failures") failures
+    (member (codes "id") (string (status_id_of report.number))
+    (member (codes "pending_count") (json.number (unsigned 0))
+    (member (codes "request_timestamp") (string moment)
+    (member (codes "status") (string (codes "complete"))
+    (member (codes "success_count") (json.number (unsigned report.success_count))
+    (list_before (codes "successes") successes
+    (member (codes "total_count") (json.number (unsigned (report.success_count + report.failure_count))) no_members)))))))))
+all_members report moment [] [] = refl
+all_members report moment [] (stored ∷ successes) = refl
+all_members report moment (failed ∷ failures) [] = refl
+all_members report moment (failed ∷ failures) (stored ∷ successes) = refl
+
+status_made : (report : StatusReport) (moment : List ℕ)
+    → object (members_of (added_members report moment (map detail_data report.failures) (map detail_data report.successes))) ≡ status_data report moment
+status_made report moment = all_members report moment (map detail_data report.failures) (map detail_data report.successes)
+
+-- the members after each step, of which each is told by the one before
+pub status_joined : (report : StatusReport) (moment : List ℕ) (one two three four five middle : List Member) (first last : Member) (failures successes : List Detail)
+    → one ≡ first ∷ [] → first ≡ record { name = codes "failure_count"; value = json.number (unsigned report.failure_count) }
+    → two ≡ one ++ list_member (codes "failures") (map detail_data failures) → failures ≡ report.failures
+    → three ≡ two ++ middle → middle ≡ middle_members report moment
+    → four ≡ three ++ list_member (codes "successes") (map detail_data successes) → successes ≡ report.successes
+    → five ≡ four ++ last ∷ [] → last ≡ record { name = codes "total_count"; value = json.number (unsigned (report.success_count + report.failure_count)) }
+    → object (members_of five) ≡ status_data report moment
+status_joined report moment one two three four five middle first last failures successes is1 first_is is2 failed is3 middle_is is4 stored is5 last_is =
+    rw (is5, is4, is3, is2, is1, first_is, failed, middle_is, stored, last_is) (status_made report moment)

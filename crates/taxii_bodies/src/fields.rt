@@ -7,13 +7,13 @@ ghost use Rattle.stix_json.specs.Ordered.{MembersAreOrdered};
 
 use flow_values::{Items, NoMemory, Text};
 use std::alloc::Global;
-use stix_json::{Field, Json, write_json};
+use stix_json::{Field, Json, JsonText, Name, write_json};
 
 /// A field of any value.
 pub(crate) fn field(alloc: Global, name: &str, value: Json) -> Result<Field, NoMemory>
     ensures { IfOk result (λ field. field_data field ≡ record { name = name.now; value = data_of value }) }
 {
-    let name = Text::from_text(alloc, name)?;
+    let name = Name::from_text(alloc, name)?;
     Ok(Field { name, value })
 }
 
@@ -61,7 +61,8 @@ pub(crate) fn one_text_field(alloc: Global, name: &str, text: &str) -> Result<Fi
 pub(crate) fn text_value(alloc: Global, text: &str) -> Result<Json, NoMemory>
     ensures { IfOk result (λ value. data_of value ≡ string text.now) }
 {
-    Ok(Json::String(Text::from_text(alloc, text)?))
+    let text = Text::from_text(alloc, text)?;
+    Ok(Json::String(JsonText::from_text(alloc, text)?))
 }
 
 /// The object of these fields.

@@ -8,7 +8,7 @@ use crate::page::page_text;
 use crate::times::version_text;
 use flow_values::{Items, NoMemory, Text};
 use std::alloc::Global;
-use stix_json::Json;
+use stix_json::{Json, JsonText};
 use taxii_rows::StoredRow;
 
 /// The body of a page of the versions of an object (section 5.8.1): whether there are more, and the
@@ -36,5 +36,6 @@ fn version_of(alloc: Global, row: &StoredRow) -> Result<Json, NoMemory>
     requires { IsWritable row.now }
     ensures { IfOk result (λ value. IsVersionOf row.now (data_of value)) }
 {
-    Ok(Json::String(version_text(alloc, row)?))
+    let text = version_text(alloc, row)?;
+    Ok(Json::String(JsonText::from_text(alloc, text)?))
 }

@@ -35,7 +35,9 @@ pub fn gather<S: Source>(alloc: Global, source: &mut S) -> Result<Gathering, Fee
         let Some(object) = next_object(alloc, &mut lines, source)? else {
             return Ok(gathering);
         };
-        add(&mut gathering, &object)?;
+        let added = add(&mut gathering, &object);
+        drop(object);
+        added?;
     }
 }
 

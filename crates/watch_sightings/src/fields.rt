@@ -14,7 +14,7 @@ use crate::times::{time_text, version_text};
 use flow_values::{Items, NoMemory, Text};
 use std::alloc::Global;
 use stix_ids::{Id, write_id};
-use stix_json::{Field, Json};
+use stix_json::{Field, Json, JsonText, Name};
 use stix_times::Instant;
 
 /// Fields that come one by one.
@@ -45,7 +45,7 @@ impl Fields {
         ensures { OnOk result (map field_data self.new.fields.items
             ≡ map field_data self.old.fields.items ++ record { name = name.now; value = data_of value } ∷ []) }
     {
-        let name = Text::from_text(alloc, name)?;
+        let name = Name::from_text(alloc, name)?;
         self.fields.push(Field { name, value })?;
         Ok(())
     }
@@ -67,6 +67,7 @@ impl Fields {
     fn add_text(&mut self, alloc: Global, name: &str, text: Text) -> Result<(), NoMemory>
         ensures { OnOk result (map field_data self.new.fields.items ≡ map field_data self.old.fields.items ++ text_member name.now text ∷ []) }
     {
+        let text = JsonText::from_text(alloc, text)?;
         self.add(alloc, name, Json::String(text))
     }
 

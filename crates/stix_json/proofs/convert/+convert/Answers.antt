@@ -1,4 +1,4 @@
-use Rattle.std.proofs.Common.{rules, ◌≡◌, ℕ, length, option_map, subst, List, [], ◌∷◌, ◌++◌, map, append_assoc, sym, ap, ◌∙◌}
+use Rattle.std.proofs.Common.{rules, string_bytes, ◌≡◌, ℕ, length, option_map, subst, List, [], ◌∷◌, ◌++◌, map, append_assoc, sym, ap, ◌∙◌}
 use Rattle.serde_json.specs.View.{view, members_view}
 use Rattle.serde_json.specs.Data.{object}
 use Rattle.serde_json.proofs.Views.{view-Object}
@@ -23,10 +23,11 @@ convert_members-loop-name-preserved t c =
     let inv = c.loop-name.invariant in
     let done = c.loop-name.yielded in
     let e : Entry = (c.in-Some.name, c.in-Some.member) in
-    let converted = c.in-Ok.ensures.ok in (
+    let converted = c.in-Ok.ensures.ok in
+    let named : c.in_ok-from_text-in-Ok.field-0 ≡ string_bytes c.in-Some.name = search rules in (
       inv.0 ∙ ap (λ es. done ++ es) c.in-Some.ensures.steps ∙ sym (append_assoc done (e ∷ []) c.next.new.self),
       member_passes done e inv.1 converted.0,
-      ap (map field_data) c.in_ok-push-in-Ok.ensures.ok ∙ both_pushed field_data entry_data c.loop-name.fields _ done e inv.2 (same_member c.in-Ok.value c.from_string.ensures converted.1),
+      ap (map field_data) c.in_ok-push-in-Ok.ensures.ok ∙ both_pushed field_data entry_data c.loop-name.fields _ done e inv.2 (same_member c.in-Ok.value named converted.1),
     )
 
 pub convert_members-returns-clause-ok : goal.convert_members-returns-clause-ok
@@ -55,4 +56,4 @@ convert_members-returns-in-Err-clause-err t c =
     let inv = c.loop-name.invariant in
     member_halts c.args.members.entries c.loop-name.yielded c.loop-name.name-iterator c.next.new.self (c.in-Some.name, c.in-Some.member) c.in-Err.halt c.below.result
     inv.0 c.in-Some.ensures.steps inv.1 c.in-Err.ensures.err
-    (subst (λ (name : List ℕ). Halts (option_map (flaw_under name) (first_flaw (view c.in-Some.member))) c.below.result) c.as_str.ensures.value (c.below.ensures (first_flaw (view c.in-Some.member)) c.in-Err.ensures.err))
+    (subst (λ (name : List ℕ). Halts (option_map (flaw_under name) (first_flaw (view c.in-Some.member))) c.below.result) c.as_str-in-Err.ensures.value (c.below.ensures (first_flaw (view c.in-Some.member)) c.in-Err.ensures.err))

@@ -17,12 +17,12 @@ use Rattle.stix_json.proofs.OrderedLemmas.{put_ordered}
 use Rattle.stix_json.proofs.TokensLemmas.{converted-array, converted-object, item_read, items_over, member_read, members_over, read_value_ordered, items_before, items_before-no_items, one_more_item, if_same}
 use Rattle.stix_json.proofs.tokens.+take.Goals as goal
 
-pub take_value-returns-in_ok-ok-in-String-clause-ok : goal.take_value-returns-in_ok-ok-in-String-clause-ok
-take_value-returns-in_ok-ok-in-String-clause-ok t c =
+pub take_value-returns-in_ok-within-in-String-clause-ok : goal.take_value-returns-in_ok-within-in-String-clause-ok
+take_value-returns-in_ok-within-in-String-clause-ok t c =
     let depth = text_levels c.args.levels in
     let first : c.args.reader.now ≡ token_of c.in_ok-text.field-0 ∷ c.next.new.self = grind arith in
     let is : c.args.reader.now ≡ Token.string c.in-String.text.now ∷ c.next.new.self = grind (arith, first) in
-    let copied : c.in_ok-ok-in-String.field-0 ≡ c.in-String.text.now = search rules in
+    let copied : c.in_ok-within-in-String.field-0 ≡ c.in-String.text.now = search rules in
     ap (converted of_json) (ap (value depth) is ∙ value_is depth _) ∙ ap (λ d. Some (d, c.next.new.self)) (sym (data_of-String _ _ copied))
 
 pub take_value-returns-in_ok-whole_of-in-Number-clause-ok : goal.take_value-returns-in_ok-whole_of-in-Number-clause-ok

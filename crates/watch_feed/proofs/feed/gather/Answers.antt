@@ -26,8 +26,8 @@ returns-in_default-clause-whole g c =
     let found : c.next_object.result ≡ Ok None = search rules in
     (so.objects, gathers_whole left ahead c.objects.gathering so (subst (AnswersObject ahead after) found c.next_object.ensures.next))
 
-pub objects-preserved-in_ok-add-3 : goal.objects-preserved-in_ok-add-3
-objects-preserved-in_ok-add-3 g c =
+pub objects-preserved : goal.objects-preserved
+objects-preserved g c =
     let left = g.S.Source.left c.args.source.now in
     let ahead = lines_ahead c.objects.lines (g.S.Source.left c.objects.source) in
     let after = lines_ahead c.next_object.new.lines (g.S.Source.left c.next_object.new.source) in
@@ -40,7 +40,7 @@ objects-preserved-in_ok-add-3 g c =
     record {
       unrefused = moves.unrefused;
       within = moves.within;
-      so = gathers_one (lines_ahead lines_start left) ahead after c.objects.gathering c.add.new.gathering object gives so
-          (c.in_ok-add.ensures so.objects so.gathers);
+      so = gathers_one (lines_ahead lines_start left) ahead after c.objects.gathering c.add-added.new.gathering object gives so
+          (c.in_ok-added.ensures so.objects so.gathers);
       quiet = c.next_object.ensures.causes.quiet (λ fault. absurd (cc)) ∙ c.objects.invariant.quiet;
     }

@@ -1,0 +1,108 @@
+ghost use Rattle.std.specs.Prelude.{◌≡◌, ◌≤◌, ◌<◌, IfOk, IfSome};
+ghost use Rattle.std.specs.Str.{IsCharBoundary};
+
+use flow_values::{NoMemory, Text};
+use std::alloc::Global;
+use std::marker::Model;
+use std::rc::Rc;
+
+/// A text of a value, which contracts see as the list of its bytes. Most lie in the text that they were read from, and keep that:
+/// so a text takes no memory of its own.
+#[derive(Drop)]
+pub struct JsonText {
+    form: TextForm,
+}
+
+#[derive(Drop)]
+enum TextForm {
+    Part(Part),
+    Own(Box<Text>),
+}
+
+/// A part of a text, which it keeps, from one of its places to another.
+#[derive(Drop)]
+struct Part {
+    whole: Rc<Text>,
+    start: u32,
+    end: u32,
+    ghost order: { start ≤ end },
+    ghost starts: { 0 < start → IsCharBoundary whole.value start },
+    ghost ends: { IsCharBoundary whole.value end },
+}
+
+impl Model for JsonText {
+    ghost use Rattle.std.specs.Prelude.{List, ℕ};
+    ghost use Rattle.stix_json.specs.inner.Texts.{text_of};
+
+    ghost Value = { List ℕ };
+
+    ghost view = { λ text. text_of text.form };
+}
+
+impl JsonText {
+    /// The text, which keeps its memory, in a box: so a value is no larger for the few texts that lie in no other.
+    pub fn from_text(alloc: Global, text: Text) -> Result<JsonText, NoMemory>
+        ensures { IfOk result (λ found. found ≡ text) }
+    {
+        let text = Box::new(alloc, text)?;
+        Ok(JsonText {
+            form: TextForm::Own(text),
+        })
+    }
+
+    /// The text, lent.
+    pub fn as_str(&self) -> &str
+        ensures { result.now ≡ self.now }
+    {
+        match &self.form {
+            TextForm::Part(part) => part.as_str(),
+            TextForm::Own(text) => text.as_str(),
+        }
+    }
+
+    /// This text, which may begin at that place of the whole; it is copied where it doesn't, as one with escapes.
+    pub(crate) fn within(
+        alloc: Global,
+        whole: &Rc<Text>,
+        place: usize,
+        text: &str,
+    ) -> Option<JsonText>
+        ensures { IfSome result (λ found. found ≡ text.now) }
+    {
+        if let Some(part) = Part::at(whole, place, text) {
+            return Some(JsonText {
+                form: TextForm::Part(part),
+            });
+        }
+        let text = Text::from_text(alloc, text).ok()?;
+        JsonText::from_text(alloc, text).ok()
+    }
+}
+
+impl Part {
+    ghost use Rattle.stix_json.specs.inner.Texts.{part_text};
+
+    /// The part of the whole that begins at the place and is this text.
+    fn at(whole: &Rc<Text>, place: usize, text: &str) -> Option<Part>
+        ensures { IfSome result (λ part. part_text part ≡ text.now) }
+    {
+        let end = place.checked_add(text.len())?;
+        let lent = whole.as_str();
+        if !lent.is_char_boundary(place) || !lent.is_char_boundary(end) {
+            return None;
+        }
+        if &lent[place..end] != text {
+            return None;
+        }
+        let whole = whole.clone().ok()?;
+        let start = u32::try_from(place).ok()?;
+        let end = u32::try_from(end).ok()?;
+        Some(Part { whole, start, end })
+    }
+
+    fn as_str(&self) -> &str
+        ensures { result.now ≡ part_text self.now }
+    {
+        &self.whole.as_str()[self.start as usize..self.end as usize]
+    }
+}
