@@ -27,9 +27,9 @@ last_ordered : (total : ℕ) (successes : List Data) → ItemsAreOrdered (items_
 last_ordered total [] ordered = (refl, tt, (tt, tt, tt))
 last_ordered total (one ∷ more) ordered = (refl, tt, (refl, ordered, (tt, tt, tt)))
 
--- all of them
-members_ordered : (report : StatusReport) (moment : List ℕ) (failures successes : List Data) → ItemsAreOrdered (items_of failures) → ItemsAreOrdered (items_of successes)
-    → IsOrdered (object
+-- the status, of lists of any data
+abbrev status_with : StatusReport → List ℕ → List Data → List Data → Data
+status_with report moment failures successes = object
     (member (codes "failure_count") (json.number (unsigned report.failure_count))
     (list_before (codes "failures") failures
     (member (codes "id") (string (status_id_of report.number))
@@ -38,7 +38,11 @@ members_ordered : (report : StatusReport) (moment : List ℕ) (failures successe
     (member (codes "status") (string (codes "complete"))
     (member (codes "success_count") (json.number (unsigned report.success_count))
     (list_before (codes "successes") successes
-    (member (codes "total_count") (json.number (unsigned (report.success_count + report.failure_count))) no_members))))))))))
+    (member (codes "total_count") (json.number (unsigned (report.success_count + report.failure_count))) no_members)))))))))
+
+-- all of them
+members_ordered : (report : StatusReport) (moment : List ℕ) (failures successes : List Data) → ItemsAreOrdered (items_of failures) → ItemsAreOrdered (items_of successes)
+    → IsOrdered (status_with report moment failures successes)
 members_ordered report moment [] successes failed stored =
     let last = last_ordered (report.success_count + report.failure_count) successes stored in
     (refl, tt, (refl, tt, (refl, tt, (refl, tt, (refl, tt, last)))))
@@ -59,16 +63,7 @@ added_members report moment failures successes =
     ++ record { name = codes "total_count"; value = json.number (unsigned (report.success_count + report.failure_count)) } ∷ []
 
 all_members : (report : StatusReport) (moment : List ℕ) (failures successes : List Data)
-    → object (members_of (added_members report moment failures successes)) ≡ object
-    (member (codes "failure_count") (json.number (unsigned report.failure_count))
-    (list_before (codes "failures") failures
-    (member (codes "id") (string (status_id_of report.number))
-    (member (codes "pending_count") (json.number (unsigned 0))
-    (member (codes "request_timestamp") (string moment)
-    (member (codes "status") (string (codes "complete"))
-    (member (codes "success_count") (json.number (unsigned report.success_count))
-    (list_before (codes "successes") successes
-    (member (codes "total_count") (json.number (unsigned (report.success_count + report.failure_count))) no_members)))))))))
+    → object (members_of (added_members report moment failures successes)) ≡ status_with report moment failures successes
 all_members report moment [] [] = refl
 all_members report moment [] (stored ∷ successes) = refl
 all_members report moment (failed ∷ failures) [] = refl
