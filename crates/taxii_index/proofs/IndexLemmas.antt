@@ -9,6 +9,7 @@ use Rattle.taxii_rows.specs.declared.stored_row.StoredRow.{StoredRow}
 use Rattle.taxii_rows.specs.Keeper.{row_at, is_date_in}
 use Rattle.taxii_rows.specs.StoreState.{dates_of, RiseFrom}
 use Rattle.taxii_index.specs.declared.row_index.RowIndex.{RowIndex}
+use Rattle.taxii_index.specs.declared.keys.Keys.{Keys}
 use Rattle.taxii_index.specs.Keys.{Key, IsIn64Bits, HasKeys, HasKeysBut, IsAloneIn}
 use Rattle.taxii_index.specs.Index.{version_key, text_key, IsIndexOf, IsIndexBut, IsAbsent}
 use Rattle.taxii_index.proofs.ListLemmas.{Contains-from_map, filter-map}
@@ -55,8 +56,8 @@ none_of_date key_of dated rows date none other there same =
 
 pub index_yet : (rows : List StoredRow) (index : RowIndex) → IsIndexOf rows index → IsIndexBut [] rows index
 index_yet rows index is = record {
-  versions = all_yet (map version_key rows) index.by_version.keys is.versions;
-  texts = all_yet (map text_key rows) index.by_text.keys is.texts;
+  versions = all_yet (map (version_key index.secret) rows) index.by_version.keys is.versions;
+  texts = all_yet (map (text_key index.secret) rows) index.by_text.keys is.texts;
   bits = is.bits;
 }
 
@@ -68,16 +69,16 @@ left_of key_of dates rows set same has =
 
 pub index_left : (dates : List ℕ) (rows : List StoredRow) (index : RowIndex) → IsIndexBut dates rows index → IsIndexOf (filter (λ row. not (is_date_in dates row.date)) rows) index
 index_left dates rows index is = record {
-  versions = left_of version_key dates rows index.by_version.keys refl is.versions;
-  texts = left_of text_key dates rows index.by_text.keys refl is.texts;
-  bits = All-filter (λ (row : StoredRow). not (is_date_in dates row.date)) (λ (row : StoredRow). IsIn64Bits (version_key row)) rows is.bits;
+  versions = left_of (version_key index.secret) dates rows index.by_version.keys refl is.versions;
+  texts = left_of (text_key index.secret) dates rows index.by_text.keys refl is.texts;
+  bits = All-filter (λ (row : StoredRow). not (is_date_in dates row.date)) (λ (row : StoredRow). IsIn64Bits (version_key index.secret row)) rows is.bits;
 }
 
 pub index_same : (dates : List ℕ) (date : ℕ) (rows : List StoredRow) (index : RowIndex) → row_at date rows ≡ None → IsIndexBut dates rows index
     → IsIndexBut (dates ++ date ∷ []) rows index
 index_same dates date rows index none is = record {
-  versions = none_less dates date (map version_key rows) index.by_version.keys (none_of_date version_key (λ _. refl) rows date none) is.versions;
-  texts = none_less dates date (map text_key rows) index.by_text.keys (none_of_date text_key (λ _. refl) rows date none) is.texts;
+  versions = none_less dates date (map (version_key index.secret) rows) index.by_version.keys (none_of_date (version_key index.secret) (λ _. refl) rows date none) is.versions;
+  texts = none_less dates date (map (text_key index.secret) rows) index.by_text.keys (none_of_date (text_key index.secret) (λ _. refl) rows date none) is.texts;
   bits = is.bits;
 }
 
@@ -93,12 +94,13 @@ on_err (Err error) says follows = follows says
 
 -- ---- the whole index
 
-pub index_with : (rows : List StoredRow) (row : StoredRow) (old new : RowIndex) → IsIndexOf rows old → IsIn64Bits (version_key row)
-    → HasKeys (map version_key (rows ++ row ∷ [])) new.by_version.keys → HasKeys (map text_key (rows ++ row ∷ [])) new.by_text.keys → IsIndexOf (rows ++ row ∷ []) new
-index_with rows row old new index bits versions texts = record {
+pub index_with : (rows : List StoredRow) (row : StoredRow) (old : RowIndex) (by_version by_text : Keys) → IsIndexOf rows old → IsIn64Bits (version_key old.secret row)
+    → HasKeys (map (version_key old.secret) (rows ++ row ∷ [])) by_version.keys → HasKeys (map (text_key old.secret) (rows ++ row ∷ [])) by_text.keys
+    → IsIndexOf (rows ++ row ∷ []) (record { secret = old.secret; by_version = by_version; by_text = by_text })
+index_with rows row old by_version by_text index bits versions texts = record {
   versions = versions;
   texts = texts;
-  bits = All-push (λ (row : StoredRow). IsIn64Bits (version_key row)) rows row index.bits bits;
+  bits = All-push (λ (row : StoredRow). IsIn64Bits (version_key old.secret row)) rows row index.bits bits;
 }
 
 pub all_but_last : (Rule : StoredRow → Type 0) (rows : List StoredRow) (row : StoredRow) → All Rule (rows ++ row ∷ []) → All Rule rows

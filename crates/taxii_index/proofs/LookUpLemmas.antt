@@ -60,19 +60,19 @@ leads_to_same key_of collection object rows name number last set has ordered dat
           subst (Contains (key_dates keys)) (dated row) (Contains-map (λ (k : Key). k.2) keys key there);
     }
 
-pub own_version : (collection : ℕ) (object : Described) (version : ℤ) → object.version ≡ Some version → (row : StoredRow) → is_same collection object row ≡ true
-    → (name_of row.collection row.id ≡ name_of collection object.id) × (row.version ≡ version)
-own_version collection object version is row same =
+pub own_version : (secret collection : ℕ) (object : Described) (version : ℤ) → object.version ≡ Some version → (row : StoredRow) → is_same collection object row ≡ true
+    → (name_of secret row.collection row.id ≡ name_of secret collection object.id) × (row.version ≡ version)
+own_version secret collection object version is row same =
     let parts = and_parts (is_row_of collection object.id row) (agrees object.version object.body row) same in
     let told : (row.dated && int_eq row.version version) ≡ true = subst (λ (v : Option ℤ). agrees v object.body row ≡ true) is parts.1 in
-    (one_name collection object.id row parts.0, exact_signed row.version version (equal (int_cmp row.version version) (and_parts row.dated (int_eq row.version version) told).1))
+    (one_name secret collection object.id row parts.0, exact_signed row.version version (equal (int_cmp row.version version) (and_parts row.dated (int_eq row.version version) told).1))
 
-pub own_text : (collection : ℕ) (object : Described) → object.version ≡ None → (row : StoredRow) → is_same collection object row ≡ true
-    → text_name_of row.collection row.id row.body ≡ text_name_of collection object.id object.body
-own_text collection object is row same =
+pub own_text : (secret collection : ℕ) (object : Described) → object.version ≡ None → (row : StoredRow) → is_same collection object row ≡ true
+    → text_name_of secret row.collection row.id row.body ≡ text_name_of secret collection object.id object.body
+own_text secret collection object is row same =
     let parts = and_parts (is_row_of collection object.id row) (agrees object.version object.body row) same in
     let told : bytes_eq row.body object.body ≡ true = subst (λ (v : Option ℤ). agrees v object.body row ≡ true) is parts.1 in
-    one_text_name collection object.id object.body row parts.0 told
+    one_text_name secret collection object.id object.body row parts.0 told
 
 pub none_same : (collection : ℕ) (object : Described) (rows : List StoredRow) (keys : List Key) → RiseFrom 1 (dates_of rows) → LeadsToSame collection object rows keys
     → find (has_row (is_same collection object) rows) (key_dates keys) ≡ None → find (is_same collection object) rows ≡ None
@@ -97,20 +97,20 @@ first_same collection object rows keys date rise leads found =
 
 -- ---- the versions behind a row and before it
 
-pub leads_to_later : (row : StoredRow) (rows : List StoredRow) (most : ℤ) (last : ℕ) (set : BTreeSet Key) → HasKeys (map version_key rows) set
+pub leads_to_later : (secret : ℕ) (row : StoredRow) (rows : List StoredRow) (most : ℤ) (last : ℕ) (set : BTreeSet Key) → HasKeys (map (version_key secret) rows) set
     → ((other : StoredRow) → Contains rows other → (other.version ≤ℤ most) × (other.date ≤ last))
-    → LeadsToThose (IsBefore row) row rows (keys_between key_cmp (Excluded (version_key row)) (Included (name_of row.collection row.id, most, last)) set)
-leads_to_later row rows most last set has upto =
-    let low : Key = version_key row in
-    let high : Key = (name_of row.collection row.id, most, last) in record {
+    → LeadsToThose secret (IsBefore row) row rows (keys_between key_cmp (Excluded (version_key secret row)) (Included (name_of secret row.collection row.id, most, last)) set)
+leads_to_later secret row rows most last set has upto =
+    let low : Key = version_key secret row in
+    let high : Key = (name_of secret row.collection row.id, most, last) in record {
       own = λ key here. (has key).0 (contains_listed set key (in_range (Excluded low) (Included high) set key here).0);
       those = λ other here its.
-          let key : Key = version_key other in
-          let name : key.0 ≡ low.0 = one_name row.collection row.id other its in
+          let key : Key = version_key secret other in
+          let name : key.0 ≡ low.0 = one_name secret row.collection row.id other its in
           let ends = upto other here in
           let end : not (is_lt (key_cmp high key)) ≡ true = not_from_false (is_lt (key_cmp high key)) (not_less high key (sym name) (λ order. past most other.version last other.date ends.0 ends.1 order)) in (
             λ found. precedes_from_less low key (sym name) (and_parts (is_lt (key_cmp low key)) (not (is_lt (key_cmp high key))) (in_range (Excluded low) (Included high) set key found).1).0,
-            λ before. Contains-filter (range_contains key_cmp (Excluded low) (Included high)) set.keys key (contained set key ((has key).1 (Contains-map version_key rows other here)))
+            λ before. Contains-filter (range_contains key_cmp (Excluded low) (Included high)) set.keys key (contained set key ((has key).1 (Contains-map (version_key secret) rows other here)))
                 (and_from (is_lt (key_cmp low key)) (not (is_lt (key_cmp high key))) (less_from_precedes low key (sym name) before) end),
           );
     }
@@ -118,22 +118,22 @@ leads_to_later row rows most last set has upto =
     past : (v w : ℤ) (d e : ℕ) → w ≤ℤ v → e ≤ d → Precedes v d w e → ⊥
     past v w d e number date order = elim order [ inl back ↦ omega (arith, ints) | inr same ↦ omega (arith, same.1) ]
 
-pub leads_to_earlier : (row : StoredRow) (rows : List StoredRow) (least : ℤ) (set : BTreeSet Key) → HasKeys (map version_key rows) set
+pub leads_to_earlier : (secret : ℕ) (row : StoredRow) (rows : List StoredRow) (least : ℤ) (set : BTreeSet Key) → HasKeys (map (version_key secret) rows) set
     → ((other : StoredRow) → Contains rows other → least ≤ℤ other.version)
-    → LeadsToThose (λ other. IsBefore other row) row rows (keys_between key_cmp (Included (name_of row.collection row.id, least, 0)) (Excluded (version_key row)) set)
-leads_to_earlier row rows least set has from =
-    let low : Key = (name_of row.collection row.id, least, 0) in
-    let high : Key = version_key row in record {
+    → LeadsToThose secret (λ other. IsBefore other row) row rows (keys_between key_cmp (Included (name_of secret row.collection row.id, least, 0)) (Excluded (version_key secret row)) set)
+leads_to_earlier secret row rows least set has from =
+    let low : Key = (name_of secret row.collection row.id, least, 0) in
+    let high : Key = version_key secret row in record {
       own = λ key here. (has key).0 (contains_listed set key (in_range (Included low) (Excluded high) set key here).0);
       those = λ other here its.
-          let key : Key = version_key other in
-          let name : key.0 ≡ high.0 = one_name row.collection row.id other its in
+          let key : Key = version_key secret other in
+          let name : key.0 ≡ high.0 = one_name secret row.collection row.id other its in
           let start : is_le (key_cmp low key) ≡ true = le_from_less low key
           ∙ not_from_false (is_lt (key_cmp key low)) (not_less key low name (λ order. before_all other.version least other.date (from other here) order)) in (
             λ found.
                 let both = and_parts (is_le (key_cmp low key)) (not (is_le (key_cmp high key))) (in_range (Included low) (Excluded high) set key found).1 in
                 precedes_from_less key high name (not-false (is_lt (key_cmp key high)) (sym (le_from_less high key) ∙ not-true (is_le (key_cmp high key)) both.1)),
-            λ before. Contains-filter (range_contains key_cmp (Included low) (Excluded high)) set.keys key (contained set key ((has key).1 (Contains-map version_key rows other here)))
+            λ before. Contains-filter (range_contains key_cmp (Included low) (Excluded high)) set.keys key (contained set key ((has key).1 (Contains-map (version_key secret) rows other here)))
                 (and_from (is_le (key_cmp low key)) (not (is_le (key_cmp high key))) start
                 (not_from_false (is_le (key_cmp high key)) (le_from_less high key ∙ not_from_true (is_lt (key_cmp key high)) (less_from_precedes key high name before)))),
           );
@@ -143,12 +143,12 @@ leads_to_earlier row rows least set has from =
     before_all v least d number order = elim order [ inl back ↦ omega (arith, ints) | inr same ↦ omega (arith, same.1) ]
 
 -- where a row that keeps the rule is among the object's, one of the keys is that of a row of the object
-those_any : (Rule : StoredRow → Type 0) (row : StoredRow) (rows : List StoredRow) (keys : List Key) → RiseFrom 1 (dates_of rows) → LeadsToThose Rule row rows keys
+those_any : (secret : ℕ) (Rule : StoredRow → Type 0) (row : StoredRow) (rows : List StoredRow) (keys : List Key) → RiseFrom 1 (dates_of rows) → LeadsToThose secret Rule row rows keys
     → (other : StoredRow) → Contains rows other → is_row_of row.collection row.id other ≡ true → Rule other
     → list_any (has_row (is_row_of row.collection row.id) rows) (key_dates keys) ≡ true
-those_any Rule row rows keys rise leads other here its keeps =
+those_any secret Rule row rows keys rise leads other here its keeps =
     let hit = has_row (is_row_of row.collection row.id) rows in
-    let there : Contains (key_dates keys) other.date = Contains-map (λ (key : Key). key.2) keys (version_key other) ((leads.those other here its).1 keeps) in
+    let there : Contains (key_dates keys) other.date = Contains-map (λ (key : Key). key.2) keys (version_key secret other) ((leads.those other here its).1 keeps) in
     list_any_at hit (key_dates keys) there.0 other.date there.1 (ap hit there.2 ∙ has_row_its (is_row_of row.collection row.id) rows other rise here ∙ its)
 
 -- a row of the object that keeps the rule
@@ -158,30 +158,30 @@ record Keeps (Rule : StoredRow → Type 0) (row : StoredRow) (rows : List Stored
   its : is_row_of row.collection row.id other ≡ true
   keeps : Rule other
 
-any_of_those : (Rule : StoredRow → Type 0) (row : StoredRow) (rows : List StoredRow) (keys : List Key) → RiseFrom 1 (dates_of rows) → LeadsToThose Rule row rows keys
+any_of_those : (secret : ℕ) (Rule : StoredRow → Type 0) (row : StoredRow) (rows : List StoredRow) (keys : List Key) → RiseFrom 1 (dates_of rows) → LeadsToThose secret Rule row rows keys
     → list_any (has_row (is_row_of row.collection row.id) rows) (key_dates keys) ≡ true → Keeps Rule row rows
-any_of_those Rule row rows keys rise leads holds =
+any_of_those secret Rule row rows keys rise leads holds =
     let hit = has_row (is_row_of row.collection row.id) rows in
     let found = Any-from_list_any hit (key_dates keys) holds in
     let at : PassesAt (is_row_of row.collection row.id) rows found.1 = passes_at (is_row_of row.collection row.id) rows found.1 found.4 in
     let key = Contains-from_map (λ (k : Key). k.2) keys found.1 (found.0, found.2, found.3) in
-    let its = Contains-from_map version_key rows key.0 (leads.own key.0 key.1) in
+    let its = Contains-from_map (version_key secret) rows key.0 (leads.own key.0 key.1) in
     let date : its.0.date ≡ at.row.date = ap (λ (k : Key). k.2) its.2 ∙ key.2 ∙ sym at.its in
     let same : its.0 ≡ at.row = one_row rows its.0 at.row rise its.1 at.here date in
-    let there : Contains keys (version_key at.row) = subst (Contains keys) (sym its.2 ∙ ap version_key same) key.1 in
+    let there : Contains keys (version_key secret at.row) = subst (Contains keys) (sym its.2 ∙ ap (version_key secret) same) key.1 in
     record { other = at.row; here = at.here; its = at.holds; keeps = (leads.those at.row at.here at.holds).0 there }
 
 -- so none is found exactly where each row of the object breaks the rule
-pub none_keeps : (Rule Other : StoredRow → Type 0) (row : StoredRow) (rows : List StoredRow) (keys : List Key) (found : Bool) → RiseFrom 1 (dates_of rows)
-    → LeadsToThose Rule row rows keys → found ≡ list_any (has_row (is_row_of row.collection row.id) rows) (key_dates keys)
+pub none_keeps : (secret : ℕ) (Rule Other : StoredRow → Type 0) (row : StoredRow) (rows : List StoredRow) (keys : List Key) (found : Bool) → RiseFrom 1 (dates_of rows)
+    → LeadsToThose secret Rule row rows keys → found ≡ list_any (has_row (is_row_of row.collection row.id) rows) (key_dates keys)
     → ((other : StoredRow) → Other other ⊎ Rule other) → ((other : StoredRow) → Other other → Rule other → ⊥) → IsTrue (not found) ↔ ForItsRows Other rows row
-none_keeps Rule Other row rows keys found rise leads is either never_both = (
+none_keeps secret Rule Other row rows keys found rise leads is either never_both = (
   λ none other here its. elim (either other) [
     | inl breaks ↦ breaks
-    | inr keeps ↦ absurd (both_ways found (not-true found none) (is ∙ those_any Rule row rows keys rise leads other here its keeps))
+    | inr keeps ↦ absurd (both_ways found (not-true found none) (is ∙ those_any secret Rule row rows keys rise leads other here its keeps))
   ],
   λ all. not_from_false found (false_from_ne_true found (λ holds.
-      let one : Keeps Rule row rows = any_of_those Rule row rows keys rise leads (sym is ∙ holds) in
+      let one : Keeps Rule row rows = any_of_those secret Rule row rows keys rise leads (sym is ∙ holds) in
       never_both one.other (all one.other one.here one.its) one.keeps)),
 )
 
@@ -205,8 +205,8 @@ never_both_ways row other later before = elim later [
 -- ---- the rows of an object
 
 -- each row comes behind the front of its object
-behind_front : (collection : ℕ) (id : Id) (row : StoredRow) → IsIn64Bits (version_key row) → 0 < row.date → IsBefore (front_of collection id) row
-behind_front collection id row bits dated = elim (either_way (front_of collection id) row) [
+behind_front : (secret collection : ℕ) (id : Id) (row : StoredRow) → IsIn64Bits (version_key secret row) → 0 < row.date → IsBefore (front_of collection id) row
+behind_front secret collection id row bits dated = elim (either_way (front_of collection id) row) [
   | inr before ↦ before
   | inl back ↦ elim back [
     | inl less ↦ absurd (omega (arith, ints, bits.number, less))
@@ -215,16 +215,16 @@ behind_front collection id row bits dated = elim (either_way (front_of collectio
 ]
 
 -- a row of an object is found exactly where there is one
-pub object_found : (collection : ℕ) (id : Id) (rows : List StoredRow) (keys : List Key) (found : Bool) → RiseFrom 1 (dates_of rows)
-    → ((row : StoredRow) → Contains rows row → IsIn64Bits (version_key row)) → LeadsToObject collection id rows keys
+pub object_found : (secret collection : ℕ) (id : Id) (rows : List StoredRow) (keys : List Key) (found : Bool) → RiseFrom 1 (dates_of rows)
+    → ((row : StoredRow) → Contains rows row → IsIn64Bits (version_key secret row)) → LeadsToObject secret collection id rows keys
     → found ≡ list_any (has_row (is_row_of collection id) rows) (key_dates keys) → IsTrue found ↔ HasRowOf rows collection id
-object_found collection id rows keys found rise bits leads is =
+object_found secret collection id rows keys found rise bits leads is =
     let front = front_of collection id in (
       λ holds.
-          let one : Keeps (IsBefore front) front rows = any_of_those (IsBefore front) front rows keys rise leads (sym is ∙ holds) in
+          let one : Keeps (IsBefore front) front rows = any_of_those secret (IsBefore front) front rows keys rise leads (sym is ∙ holds) in
           (one.here.0, one.other, one.here.1, one.here.2, one_object collection id one.other one.its),
       λ any.
           let here : Contains rows any.1 = (any.0, any.2, any.3) in
-          is ∙ those_any (IsBefore front) front rows keys rise leads any.1 here (of_object collection id any.1 any.4.0 any.4.1)
-          (behind_front collection id any.1 (bits any.1 here) (least_row 1 rows any.1 rise here)),
+          is ∙ those_any secret (IsBefore front) front rows keys rise leads any.1 here (of_object collection id any.1 any.4.0 any.4.1)
+          (behind_front secret collection id any.1 (bits any.1 here) (least_row 1 rows any.1 rise here)),
     )

@@ -28,13 +28,13 @@ pub of_object : (collection : ℕ) (id : Id) (row : StoredRow) → row.collectio
 of_object collection id row its one =
     subst (λ (c : ℕ). is_row_of c id row ≡ true) its (subst (λ (i : Id). is_row_of row.collection i row ≡ true) one (itself row))
 
-pub one_name : (collection : ℕ) (id : Id) (row : StoredRow) → is_row_of collection id row ≡ true → name_of row.collection row.id ≡ name_of collection id
-one_name collection id row holds =
-    let same = one_object collection id row holds in ap (λ (c : ℕ). name_of c row.id) same.0 ∙ ap (name_of collection) same.1
+pub one_name : (secret collection : ℕ) (id : Id) (row : StoredRow) → is_row_of collection id row ≡ true → name_of secret row.collection row.id ≡ name_of secret collection id
+one_name secret collection id row holds =
+    let same = one_object collection id row holds in ap (λ (c : ℕ). name_of secret c row.id) same.0 ∙ ap (name_of secret collection) same.1
 
-pub one_text_name : (collection : ℕ) (id : Id) (body : List ℕ) (row : StoredRow) → is_row_of collection id row ≡ true → bytes_eq row.body body ≡ true
-    → text_name_of row.collection row.id row.body ≡ text_name_of collection id body
-one_text_name collection id body row holds text =
+pub one_text_name : (secret collection : ℕ) (id : Id) (body : List ℕ) (row : StoredRow) → is_row_of collection id row ≡ true → bytes_eq row.body body ≡ true
+    → text_name_of secret row.collection row.id row.body ≡ text_name_of secret collection id body
+one_text_name secret collection id body row holds text =
     let same = one_object collection id row holds in
-    ap (λ (c : ℕ). text_name_of c row.id row.body) same.0 ∙ ap (λ (i : Id). text_name_of collection i row.body) same.1
-    ∙ ap (text_name_of collection id) (same_text row.body body (sym text))
+    ap (λ (c : ℕ). text_name_of secret c row.id row.body) same.0 ∙ ap (λ (i : Id). text_name_of secret collection i row.body) same.1
+    ∙ ap (text_name_of secret collection id) (same_text row.body body (sym text))

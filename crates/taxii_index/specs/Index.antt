@@ -12,25 +12,25 @@ use Rattle.taxii_index.specs.Names.{name_of, text_name_of}
 use Rattle.taxii_index.specs.Keys.{Key, IsIn64Bits, HasKeys, HasKeysBut}
 use Rattle.taxii_index.specs.Presence.{is_same}
 
--- the key of a row among the versions of its object
-abbrev pub version_key : StoredRow → Key
-version_key row = (name_of row.collection row.id, row.version, row.date)
+-- the key of a row among the versions of its object, by a secret
+abbrev pub version_key : ℕ → StoredRow → Key
+version_key secret row = (name_of secret row.collection row.id, row.version, row.date)
 
 -- the key of a row among the rows of its text
-abbrev pub text_key : StoredRow → Key
-text_key row = (text_name_of row.collection row.id row.body, pos 0, row.date)
+abbrev pub text_key : ℕ → StoredRow → Key
+text_key secret row = (text_name_of secret row.collection row.id row.body, pos 0, row.date)
 
 -- the index has each of the rows, and nothing else
 pub record IsIndexOf (rows : List StoredRow) (index : RowIndex) : Type 0 where
-  pub versions : HasKeys (map version_key rows) index.by_version.keys
-  pub texts : HasKeys (map text_key rows) index.by_text.keys
-  pub bits : All (λ row. IsIn64Bits (version_key row)) rows
+  pub versions : HasKeys (map (version_key index.secret) rows) index.by_version.keys
+  pub texts : HasKeys (map (text_key index.secret) rows) index.by_text.keys
+  pub bits : All (λ row. IsIn64Bits (version_key index.secret row)) rows
 
 -- the index has each of the rows that are of other dates, and nothing else
 pub record IsIndexBut (dates : List ℕ) (rows : List StoredRow) (index : RowIndex) : Type 0 where
-  pub versions : HasKeysBut dates (map version_key rows) index.by_version.keys
-  pub texts : HasKeysBut dates (map text_key rows) index.by_text.keys
-  pub bits : All (λ row. IsIn64Bits (version_key row)) rows
+  pub versions : HasKeysBut dates (map (version_key index.secret) rows) index.by_version.keys
+  pub texts : HasKeysBut dates (map (text_key index.secret) rows) index.by_text.keys
+  pub bits : All (λ row. IsIn64Bits (version_key index.secret row)) rows
 
 -- no row is of that date
 abbrev pub IsAbsent : ℕ → List StoredRow → Type 0
@@ -54,9 +54,9 @@ abbrev pub IsBefore : StoredRow → StoredRow → Type 0
 IsBefore row other = (row.version <ℤ other.version) ⊎ ((row.version ≡ other.version) × (row.date < other.date))
 
 -- of the rows of the object of this row, the keys lead to those that keep a rule, and to no other
-pub record LeadsToThose (Rule : StoredRow → Type 0) (row : StoredRow) (rows : List StoredRow) (keys : List Key) : Type 0 where
-  pub own : (key : Key) → Contains keys key → Contains (map version_key rows) key
-  pub those : (other : StoredRow) → Contains rows other → is_row_of row.collection row.id other ≡ true → Contains keys (version_key other) ↔ Rule other
+pub record LeadsToThose (secret : ℕ) (Rule : StoredRow → Type 0) (row : StoredRow) (rows : List StoredRow) (keys : List Key) : Type 0 where
+  pub own : (key : Key) → Contains keys key → Contains (map (version_key secret) rows) key
+  pub those : (other : StoredRow) → Contains rows other → is_row_of row.collection row.id other ≡ true → Contains keys (version_key secret other) ↔ Rule other
 
 -- what stands before all rows of an object: no row is of the date 0
 abbrev pub front_of : ℕ → Id → StoredRow
@@ -70,8 +70,8 @@ front_of collection id = record {
 }
 
 -- the keys lead to each row of the object in the collection, and to no other
-abbrev pub LeadsToObject : ℕ → Id → List StoredRow → List Key → Type 0
-LeadsToObject collection id rows keys = LeadsToThose (IsBefore (front_of collection id)) (front_of collection id) rows keys
+abbrev pub LeadsToObject : ℕ → ℕ → Id → List StoredRow → List Key → Type 0
+LeadsToObject secret collection id rows keys = LeadsToThose secret (IsBefore (front_of collection id)) (front_of collection id) rows keys
 
 -- one of the rows is of the object
 abbrev pub HasRowOf : List StoredRow → ℕ → Id → Type 0

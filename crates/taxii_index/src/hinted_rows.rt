@@ -38,12 +38,12 @@ impl Model for HintedRows {
 }
 
 impl HintedRows {
-    /// No rows. Takes no memory.
-    pub fn new(alloc: Global) -> HintedRows
+    /// No rows; they are named with the secret, as those of `IndexedRows`. Takes no memory.
+    pub fn new(alloc: Global, secret: u128) -> HintedRows
         ensures { result ≡ [] }
     {
         HintedRows {
-            rows: IndexedRows::new(alloc),
+            rows: IndexedRows::new(alloc, secret),
             hints: Hints::new(alloc),
         }
     }
@@ -205,12 +205,32 @@ fn note_all_versions(rows: &IndexedRows, hints: &mut Hints)
 {
     let mut name = 0;
     let mut date = 0;
+    let mut place = None;
     for key in rows.versions() {
-        let before = if key.0 == name { date } else { 0 };
-        note_versions(rows, hints, before, key.2);
+        place = if key.0 == name {
+            let before = match place {
+                Some(place) => place,
+                None => rows.place_of(date),
+            };
+            Some(note_next_version(rows, hints, before, key.2))
+        } else {
+            None
+        };
         name = key.0;
         date = key.2;
     }
+}
+
+/// Notes that the row of that date is a later version than the one at the place before, where it is, and answers its
+/// place: so each row is looked for once.
+fn note_next_version(rows: &IndexedRows, hints: &mut Hints, before: usize, date: u64) -> usize
+    ensures { AreTrueOf rows.now hints.old.hints.items → AreTrueOf rows.now hints.new.hints.items }
+{
+    let place = rows.place_of(date);
+    if let Some((first, second)) = rows.versions_at(before, place) {
+        hints.note_at(before, first, place, second);
+    }
+    place
 }
 
 /// Notes that the row of the second date is a later version than that of the first, where it is. No row

@@ -59,8 +59,7 @@ impl Hints {
 
     /// The hint of a date. Takes no memory, as all below.
     pub(crate) fn of(&self, date: u64) -> Option<Hint> {
-        let at = self.hints.partition_point(|hint| hint.date < date);
-        let hint = self.hints.get(at)?;
+        let hint = self.hints.get(self.place_of(date))?;
         if hint.date == date { Some(*hint) } else { None }
     }
 
@@ -68,14 +67,27 @@ impl Hints {
     pub(crate) fn note(&mut self, first: u64, second: u64)
         ensures { (rows : List Row) → ComesBefore rows first second → AreTrueOf rows self.old.hints.items → AreTrueOf rows self.new.hints.items }
     {
-        self.note_later(first, second);
-        self.note_earlier(second, first);
+        let place = self.place_of(first);
+        let behind = self.place_of(second);
+        self.note_at(place, first, behind, second);
     }
 
-    fn note_later(&mut self, date: u64, later: u64)
+    /// The same of rows whose hints are at these places, if they are.
+    pub(crate) fn note_at(&mut self, place: usize, first: u64, behind: usize, second: u64)
+        ensures { (rows : List Row) → ComesBefore rows first second → AreTrueOf rows self.old.hints.items → AreTrueOf rows self.new.hints.items }
+    {
+        self.note_later(place, first, second);
+        self.note_earlier(behind, second, first);
+    }
+
+    /// Where the hint of a date stands, if there is one.
+    fn place_of(&self, date: u64) -> usize {
+        self.hints.partition_point(|hint| hint.date < date)
+    }
+
+    fn note_later(&mut self, at: usize, date: u64, later: u64)
         ensures { (rows : List Row) → ComesBefore rows date later → AreTrueOf rows self.old.hints.items → AreTrueOf rows self.new.hints.items }
     {
-        let at = self.hints.partition_point(|hint| hint.date < date);
         if at < self.hints.len() {
             let hint = self.hints[at];
             if hint.date == date {
@@ -88,10 +100,9 @@ impl Hints {
         }
     }
 
-    fn note_earlier(&mut self, date: u64, earlier: u64)
+    fn note_earlier(&mut self, at: usize, date: u64, earlier: u64)
         ensures { (rows : List Row) → ComesBefore rows earlier date → AreTrueOf rows self.old.hints.items → AreTrueOf rows self.new.hints.items }
     {
-        let at = self.hints.partition_point(|hint| hint.date < date);
         if at < self.hints.len() {
             let hint = self.hints[at];
             if hint.date == date {

@@ -1,4 +1,4 @@
-ghost use Rattle.std.specs.Prelude.{◌≡◌, ◌↔◌, ◌-◌, IsTrue, [], ◌∷◌, ◌++◌, not, length, take, map, filter, find, option_map, OnOk, OnErr};
+ghost use Rattle.std.specs.Prelude.{◌≡◌, ◌↔◌, ◌-◌, IsTrue, [], ◌∷◌, ◌++◌, not, length, take, map, filter, find, option_map, OnOk, OnErr, IfSome};
 ghost use Rattle.std.specs.List.{list_any};
 ghost use Rattle.stix_ids.specs.declared.pick.Pick.TheVariants.{Last as LastOne, First as FirstOne};
 ghost use Rattle.taxii_rows.specs.StoreState.{dates_of, RiseFrom};
@@ -26,6 +26,7 @@ use taxii_rows::{Described, StoredRow, row_at};
 #[derive(Drop)]
 pub struct IndexedRows {
     alloc: Global,
+    secret: u128,
     rows: Vec<StoredRow>,
     index: RowIndex,
 }
@@ -44,14 +45,16 @@ impl Model for IndexedRows {
 }
 
 impl IndexedRows {
-    /// No rows. Takes no memory.
-    pub fn new(alloc: Global) -> IndexedRows
+    /// No rows. Their names are made with a secret, which who sends objects must not know: with it, objects could be chosen
+    /// whose look-ups take long. Takes no memory.
+    pub fn new(alloc: Global, secret: u128) -> IndexedRows
         ensures { result ≡ [] }
     {
         IndexedRows {
             alloc,
+            secret,
             rows: Vec::new(alloc),
-            index: RowIndex::new(alloc),
+            index: RowIndex::new(alloc, secret),
         }
     }
 
@@ -112,7 +115,7 @@ impl IndexedRows {
         ensures ok { OnOk result (self.new ≡ rows.items) }
         ensures err { OnErr result (self.new ≡ self.old) }
     {
-        let index = RowIndex::of(self.alloc, &rows)?;
+        let index = RowIndex::of(self.alloc, self.secret, &rows)?;
         self.index = index;
         self.rows = rows;
         Ok(())
@@ -249,6 +252,24 @@ impl IndexedRows {
     /// there is none. They only hint: a caller asks `comes_before`.
     pub(crate) fn neighbours(&self, row: &StoredRow) -> (u64, u64) {
         self.index.neighbours(row)
+    }
+
+    /// Where the row of a date stands, if there is one.
+    pub(crate) fn place_of(&self, date: u64) -> usize {
+        self.rows.partition_point(|row| row.date < date)
+    }
+
+    /// The dates of the rows at two places, where the second is a later version of an object than the first.
+    pub(crate) fn versions_at(&self, first: usize, second: usize) -> Option<(u64, u64)>
+        ensures { IfSome result (λ dates. ComesBefore self.now dates.0 dates.1) }
+    {
+        let row = self.rows.get(first)?;
+        let other = self.rows.get(second)?;
+        if is_later(row, other) {
+            Some((row.date, other.date))
+        } else {
+            None
+        }
     }
 
     /// Whether the row of the second date is a later version of an object than the row of the first.

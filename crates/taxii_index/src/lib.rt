@@ -2,7 +2,8 @@
 //! object: whether an object is there already (section 5.5), and which of its versions are picked.
 //!
 //! A contract sees the list of the rows. The index finds what a look-up asks for in the logarithm of
-//! the rows, whatever others have sent: it names objects by digests, and holds no copy of a row.
+//! the rows, whatever others have sent: it names objects by a hash with a secret that nobody outside knows, and
+//! holds no copy of a row.
 #![tactic(auto)]
 
 mod dates;

@@ -20,28 +20,31 @@ const ROWS_A_LOOK_UP: usize = 32;
 /// Under which keys some rows are found: the versions of an object, and the rows of a text of it.
 #[derive(Drop)]
 pub(crate) struct RowIndex {
+    secret: u128,
     by_version: Keys,
     by_text: Keys,
 }
 
 impl RowIndex {
-    /// The index of no rows. Takes no memory.
-    pub(crate) fn new(alloc: Global) -> RowIndex
+    /// The index of no rows, with names made with that secret. Takes no memory.
+    pub(crate) fn new(alloc: Global, secret: u128) -> RowIndex
         ensures { IsIndexOf [] result }
     {
         RowIndex {
+            secret,
             by_version: Keys::new(alloc),
             by_text: Keys::new(alloc),
         }
     }
 
     /// The index of these rows, made at once.
-    pub(crate) fn of(alloc: Global, rows: &[StoredRow]) -> Result<RowIndex, NoMemory>
+    pub(crate) fn of(alloc: Global, secret: u128, rows: &[StoredRow]) -> Result<RowIndex, NoMemory>
         ensures { IfOk result (IsIndexOf rows.now) }
     {
-        let by_version = by_version(alloc, rows)?;
-        let by_text = by_text(alloc, rows)?;
+        let by_version = by_version(alloc, secret, rows)?;
+        let by_text = by_text(alloc, secret, rows)?;
         Ok(RowIndex {
+            secret,
             by_version,
             by_text,
         })
@@ -52,9 +55,9 @@ impl RowIndex {
         ensures ok { (rows : List Row) → IsIndexOf rows self.old → OnOk result (IsIndexOf (rows ++ row.now ∷ []) self.new) }
         ensures err { (rows : List Row) → IsAbsent row.now.date rows → IsIndexOf rows self.old → OnErr result (IsIndexOf rows self.new) }
     {
-        let key = version_key(row);
+        let key = version_key(self.secret, row);
         self.by_version.insert(key)?;
-        let added = self.by_text.insert(text_key(row));
+        let added = self.by_text.insert(text_key(self.secret, row));
         if added.is_err() {
             self.by_version.remove(key);
         }
@@ -65,8 +68,8 @@ impl RowIndex {
     pub(crate) fn remove(&mut self, row: &StoredRow)
         ensures { (rows : List Row) → IsAbsent row.now.date rows → IsIndexOf (rows ++ row.now ∷ []) self.old → IsIndexOf rows self.new }
     {
-        self.by_version.remove(version_key(row));
-        self.by_text.remove(text_key(row));
+        self.by_version.remove(version_key(self.secret, row));
+        self.by_text.remove(text_key(self.secret, row));
     }
 
     /// Takes those of the rows out that are of these dates: by their keys, or where they are many by a pass
@@ -116,8 +119,8 @@ impl RowIndex {
         ensures { (gone : List ℕ) (rows : List Row) → RiseFrom 1 (dates_of rows) → Contains rows row.now → IsIndexBut gone rows self.old
             → IsIndexBut (gone ++ row.now.date ∷ []) rows self.new }
     {
-        self.by_version.remove_one(version_key(row));
-        self.by_text.remove_one(text_key(row));
+        self.by_version.remove_one(version_key(self.secret, row));
+        self.by_text.remove_one(text_key(self.secret, row));
     }
 
     /// The keys of the rows that may make the object present in the collection, by date: none is left
@@ -127,11 +130,12 @@ impl RowIndex {
     {
         match object.version {
             Some(version) => {
-                let name = object_name(collection, &object.id);
+                let name = object_name(self.secret, collection, &object.id);
                 self.by_version.of_number(name, version)
             }
             None => {
-                let name = text_name(collection, &object.id, object.body.as_str());
+                let text = object.body.as_str();
+                let name = text_name(self.secret, collection, &object.id, text);
                 self.by_text.of_number(name, 0)
             }
         }
@@ -139,24 +143,24 @@ impl RowIndex {
 
     /// The keys of the versions of the row's object that are later.
     pub(crate) fn later(&self, row: &StoredRow) -> Range<'_, Key>
-        ensures { (rows : List Row) → IsIndexOf rows self.now → LeadsToThose (IsBefore row.now) row.now rows result }
+        ensures { (rows : List Row) → IsIndexOf rows self.now → LeadsToThose self.now.secret (IsBefore row.now) row.now rows result }
     {
-        self.by_version.after(version_key(row))
+        self.by_version.after(version_key(self.secret, row))
     }
 
     /// The keys of the versions of the row's object that are earlier.
     pub(crate) fn earlier(&self, row: &StoredRow) -> Range<'_, Key>
-        ensures { (rows : List Row) → IsIndexOf rows self.now → LeadsToThose (λ other. IsBefore other row.now) row.now rows result }
+        ensures { (rows : List Row) → IsIndexOf rows self.now → LeadsToThose self.now.secret (λ other. IsBefore other row.now) row.now rows result }
     {
-        self.by_version.before(version_key(row))
+        self.by_version.before(version_key(self.secret, row))
     }
 
     /// The keys of the rows of the object that has that number and kind.
     pub(crate) fn of_object(&self, collection: u128, number: u128, kind: &str) -> Range<'_, Key>
-        ensures { (rows : List Row) → IsIndexOf rows self.now → LeadsToObject collection (id_of number kind.now) rows result }
+        ensures { (rows : List Row) → IsIndexOf rows self.now → LeadsToObject self.now.secret collection (id_of number kind.now) rows result }
     {
-        self.by_version
-            .after((parts_name(collection, number, kind), i64::MIN, 0))
+        let name = parts_name(self.secret, collection, number, kind);
+        self.by_version.after((name, i64::MIN, 0))
     }
 
     /// The keys of all versions: those of a name stand together, in the order of their versions.
@@ -167,7 +171,7 @@ impl RowIndex {
     /// The dates of the rows beside the row among the versions of its name, and 0 where there is none.
     /// Whether they are of its object is asked of the rows.
     pub(crate) fn neighbours(&self, row: &StoredRow) -> (u64, u64) {
-        let key = version_key(row);
+        let key = version_key(self.secret, row);
         let mut before = self.by_version.before(key);
         let mut after = self.by_version.after(key);
         (key_date(before.next_back()), key_date(after.next()))
@@ -183,30 +187,30 @@ fn key_date(key: Option<&Key>) -> u64 {
 }
 
 /// Some rows among the versions of their objects.
-fn by_version(alloc: Global, rows: &[StoredRow]) -> Result<Keys, NoMemory>
-    ensures keys { IfOk result (λ set. HasKeys (map version_key_of rows.now) set.keys) }
-    ensures bits { IfOk result (λ _. All (λ row. IsIn64Bits (version_key_of row)) rows.now) }
+fn by_version(alloc: Global, secret: u128, rows: &[StoredRow]) -> Result<Keys, NoMemory>
+    ensures keys { IfOk result (λ set. HasKeys (map (version_key_of secret) rows.now) set.keys) }
+    ensures bits { IfOk result (λ _. All (λ row. IsIn64Bits (version_key_of secret row)) rows.now) }
 {
-    let keys = version_keys(alloc, rows)?;
+    let keys = version_keys(alloc, secret, rows)?;
     Keys::of(alloc, &keys)
 }
 
 /// Some rows among the rows of their texts.
-fn by_text(alloc: Global, rows: &[StoredRow]) -> Result<Keys, NoMemory>
-    ensures { IfOk result (λ set. HasKeys (map text_key_of rows.now) set.keys) }
+fn by_text(alloc: Global, secret: u128, rows: &[StoredRow]) -> Result<Keys, NoMemory>
+    ensures { IfOk result (λ set. HasKeys (map (text_key_of secret) rows.now) set.keys) }
 {
-    let keys = text_keys(alloc, rows)?;
+    let keys = text_keys(alloc, secret, rows)?;
     Keys::of(alloc, &keys)
 }
 
 /// The keys of some rows among the versions of their objects.
-fn version_keys(alloc: Global, rows: &[StoredRow]) -> Result<Vec<Key>, NoMemory>
-    ensures keys { IfOk result (λ keys. keys.items ≡ map version_key_of rows.now) }
-    ensures bits { IfOk result (λ _. All (λ row. IsIn64Bits (version_key_of row)) rows.now) }
+fn version_keys(alloc: Global, secret: u128, rows: &[StoredRow]) -> Result<Vec<Key>, NoMemory>
+    ensures keys { IfOk result (λ keys. keys.items ≡ map (version_key_of secret) rows.now) }
+    ensures bits { IfOk result (λ _. All (λ row. IsIn64Bits (version_key_of secret row)) rows.now) }
 {
     let mut keys = Vec::with_capacity(alloc, rows.len())?;
     for row in rows {
-        push_key(&mut keys, version_key(row))?;
+        push_key(&mut keys, version_key(secret, row))?;
     }
     Ok(keys)
 }
@@ -221,27 +225,28 @@ fn push_key(keys: &mut Vec<Key>, key: Key) -> Result<(), NoMemory>
 }
 
 /// The keys of some rows among the rows of their texts.
-fn text_keys(alloc: Global, rows: &[StoredRow]) -> Result<Vec<Key>, NoMemory>
-    ensures { IfOk result (λ keys. keys.items ≡ map text_key_of rows.now) }
+fn text_keys(alloc: Global, secret: u128, rows: &[StoredRow]) -> Result<Vec<Key>, NoMemory>
+    ensures { IfOk result (λ keys. keys.items ≡ map (text_key_of secret) rows.now) }
 {
     let mut keys = Vec::with_capacity(alloc, rows.len())?;
     for row in rows {
-        keys.push(text_key(row))?;
+        keys.push(text_key(secret, row))?;
     }
     Ok(keys)
 }
 
 /// The key of a row among the versions of its object.
-fn version_key(row: &StoredRow) -> Key
-    ensures { result ≡ version_key_of row.now }
+fn version_key(secret: u128, row: &StoredRow) -> Key
+    ensures { result ≡ version_key_of secret row.now }
 {
-    (object_name(row.collection, &row.id), row.version, row.date)
+    let name = object_name(secret, row.collection, &row.id);
+    (name, row.version, row.date)
 }
 
 /// The key of a row among the rows of its text.
-fn text_key(row: &StoredRow) -> Key
-    ensures { result ≡ text_key_of row.now }
+fn text_key(secret: u128, row: &StoredRow) -> Key
+    ensures { result ≡ text_key_of secret row.now }
 {
-    let name = text_name(row.collection, &row.id, row.body.as_str());
+    let name = text_name(secret, row.collection, &row.id, row.body.as_str());
     (name, 0, row.date)
 }

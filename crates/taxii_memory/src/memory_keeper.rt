@@ -94,6 +94,11 @@ impl Keeper for MemoryKeeper {
 
     ghost blamed = { λ _. Untold };
 
+    /// No secret: who makes such a keeper sends its objects too.
+    fn secret(&self) -> u128 {
+        0
+    }
+
     fn cause(&self) -> FaultCause
         ensures { result ≡ Untold }
     {

@@ -2,3 +2,4 @@ mod SettledLemmas
 mod CutLemmas
 mod PageLemmas
 mod SetLemmas
+mod AskingLemmas

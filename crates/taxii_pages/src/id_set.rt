@@ -5,31 +5,33 @@ ghost use Rattle.taxii_pages.specs.inner.Sets.{HasIds};
 
 use flow_values::NoMemory;
 use std::alloc::Global;
-use std::collections::BTreeSet;
 use stix_ids::Id;
 
-/// Some identifiers, each once.
+/// Some identifiers in the order of their numbers and kinds, for look-ups as those of `TextSet`.
 #[derive(Drop)]
 pub(crate) struct IdSet<'a> {
-    ids: BTreeSet<(u128, &'a str), Global>,
+    ids: Vec<(u128, &'a str)>,
 }
 
 impl<'a> IdSet<'a> {
     /// The identifiers of a list.
     pub(crate) fn of(alloc: Global, ids: &'a [Id]) -> Result<IdSet<'a>, NoMemory>
-        ensures { IfOk result (λ set. HasIds ids.now set.ids) }
+        ensures { IfOk result (λ set. HasIds ids.now set.ids.items) }
     {
-        let mut set = BTreeSet::new(alloc);
+        let mut row = Vec::with_capacity(alloc, ids.len())?;
         for id in ids {
-            set.insert((id.number, id.kind.as_str()))?;
+            row.push((id.number, id.kind.as_str()))?;
         }
-        Ok(IdSet { ids: set })
+        row.sort()?;
+        Ok(IdSet { ids: row })
     }
 
     /// Whether the identifier is one of them. Takes no memory.
-    pub(crate) fn has(&self, id: &'a Id) -> bool
-        ensures { (ids : List Identifier) → HasIds ids self.now.ids → IsTrue result ↔ Contains ids id.now }
+    pub(crate) fn has(&self, id: &Id) -> bool
+        ensures { (ids : List Identifier) → HasIds ids self.now.ids.items → IsTrue result ↔ Contains ids id.now }
     {
-        self.ids.contains(&(id.number, id.kind.as_str()))
+        self.ids
+            .binary_search(&(id.number, id.kind.as_str()))
+            .is_ok()
     }
 }

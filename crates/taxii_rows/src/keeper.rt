@@ -22,6 +22,10 @@ pub trait Keeper {
     /// Why the last one of them did.
     ghost blamed: { Self → Cause };
 
+    /// A number that nobody who sends objects knows, with which a library names the rows that it has in memory. No clause
+    /// speaks of it: where it is known, look-ups may take long, and nothing else changes.
+    fn secret(&self) -> u128;
+
     /// Why the last call that was a fault failed.
     fn cause(&self) -> FaultCause
         ensures { result ≡ blamed self.now };

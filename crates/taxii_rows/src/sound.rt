@@ -11,14 +11,18 @@ use crate::{StoredRow, TypeSet, version_of};
 use flow_values::NoMemory;
 use std::alloc::Global;
 use stix_ids::{Id, is_text_of};
-use stix_json::{Json, JsonRefusal, read_json, text_at, write_json};
+use stix_json::{Json, JsonReader, JsonRefusal, text_at, write_json};
 
 /// Whether the row is what its body gives: the body is the compact text of an ordered JSON value, with
 /// the row's identifier, and with its version by the types of observables of either set.
-pub fn is_sound_row(alloc: Global, row: &StoredRow) -> Result<bool, NoMemory>
+pub fn is_sound_row(
+    alloc: Global,
+    reader: &mut JsonReader,
+    row: &StoredRow,
+) -> Result<bool, NoMemory>
     ensures { IfOk result (λ sound. IsTrue sound ↔ IsSoundRow row.now) }
 {
-    match read_body(alloc, row)? {
+    match read_body(reader, row)? {
         Some(object) => is_row_of(alloc, row, &object),
         None => Ok(false),
     }
@@ -48,10 +52,10 @@ fn is_told_by(row: &StoredRow, object: &Json) -> bool
 }
 
 /// The JSON value that the row's body is, where it is one.
-fn read_body(alloc: Global, row: &StoredRow) -> Result<Option<Json>, NoMemory>
+fn read_body(reader: &mut JsonReader, row: &StoredRow) -> Result<Option<Json>, NoMemory>
     ensures { IfOk result (FindsExactly (IsJsonOf row.now.body)) }
 {
-    match read_json(alloc, row.body.as_str().as_bytes()) {
+    match reader.read(row.body.as_str().as_bytes()) {
         Ok(object) => Ok(Some(object)),
         Err(JsonRefusal::NoMemory) => Err(NoMemory),
         Err(

@@ -10,6 +10,7 @@ use crate::failure::{Failure, Faults};
 use sqlite::{FileFrom, Files, Start};
 use sqlite_disk::Disk;
 use std::alloc::Global;
+use std::random::RandomSource;
 use std::rt::HostRuntime;
 use taxii_rows::{FaultCause, Keeper, KeeperRefusal, StoredRow};
 
@@ -75,6 +76,15 @@ impl<S: Start> Keeper for SqliteKeeper<FileFrom<S>, S> {
     ghost faults = { λ keeper. keeper.faults.count };
 
     ghost blamed = { λ keeper. keeper.faults.cause };
+
+    /// A number of the system's own choice, another one at each call, or 0 where the system gives none.
+    fn secret(&self) -> u128 {
+        let mut bytes = [0; 16];
+        match self.rt.fill_bytes(&mut bytes) {
+            Ok(()) => u128::from_le_bytes(bytes),
+            Err(_) => 0,
+        }
+    }
 
     fn cause(&self) -> FaultCause
         ensures { result ≡ self.now.faults.cause }

@@ -33,7 +33,7 @@ impl Draft {
         ensures draft { IfOk result (λ draft. IsDraft library.now.mark draft.outcomes draft.added) }
         ensures err { IfErr result (λ refusal. refusal ≡ UsedUp → UsesUpDates library.now collection objects.items) }
     {
-        let mut draft = Draft::empty(library.alloc, objects.len())?;
+        let mut draft = Draft::empty(library.alloc, library.secret, objects.len())?;
         for object in objects {
             draft.place(library, collection, object)?;
         }
@@ -62,13 +62,13 @@ impl Draft {
     }
 
     /// A draft without objects, and room for so many outcomes.
-    fn empty(alloc: Global, count: usize) -> Result<Draft, NoMemory>
+    fn empty(alloc: Global, secret: u128, count: usize) -> Result<Draft, NoMemory>
         ensures { IfOk result (λ draft. (draft.outcomes ≡ []) × (draft.added ≡ [])) }
     {
         let outcomes = Items::with_capacity(alloc, count)?;
         Ok(Draft {
             outcomes,
-            added: IndexedRows::new(alloc),
+            added: IndexedRows::new(alloc, secret),
         })
     }
 

@@ -22,6 +22,7 @@ use taxii_rows::{Keeper, KeeperRefusal, StoredRow, row_after, row_at};
 #[derive(Drop)]
 pub struct Library {
     pub(crate) alloc: Global,
+    pub(crate) secret: u128,
     pub(crate) rows: HintedRows,
     pub(crate) mark: u64,
 }

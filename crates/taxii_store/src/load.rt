@@ -10,6 +10,7 @@ ghost use Rattle.taxii_store.specs.declared.load_refusal.LoadRefusal.TheVariants
 use crate::{Library, LoadRefusal};
 use flow_values::{Items, NoMemory};
 use std::alloc::Global;
+use stix_json::JsonReader;
 use taxii_index::HintedRows;
 use taxii_rows::{Keeper, LAST_DATE, StoredRow, is_sound_row};
 
@@ -28,9 +29,15 @@ impl Library {
         keeper.attach(name)?;
         let mark = keeper.mark()?;
         let found = read_rows(alloc, keeper, mark)?;
-        let mut rows = HintedRows::new(alloc);
+        let secret = keeper.secret();
+        let mut rows = HintedRows::new(alloc, secret);
         rows.append(found.into_vec())?;
-        Ok(Library { alloc, rows, mark })
+        Ok(Library {
+            alloc,
+            secret,
+            rows,
+            mark,
+        })
     }
 }
 
@@ -48,10 +55,11 @@ fn read_rows<K: Keeper>(
     ensures stays { K.kept keeper.new ≡ K.kept keeper.old }
     ensures causes { Counted (result ≡ Err Refused.KeeperFault) (K.faults keeper.old) (K.faults keeper.new) }
 {
+    let mut reader = JsonReader::new(alloc)?;
     let mut rows = Items::new(alloc);
     let mut after = 0;
     loop {
-        let Some(row) = next_fit(alloc, keeper, after, mark)? else {
+        let Some(row) = next_fit(alloc, &mut reader, keeper, after, mark)? else {
             return Ok(rows);
         };
         after = row.date;
@@ -62,6 +70,7 @@ fn read_rows<K: Keeper>(
 /// The first row behind the date, where it may stand there. At the end, the mark has to be a date.
 fn next_fit<K: Keeper>(
     alloc: Global,
+    reader: &mut JsonReader,
     keeper: &mut K,
     after: u64,
     mark: u64,
@@ -76,7 +85,7 @@ fn next_fit<K: Keeper>(
     ensures causes { Counted (result ≡ Err Refused.KeeperFault) (K.faults keeper.old) (K.faults keeper.new) }
 {
     let found = keeper.next_after(after)?;
-    if may_follow(alloc, &found, after, mark)? {
+    if may_follow(alloc, reader, &found, after, mark)? {
         Ok(found)
     } else {
         Err(LoadRefusal::BadRow { after })
@@ -86,6 +95,7 @@ fn next_fit<K: Keeper>(
 /// Whether that row, or the end, may stand behind the date.
 fn may_follow(
     alloc: Global,
+    reader: &mut JsonReader,
     found: &Option<StoredRow>,
     after: u64,
     mark: u64,
@@ -93,7 +103,7 @@ fn may_follow(
     ensures { IfOk result (λ follows. IsTrue follows ↔ MatchOption found.now (mark ≤ last_date) (λ row. (after < row.date) × IsFit mark row)) }
 {
     match found {
-        Some(row) => Ok(is_dated(row, after, mark) && is_sound_row(alloc, row)?),
+        Some(row) => Ok(is_dated(row, after, mark) && is_sound_row(alloc, reader, row)?),
         None => Ok(mark <= LAST_DATE),
     }
 }

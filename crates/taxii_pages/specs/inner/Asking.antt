@@ -14,14 +14,14 @@ abbrev pub HasTextsWhere : Option (List (List ℕ)) → Option TextSet → Type 
 HasTextsWhere None None = ⊤
 HasTextsWhere None (Some set) = ⊥
 HasTextsWhere (Some texts) None = ⊥
-HasTextsWhere (Some texts) (Some set) = HasTexts texts set.texts
+HasTextsWhere (Some texts) (Some set) = HasTexts texts set.texts.items
 
 -- where identifiers are named, a set of them, and else none
 abbrev pub HasIdsWhere : Option (List Id) → Option IdSet → Type 0
 HasIdsWhere None None = ⊤
 HasIdsWhere None (Some set) = ⊥
 HasIdsWhere (Some ids) None = ⊥
-HasIdsWhere (Some ids) (Some set) = HasIds ids set.ids
+HasIdsWhere (Some ids) (Some set) = HasIds ids set.ids.items
 
 -- what the query asks of the collection and of the one object, where there is one
 pub record Asks (collection : ℕ) (only : Option Id) (query : Query) (asked : Asked) : Type 0 where

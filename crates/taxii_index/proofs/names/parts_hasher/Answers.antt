@@ -1,11 +1,14 @@
-use Rattle.std.proofs.Common.{◌≡◌, ◌++◌, subst}
-use Rattle.sha2.specs.Hashers.{Holds256}
-use Rattle.taxii_index.specs.Names.{id_of, object_bytes}
+use Rattle.std.proofs.Common.{◌≡◌, ◌∙◌, ap}
+use Rattle.std.specs.Int.{w128, to_le_bytes}
+use Rattle.std.specs.Hash.DefaultHasher as sip
+use Rattle.taxii_index.specs.Names.{fed_with}
 use Rattle.taxii_index.proofs.names.parts_hasher.Goals as goal
 
 pub returns : goal.returns
-unfolding object_bytes
+unfolding fed_with
 returns c =
-    let fed = c.update-3.ensures _ (c.update-2.ensures _ (c.update.ensures _ c.new-hasher.ensures)) in
-    let bytes : (c.to_be_bytes.result ++ c.to_be_bytes-2.result) ++ c.args.kind.now ≡ object_bytes c.args.collection (id_of c.args.number c.args.kind.now) = cc in
-    subst (Holds256 c.update-3.new.self) bytes fed
+    let secret : c.write.new.self ≡ sip.write sip.initial (to_le_bytes w128 c.args.secret) = cc in
+    let collection : c.write-2.new.self ≡ sip.write c.write.new.self (to_le_bytes w128 c.args.collection) = cc in
+    let number : c.write-3.new.self ≡ sip.write c.write-2.new.self (to_le_bytes w128 c.args.number) = cc in
+    let kind : c.write-4.new.self ≡ sip.write c.write-3.new.self c.args.kind.now = cc in
+    cc

@@ -10,9 +10,9 @@ use Rattle.taxii_store.proofs.load.read_rows.Goals as goal
 pub returns-in_err-row-clause-bad : goal.returns-in_err-row-clause-bad
 returns-in_err-row-clause-bad g c =
     let loop = c.loop-rows in
-    handed_on c.from_residual.result c.in_err-row.field-0.0
+    handed_on c.from_residual-in_err-row.result c.in_err-row.field-0.0
     (λ refusal. (after : ℕ) → refusal ≡ BadRow after → IfSome (g.K.Keeper.kept c.args.keeper.now).told (λ state. IsBadAfter state after))
-    c.from_residual.ensures.1
+    c.from_residual-in_err-row.ensures.1
     (λ at is. bad_told (g.K.Keeper.kept c.args.keeper.now).told c.args.mark loop.after at loop.rows c.requires.told loop.invariant.2 loop.invariant.3
     (c.in_err-row.ensures.bad at is).0
     (subst (λ (kept : Kept). IfSome kept.told (λ state. IsBadNext state loop.after)) loop.invariant.0 (c.in_err-row.ensures.bad at is).1))

@@ -14,7 +14,7 @@ returns c =
     let id = id_of c.args.number c.args.kind.now in
     let rows = c.args.self.now in
     let rise = subst (λ (rows : List StoredRow). RiseFrom 1 (dates_of rows)) c.self.view_is c.self.invariant.0 in
-    let bits = subst (λ (rows : List StoredRow). (row : StoredRow) → Contains rows row → IsIn64Bits (version_key row)) c.self.view_is
-    (λ row here. All-contains (λ (r : StoredRow). IsIn64Bits (version_key r)) c.self.inside.rows.items row c.self.invariant.1.bits here) in
-    let leads = subst (λ (rows : List StoredRow). LeadsToObject c.args.collection id rows c.of_object-keys.result) c.self.view_is (c.of_object-keys.ensures c.self.inside.rows.items c.self.invariant.1) in
-    object_found c.args.collection id rows c.of_object-keys.result c.has_object_among.result rise bits leads c.has_object_among.ensures
+    let bits = subst (λ (rows : List StoredRow). (row : StoredRow) → Contains rows row → IsIn64Bits (version_key c.self.inside.index.secret row)) c.self.view_is
+    (λ row here. All-contains (λ (r : StoredRow). IsIn64Bits (version_key c.self.inside.index.secret r)) c.self.inside.rows.items row c.self.invariant.1.bits here) in
+    let leads = subst (λ (rows : List StoredRow). LeadsToObject c.self.inside.index.secret c.args.collection id rows c.of_object-keys.result) c.self.view_is (c.of_object-keys.ensures c.self.inside.rows.items c.self.invariant.1) in
+    object_found c.self.inside.index.secret c.args.collection id rows c.of_object-keys.result c.has_object_among.result rise bits leads c.has_object_among.ensures

@@ -10,5 +10,5 @@ pub returns : goal.returns
 returns c =
     let row = c.args.row.now in
     let rise = subst (λ (rows : List StoredRow). RiseFrom 1 (dates_of rows)) c.self.view_is c.self.invariant.0 in
-    let leads = subst (λ (rows : List StoredRow). LeadsToThose (λ other. IsBefore other row) row rows c.earlier.result) c.self.view_is (c.earlier.ensures c.self.inside.rows.items c.self.invariant.1) in
-    none_keeps (λ other. IsBefore other row) (λ other. IsNotBefore other row) row c.args.self.now c.earlier.result c.has_row_among.result rise leads c.has_row_among.ensures (λ other. either_way other row) (λ other. never_both_ways other row)
+    let leads = subst (λ (rows : List StoredRow). LeadsToThose c.self.inside.index.secret (λ other. IsBefore other row) row rows c.earlier.result) c.self.view_is (c.earlier.ensures c.self.inside.rows.items c.self.invariant.1) in
+    none_keeps c.self.inside.index.secret (λ other. IsBefore other row) (λ other. IsNotBefore other row) row c.args.self.now c.earlier.result c.has_row_among.result rise leads c.has_row_among.ensures (λ other. either_way other row) (λ other. never_both_ways other row)

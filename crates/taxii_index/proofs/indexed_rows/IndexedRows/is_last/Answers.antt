@@ -10,5 +10,5 @@ pub returns : goal.returns
 returns c =
     let row = c.args.row.now in
     let rise = subst (λ (rows : List StoredRow). RiseFrom 1 (dates_of rows)) c.self.view_is c.self.invariant.0 in
-    let leads = subst (λ (rows : List StoredRow). LeadsToThose (IsBefore row) row rows c.later.result) c.self.view_is (c.later.ensures c.self.inside.rows.items c.self.invariant.1) in
-    none_keeps (IsBefore row) (IsNotBefore row) row c.args.self.now c.later.result c.has_row_among.result rise leads c.has_row_among.ensures (either_way row) (never_both_ways row)
+    let leads = subst (λ (rows : List StoredRow). LeadsToThose c.self.inside.index.secret (IsBefore row) row rows c.later.result) c.self.view_is (c.later.ensures c.self.inside.rows.items c.self.invariant.1) in
+    none_keeps c.self.inside.index.secret (IsBefore row) (IsNotBefore row) row c.args.self.now c.later.result c.has_row_among.result rise leads c.has_row_among.ensures (either_way row) (never_both_ways row)

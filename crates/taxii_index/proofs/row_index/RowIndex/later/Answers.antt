@@ -9,6 +9,6 @@ use Rattle.taxii_index.proofs.row_index.RowIndex.later.Goals as goal
 
 pub returns : goal.returns
 returns c = λ rows index.
-    let leads = leads_to_later c.args.row.now rows (pos 9223372036854775807) 18446744073709551615 c.args.self.now.by_version.keys index.versions
-    (λ other here. let bits = All-contains (λ (r : StoredRow). IsIn64Bits (version_key r)) rows other index.bits here in (omega (arith, ints, bits.number), omega (arith, bits.date))) in
+    let leads = leads_to_later c.args.self.now.secret c.args.row.now rows (pos 9223372036854775807) 18446744073709551615 c.args.self.now.by_version.keys index.versions
+    (λ other here. let bits = All-contains (λ (r : StoredRow). IsIn64Bits (version_key c.args.self.now.secret r)) rows other index.bits here in (omega (arith, ints, bits.number), omega (arith, bits.date))) in
     rw (c.after.ensures, c.version_key.ensures) leads

@@ -6,9 +6,10 @@ use Rattle.taxii_index.proofs.row_index.RowIndex.remove_many.Goals as goal
 
 pub returns : goal.returns
 returns c = λ rows index.
-    let left : RowIndex = record { by_version = c.remove_dates.new.self; by_text = c.remove_dates-2.new.self } in
+    let secret = c.args.self.now.secret in
+    let left : RowIndex = record { secret = secret; by_version = c.remove_dates.new.self; by_text = c.remove_dates-2.new.self } in
     index_left c.args.dates.now rows left (record {
-      versions = c.remove_dates.ensures (map version_key rows) index.versions;
-      texts = c.remove_dates-2.ensures (map text_key rows) index.texts;
+      versions = c.remove_dates.ensures (map (version_key secret) rows) index.versions;
+      texts = c.remove_dates-2.ensures (map (text_key secret) rows) index.texts;
       bits = index.bits;
     })

@@ -13,9 +13,9 @@ pub returns-in-Some : goal.returns-in-Some
 returns-in-Some c = λ rows index.
     let collection = c.args.collection in
     let object = c.args.object.now in
-    let leads = leads_to_same version_key collection object rows c.object_name-name.result c.in-Some.version 18446744073709551615 c.args.self.now.by_version.keys
-    index.versions c.of_number.ensures.ordered (λ _. refl) (λ row here. let bits = All-contains (λ (r : StoredRow). IsIn64Bits (version_key r)) rows row index.bits here in omega (arith, bits.date))
-    (λ row same. let own = own_version collection object c.in-Some.version c.in-Some.is row same in (own.0 ∙ sym c.object_name-name.ensures, own.1)) in
+    let leads = leads_to_same (version_key c.args.self.now.secret) collection object rows c.object_name-name.result c.in-Some.version 18446744073709551615 c.args.self.now.by_version.keys
+    index.versions c.of_number.ensures.ordered (λ _. refl) (λ row here. let bits = All-contains (λ (r : StoredRow). IsIn64Bits (version_key c.args.self.now.secret r)) rows row index.bits here in omega (arith, bits.date))
+    (λ row same. let own = own_version c.args.self.now.secret collection object c.in-Some.version c.in-Some.is row same in (own.0 ∙ sym c.object_name-name.ensures, own.1)) in
     let fits : FitsSigned w64 c.in-Some.version = search rules in
     rw c.of_number.ensures.keys (rw (to_z-of_z w64 c.in-Some.version fits) leads)
 
@@ -23,7 +23,7 @@ pub returns-in-None : goal.returns-in-None
 returns-in-None c = λ rows index.
     let collection = c.args.collection in
     let object = c.args.object.now in
-    let leads = leads_to_same text_key collection object rows c.text_name-name.result (pos 0) 18446744073709551615 c.args.self.now.by_text.keys
-    index.texts c.of_number-in-None.ensures.ordered (λ _. refl) (λ row here. let bits = All-contains (λ (r : StoredRow). IsIn64Bits (version_key r)) rows row index.bits here in omega (arith, bits.date))
-    (λ row same. (own_text collection object c.in-None.is row same ∙ sym (c.text_name-name.ensures ∙ ap (text_name_of collection object.id) c.as_str.ensures), refl)) in
+    let leads = leads_to_same (text_key c.args.self.now.secret) collection object rows c.text_name-name.result (pos 0) 18446744073709551615 c.args.self.now.by_text.keys
+    index.texts c.of_number-in-None.ensures.ordered (λ _. refl) (λ row here. let bits = All-contains (λ (r : StoredRow). IsIn64Bits (version_key c.args.self.now.secret r)) rows row index.bits here in omega (arith, bits.date))
+    (λ row same. (own_text c.args.self.now.secret collection object c.in-None.is row same ∙ sym (c.text_name-name.ensures ∙ ap (text_name_of c.args.self.now.secret collection object.id) c.as_str-text.ensures), refl)) in
     rw c.of_number-in-None.ensures.keys leads
