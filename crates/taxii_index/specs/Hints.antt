@@ -6,14 +6,6 @@ use Rattle.taxii_rows.specs.Identity.{is_row_of}
 use Rattle.taxii_index.specs.declared.hints.Hint.{Hint}
 use Rattle.taxii_index.specs.Index.{IsBefore}
 
--- the row of the date is a later version of the row's object
-pub record IsLaterAt (rows : List StoredRow) (row : StoredRow) (date : ℕ) : Type 0 where
-  pub other : StoredRow
-  pub here : Contains rows other
-  pub its_date : other.date ≡ date
-  pub its : is_row_of row.collection row.id other ≡ true
-  pub later : IsBefore row other
-
 -- the row of the first date is an earlier version of an object than the row of the second
 pub record ComesBefore (rows : List StoredRow) (first second : ℕ) : Type 0 where
   pub row : StoredRow

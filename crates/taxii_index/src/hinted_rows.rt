@@ -112,13 +112,15 @@ impl HintedRows {
         let date = row.date;
         let (earlier, later) = self.rows.neighbours(row);
         self.hints.push(date)?;
-        self.note(earlier, date);
-        self.note(date, later);
+        let before = self.rows.place_of(earlier);
+        let behind = self.rows.place_of(later);
+        self.note(before, place);
+        self.note(place, behind);
         Ok(())
     }
 
-    /// Notes that the row of the second date is a later version than that of the first, where it is.
-    fn note(&mut self, first: u64, second: u64)
+    /// Notes that the row at the second place is a later version than that at the first, where it is.
+    fn note(&mut self, first: usize, second: usize)
         ensures { self.new ≡ self.old }
     {
         note_versions(&self.rows, &mut self.hints, first, second);
@@ -153,7 +155,9 @@ impl HintedRows {
         ensures { self.new ≡ self.old }
     {
         if let Some(hint) = self.hints.of(date) {
-            self.note(hint.earlier, hint.later);
+            let before = self.rows.place_of(hint.earlier);
+            let behind = self.rows.place_of(hint.later);
+            self.note(before, behind);
         }
     }
 
@@ -212,7 +216,9 @@ fn note_all_versions(rows: &IndexedRows, hints: &mut Hints)
                 Some(place) => place,
                 None => rows.place_of(date),
             };
-            Some(note_next_version(rows, hints, before, key.2))
+            let here = rows.place_of(key.2);
+            note_versions(rows, hints, before, here);
+            Some(here)
         } else {
             None
         };
@@ -221,24 +227,11 @@ fn note_all_versions(rows: &IndexedRows, hints: &mut Hints)
     }
 }
 
-/// Notes that the row of that date is a later version than the one at the place before, where it is, and answers its
-/// place: so each row is looked for once.
-fn note_next_version(rows: &IndexedRows, hints: &mut Hints, before: usize, date: u64) -> usize
+/// Notes that the row at the second place is a later version than that at the first, where it is.
+fn note_versions(rows: &IndexedRows, hints: &mut Hints, first: usize, second: usize)
     ensures { AreTrueOf rows.now hints.old.hints.items → AreTrueOf rows.now hints.new.hints.items }
 {
-    let place = rows.place_of(date);
-    if let Some((first, second)) = rows.versions_at(before, place) {
-        hints.note_at(before, first, place, second);
-    }
-    place
-}
-
-/// Notes that the row of the second date is a later version than that of the first, where it is. No row
-/// has the date 0.
-fn note_versions(rows: &IndexedRows, hints: &mut Hints, first: u64, second: u64)
-    ensures { AreTrueOf rows.now hints.old.hints.items → AreTrueOf rows.now hints.new.hints.items }
-{
-    if first > 0 && second > 0 && rows.comes_before(first, second) {
-        hints.note(first, second);
+    if let Some((date, later)) = rows.versions_at(first, second) {
+        hints.note(first, date, second, later);
     }
 }

@@ -59,30 +59,18 @@ impl Hints {
 
     /// The hint of a date. Takes no memory, as all below.
     pub(crate) fn of(&self, date: u64) -> Option<Hint> {
-        let hint = self.hints.get(self.place_of(date))?;
+        let at = self.hints.partition_point(|hint| hint.date < date);
+        let hint = self.hints.get(at)?;
         if hint.date == date { Some(*hint) } else { None }
     }
 
-    /// Notes that the row of the second date is a later version than that of the first.
-    pub(crate) fn note(&mut self, first: u64, second: u64)
-        ensures { (rows : List Row) → ComesBefore rows first second → AreTrueOf rows self.old.hints.items → AreTrueOf rows self.new.hints.items }
-    {
-        let place = self.place_of(first);
-        let behind = self.place_of(second);
-        self.note_at(place, first, behind, second);
-    }
-
-    /// The same of rows whose hints are at these places, if they are.
-    pub(crate) fn note_at(&mut self, place: usize, first: u64, behind: usize, second: u64)
+    /// Notes that the row of the second date is a later version than that of the first, where their hints are
+    /// at these places.
+    pub(crate) fn note(&mut self, place: usize, first: u64, behind: usize, second: u64)
         ensures { (rows : List Row) → ComesBefore rows first second → AreTrueOf rows self.old.hints.items → AreTrueOf rows self.new.hints.items }
     {
         self.note_later(place, first, second);
         self.note_earlier(behind, second, first);
-    }
-
-    /// Where the hint of a date stands, if there is one.
-    fn place_of(&self, date: u64) -> usize {
-        self.hints.partition_point(|hint| hint.date < date)
     }
 
     fn note_later(&mut self, at: usize, date: u64, later: u64)

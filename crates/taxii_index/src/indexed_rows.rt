@@ -8,7 +8,7 @@ ghost use Rattle.taxii_rows.specs.Picking.{IsPicked, IsPickedBy};
 ghost use Rattle.taxii_index.specs.Presence.{is_same as is_present, row_of_same as first_of_same};
 ghost use Rattle.taxii_index.specs.Index.{has_row, key_dates, HasRowOf};
 ghost use Rattle.taxii_index.specs.Names.{id_of};
-ghost use Rattle.taxii_index.specs.Hints.{ComesBefore, IsLaterAt};
+ghost use Rattle.taxii_index.specs.Hints.{ComesBefore};
 
 use crate::dates::is_among;
 use crate::keys::Key;
@@ -243,13 +243,13 @@ impl IndexedRows {
     }
 
     /// The keys of all versions: those of an object stand together, in the order of its versions. They
-    /// only hint: a caller asks `comes_before`.
+    /// only hint: a caller asks `versions_at`.
     pub(crate) fn versions(&self) -> Iter<'_, Key> {
         self.index.versions()
     }
 
     /// The dates of the rows that may stand beside the row among the versions of its object, and 0 where
-    /// there is none. They only hint: a caller asks `comes_before`.
+    /// there is none. They only hint: a caller asks `versions_at`.
     pub(crate) fn neighbours(&self, row: &StoredRow) -> (u64, u64) {
         self.index.neighbours(row)
     }
@@ -269,26 +269,6 @@ impl IndexedRows {
             Some((row.date, other.date))
         } else {
             None
-        }
-    }
-
-    /// Whether the row of the second date is a later version of an object than the row of the first.
-    pub(crate) fn comes_before(&self, first: u64, second: u64) -> bool
-        ensures { IsTrue result → ComesBefore self.now first second }
-    {
-        match row_at(&self.rows, first) {
-            Some(row) => self.is_later_at(row, second),
-            None => false,
-        }
-    }
-
-    /// Whether the row of that date is a later version of the row's object.
-    fn is_later_at(&self, row: &StoredRow, date: u64) -> bool
-        ensures { IsTrue result → IsLaterAt self.now row.now date }
-    {
-        match row_at(&self.rows, date) {
-            Some(other) => is_later(row, other),
-            None => false,
         }
     }
 
