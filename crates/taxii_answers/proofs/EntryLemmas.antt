@@ -116,9 +116,7 @@ kept_same laws (Good json) (Bad refusal) first second same its also = absurd sam
 kept_same laws (Bad refusal) f first second same its also = absurd its
 
 kept_or_fails : Laws → (e f : Entry) (object : Described) → Same e f → IsKept e object → Fails f → ⊥
-kept_or_fails laws (Good json) (Good other) object same its fails =
-    let none : AreBreaksOf (data_of other) [] = subst (λ (d : Data). AreBreaksOf d []) same its.0 in
-    let bad : [] ≡ fails.0 ∷ fails.1.others = laws.breaks (data_of other) [] (fails.0 ∷ fails.1.others) none fails.1.breaks in absurd (cc bad)
+kept_or_fails laws (Good json) (Good other) object same its fails = fails (subst (λ (d : Data). AreBreaksOf d []) same its.0)
 kept_or_fails laws (Good json) (Bad refusal) object same its fails = same
 kept_or_fails laws (Bad refusal) f object same its fails = its
 

@@ -28,9 +28,9 @@ abbrev pub IsKept : Entry → Described → Type 0
 IsKept (Good value) object = AreBreaksOf (data_of value) [] × IsDescribed (data_of value) object
 IsKept (Bad refusal) object = ⊥
 
--- the entry is no JSON value, or has a break
+-- the entry is no JSON value, or no object without breaks
 abbrev pub Fails : Entry → Type 0
-Fails (Good value) = (first : Break) × BreaksFirst (data_of value) first
+Fails (Good value) = ¬ AreBreaksOf (data_of value) []
 Fails (Bad refusal) = ⊤
 
 -- the detail of an entry that fails: of a value it tells the first break

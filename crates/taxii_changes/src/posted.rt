@@ -1,4 +1,4 @@
-ghost use Rattle.std.specs.Prelude.{◌≡◌, ◌+◌, ◌<◌, ◌^◌, [], ◌∷◌, All, IfOk, OnOk};
+ghost use Rattle.std.specs.Prelude.{◌≡◌, ◌+◌, ◌<◌, ◌^◌, [], ◌∷◌, All, IfOk, OnOk, IsTrue};
 ghost use Rattle.stix_json.specs.DataOf.{data_of};
 ghost use Rattle.stix_json.specs.declared.entry.Entry.TheVariants.{Good, Bad};
 ghost use Rattle.stix_objects.specs.Breaks.{AreBreaksOf};
@@ -8,8 +8,8 @@ ghost use Rattle.taxii_changes.specs.inner.Posting.{IsTaken, Adds, AddsObject, A
 use flow_values::{Items, NoMemory};
 use std::alloc::Global;
 use stix_json::{Entry, Json, JsonRefusal};
-use stix_objects::laws::no_breaks;
-use stix_objects::{Break, breaks};
+use stix_objects::laws::{no_breaks, one_list};
+use stix_objects::{Break, breaks, object_id};
 use taxii_bodies::{Detail, failure_detail, refused_detail};
 use taxii_rows::{Described, describe};
 
@@ -53,12 +53,17 @@ impl Posted {
         }
     }
 
-    /// One more value: an object, or a failure where it breaks a rule.
+    /// One more value: an object, or a failure where it breaks a rule. Behind the failures that have details the rules aren't
+    /// asked of what has no identifier: a stranger may send millions of such entries.
     fn add_value(&mut self, alloc: Global, value: &Json, moment: u64) -> Result<(), NoMemory>
         requires taken { IsTaken (Good value.now) }
         requires room { self.old.failure_count < 2 ^ 63 }
         ensures { OnOk result (Adds moment (Good value.now) self.old self.new) }
     {
+        if self.failures.len() >= MAX_DETAILS && is_nameless(value) {
+            self.failure_count += 1;
+            return Ok(());
+        }
         let found = breaks(alloc, value)?;
         match found.as_slice().first() {
             Some(first) => self.add_broken(alloc, value, first, moment),
@@ -92,6 +97,7 @@ impl Posted {
         requires room { self.old.failure_count < 2 ^ 63 }
         ensures { OnOk result (AddsFailure moment (Good value.now) self.old self.new) }
     {
+        one_list();
         self.failure_count += 1;
         if self.failures.len() >= MAX_DETAILS {
             return Ok(());
@@ -118,5 +124,16 @@ impl Posted {
         let detail = refused_detail(alloc, refusal, moment)?;
         self.failures.push(detail)?;
         Ok(())
+    }
+}
+
+/// Whether the value has no identifier, and so breaks a rule.
+fn is_nameless(value: &Json) -> bool
+    ensures { IsTrue result → ¬ AreBreaksOf (data_of value.now) [] }
+{
+    no_breaks();
+    match object_id(value) {
+        Some(_) => false,
+        None => true,
     }
 }
