@@ -5,8 +5,6 @@
 #[cfg(test)]
 mod bindings;
 #[cfg(test)]
-mod dials;
-#[cfg(test)]
 mod failing_streams;
 #[cfg(test)]
 mod frames;
@@ -18,8 +16,6 @@ mod lines;
 mod lists;
 #[cfg(test)]
 mod paths;
-#[cfg(test)]
-mod sockets;
 #[cfg(test)]
 mod timed_streams;
 #[cfg(test)]
