@@ -23,6 +23,7 @@ impl<'a> IdSet<'a> {
             row.push((id.number, id.kind.as_str()))?;
         }
         row.sort()?;
+        row.dedup();
         Ok(IdSet { ids: row })
     }
 

@@ -22,6 +22,7 @@ impl<'a> TextSet<'a> {
             row.push(text.as_str())?;
         }
         row.sort()?;
+        row.dedup();
         Ok(TextSet { texts: row })
     }
 

@@ -1,5 +1,3 @@
-use Rattle.std.proofs.Common.{◌∙◌, sym, ◌↔◌, Bor, List, ℕ, IsTrue, subst}
-use Rattle.std.specs.List.{Contains}
 use Rattle.taxii_pages.proofs.SetLemmas.{found_text}
 use Rattle.taxii_pages.proofs.text_set.TextSet.has.Goals as goal
 
