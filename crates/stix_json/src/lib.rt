@@ -42,4 +42,4 @@ pub use property::{list_at, list_of, text_at, text_of};
 pub use read::{read_json, read_owned};
 pub use refusal::JsonRefusal;
 pub use value::{Field, Json};
-pub use write::write_json;
+pub use write::{write_json, write_json_with_room};

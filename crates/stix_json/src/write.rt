@@ -1,4 +1,4 @@
-ghost use Rattle.std.specs.Prelude.{◌≡◌, ◌++◌, None, IfOk, OnOk, map};
+ghost use Rattle.std.specs.Prelude.{◌≡◌, ◌++◌, None, IfOk, OnOk, map, string_bytes};
 ghost use Rattle.json.specs.Tree.{json_tokens, items_tokens, members_tokens};
 ghost use Rattle.serde_json.specs.Written.{outline, items_outline, members_outline, compact_text};
 ghost use Rattle.serde_json.specs.View.{items_of};
@@ -19,12 +19,30 @@ pub fn write_json(alloc: Global, value: &Json) -> Result<Text, NoMemory>
     ensures text { IfOk result (λ text. text ≡ compact_text (data_of value.now)) }
     ensures reads_back { IfOk result (λ text. refusal_of (data_of value.now) ≡ None → IsJsonOf text value.now) }
 {
-    let mut out = Writer::new(Vec::new(alloc));
+    write_json_with_room(alloc, value, 0)
+}
+
+/// The same, with room for so many bytes from the start: for a text whose length is known.
+pub fn write_json_with_room(alloc: Global, value: &Json, room: usize) -> Result<Text, NoMemory>
+    requires { IsOrdered (data_of value.now) }
+    ensures text { IfOk result (λ text. text ≡ compact_text (data_of value.now)) }
+    ensures reads_back { IfOk result (λ text. refusal_of (data_of value.now) ≡ None → IsJsonOf text value.now) }
+{
+    let mut out = Writer::new(Vec::with_capacity(alloc, room)?);
     write_value(value, &mut out)?;
     match String::from_utf8(out.into_inner()) {
-        Ok(text) => Ok(Text::from_string(text)),
+        Ok(text) => Ok(Text::from_string(without_slack(text))),
         Err(_) => Err(NoMemory),
     }
+}
+
+/// The text in no more memory than it needs: a store keeps it for long.
+fn without_slack(text: String) -> String
+    ensures { string_bytes result ≡ string_bytes text }
+{
+    let mut text = text;
+    text.shrink_to_fit();
+    text
 }
 
 #[cycle(write)]

@@ -1,10 +1,11 @@
 ghost use Rattle.std.specs.Prelude.{◌≡◌, bytes_eq, map, option_map};
+ghost use Rattle.std.specs.List.{flat_map};
 ghost use Rattle.stix_objects.specs.Types.{type_named as named_type, first_named as first_type, group_in as group_of_type, rows_in as rows_of_type};
 ghost use Rattle.stix_objects.specs.inner.Views.{row_view, type_view};
 
 use crate::Group;
 use crate::row::Row;
-use crate::tables::types::{domain_types, observable_types};
+use crate::tables::types::type_tables;
 
 /// An object type with rows of its own.
 #[derive(Clone, Copy)]
@@ -27,10 +28,20 @@ impl ObjectType {
 pub(crate) fn type_named(name: &str) -> Option<&'static ObjectType>
     ensures { option_map (λ found. type_view found.now) result ≡ named_type name.now }
 {
-    match first_named(domain_types(), name) {
-        Some(found) => Some(found),
-        None => first_named(observable_types(), name),
+    first_in(&type_tables(), name)
+}
+
+/// The first type of some tables that has the name.
+fn first_in(tables: &[&'static [ObjectType]], name: &str) -> Option<&'static ObjectType>
+    ensures { option_map (λ found. type_view found.now) result
+        ≡ first_type name.now (flat_map (λ types. map type_view types.now) tables.now) }
+{
+    for types in tables {
+        if let Some(found) = first_named(types, name) {
+            return Some(found);
+        }
     }
+    None
 }
 
 /// The first of some types that has the name.

@@ -143,6 +143,18 @@ versions_is collection object =
     ∙ ap (λ q. collections ++ q) (append_assoc collection (codes "/objects/" ++ (object ++ codes "/")) (codes "versions/")
     ∙ ap (λ q. collection ++ (codes "/objects/" ++ q)) (append_assoc object (codes "/") (codes "versions/")))
 
+-- a path that is bytes, or bytes round one segment, or round two
+whole_path : (w path : List ℕ) → IsText w → path ≡ w → Fits w path
+whole_path w path text is = subst (λ q. Fits w q) (sym is) (fits_whole w text)
+
+one_path : (w v path id : List ℕ) → IsText w → IsText v → IsSegment id → path ≡ w ++ (id ++ v) → Fits (w ++ 256 ∷ v) path
+one_path w v path id text also is_id is = subst (λ q. Fits (w ++ 256 ∷ v) q) (sym is) (fits_one w v id text also is_id)
+
+two_paths : (w v u path id object : List ℕ) → IsText w → IsText v → IsText u → IsSegment id → IsSegment object → path ≡ w ++ (id ++ (v ++ (object ++ u)))
+    → Fits (w ++ 256 ∷ (v ++ 256 ∷ u)) path
+two_paths w v u path id object text also third is_id is_object is =
+    subst (λ q. Fits (w ++ 256 ∷ (v ++ 256 ∷ u)) q) (sym is) (fits_two w v u id object text also third is_id is_object)
+
 pub path_fits : (path : List ℕ) (route : Route) → IsPathOf path route → FitsSome path
 unfolding table
 path_fits path (Route.Manifest id) is = (
@@ -150,8 +162,8 @@ path_fits path (Route.Manifest id) is = (
   (
     collections ++ 256 ∷ codes "/manifest/",
     inl (refl, refl),
-    subst (λ q. Fits (collections ++ 256 ∷ codes "/manifest/") q) (ap (λ q. collections ++ q) (sym (append_assoc id (codes "/") (codes "manifest/"))) ∙ sym is.1)
-        (fits_one collections (codes "/manifest/") id collections_text manifest_text is.0),
+    one_path collections (codes "/manifest/") path id collections_text manifest_text is.0
+        (is.1 ∙ ap (λ q. collections ++ q) (append_assoc id (codes "/") (codes "manifest/"))),
   ),
 )
 path_fits path (Route.Versions collection object) is = (
@@ -159,8 +171,8 @@ path_fits path (Route.Versions collection object) is = (
   (
     collections ++ 256 ∷ (codes "/objects/" ++ 256 ∷ codes "/versions/"),
     inr (inl (refl, refl)),
-    subst (λ q. Fits (collections ++ 256 ∷ (codes "/objects/" ++ 256 ∷ codes "/versions/")) q) (sym (is.2 ∙ versions_is collection object))
-        (fits_two collections (codes "/objects/") (codes "/versions/") collection object collections_text objects_text versions_text is.0 is.1),
+    two_paths collections (codes "/objects/") (codes "/versions/") path collection object collections_text objects_text versions_text is.0 is.1
+        (is.2 ∙ versions_is collection object),
   ),
 )
 path_fits path (Route.Object collection object) is = (
@@ -168,8 +180,8 @@ path_fits path (Route.Object collection object) is = (
   (
     collections ++ 256 ∷ (codes "/objects/" ++ 256 ∷ codes "/"),
     inr (inr (inl (refl, refl))),
-    subst (λ q. Fits (collections ++ 256 ∷ (codes "/objects/" ++ 256 ∷ codes "/")) q) (sym (is.2 ∙ object_is collection object))
-        (fits_two collections (codes "/objects/") (codes "/") collection object collections_text objects_text slash_text is.0 is.1),
+    two_paths collections (codes "/objects/") (codes "/") path collection object collections_text objects_text slash_text is.0 is.1
+        (is.2 ∙ object_is collection object),
   ),
 )
 path_fits path (Route.Objects id) is = (
@@ -177,32 +189,18 @@ path_fits path (Route.Objects id) is = (
   (
     collections ++ 256 ∷ codes "/objects/",
     inr (inr (inr (inl (refl, refl)))),
-    subst (λ q. Fits (collections ++ 256 ∷ codes "/objects/") q) (ap (λ q. collections ++ q) (sym (append_assoc id (codes "/") (codes "objects/"))) ∙ sym is.1)
-        (fits_one collections (codes "/objects/") id collections_text objects_text is.0),
+    one_path collections (codes "/objects/") path id collections_text objects_text is.0
+        (is.1 ∙ ap (λ q. collections ++ q) (append_assoc id (codes "/") (codes "objects/"))),
   ),
 )
-path_fits path (Route.Collection id) is = (
-  _,
-  (
-    collections ++ 256 ∷ codes "/",
-    inr (inr (inr (inr (inl (refl, refl))))),
-    subst (λ q. Fits (collections ++ 256 ∷ codes "/") q) (sym is.1) (fits_one collections (codes "/") id collections_text slash_text is.0),
-  ),
-)
-path_fits path Route.Collections is =
-    (_, (collections, inr (inr (inr (inr (inr (inl (refl, refl)))))), subst (λ q. Fits collections q) (sym is) (fits_whole collections collections_text)))
-path_fits path (Route.Status id) is = (
-  _,
-  (
-    codes "/api/status/" ++ 256 ∷ codes "/",
-    inr (inr (inr (inr (inr (inr (inl (refl, refl))))))),
-    subst (λ q. Fits (codes "/api/status/" ++ 256 ∷ codes "/") q) (sym is.1) (fits_one (codes "/api/status/") (codes "/") id status_text slash_text is.0),
-  ),
-)
-path_fits path Route.Root is =
-    (_, (codes "/api/", inr (inr (inr (inr (inr (inr (inr (inl (refl, refl)))))))), subst (λ q. Fits (codes "/api/") q) (sym is) (fits_whole (codes "/api/") root_text)))
+path_fits path (Route.Collection id) is =
+    (_, (collections ++ 256 ∷ codes "/", inr (inr (inr (inr (inl (refl, refl))))), one_path collections (codes "/") path id collections_text slash_text is.0 is.1))
+path_fits path Route.Collections is = (_, (collections, inr (inr (inr (inr (inr (inl (refl, refl)))))), whole_path collections path collections_text is))
+path_fits path (Route.Status id) is =
+    (_, (codes "/api/status/" ++ 256 ∷ codes "/", inr (inr (inr (inr (inr (inr (inl (refl, refl))))))), one_path (codes "/api/status/") (codes "/") path id status_text slash_text is.0 is.1))
+path_fits path Route.Root is = (_, (codes "/api/", inr (inr (inr (inr (inr (inr (inr (inl (refl, refl)))))))), whole_path (codes "/api/") path root_text is))
 path_fits path Route.Discovery is =
-    (_, (codes "/taxii2/", inr (inr (inr (inr (inr (inr (inr (inr (inl (refl, refl))))))))), subst (λ q. Fits (codes "/taxii2/") q) (sym is) (fits_whole (codes "/taxii2/") discovery_text)))
+    (_, (codes "/taxii2/", inr (inr (inr (inr (inr (inr (inr (inr (inl (refl, refl))))))))), whole_path (codes "/taxii2/") path discovery_text is))
 path_fits path Route.None is = absurd is
 
 -- where the router finds nothing, no route has the path

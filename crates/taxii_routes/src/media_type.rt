@@ -54,7 +54,8 @@ fn is_fitting(parameter: &str) -> bool
 fn is_version(value: &str) -> bool
     ensures { IsTrue result ↔ IsVersion value.now }
 {
-    matches!(trimmed(value), b"2.1" | b"\"2.1\"")
+    let value = trimmed(value);
+    value == b"2.1".as_slice() || value == b"\"2.1\"".as_slice()
 }
 
 /// Whether the media range takes in every type of which TAXII's is one.

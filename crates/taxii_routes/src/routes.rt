@@ -1,4 +1,4 @@
-ghost use Rattle.std.specs.Prelude.{◌≡◌, ◌≢◌, ℕ, List, Ok, IfOk, OnErr};
+ghost use Rattle.std.specs.Prelude.{◌≡◌, ◌≢◌, ℕ, List, [], Ok, IfOk, OnOk, OnErr};
 ghost use Rattle.taxii_routes.specs.declared.route.Route.{Route};
 ghost use Rattle.taxii_routes.specs.declared.route.Route.TheVariants as Route;
 ghost use Rattle.taxii_routes.specs.Route.{IsPathOf};
@@ -79,10 +79,20 @@ impl Routes {
     }
 }
 
+/// A router with all rows.
 fn router(alloc: Global) -> Result<Router<Endpoint>, InsertError>
     ensures { IfOk result (λ router. router ≡ table) }
 {
     let mut router = Router::new(alloc);
+    insert_routes(&mut router)?;
+    Ok(router)
+}
+
+/// Inserts all rows into a router without rows.
+fn insert_routes(router: &mut Router<Endpoint>) -> Result<(), InsertError>
+    requires { router.old ≡ [] }
+    ensures { OnOk result (router.new ≡ table) }
+{
     router.insert("/taxii2/", Endpoint::Discovery)?;
     router.insert("/api/", Endpoint::Root)?;
     router.insert("/api/status/{id}/", Endpoint::Status)?;
@@ -95,5 +105,5 @@ fn router(alloc: Global) -> Result<Router<Endpoint>, InsertError>
         "/api/collections/{id}/objects/{object}/versions/",
         Endpoint::Versions,
     )?;
-    Ok(router)
+    Ok(())
 }

@@ -11,7 +11,7 @@ use crate::{StoredRow, TypeSet, version_of};
 use flow_values::NoMemory;
 use std::alloc::Global;
 use stix_ids::{Id, is_text_of};
-use stix_json::{Json, JsonReader, JsonRefusal, text_at, write_json};
+use stix_json::{Json, JsonReader, JsonRefusal, text_at, write_json_with_room};
 
 /// Whether the row is what its body gives: the body is the compact text of an ordered JSON value, with
 /// the row's identifier, and with its version by the types of observables of either set.
@@ -33,7 +33,7 @@ fn is_row_of(alloc: Global, row: &StoredRow, object: &Json) -> Result<bool, NoMe
     requires { IsOrdered (data_of object.now) }
     ensures { IfOk result (λ own. IsTrue own ↔ IsRowOf row.now (data_of object.now)) }
 {
-    let text = write_json(alloc, object)?;
+    let text = write_json_with_room(alloc, object, row.body.len())?;
     let own = has_body(row, text.as_str());
     Ok(own && is_told_by(row, object))
 }

@@ -1,14 +1,33 @@
 //! The object types with rows of their own (STIX 2.1, sections 4 to 7).
 
-ghost use Rattle.std.specs.Prelude.{◌≡◌, map};
-ghost use Rattle.stix_objects.specs.Types.{domain_types as types_of_domain, observable_types as cyber_types};
+ghost use Rattle.std.specs.Prelude.{◌≡◌, ◌++◌, map};
+ghost use Rattle.std.specs.List.{flat_map};
+ghost use Rattle.stix_objects.specs.Types.{domain_types, observable_types};
 ghost use Rattle.stix_objects.specs.inner.Views.{type_view};
 
 use crate::Group;
 use crate::object_type::ObjectType;
 use crate::tables::{domain, observable};
 
-const DOMAIN_TYPES: &[ObjectType] = &[
+/// All types, in tables that follow one another. They are short, since what a constant costs its proof rises faster than its length.
+pub(crate) fn type_tables() -> [&'static [ObjectType]; 9]
+    ensures { flat_map (λ types. map type_view types.now) result ≡ domain_types ++ observable_types }
+{
+    [
+        FROM_ATTACK_PATTERN,
+        FROM_MALWARE,
+        FROM_OBSERVED_DATA,
+        FROM_RELATIONSHIP,
+        FROM_ARTIFACT,
+        FROM_EMAIL_ADDR,
+        FROM_FILE,
+        FROM_NETWORK_TRAFFIC,
+        FROM_SOFTWARE,
+    ]
+}
+
+/// The domain objects (section 4), from attack-pattern on.
+const FROM_ATTACK_PATTERN: &[ObjectType] = &[
     ObjectType {
         name: "attack-pattern",
         group: Group::Domain,
@@ -49,6 +68,9 @@ const DOMAIN_TYPES: &[ObjectType] = &[
         group: Group::Domain,
         rows: domain::NAMED_AND_SEEN,
     },
+];
+
+const FROM_MALWARE: &[ObjectType] = &[
     ObjectType {
         name: "malware",
         group: Group::Domain,
@@ -64,6 +86,9 @@ const DOMAIN_TYPES: &[ObjectType] = &[
         group: Group::Domain,
         rows: domain::NOTE,
     },
+];
+
+const FROM_OBSERVED_DATA: &[ObjectType] = &[
     ObjectType {
         name: "observed-data",
         group: Group::Domain,
@@ -94,6 +119,10 @@ const DOMAIN_TYPES: &[ObjectType] = &[
         group: Group::Domain,
         rows: domain::NAMED,
     },
+];
+
+/// The relationship objects (section 5) and the marking-definition (section 7.2.1).
+const FROM_RELATIONSHIP: &[ObjectType] = &[
     ObjectType {
         name: "relationship",
         group: Group::Domain,
@@ -111,14 +140,8 @@ const DOMAIN_TYPES: &[ObjectType] = &[
     },
 ];
 
-/// The domain objects, the relationship objects and the marking-definition.
-pub(crate) fn domain_types() -> &'static [ObjectType]
-    ensures { map type_view result.now ≡ types_of_domain }
-{
-    DOMAIN_TYPES
-}
-
-const OBSERVABLE_TYPES: &[ObjectType] = &[
+/// The observables (section 6), from artifact on.
+const FROM_ARTIFACT: &[ObjectType] = &[
     ObjectType {
         name: "artifact",
         group: Group::Observable,
@@ -139,6 +162,9 @@ const OBSERVABLE_TYPES: &[ObjectType] = &[
         group: Group::Observable,
         rows: observable::DOMAIN_NAME,
     },
+];
+
+const FROM_EMAIL_ADDR: &[ObjectType] = &[
     ObjectType {
         name: "email-addr",
         group: Group::Observable,
@@ -149,6 +175,9 @@ const OBSERVABLE_TYPES: &[ObjectType] = &[
         group: Group::Observable,
         rows: observable::EMAIL_MESSAGE,
     },
+];
+
+const FROM_FILE: &[ObjectType] = &[
     ObjectType {
         name: "file",
         group: Group::Observable,
@@ -174,6 +203,9 @@ const OBSERVABLE_TYPES: &[ObjectType] = &[
         group: Group::Observable,
         rows: observable::MUTEX,
     },
+];
+
+const FROM_NETWORK_TRAFFIC: &[ObjectType] = &[
     ObjectType {
         name: "network-traffic",
         group: Group::Observable,
@@ -184,6 +216,9 @@ const OBSERVABLE_TYPES: &[ObjectType] = &[
         group: Group::Observable,
         rows: observable::PROCESS,
     },
+];
+
+const FROM_SOFTWARE: &[ObjectType] = &[
     ObjectType {
         name: "software",
         group: Group::Observable,
@@ -210,10 +245,3 @@ const OBSERVABLE_TYPES: &[ObjectType] = &[
         rows: observable::X509_CERTIFICATE,
     },
 ];
-
-/// The observables.
-pub(crate) fn observable_types() -> &'static [ObjectType]
-    ensures { map type_view result.now ≡ cyber_types }
-{
-    OBSERVABLE_TYPES
-}

@@ -1,7 +1,7 @@
 use Rattle.std.proofs.Common.{refl}
 use Rattle.matchit.proofs.OnLiterals.{matchit_on_literals}
 use Rattle.taxii_routes.specs.inner.Table.{table}
-use Rattle.taxii_routes.proofs.routes.router.Goals as goal
+use Rattle.taxii_routes.proofs.routes.insert_routes.Goals as goal
 
 pub returns : goal.returns
 unfolding matchit_on_literals table
@@ -15,4 +15,4 @@ returns c =
     let e7 = c.in_ok-insert-7.ensures in
     let e8 = c.in_ok-insert-8.ensures in
     let e9 = c.in_ok-insert-9.ensures in
-    rw (e9.1, e8.1, e7.1, e6.1, e5.1, e4.1, e3.1, e2.1, e1.1, c.new-router.ensures) refl
+    rw (e9.1, e8.1, e7.1, e6.1, e5.1, e4.1, e3.1, e2.1, e1.1, c.requires) refl

@@ -6,7 +6,7 @@ use Rattle.serde_json.specs.Written.{outline}
 use Rattle.serde_json.proofs.Texts.{print-outline}
 use Rattle.stix_json.specs.DataOf.{data_of}
 use Rattle.stix_json.proofs.ReadingLemmas.{reads_back}
-use Rattle.stix_json.proofs.write.write_json.Goals as goal
+use Rattle.stix_json.proofs.write.write_json_with_room.Goals as goal
 
 pub returns-in-Ok : goal.returns-in-Ok
 returns-in-Ok c =
