@@ -1,5 +1,5 @@
 -- The names of a status are in order, whichever of its lists it has.
-use Rattle.std.proofs.Common.{◌≡◌, ℕ, ◌+◌, List, [], ◌∷◌, ◌++◌, refl, Option, Some, None}
+use Rattle.std.proofs.Common.{◌≡◌, ℕ, ◌+◌, List, [], ◌∷◌, ◌++◌, refl, ap, ◌∙◌, append_assoc, Option, Some, None}
 use Rattle.std.specs.Prelude.{map, codes}
 use Rattle.serde_json.specs.Data.{Data, unsigned, string, object, no_members, member}
 use Rattle.serde_json.specs.Data as json
@@ -73,13 +73,35 @@ status_made : (report : StatusReport) (moment : List ℕ)
     → object (members_of (added_members report moment (map detail_data report.failures) (map detail_data report.successes))) ≡ status_data report moment
 status_made report moment = all_members report moment (map detail_data report.failures) (map detail_data report.successes)
 
--- the members after each step, of which each is told by the one before
-pub status_joined : (report : StatusReport) (moment : List ℕ) (one two three four five middle : List Member) (first last : Member) (failures successes : List Detail)
-    → one ≡ first ∷ [] → first ≡ record { name = codes "failure_count"; value = json.number (unsigned report.failure_count) }
+-- the members after each step
+pub status_joined : (report : StatusReport) (moment : List ℕ) (zero one two three four five : List Member) (failures successes : List Detail)
+    → zero ≡ [] → one ≡ zero ++ record { name = codes "failure_count"; value = json.number (unsigned report.failure_count) } ∷ []
     → two ≡ one ++ list_member (codes "failures") (map detail_data failures) → failures ≡ report.failures
-    → three ≡ two ++ middle → middle ≡ middle_members report moment
+    → three ≡ two ++ middle_members report moment
     → four ≡ three ++ list_member (codes "successes") (map detail_data successes) → successes ≡ report.successes
-    → five ≡ four ++ last ∷ [] → last ≡ record { name = codes "total_count"; value = json.number (unsigned (report.success_count + report.failure_count)) }
+    → five ≡ four ++ record { name = codes "total_count"; value = json.number (unsigned (report.success_count + report.failure_count)) } ∷ []
     → object (members_of five) ≡ status_data report moment
-status_joined report moment one two three four five middle first last failures successes is1 first_is is2 failed is3 middle_is is4 stored is5 last_is =
-    rw (is5, is4, is3, is2, is1, first_is, failed, middle_is, stored, last_is) (status_made report moment)
+status_joined report moment zero one two three four five failures successes is0 is1 is2 failed is3 is4 stored is5 =
+    rw (is5, is4, is3, is2, is1, is0, failed, stored) (status_made report moment)
+
+-- one member more, behind some that were added
+more : (old some now next : List Member) (m : Member) → now ≡ old ++ some → next ≡ now ++ m ∷ [] → next ≡ old ++ (some ++ m ∷ [])
+more old some now next m before is = is ∙ ap (λ (ms : List Member). ms ++ m ∷ []) before ∙ append_assoc old some (m ∷ [])
+
+-- the members between the two lists, one at a time
+pub middle_joined : (old one two three four five : List Member) (a b c d e : Member)
+    → one ≡ old ++ a ∷ [] → two ≡ one ++ b ∷ [] → three ≡ two ++ c ∷ [] → four ≡ three ++ d ∷ [] → five ≡ four ++ e ∷ []
+    → five ≡ old ++ a ∷ b ∷ c ∷ d ∷ e ∷ []
+middle_joined old one two three four five a b c d e is1 is2 is3 is4 is5 =
+    more old (a ∷ b ∷ c ∷ d ∷ []) four five e (more old (a ∷ b ∷ c ∷ []) three four d (more old (a ∷ b ∷ []) two three c (more old (a ∷ []) one two b is1 is2) is3) is4) is5
+
+-- the first of them by the text of its identifier
+pub named_middle : (old : List Member) (report : StatusReport) (moment id : List ℕ) → id ≡ status_id_of report.number
+    → old ++ record { name = codes "id"; value = string id }
+    ∷ record { name = codes "pending_count"; value = json.number (unsigned 0) }
+    ∷ record { name = codes "request_timestamp"; value = string moment }
+    ∷ record { name = codes "status"; value = string (codes "complete") }
+    ∷ record { name = codes "success_count"; value = json.number (unsigned report.success_count) }
+    ∷ []
+    ≡ old ++ middle_members report moment
+named_middle old report moment id is = rw is refl

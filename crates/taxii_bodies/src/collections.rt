@@ -3,7 +3,7 @@ ghost use Rattle.serde_json.specs.Written.{compact_text};
 ghost use Rattle.stix_json.specs.DataOf.{data_of};
 ghost use Rattle.taxii_bodies.specs.Collections.{collection_data, collections_data, has_name};
 
-use crate::fields::{list_field, object_of, object_text, one_text_field, text_field, truth_field};
+use crate::fields::Fields;
 use crate::uuids::write_uuid;
 use flow_values::{Items, NoMemory, Text};
 use std::alloc::Global;
@@ -48,8 +48,9 @@ pub fn collections_body(alloc: Global, infos: &[CollectionInfo]) -> Result<Text,
     ensures { IfOk result (λ text. text ≡ compact_text (collections_data infos.now)) }
 {
     let values = collection_values(alloc, infos)?;
-    let collections = list_field(alloc, "collections", values)?;
-    object_text(alloc, vec![in alloc; collections]?)
+    let mut collections = Fields::new(alloc);
+    collections.push_list("collections", values)?;
+    collections.into_text()
 }
 
 fn collection_values(alloc: Global, infos: &[CollectionInfo]) -> Result<Items<Json>, NoMemory>
@@ -65,11 +66,12 @@ fn collection_values(alloc: Global, infos: &[CollectionInfo]) -> Result<Items<Js
 fn collection_value(alloc: Global, info: &CollectionInfo) -> Result<Json, NoMemory>
     ensures { IfOk result (λ value. data_of value ≡ collection_data info.now) }
 {
-    let can_read = truth_field(alloc, "can_read", info.can_read)?;
-    let can_write = truth_field(alloc, "can_write", info.can_write)?;
     let mut buffer = [0; 36];
-    let id = text_field(alloc, "id", write_uuid(info.id, &mut buffer))?;
-    let media_types = one_text_field(alloc, "media_types", STIX_MEDIA_TYPE)?;
-    let title = text_field(alloc, "title", info.title.as_str())?;
-    Ok(object_of(vec![in alloc; can_read, can_write, id, media_types, title]?))
+    let mut collection = Fields::new(alloc);
+    collection.push_truth("can_read", info.can_read)?;
+    collection.push_truth("can_write", info.can_write)?;
+    collection.push_text("id", write_uuid(info.id, &mut buffer))?;
+    collection.push_one_text("media_types", STIX_MEDIA_TYPE)?;
+    collection.push_text("title", info.title.as_str())?;
+    Ok(collection.into_object())
 }

@@ -2,7 +2,7 @@ ghost use Rattle.std.specs.Prelude.{◌≡◌, IfOk, option_map};
 ghost use Rattle.serde_json.specs.Written.{compact_text};
 ghost use Rattle.taxii_bodies.specs.Discovery.{discovery_data, root_data, root_url as url_under};
 
-use crate::fields::{number_field, object_text, one_text_field, text_field};
+use crate::fields::Fields;
 use crate::title_body;
 use flow_values::{NoMemory, Text};
 use std::alloc::Global;
@@ -32,10 +32,11 @@ fn based_body(alloc: Global, base: &str) -> Result<Text, NoMemory>
     ensures { IfOk result (λ text. text ≡ compact_text (discovery_data (Some base.now))) }
 {
     let url = root_url(alloc, base)?;
-    let roots = one_text_field(alloc, "api_roots", url.as_str())?;
-    let default = text_field(alloc, "default", url.as_str())?;
-    let title = text_field(alloc, "title", SERVER_TITLE)?;
-    object_text(alloc, vec![in alloc; roots, default, title]?)
+    let mut discovery = Fields::new(alloc);
+    discovery.push_one_text("api_roots", url.as_str())?;
+    discovery.push_text("default", url.as_str())?;
+    discovery.push_text("title", SERVER_TITLE)?;
+    discovery.into_text()
 }
 
 /// The URL of the API root under a base URL.
@@ -51,8 +52,9 @@ fn root_url(alloc: Global, base: &str) -> Result<Text, NoMemory>
 pub fn root_body(alloc: Global) -> Result<Text, NoMemory>
     ensures { IfOk result (λ text. text ≡ compact_text root_data) }
 {
-    let length = number_field(alloc, "max_content_length", MAX_CONTENT_LENGTH)?;
-    let title = text_field(alloc, "title", "API root")?;
-    let versions = one_text_field(alloc, "versions", TAXII_MEDIA_TYPE)?;
-    object_text(alloc, vec![in alloc; length, title, versions]?)
+    let mut root = Fields::new(alloc);
+    root.push_number("max_content_length", MAX_CONTENT_LENGTH)?;
+    root.push_text("title", "API root")?;
+    root.push_one_text("versions", TAXII_MEDIA_TYPE)?;
+    root.into_text()
 }

@@ -1,60 +1,109 @@
-ghost use Rattle.std.specs.Prelude.{◌≡◌, ◌^◌, ◌<◌, ◌∷◌, [], IfOk, map};
+ghost use Rattle.std.specs.Prelude.{◌≡◌, ◌^◌, ◌<◌, ◌∷◌, ◌++◌, [], IfOk, OnOk, map};
 ghost use Rattle.serde_json.specs.Data.{boolean, unsigned, number as whole, string, array, object, item, no_items};
 ghost use Rattle.serde_json.specs.View.{items_of};
 ghost use Rattle.serde_json.specs.Written.{compact_text};
-ghost use Rattle.stix_json.specs.DataOf.{data_of, field_data, members_of};
+ghost use Rattle.stix_json.specs.DataOf.{data_of, members_of};
 ghost use Rattle.stix_json.specs.Ordered.{MembersAreOrdered};
+ghost use Rattle.taxii_bodies.specs.inner.Members.{members_in, list_member};
 
 use flow_values::{Items, NoMemory, Text};
 use std::alloc::Global;
 use stix_json::{Field, Json, JsonText, Name, write_json};
 
-/// A field of any value.
-pub(crate) fn field(alloc: Global, name: &str, value: Json) -> Result<Field, NoMemory>
-    ensures { IfOk result (λ field. field_data field ≡ record { name = name.now; value = data_of value }) }
-{
-    let name = Name::from_text(alloc, name)?;
-    Ok(Field { name, value })
+/// The fields of an object, in the order in which they are added.
+#[derive(Drop)]
+pub(crate) struct Fields {
+    alloc: Global,
+    fields: Vec<Field>,
 }
 
-/// A field of `true` or `false`.
-pub(crate) fn truth_field(alloc: Global, name: &str, truth: bool) -> Result<Field, NoMemory>
-    ensures { IfOk result (λ field. field_data field ≡ record { name = name.now; value = boolean truth }) }
-{
-    field(alloc, name, Json::Bool(truth))
-}
+impl Fields {
+    /// No fields. Takes no memory.
+    pub(crate) fn new(alloc: Global) -> Fields
+        ensures { members_in result ≡ [] }
+    {
+        Fields {
+            alloc,
+            fields: Vec::new(alloc),
+        }
+    }
 
-/// A field of a number.
-pub(crate) fn number_field(alloc: Global, name: &str, number: u64) -> Result<Field, NoMemory>
-    requires { number < 2 ^ 63 }
-    ensures { IfOk result (λ field. field_data field ≡ record { name = name.now; value = whole (unsigned number) }) }
-{
-    field(alloc, name, Json::Integer(number as i64))
-}
+    /// Adds a field of any value.
+    pub(crate) fn push(&mut self, name: &str, value: Json) -> Result<(), NoMemory>
+        ensures { OnOk result (members_in self.new ≡ members_in self.old ++ record { name = name.now; value = data_of value } ∷ []) }
+    {
+        match Name::from_text(self.alloc, name) {
+            Ok(name) => Ok(self.fields.push(Field { name, value })?),
+            Err(NoMemory) => {
+                drop(value);
+                Err(NoMemory)
+            }
+        }
+    }
 
-/// A field of a text.
-pub(crate) fn text_field(alloc: Global, name: &str, text: &str) -> Result<Field, NoMemory>
-    ensures { IfOk result (λ field. field_data field ≡ record { name = name.now; value = string text.now }) }
-{
-    let value = text_value(alloc, text)?;
-    field(alloc, name, value)
-}
+    /// Adds a field of `true` or `false`.
+    pub(crate) fn push_truth(&mut self, name: &str, truth: bool) -> Result<(), NoMemory>
+        ensures { OnOk result (members_in self.new ≡ members_in self.old ++ record { name = name.now; value = boolean truth } ∷ []) }
+    {
+        self.push(name, Json::Bool(truth))
+    }
 
-/// A field of a list.
-pub(crate) fn list_field(alloc: Global, name: &str, values: Items<Json>) -> Result<Field, NoMemory>
-    ensures { IfOk result
-        (λ field. field_data field ≡ record { name = name.now; value = array (items_of (map data_of values)) }) }
-{
-    field(alloc, name, Json::Array(values))
-}
+    /// Adds a field of a number.
+    pub(crate) fn push_number(&mut self, name: &str, number: u64) -> Result<(), NoMemory>
+        requires { number < 2 ^ 63 }
+        ensures { OnOk result (members_in self.new ≡ members_in self.old ++ record { name = name.now; value = whole (unsigned number) } ∷ []) }
+    {
+        self.push(name, Json::Integer(number as i64))
+    }
 
-/// A field of a list of one text.
-pub(crate) fn one_text_field(alloc: Global, name: &str, text: &str) -> Result<Field, NoMemory>
-    ensures { IfOk result
-        (λ field. field_data field ≡ record { name = name.now; value = array (item (string text.now) no_items) }) }
-{
-    let value = text_value(alloc, text)?;
-    list_field(alloc, name, Items::from_vec(vec![in alloc; value]?))
+    /// Adds a field of a text.
+    pub(crate) fn push_text(&mut self, name: &str, text: &str) -> Result<(), NoMemory>
+        ensures { OnOk result (members_in self.new ≡ members_in self.old ++ record { name = name.now; value = string text.now } ∷ []) }
+    {
+        self.push(name, text_value(self.alloc, text)?)
+    }
+
+    /// Adds a field of a list of one text.
+    pub(crate) fn push_one_text(&mut self, name: &str, text: &str) -> Result<(), NoMemory>
+        ensures { OnOk result (members_in self.new ≡ members_in self.old ++ record { name = name.now; value = array (item (string text.now) no_items) } ∷ []) }
+    {
+        let mut texts = Items::new(self.alloc);
+        texts.push(text_value(self.alloc, text)?)?;
+        self.push_list(name, texts)
+    }
+
+    /// Adds a field of a list.
+    pub(crate) fn push_list(&mut self, name: &str, values: Items<Json>) -> Result<(), NoMemory>
+        ensures { OnOk result (members_in self.new ≡ members_in self.old ++ record { name = name.now; value = array (items_of (map data_of values)) } ∷ []) }
+    {
+        self.push(name, Json::Array(values))
+    }
+
+    /// Adds a field of a list, where the list isn't empty.
+    pub(crate) fn push_some(&mut self, name: &str, values: Items<Json>) -> Result<(), NoMemory>
+        ensures { OnOk result (members_in self.new ≡ members_in self.old ++ list_member name.now (map data_of values)) }
+    {
+        if values.is_empty() {
+            return Ok(());
+        }
+        self.push_list(name, values)
+    }
+
+    /// The object of these fields.
+    pub(crate) fn into_object(self) -> Json
+        ensures { data_of result ≡ object (members_of (members_in self)) }
+    {
+        Json::Object(Items::from_vec(self.fields))
+    }
+
+    /// The text of the object of these fields, whose names rise.
+    pub(crate) fn into_text(self) -> Result<Text, NoMemory>
+        requires { MembersAreOrdered (members_of (members_in self)) }
+        ensures { IfOk result (λ text. text ≡ compact_text (object (members_of (members_in self)))) }
+    {
+        let alloc = self.alloc;
+        write_json(alloc, &self.into_object())
+    }
 }
 
 /// A text as a value.
@@ -63,20 +112,4 @@ pub(crate) fn text_value(alloc: Global, text: &str) -> Result<Json, NoMemory>
 {
     let text = Text::from_text(alloc, text)?;
     Ok(Json::String(JsonText::from_text(alloc, text)?))
-}
-
-/// The object of these fields.
-pub(crate) fn object_of(fields: Vec<Field>) -> Json
-    ensures { data_of result ≡ object (members_of (map field_data fields.items)) }
-{
-    Json::Object(Items::from_vec(fields))
-}
-
-/// The text of the object of these fields, whose names rise.
-pub(crate) fn object_text(alloc: Global, fields: Vec<Field>) -> Result<Text, NoMemory>
-    requires { MembersAreOrdered (members_of (map field_data fields.items)) }
-    ensures { IfOk result (λ text. text ≡ compact_text (object (members_of (map field_data fields.items)))) }
-{
-    let object = object_of(fields);
-    write_json(alloc, &object)
 }

@@ -5,7 +5,7 @@ ghost use Rattle.taxii_bodies.specs.Manifest.{IsManifest, IsRecordOf};
 ghost use Rattle.taxii_bodies.specs.Times.{IsWritable};
 
 use crate::collections::STIX_MEDIA_TYPE;
-use crate::fields::{object_of, text_field};
+use crate::fields::Fields;
 use crate::page::page_text;
 use crate::times::{date_text, version_text};
 use flow_values::{Items, NoMemory, Text};
@@ -40,11 +40,12 @@ fn record_of(alloc: Global, row: &StoredRow) -> Result<Json, NoMemory>
     ensures { IfOk result (λ value. IsRecordOf row.now (data_of value)) }
 {
     let date = date_text(alloc, row.date)?;
-    let date = text_field(alloc, "date_added", date.as_str())?;
     let id = write_id(alloc, &row.id)?;
-    let id = text_field(alloc, "id", id.as_str())?;
-    let media_type = text_field(alloc, "media_type", STIX_MEDIA_TYPE)?;
     let version = version_text(alloc, row)?;
-    let version = text_field(alloc, "version", version.as_str())?;
-    Ok(object_of(vec![in alloc; date, id, media_type, version]?))
+    let mut record = Fields::new(alloc);
+    record.push_text("date_added", date.as_str())?;
+    record.push_text("id", id.as_str())?;
+    record.push_text("media_type", STIX_MEDIA_TYPE)?;
+    record.push_text("version", version.as_str())?;
+    Ok(record.into_object())
 }

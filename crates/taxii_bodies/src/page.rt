@@ -4,7 +4,7 @@ ghost use Rattle.stix_json.specs.DataOf.{data_of};
 ghost use Rattle.stix_json.specs.Ordered.{IsOrdered};
 ghost use Rattle.taxii_bodies.specs.Page.{page_data};
 
-use crate::fields::{list_field, object_text, truth_field};
+use crate::fields::Fields;
 use flow_values::{Items, NoMemory, Text};
 use std::alloc::Global;
 use stix_json::Json;
@@ -19,10 +19,8 @@ pub(crate) fn page_text(
     requires { IsOrdered (page_data more name.now (map data_of values)) }
     ensures { IfOk result (λ text. text ≡ compact_text (page_data more name.now (map data_of values))) }
 {
-    let more = truth_field(alloc, "more", more)?;
-    if values.is_empty() {
-        return object_text(alloc, vec![in alloc; more]?);
-    }
-    let list = list_field(alloc, name, values)?;
-    object_text(alloc, vec![in alloc; more, list]?)
+    let mut page = Fields::new(alloc);
+    page.push_truth("more", more)?;
+    page.push_some(name, values)?;
+    page.into_text()
 }

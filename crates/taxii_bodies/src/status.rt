@@ -1,16 +1,16 @@
 ghost use Rattle.std.specs.Prelude.{◌≡◌, ◌+◌, ◌<◌, ◌^◌, ◌++◌, IfOk, OnOk, map};
 ghost use Rattle.serde_json.specs.Data.{object};
-ghost use Rattle.stix_json.specs.DataOf.{data_of, field_data, members_of};
+ghost use Rattle.stix_json.specs.DataOf.{data_of, members_of};
 ghost use Rattle.taxii_bodies.specs.Status.{status_id_of, detail_data, status_data, IsStatus};
-ghost use Rattle.taxii_bodies.specs.inner.Members.{list_member, middle_members};
+ghost use Rattle.taxii_bodies.specs.inner.Members.{members_in, list_member, middle_members};
 
 use crate::Detail;
 use crate::details::moment_text;
-use crate::fields::{list_field, number_field, object_of, object_text, text_field};
+use crate::fields::Fields;
 use crate::uuids::write_uuid;
 use flow_values::{Items, NoMemory, Text};
 use std::alloc::Global;
-use stix_json::{Field, Json};
+use stix_json::Json;
 
 /// The UUID `00000000-0000-4000-8000-000000000000`, of version 4, which the numbers are added to.
 const FIRST_ID: u128 = 0x4000_8000_0000_0000_0000;
@@ -51,39 +51,40 @@ pub fn status_body(alloc: Global, report: &StatusReport) -> Result<Text, NoMemor
 {
     let moment = moment_text(alloc, report.moment)?;
     let fields = status_fields(alloc, report, moment.as_str())?;
-    object_text(alloc, fields)
+    fields.into_text()
 }
 
 /// The fields of a status, of the text of its moment.
-fn status_fields(alloc: Global, report: &StatusReport, moment: &str) -> Result<Vec<Field>, NoMemory>
+fn status_fields(alloc: Global, report: &StatusReport, moment: &str) -> Result<Fields, NoMemory>
     requires { report.now.success_count + report.now.failure_count < 2 ^ 63 }
-    ensures { IfOk result
-        (λ fields. object (members_of (map field_data fields.items)) ≡ status_data report.now moment.now) }
+    ensures { IfOk result (λ fields. object (members_of (members_in fields)) ≡ status_data report.now moment.now) }
 {
-    let failure_count = number_field(alloc, "failure_count", report.failure_count)?;
-    let mut fields = vec![in alloc; failure_count]?;
+    let mut fields = Fields::new(alloc);
+    fields.push_number("failure_count", report.failure_count)?;
     push_details(alloc, "failures", report.failures.as_slice(), &mut fields)?;
-    let mut middle = middle_fields(alloc, report, moment)?;
-    fields.append(&mut middle)?;
+    push_middle(alloc, report, moment, &mut fields)?;
     push_details(alloc, "successes", report.successes.as_slice(), &mut fields)?;
-    let total = report.success_count + report.failure_count;
-    fields.push(number_field(alloc, "total_count", total)?)?;
+    fields.push_number("total_count", report.success_count + report.failure_count)?;
     Ok(fields)
 }
 
-/// The fields between the two lists.
-fn middle_fields(alloc: Global, report: &StatusReport, moment: &str) -> Result<Vec<Field>, NoMemory>
+/// Adds the fields between the two lists.
+fn push_middle(
+    alloc: Global,
+    report: &StatusReport,
+    moment: &str,
+    fields: &mut Fields,
+) -> Result<(), NoMemory>
     requires { report.now.success_count < 2 ^ 63 }
-    ensures { IfOk result (λ fields. map field_data fields.items ≡ middle_members report.now moment.now) }
+    ensures { OnOk result (members_in fields.new ≡ members_in fields.old ++ middle_members report.now moment.now) }
 {
     let id = status_id(alloc, report.number)?;
-    let id = text_field(alloc, "id", id.as_str())?;
-    let pending_count = number_field(alloc, "pending_count", 0)?;
-    let timestamp = text_field(alloc, "request_timestamp", moment)?;
-    let status = text_field(alloc, "status", "complete")?;
-    let success_count = number_field(alloc, "success_count", report.success_count)?;
-    let fields = vec![in alloc; id, pending_count, timestamp, status, success_count]?;
-    Ok(fields)
+    fields.push_text("id", id.as_str())?;
+    fields.push_number("pending_count", 0)?;
+    fields.push_text("request_timestamp", moment)?;
+    fields.push_text("status", "complete")?;
+    fields.push_number("success_count", report.success_count)?;
+    Ok(())
 }
 
 /// Adds the field of a list of details, where it isn't empty.
@@ -91,17 +92,12 @@ fn push_details(
     alloc: Global,
     name: &str,
     details: &[Detail],
-    fields: &mut Vec<Field>,
+    fields: &mut Fields,
 ) -> Result<(), NoMemory>
-    ensures { OnOk result (map field_data fields.new.items
-        ≡ map field_data fields.old.items ++ list_member name.now (map detail_data details.now)) }
+    ensures { OnOk result (members_in fields.new ≡ members_in fields.old ++ list_member name.now (map detail_data details.now)) }
 {
-    if details.is_empty() {
-        return Ok(());
-    }
     let values = detail_values(alloc, details)?;
-    fields.push(list_field(alloc, name, values)?)?;
-    Ok(())
+    fields.push_some(name, values)
 }
 
 fn detail_values(alloc: Global, details: &[Detail]) -> Result<Items<Json>, NoMemory>
@@ -117,13 +113,17 @@ fn detail_values(alloc: Global, details: &[Detail]) -> Result<Items<Json>, NoMem
 fn detail_value(alloc: Global, detail: &Detail) -> Result<Json, NoMemory>
     ensures { IfOk result (λ value. data_of value ≡ detail_data detail.now) }
 {
-    let id = text_field(alloc, "id", detail.id.as_str())?;
-    let version = text_field(alloc, "version", detail.version.as_str())?;
+    let mut fields = Fields::new(alloc);
+    fields.push_text("id", detail.id.as_str())?;
     match &detail.message {
         Some(message) => {
-            let message = text_field(alloc, "message", message.as_str())?;
-            Ok(object_of(vec![in alloc; id, message, version]?))
+            fields.push_text("message", message.as_str())?;
+            fields.push_text("version", detail.version.as_str())?;
+            Ok(fields.into_object())
         }
-        None => Ok(object_of(vec![in alloc; id, version]?)),
+        None => {
+            fields.push_text("version", detail.version.as_str())?;
+            Ok(fields.into_object())
+        }
     }
 }

@@ -2,7 +2,7 @@ ghost use Rattle.std.specs.Prelude.{◌≡◌, IfOk};
 ghost use Rattle.serde_json.specs.Written.{compact_text};
 ghost use Rattle.taxii_bodies.specs.Title.{title_data};
 
-use crate::fields::{object_text, text_field};
+use crate::fields::Fields;
 use flow_values::{NoMemory, Text};
 use std::alloc::Global;
 
@@ -10,6 +10,7 @@ use std::alloc::Global;
 pub fn title_body(alloc: Global, title: &str) -> Result<Text, NoMemory>
     ensures { IfOk result (λ text. text ≡ compact_text (title_data title.now)) }
 {
-    let title = text_field(alloc, "title", title)?;
-    object_text(alloc, vec![in alloc; title]?)
+    let mut fields = Fields::new(alloc);
+    fields.push_text("title", title)?;
+    fields.into_text()
 }

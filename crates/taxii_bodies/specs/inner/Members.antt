@@ -1,10 +1,15 @@
 -- Members in a row, as the fields of an object are made.
-use Rattle.std.specs.Prelude.{ℕ, List, [], ◌∷◌, codes}
+use Rattle.std.specs.Prelude.{ℕ, List, [], ◌∷◌, map, codes}
 use Rattle.serde_json.specs.Data.{Data, unsigned, number, string, array}
 use Rattle.serde_json.specs.View.{items_of}
-use Rattle.stix_json.specs.DataOf.{Member}
+use Rattle.stix_json.specs.DataOf.{Member, field_data}
+use Rattle.taxii_bodies.specs.declared.fields.Fields.{Fields}
 use Rattle.taxii_bodies.specs.declared.status.StatusReport.{StatusReport}
 use Rattle.taxii_bodies.specs.Status.{status_id_of}
+
+-- the members that the fields of an object are
+abbrev pub members_in : Fields → List Member
+members_in fields = map field_data fields.fields.items
 
 -- a list under a name, where it isn't empty
 abbrev pub list_member : List ℕ → List Data → List Member

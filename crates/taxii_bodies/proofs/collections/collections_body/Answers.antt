@@ -1,8 +1,9 @@
+use Rattle.taxii_bodies.specs.inner.Members.{members_in}
 use Rattle.taxii_bodies.proofs.CollectionLemmas.{values_ordered}
 use Rattle.taxii_bodies.proofs.FieldLemmas.{one_ordered}
 use Rattle.taxii_bodies.proofs.collections.collections_body.Goals as goal
 
-pub object_text-requires : goal.object_text-requires
-object_text-requires c =
-    one_ordered _ _ _ c.in_ok-vec.ensures.items c.in_ok-collections.ensures
+pub into_text-requires : goal.into_text-requires
+into_text-requires c =
+    one_ordered (members_in c.new-collections.result) (members_in c.push_list.new.self) _ c.new-collections.ensures c.in_ok-push_list.ensures
     (tt, values_ordered c.in_ok-values.values c.args.infos.now c.in_ok-values.ensures, tt)

@@ -3,5 +3,5 @@ use Rattle.stix_json.specs.Ordered.{IsOrdered}
 use Rattle.taxii_bodies.proofs.StatusLemmas.{status_ordered}
 use Rattle.taxii_bodies.proofs.status.status_body.Goals as goal
 
-pub object_text-requires : goal.object_text-requires
-object_text-requires c = subst IsOrdered (sym c.in_ok-fields.ensures) (status_ordered c.args.report.now c.as_str.result.now)
+pub into_text-requires : goal.into_text-requires
+into_text-requires c = subst IsOrdered (sym c.in_ok-fields.ensures) (status_ordered c.args.report.now c.as_str.result.now)
