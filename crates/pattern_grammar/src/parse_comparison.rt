@@ -23,24 +23,16 @@ fn compared_test<'a>(
     ensures err { IfErr result (λ e. Refused IsTest wants_test tokens.now e) }
 {
     let (path, rest) = path(alloc, tokens)?;
-    if let Some((_, rest)) = eat(rest, TokenClass::Only(TokenKind::Not)) {
-        let (check, rest) = check(alloc, rest)?;
-        return Ok((
-            TestTree {
-                first: path.root,
-                path,
-                negated: true,
-                check,
-            },
-            rest,
-        ));
-    }
+    let (negated, rest) = match eat(rest, TokenClass::Only(TokenKind::Not)) {
+        Some((_, rest)) => (true, rest),
+        None => (false, rest),
+    };
     let (check, rest) = check(alloc, rest)?;
     Ok((
         TestTree {
             first: path.root,
             path,
-            negated: false,
+            negated,
             check,
         },
         rest,

@@ -1,6 +1,5 @@
 ghost use Rattle.std.specs.Prelude.{◌≡◌, ◌++◌, ◌∷◌, [], ◌⊎◌, IfSome, IfNone, IfOk, IfErr, IsOkAnd, IsErrAnd, MatchBool};
 ghost use Rattle.pattern_grammar.specs.inner.Machine.{BeginsLine, Lacks};
-
 ghost use Rattle.pattern_grammar.specs.declared.stop.Stop.TheVariants.{Memory};
 
 use crate::{Stop, TokenClass};
