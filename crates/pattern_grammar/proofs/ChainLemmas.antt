@@ -1,6 +1,7 @@
 -- Parts that are repeated, with a token between them or without, for any part.
-use Rattle.std.proofs.Common.{◌≡◌, List, [], ◌∷◌, ◌++◌, Some, sym, ap, ◌∙◌, subst, append_assoc}
+use Rattle.std.proofs.Common.{◌≡◌, List, [], ◌∷◌, ◌++◌, Some, sym, ap, ◌∙◌, subst, append_assoc, arith, length, length-append, ◌<◌}
 use Rattle.pattern_tokens.specs.declared.token.Token.{Token}
+use Rattle.pattern_grammar.specs.declared.class.TokenClass.{TokenClass}
 use Rattle.pattern_grammar.specs.TokenClass.{IsA}
 use Rattle.pattern_grammar.specs.inner.Machine.{Want, WantedLine, line, Tail, tail, opening, next}
 use Rattle.pattern_grammar.specs.inner.Machine.{BeginsLine, Lacks, Leads, Found, Stuck, done, open_for}
@@ -86,3 +87,13 @@ module _ {V W : Type 0} {IsMany : List Token → V → Type 0} {IsPart : List To
     leads = leads_then f.read g.read r2 (leads_at (g.read ++ r2) g.all_are f.leads)
         (leads_then [] g.read r2 (leads_at (g.read ++ r2) g.all_are (inside o b)) (leads_before (open_for t) g.leads));
   }
+
+-- what is left is shorter
+pub begun_shorter : {class : TokenClass} {ts rest : List Token} (o : Token) → BeginsLine class o ts rest → length rest < length ts
+begun_shorter o b = omega (arith, ap length b.all_are)
+
+pub link_shorter : {class : TokenClass} {V : Type 0} {Spells : List Token → V → Type 0} {before after : List Want → List Want} {ts r1 rest : List Token} {v : V} (o : Token) → BeginsLine class o ts r1 → Found Spells before after r1 v rest → length rest < length ts
+link_shorter {rest = rest} o b f = omega (arith, ap length b.all_are, ap length f.all_are, length-append f.read rest)
+
+pub later_shorter : {class : TokenClass} {V : Type 0} {Spells : List Token → V → Type 0} {before after : List Want → List Want} {ts rest r1 : List Token} {v : V} (o : Token) → Found Spells before after ts v rest → BeginsLine class o rest r1 → length r1 < length ts
+later_shorter {rest = rest} o f b = omega (arith, ap length f.all_are, length-append f.read rest, ap length b.all_are)

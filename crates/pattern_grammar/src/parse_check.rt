@@ -3,7 +3,7 @@ ghost use Rattle.pattern_grammar.specs.Grammar.{IsCheck, AreConstants};
 ghost use Rattle.pattern_grammar.specs.inner.Machine.{wants_check, wants_constants};
 ghost use Rattle.pattern_grammar.specs.inner.Machine.{LacksOperator, Found, Refused, done};
 
-use crate::take::{eat, take};
+use crate::take::eat;
 use crate::{CheckTree, Stop, TokenClass};
 use flow_values::Items;
 use pattern_tokens::{Token, TokenKind};
@@ -17,11 +17,15 @@ fn constants<'a>(
     ensures ok { IfOk result (λ x. Found AreConstants wants_constants done tokens.now x.0 x.1.now) }
     ensures err { IfErr result (λ e. Refused AreConstants wants_constants tokens.now e) }
 {
-    let (first, mut rest) = take(tokens, TokenClass::Constant)?;
+    let Some((first, mut rest)) = eat(tokens, TokenClass::Constant) else {
+        return Err(Stop::Syntax(tokens));
+    };
     let mut constants = Items::new(alloc);
     constants.push(first)?;
     while let Some((_, after)) = eat(rest, TokenClass::Only(TokenKind::Comma)) {
-        let (constant, next) = take(after, TokenClass::Constant)?;
+        let Some((constant, next)) = eat(after, TokenClass::Constant) else {
+            return Err(Stop::Syntax(after));
+        };
         constants.push(constant)?;
         rest = next;
     }
@@ -34,10 +38,16 @@ fn among<'a>(alloc: Global, tokens: &'a [Token]) -> Result<(CheckTree, &'a [Toke
     ensures ok { IfOk result (λ x. Found IsCheck wants_check done tokens.now x.0 x.1.now) }
     ensures err { IfErr result (λ e. Refused IsCheck wants_check tokens.now e) }
 {
-    let (_, open) = take(tokens, TokenClass::Only(TokenKind::Among))?;
-    let (_, inside) = take(open, TokenClass::Only(TokenKind::RoundOpen))?;
+    let Some((_, open)) = eat(tokens, TokenClass::Only(TokenKind::Among)) else {
+        return Err(Stop::Syntax(tokens));
+    };
+    let Some((_, inside)) = eat(open, TokenClass::Only(TokenKind::RoundOpen)) else {
+        return Err(Stop::Syntax(open));
+    };
     let (constants, close) = constants(alloc, inside)?;
-    let (_, rest) = take(close, TokenClass::Only(TokenKind::RoundClose))?;
+    let Some((_, rest)) = eat(close, TokenClass::Only(TokenKind::RoundClose)) else {
+        return Err(Stop::Syntax(close));
+    };
     Ok((CheckTree::Among(constants), rest))
 }
 
@@ -50,15 +60,21 @@ pub(crate) fn check<'a>(
     ensures err { IfErr result (λ e. Refused IsCheck wants_check tokens.now e) }
 {
     if let Some((operator, rest)) = eat(tokens, TokenClass::Equality) {
-        let (constant, rest) = take(rest, TokenClass::Constant)?;
+        let Some((constant, rest)) = eat(rest, TokenClass::Constant) else {
+            return Err(Stop::Syntax(rest));
+        };
         return Ok((CheckTree::Compare { operator, constant }, rest));
     }
     if let Some((operator, rest)) = eat(tokens, TokenClass::Order) {
-        let (constant, rest) = take(rest, TokenClass::Ordered)?;
+        let Some((constant, rest)) = eat(rest, TokenClass::Ordered) else {
+            return Err(Stop::Syntax(rest));
+        };
         return Ok((CheckTree::Compare { operator, constant }, rest));
     }
     if let Some((operator, rest)) = eat(tokens, TokenClass::Textual) {
-        let (words, rest) = take(rest, TokenClass::Only(TokenKind::String))?;
+        let Some((words, rest)) = eat(rest, TokenClass::Only(TokenKind::String)) else {
+            return Err(Stop::Syntax(rest));
+        };
         return Ok((CheckTree::Textual { operator, words }, rest));
     }
     among(alloc, tokens)

@@ -7,7 +7,7 @@ ghost use Rattle.pattern_grammar.specs.inner.Machine.{Found, Refused, Lacks, Lac
 use crate::make::make_group;
 use crate::parse_check::check;
 use crate::parse_path::path;
-use crate::take::{eat, take};
+use crate::take::{add, eat};
 use crate::{CheckTree, ComparisonTree, Conjunction, Operand, Stop, TestTree, TokenClass};
 use flow_values::Items;
 use pattern_tokens::{Token, TokenKind};
@@ -23,24 +23,16 @@ fn compared_test<'a>(
     ensures err { IfErr result (λ e. Refused IsTest wants_test tokens.now e) }
 {
     let (path, rest) = path(alloc, tokens)?;
-    if let Some((_, rest)) = eat(rest, TokenClass::Only(TokenKind::Not)) {
-        let (check, rest) = check(alloc, rest)?;
-        return Ok((
-            TestTree {
-                first: path.root,
-                path,
-                negated: true,
-                check,
-            },
-            rest,
-        ));
-    }
+    let (negated, rest) = match eat(rest, TokenClass::Only(TokenKind::Not)) {
+        Some((_, rest)) => (true, rest),
+        None => (false, rest),
+    };
     let (check, rest) = check(alloc, rest)?;
     Ok((
         TestTree {
             first: path.root,
             path,
-            negated: false,
+            negated,
             check,
         },
         rest,
@@ -66,7 +58,9 @@ fn plain_test<'a>(alloc: Global, tokens: &'a [Token]) -> Result<(TestTree, &'a [
         ));
     }
     if let Some((first, rest)) = eat(tokens, TokenClass::Only(TokenKind::Not)) {
-        let (_, rest) = take(rest, TokenClass::Only(TokenKind::Exists))?;
+        let Some((_, rest)) = eat(rest, TokenClass::Only(TokenKind::Exists)) else {
+            return Err(Stop::Syntax(rest));
+        };
         let (path, rest) = path(alloc, rest)?;
         return Ok((
             TestTree {
@@ -89,7 +83,10 @@ fn test<'a>(alloc: Global, tokens: &'a [Token]) -> Result<(Operand, &'a [Token])
 {
     if let Some((open, inside)) = eat(tokens, TokenClass::Only(TokenKind::RoundOpen)) {
         let (tree, close) = cor(alloc, inside)?;
-        let (_, rest) = take(close, TokenClass::Only(TokenKind::RoundClose))?;
+        let Some((_, rest)) = eat(close, TokenClass::Only(TokenKind::RoundClose)) else {
+            drop(tree);
+            return Err(Stop::Syntax(close));
+        };
         let operand = make_group(alloc, open, tree)?;
         return Ok((operand, rest));
     }
@@ -106,9 +103,13 @@ fn cand<'a>(alloc: Global, tokens: &'a [Token]) -> Result<(Conjunction, &'a [Tok
     let (first, mut rest) = test(alloc, tokens)?;
     let mut others = Items::new(alloc);
     while let Some((_, after)) = eat(rest, TokenClass::Only(TokenKind::And)) {
-        let (next, left) = test(alloc, after)?;
-        others.push(next)?;
-        rest = left;
+        match add(&mut others, test(alloc, after)) {
+            Ok(left) => rest = left,
+            Err(stop) => {
+                drop(first);
+                return Err(stop);
+            }
+        }
     }
     Ok((Conjunction { first, others }, rest))
 }
@@ -125,9 +126,13 @@ pub(crate) fn cor<'a>(
     let (first, mut rest) = cand(alloc, tokens)?;
     let mut others = Items::new(alloc);
     while let Some((_, after)) = eat(rest, TokenClass::Only(TokenKind::Or)) {
-        let (next, left) = cand(alloc, after)?;
-        others.push(next)?;
-        rest = left;
+        match add(&mut others, cand(alloc, after)) {
+            Ok(left) => rest = left,
+            Err(stop) => {
+                drop(first);
+                return Err(stop);
+            }
+        }
     }
     Ok((ComparisonTree { first, others }, rest))
 }

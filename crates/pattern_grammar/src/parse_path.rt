@@ -3,7 +3,7 @@ ghost use Rattle.pattern_grammar.specs.Grammar.{IsPath, IsStep};
 ghost use Rattle.pattern_grammar.specs.inner.Machine.{wants_path, wants_step};
 ghost use Rattle.pattern_grammar.specs.inner.Machine.{Found, Refused, done};
 
-use crate::take::{eat, take};
+use crate::take::eat;
 use crate::{PathTree, StepTree, Stop, TokenClass};
 use flow_values::Items;
 use pattern_tokens::{Token, TokenKind};
@@ -15,12 +15,20 @@ pub(crate) fn step<'a>(tokens: &'a [Token]) -> Result<(StepTree, &'a [Token]), S
     ensures err { IfErr result (λ e. Refused IsStep wants_step tokens.now e) }
 {
     if let Some((_, rest)) = eat(tokens, TokenClass::Only(TokenKind::Dot)) {
-        let (name, rest) = take(rest, TokenClass::Name)?;
+        let Some((name, rest)) = eat(rest, TokenClass::Name) else {
+            return Err(Stop::Syntax(rest));
+        };
         return Ok((StepTree::Name(name), rest));
     }
-    let (_, inside) = take(tokens, TokenClass::Only(TokenKind::SquareOpen))?;
-    let (index, close) = take(inside, TokenClass::Index)?;
-    let (_, rest) = take(close, TokenClass::Only(TokenKind::SquareClose))?;
+    let Some((_, inside)) = eat(tokens, TokenClass::Only(TokenKind::SquareOpen)) else {
+        return Err(Stop::Syntax(tokens));
+    };
+    let Some((index, close)) = eat(inside, TokenClass::Index) else {
+        return Err(Stop::Syntax(inside));
+    };
+    let Some((_, rest)) = eat(close, TokenClass::Only(TokenKind::SquareClose)) else {
+        return Err(Stop::Syntax(close));
+    };
     Ok((StepTree::Index(index), rest))
 }
 
@@ -32,9 +40,15 @@ pub(crate) fn path<'a>(
     ensures ok { IfOk result (λ x. Found IsPath wants_path done tokens.now x.0 x.1.now) }
     ensures err { IfErr result (λ e. Refused IsPath wants_path tokens.now e) }
 {
-    let (root, colon) = take(tokens, TokenClass::Root)?;
-    let (_, first) = take(colon, TokenClass::Only(TokenKind::Colon))?;
-    let (name, mut rest) = take(first, TokenClass::Name)?;
+    let Some((root, colon)) = eat(tokens, TokenClass::Root) else {
+        return Err(Stop::Syntax(tokens));
+    };
+    let Some((_, first)) = eat(colon, TokenClass::Only(TokenKind::Colon)) else {
+        return Err(Stop::Syntax(colon));
+    };
+    let Some((name, mut rest)) = eat(first, TokenClass::Name) else {
+        return Err(Stop::Syntax(first));
+    };
     let mut steps = Items::new(alloc);
     steps.push(StepTree::Name(name))?;
     while let Some(_) = eat(rest, TokenClass::Stepping) {

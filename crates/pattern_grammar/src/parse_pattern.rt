@@ -8,7 +8,7 @@ ghost use Rattle.pattern_grammar.specs.inner.Machine.{Found, Refused, Lacks, don
 
 use crate::make::{make_both, make_either, make_qualified, make_then};
 use crate::parse_comparison::cor;
-use crate::take::{eat, take};
+use crate::take::{add, eat};
 use crate::{PatternTree, Qualifier, Stop, TokenClass};
 use flow_values::Items;
 use pattern_tokens::{Token, TokenKind};
@@ -20,19 +20,35 @@ fn qualifier<'a>(tokens: &'a [Token]) -> Result<(Qualifier, &'a [Token]), Stop<'
     ensures err { IfErr result (λ e. Refused IsQualifier wants_qualifier tokens.now e) }
 {
     if let Some((_, rest)) = eat(tokens, TokenClass::Only(TokenKind::Within)) {
-        let (number, rest) = take(rest, TokenClass::Only(TokenKind::Number))?;
-        let (_, rest) = take(rest, TokenClass::Only(TokenKind::Seconds))?;
+        let Some((number, rest)) = eat(rest, TokenClass::Only(TokenKind::Number)) else {
+            return Err(Stop::Syntax(rest));
+        };
+        let Some((_, rest)) = eat(rest, TokenClass::Only(TokenKind::Seconds)) else {
+            return Err(Stop::Syntax(rest));
+        };
         return Ok((Qualifier::Within(number), rest));
     }
     if let Some((_, rest)) = eat(tokens, TokenClass::Only(TokenKind::Repeats)) {
-        let (number, rest) = take(rest, TokenClass::Only(TokenKind::Number))?;
-        let (_, rest) = take(rest, TokenClass::Only(TokenKind::Times))?;
+        let Some((number, rest)) = eat(rest, TokenClass::Only(TokenKind::Number)) else {
+            return Err(Stop::Syntax(rest));
+        };
+        let Some((_, rest)) = eat(rest, TokenClass::Only(TokenKind::Times)) else {
+            return Err(Stop::Syntax(rest));
+        };
         return Ok((Qualifier::Repeats(number), rest));
     }
-    let (start, rest) = take(tokens, TokenClass::Only(TokenKind::Start))?;
-    let (from, rest) = take(rest, TokenClass::Only(TokenKind::Timestamp))?;
-    let (_, rest) = take(rest, TokenClass::Only(TokenKind::Stop))?;
-    let (to, rest) = take(rest, TokenClass::Only(TokenKind::Timestamp))?;
+    let Some((start, rest)) = eat(tokens, TokenClass::Only(TokenKind::Start)) else {
+        return Err(Stop::Syntax(tokens));
+    };
+    let Some((from, rest)) = eat(rest, TokenClass::Only(TokenKind::Timestamp)) else {
+        return Err(Stop::Syntax(rest));
+    };
+    let Some((_, rest)) = eat(rest, TokenClass::Only(TokenKind::Stop)) else {
+        return Err(Stop::Syntax(rest));
+    };
+    let Some((to, rest)) = eat(rest, TokenClass::Only(TokenKind::Timestamp)) else {
+        return Err(Stop::Syntax(rest));
+    };
     Ok((Qualifier::Between { start, from, to }, rest))
 }
 
@@ -42,9 +58,14 @@ fn leaf<'a>(alloc: Global, tokens: &'a [Token]) -> Result<(PatternTree, &'a [Tok
     ensures ok { IfOk result (λ x. Found IsStart wants_start done tokens.now (shape x.0) x.1.now) }
     ensures err { IfErr result (λ e. Refused IsStart wants_start tokens.now e) }
 {
-    let (_, inside) = take(tokens, TokenClass::Only(TokenKind::SquareOpen))?;
+    let Some((_, inside)) = eat(tokens, TokenClass::Only(TokenKind::SquareOpen)) else {
+        return Err(Stop::Syntax(tokens));
+    };
     let (tree, close) = cor(alloc, inside)?;
-    let (_, rest) = take(close, TokenClass::Only(TokenKind::SquareClose))?;
+    let Some((_, rest)) = eat(close, TokenClass::Only(TokenKind::SquareClose)) else {
+        drop(tree);
+        return Err(Stop::Syntax(close));
+    };
     Ok((PatternTree::Leaf(tree), rest))
 }
 
@@ -56,7 +77,10 @@ fn start<'a>(alloc: Global, tokens: &'a [Token]) -> Result<(PatternTree, &'a [To
 {
     if let Some((_, inside)) = eat(tokens, TokenClass::Only(TokenKind::RoundOpen)) {
         let (tree, close) = whole(alloc, inside)?;
-        let (_, rest) = take(close, TokenClass::Only(TokenKind::RoundClose))?;
+        let Some((_, rest)) = eat(close, TokenClass::Only(TokenKind::RoundClose)) else {
+            drop(tree);
+            return Err(Stop::Syntax(close));
+        };
         return Ok((tree, rest));
     }
     leaf(alloc, tokens)
@@ -70,9 +94,16 @@ fn unit<'a>(alloc: Global, tokens: &'a [Token]) -> Result<(PatternTree, &'a [Tok
 {
     let (mut tree, mut rest) = start(alloc, tokens)?;
     while let Some(_) = eat(rest, TokenClass::Qualifying) {
-        let (limit, next) = qualifier(rest)?;
-        tree = make_qualified(alloc, tree, limit)?;
-        rest = next;
+        match qualifier(rest) {
+            Ok((limit, next)) => {
+                tree = make_qualified(alloc, tree, limit)?;
+                rest = next;
+            }
+            Err(stop) => {
+                drop(tree);
+                return Err(stop);
+            }
+        }
     }
     Ok((tree, rest))
 }
@@ -86,9 +117,13 @@ fn ands<'a>(alloc: Global, tokens: &'a [Token]) -> Result<(PatternTree, &'a [Tok
     let (first, mut rest) = unit(alloc, tokens)?;
     let mut others = Items::new(alloc);
     while let Some((_, after)) = eat(rest, TokenClass::Only(TokenKind::And)) {
-        let (next, left) = unit(alloc, after)?;
-        others.push(next)?;
-        rest = left;
+        match add(&mut others, unit(alloc, after)) {
+            Ok(left) => rest = left,
+            Err(stop) => {
+                drop(first);
+                return Err(stop);
+            }
+        }
     }
     let tree = make_both(alloc, first, others)?;
     Ok((tree, rest))
@@ -103,9 +138,13 @@ fn ors<'a>(alloc: Global, tokens: &'a [Token]) -> Result<(PatternTree, &'a [Toke
     let (first, mut rest) = ands(alloc, tokens)?;
     let mut others = Items::new(alloc);
     while let Some((_, after)) = eat(rest, TokenClass::Only(TokenKind::Or)) {
-        let (next, left) = ands(alloc, after)?;
-        others.push(next)?;
-        rest = left;
+        match add(&mut others, ands(alloc, after)) {
+            Ok(left) => rest = left,
+            Err(stop) => {
+                drop(first);
+                return Err(stop);
+            }
+        }
     }
     let tree = make_either(alloc, first, others)?;
     Ok((tree, rest))
@@ -120,9 +159,13 @@ fn whole<'a>(alloc: Global, tokens: &'a [Token]) -> Result<(PatternTree, &'a [To
     let (first, mut rest) = ors(alloc, tokens)?;
     let mut others = Items::new(alloc);
     while let Some((_, after)) = eat(rest, TokenClass::Only(TokenKind::FollowedBy)) {
-        let (next, left) = ors(alloc, after)?;
-        others.push(next)?;
-        rest = left;
+        match add(&mut others, ors(alloc, after)) {
+            Ok(left) => rest = left,
+            Err(stop) => {
+                drop(first);
+                return Err(stop);
+            }
+        }
     }
     let tree = make_then(alloc, first, others)?;
     Ok((tree, rest))
@@ -137,6 +180,7 @@ pub fn parse<'a>(alloc: Global, tokens: &'a [Token]) -> Result<PatternTree, Stop
 {
     let (tree, rest) = whole(alloc, tokens)?;
     if !rest.is_empty() {
+        drop(tree);
         return Err(Stop::Syntax(rest));
     }
     Ok(tree)

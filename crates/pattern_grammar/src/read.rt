@@ -52,7 +52,8 @@ fn refusal_through(
             });
         }
         // A pattern begins a pattern.
-        Ok(_) => {
+        Ok(tree) => {
+            drop(tree);
             return Ok(SyntaxRefusal::TooDeep {
                 at: tokens[before].from,
             });

@@ -1,7 +1,9 @@
-ghost use Rattle.std.specs.Prelude.{◌≡◌, IfSome, IfNone, IfOk, IfErr, MatchBool};
-ghost use Rattle.pattern_grammar.specs.inner.Machine.{BeginsLine, Lacks, IsAt};
+ghost use Rattle.std.specs.Prelude.{◌≡◌, ◌++◌, ◌∷◌, [], ◌⊎◌, IfSome, IfNone, IfOk, IfErr, IsOkAnd, IsErrAnd, MatchBool};
+ghost use Rattle.pattern_grammar.specs.inner.Machine.{BeginsLine, Lacks};
+ghost use Rattle.pattern_grammar.specs.declared.stop.Stop.TheVariants.{Memory};
 
 use crate::{Stop, TokenClass};
+use flow_values::Items;
 use pattern_tokens::Token;
 
 /// The first token and those after it, where it is of the class.
@@ -15,16 +17,15 @@ pub(crate) fn eat<'a>(tokens: &'a [Token], class: TokenClass) -> Option<(Token, 
     }
 }
 
-/// The first token, which is to be of the class, and those after it.
-pub(crate) fn take<'a>(
-    tokens: &'a [Token],
-    class: TokenClass,
-) -> Result<(Token, &'a [Token]), Stop<'a>>
-    ensures ok { IfOk result (λ x. BeginsLine class x.0 tokens.now x.1.now) }
-    ensures err { IfErr result (λ e. IsAt class tokens.now e) }
+/// Adds what was parsed to the list, and gives the tokens after it.
+pub(crate) fn add<'a, T: Drop>(
+    list: &mut Items<T>,
+    parsed: Result<(T, &'a [Token]), Stop<'a>>,
+) -> Result<&'a [Token], Stop<'a>>
+    ensures ok { IfOk result (λ rest. IsOkAnd parsed.entry (λ x. (list.new ≡ list.old ++ x.0 ∷ []) × (rest ≡ x.1))) }
+    ensures err { IfErr result (λ e. (e ≡ Memory) ⊎ IsErrAnd parsed.entry (λ y. y ≡ e)) }
 {
-    match tokens {
-        [first, rest @ ..] if class.holds(first.kind) => Ok((*first, rest)),
-        _ => Err(Stop::Syntax(tokens)),
-    }
+    let (item, rest) = parsed?;
+    list.push(item)?;
+    Ok(rest)
 }

@@ -38,8 +38,8 @@ invariant-ands-loop-after l = Found IsAnds wants_ands (open_for ands) l.fn.token
 abbrev pub decreases-ands-loop-after : goal.decreases-ands-loop-after
 decreases-ands-loop-after l = length l.rest
 
-abbrev pub invariant-unit-loop-tree : goal.invariant-unit-loop-tree
-invariant-unit-loop-tree l = Found IsUnit wants_unit (open_for qualifiers) l.fn.tokens (shape l.tree) l.rest
+abbrev pub invariant-unit-loop-limit : goal.invariant-unit-loop-limit
+invariant-unit-loop-limit l = Found IsUnit wants_unit (open_for qualifiers) l.fn.tokens (shape l.tree) l.rest
 
-abbrev pub decreases-unit-loop-tree : goal.decreases-unit-loop-tree
-decreases-unit-loop-tree l = length l.rest
+abbrev pub decreases-unit-loop-limit : goal.decreases-unit-loop-limit
+decreases-unit-loop-limit l = length l.rest
