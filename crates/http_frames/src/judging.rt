@@ -95,10 +95,10 @@ impl<'a> Head<'a> {
         requires texts { has_bad_text self.now ≡ false }
         ensures { IfOk result (λ request. request ≡ request_of self.now []) }
     {
+        let close = self.closes(alloc)?;
         let target = Text::from_text(alloc, text_of(self.target()))?;
         let accept = joined(alloc, &self.values(alloc, b"accept")?)?;
         let content_type = first_text(alloc, &self.values(alloc, b"content-type")?)?;
-        let close = self.closes(alloc)?;
         Ok(Request {
             method: Method::of(alloc, self.method()),
             target,
