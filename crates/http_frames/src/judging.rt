@@ -95,10 +95,10 @@ impl<'a> Head<'a> {
         requires texts { has_bad_text self.now ≡ false }
         ensures { IfOk result (λ request. request ≡ request_of self.now []) }
     {
-        let target = Text::from_text(alloc, text_of(self.target()))?;
+        let close = self.closes(alloc)?;
         let accept = joined(alloc, &self.values(alloc, b"accept")?)?;
         let content_type = first_text(alloc, &self.values(alloc, b"content-type")?)?;
-        let close = self.closes(alloc)?;
+        let target = Text::from_text(alloc, text_of(self.target()))?;
         Ok(Request {
             method: Method::of(alloc, self.method()),
             target,
@@ -113,8 +113,8 @@ impl<'a> Head<'a> {
     fn has_bad_host(&self, alloc: Global) -> Result<bool, NoMemory>
         ensures { IfOk result (λ bad. bad ≡ has_bad_host self.now) }
     {
-        let hosts = self.values(alloc, b"host")?;
-        Ok((self.minor() == 1 && hosts.len() == 0) || hosts.len() > 1)
+        let hosts = self.values(alloc, b"host")?.len();
+        Ok((self.minor() == 1 && hosts == 0) || hosts > 1)
     }
 
     /// Whether a value that is read as a text isn't UTF-8.
@@ -158,8 +158,8 @@ impl<'a> Head<'a> {
     fn lacks_length(&self, alloc: Global) -> Result<bool, NoMemory>
         ensures { IfOk result (λ lacks. lacks ≡ lacks_length self.now) }
     {
-        let lengths = self.values(alloc, b"content-length")?;
-        Ok(Method::of(alloc, self.method()).is_post() && lengths.len() == 0)
+        let lengths = self.values(alloc, b"content-length")?.len();
+        Ok(Method::of(alloc, self.method()).is_post() && lengths == 0)
     }
 
     /// How many bytes the body has.

@@ -88,7 +88,11 @@ impl Session {
                 start,
                 end,
             } => {
-                request.body = Body::new(self.buffer.take(self.alloc, start, end)?);
+                let Ok(body) = self.buffer.take(self.alloc, start, end) else {
+                    drop(request);
+                    return Err(NoMemory);
+                };
+                request.body = Body::new(body);
                 self.search = HeadSearch::new();
                 self.wanted = 0;
                 Ok(Frame::Request(request))

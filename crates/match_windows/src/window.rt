@@ -42,14 +42,12 @@ fn add_windows(pattern: &Pattern, above: &Bounds, out: &mut Vec<Window>) -> Resu
         Pattern::Both(left, right) => {
             add_sides(above, false, out)?;
             add_windows(left, above, out)?;
-            add_windows(right, above, out)?;
-            Ok(())
+            add_windows(right, above, out)
         }
         Pattern::Then(left, right) => {
             add_sides(above, true, out)?;
             add_windows(left, above, out)?;
-            add_windows(right, above, out)?;
-            Ok(())
+            add_windows(right, above, out)
         }
         Pattern::Either(left, right) => {
             add_windows(left, above, out)?;

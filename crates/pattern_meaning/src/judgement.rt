@@ -43,8 +43,8 @@ struct Chain<'a> {
 fn judge_test<'a>(alloc: Global, text: &'a str, tree: &TestTree) -> Result<Judgement<'a>, NoMemory>
     ensures { IfOk result (IsJudgement text.now (test tree.now)) }
 {
-    let leaf = test_of(alloc, text, tree)?.map(|test| Leaf::Test(test));
     let roots = of_name(alloc, text_of(text, tree.path.root))?;
+    let leaf = test_of(alloc, text, tree)?.map(|test| Leaf::Test(test));
     Ok(Judgement {
         at: tree.first.from,
         roots,
@@ -84,8 +84,8 @@ fn with_all<'a>(alloc: Global, chain: Chain<'a>, next: Judgement<'a>) -> Result<
         → IsJudgement text d next.entry → IsChain AreAll text (all c d) more) }
 {
     let at = chain.at;
-    let roots = common(alloc, &chain.roots, &next.roots)?;
     let parts = with_next(chain.parts, next.leaf)?;
+    let roots = common(alloc, &chain.roots, &next.roots)?;
     let parts = both(rooted(at, &roots), parts).map(|(_, parts)| parts);
     Ok(Chain { at, roots, parts })
 }
@@ -96,8 +96,8 @@ fn with_any<'a>(chain: Chain<'a>, next: Judgement<'a>) -> Result<Chain<'a>, NoMe
         → IsJudgement text d next.entry → IsChain AreAny text (any c d) more) }
 {
     let at = chain.at;
-    let roots = either(chain.roots, next.roots)?;
     let parts = with_next(chain.parts, next.leaf)?;
+    let roots = either(chain.roots, next.roots)?;
     Ok(Chain { at, roots, parts })
 }
 

@@ -31,7 +31,10 @@ fn join_narrow(
 {
     match right {
         Some(right) => NarrowPattern::joined(alloc, operator, left, right),
-        None => Ok(None),
+        None => {
+            drop(left);
+            Ok(None)
+        }
     }
 }
 
@@ -50,7 +53,10 @@ fn join(
 {
     match left {
         Some(left) => join_narrow(alloc, operator, left, right),
-        None => Ok(None),
+        None => {
+            drop(right);
+            Ok(None)
+        }
     }
 }
 
@@ -146,7 +152,10 @@ fn chain_of(
 {
     let mut whole = first;
     for other in others {
-        let next = part_of(alloc, text, other)?;
+        let Ok(next) = part_of(alloc, text, other) else {
+            drop(whole);
+            return Err(NoMemory);
+        };
         whole = join_parts(alloc, operator, whole, next)?;
     }
     Ok(whole)

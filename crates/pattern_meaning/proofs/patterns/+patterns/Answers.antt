@@ -9,7 +9,7 @@ use Rattle.pattern_meaning.proofs.patterns.+patterns.Goals as goal
 pub chain_of-loop-other-preserved : goal.chain_of-loop-other-preserved
 chain_of-loop-other-preserved t c = record {
   narrow = c.in_ok-whole.ensures.narrow;
-  part = λ p x. part_more c.args.text.now c.args.operator p c.args.others.now c.loop-other.other-index _ _ _ _ (take_more c.args.others.now c.loop-other.other-index c.other-item.result c.loop-other-test.true) (c.in_ok-whole.ensures.part c.args.text.now) (c.loop-other.invariant.part p x) (rw c.other-item.is at c.in_ok-next.ensures.part);
+  part = λ p x. part_more c.args.text.now c.args.operator p c.args.others.now c.loop-other.other-index _ _ _ _ (take_more c.args.others.now c.loop-other.other-index c.other-item.result c.loop-other-test.true) (c.in_ok-whole.ensures.part c.args.text.now) (c.loop-other.invariant.part p x) (rw (c.other-item.is, c.in-Ok.is) at c.part_of.ensures.part);
 }
 
 pub chain_of-returns-clause-part : goal.chain_of-returns-clause-part

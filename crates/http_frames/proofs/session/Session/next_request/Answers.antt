@@ -1,6 +1,8 @@
 use Rattle.std.proofs.Common.{arith, ap, length, refl, subst, List, ℕ}
 use Rattle.http_frames.specs.inner.Searching.{IsSearched, IsFound, Wants}
 use Rattle.http_frames.proofs.JudgeLemmas.{wants_now, same_room}
+use Rattle.http_frames.proofs.FrameLemmas.{wants_nothing}
+use Rattle.http_frames.proofs.SearchLemmas.{searched_none}
 use Rattle.http_frames.proofs.session.Session.next_request.Goals as goal
 
 pub returns-then-as_slice-self-clause-first : goal.returns-then-as_slice-self-clause-first
@@ -15,3 +17,31 @@ invariant_of-self-in-More c =
       wants = subst (λ (bytes : List ℕ). Wants c.self.inside.greatest_body bytes c.in-More.wanted) c.as_slice-2.ensures found.1;
       room = same_room c.find_frame.new.spans c.self.inside.spans.items c.self.inside.spans.len _ (omega (arith, c.self.inside.spans.ok)) c.self.invariant.room;
     }
+
+pub invariant_of-self : goal.invariant_of-self
+invariant_of-self c = record {
+  searched = subst (λ (bytes : List ℕ). IsSearched bytes c.find_frame.new.search) c.as_slice-2.ensures c.find_frame.ensures.searched;
+  wants = c.self.invariant.wants;
+  room = same_room c.find_frame.new.spans c.self.inside.spans.items c.self.inside.spans.len _ (omega (arith, c.self.inside.spans.ok)) c.self.invariant.room;
+}
+
+pub invariant_of-self-in_default : goal.invariant_of-self-in_default
+invariant_of-self-in_default c = rw c.in_default.ensures.err (record {
+  searched = subst (λ (bytes : List ℕ). IsSearched bytes c.find_frame.new.search) c.as_slice-2.ensures c.find_frame.ensures.searched;
+  wants = c.self.invariant.wants;
+  room = same_room c.find_frame.new.spans c.self.inside.spans.items c.self.inside.spans.len _ (omega (arith, c.self.inside.spans.ok)) c.self.invariant.room;
+})
+
+pub invariant_of-self-in-Refused : goal.invariant_of-self-in-Refused
+invariant_of-self-in-Refused c = record {
+  searched = subst (λ (bytes : List ℕ). IsSearched bytes c.find_frame.new.search) c.as_slice-2.ensures c.find_frame.ensures.searched;
+  wants = c.self.invariant.wants;
+  room = same_room c.find_frame.new.spans c.self.inside.spans.items c.self.inside.spans.len _ (omega (arith, c.self.inside.spans.ok)) c.self.invariant.room;
+}
+
+pub invariant_of-self-in-Request : goal.invariant_of-self-in-Request
+invariant_of-self-in-Request c = record {
+  searched = searched_none _ _ c.new-self-inside.ensures.0 c.new-self-inside.ensures.1;
+  wants = wants_nothing _ _;
+  room = same_room c.find_frame.new.spans c.self.inside.spans.items c.self.inside.spans.len _ (omega (arith, c.self.inside.spans.ok)) c.self.invariant.room;
+}
