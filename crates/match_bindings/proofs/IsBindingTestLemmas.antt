@@ -7,7 +7,7 @@ use Rattle.std.proofs.lemmas.List.{take_more, length-map, length-take}
 use Rattle.std.proofs.lemmas.Grind.{common_steps}
 use Rattle.match_bindings.specs.declared.span.Span.{Span}
 use Rattle.match_bindings.specs.declared.bind.Bind.{Bind}
-use Rattle.match_bindings.specs.NumberedPattern.{NumberedPattern, Leaf, Both, Either, Between}
+use Rattle.match_bindings.specs.NumberedPattern.{NumberedPattern, Leaf, Both, Then, Either, Within, Between, Repeats}
 use Rattle.match_bindings.specs.BindTree.{tree_of, BindTree, One, Pair, Single, More, disjoint, greatest, more_of, many_of}
 use Rattle.match_bindings.specs.Log.{Observed}
 use Rattle.match_bindings.specs.Test.{is_binding, are_repeats}
@@ -16,6 +16,16 @@ use Rattle.match_bindings.proofs.PartsLemmas.{go_on}
 use Rattle.match_bindings.specs.inner.Candidates.{span_of, span_if, judged, lies_between}
 use Rattle.match_bindings.proofs.ManyLemmas.{of_many, many_last}
 use Rattle.match_bindings.proofs.ListLemmas.{map_append}
+
+-- how many parts a pattern has: each call of the test falls
+abbrev pub size : NumberedPattern → ℕ
+size (Leaf k) = 1
+size (Both p q) = size p + size q + 1
+size (Then p q) = size p + size q + 1
+size (Either p q) = size p + size q + 1
+size (Within p x) = size p + 1
+size (Between p x y) = size p + 1
+size (Repeats p n) = size p + 1
 
 pub no_one : (o : Observed) (k : ℕ) (x : BindTree) → is_one x ≡ false → is_binding o (Leaf k) x ≡ false
 no_one o k (One n) h = absurd (cc)

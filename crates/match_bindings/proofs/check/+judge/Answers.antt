@@ -18,17 +18,6 @@ judge-returns-in-Many t c =
     let g = tree_many c.in-Many.field-0 in
     rw (e, f, g, either_many) refl
 
-pub judge-returns-in_ok-span-in-Between : goal.judge-returns-in_ok-span-in-Between
-judge-returns-in_ok-span-in-Between t c =
-    let o = observed_in c.args.log.now in
-    let p = numbered_from c.args.leaf c.deref-in-Between.result.now in
-    let x = tree_of c.args.bind.now in
-    let span = c.in_ok-span-in-Between.span in
-    let got : judged o p x ≡ Some span = search rules in
-    let test : c.is_between-is_between.result ≡ lies_between c.in-Between.start c.in-Between.stop span = search rules in
-    let whole : judged o (Between p c.in-Between.start c.in-Between.stop) x ≡ judged o (numbered_from c.args.leaf c.args.pattern.now) x = search rules in
-    c.span_if-in-Between.ensures ∙ ap (λ b. span_if b span) test ∙ judged_between o p x c.in-Between.start c.in-Between.stop span got ∙ whole
-
 pub judge_repeats-returns-then-parts-count : goal.judge_repeats-returns-then-parts-count
 judge_repeats-returns-then-parts-count t c =
     let xs = map tree_of c.args.parts.now in
