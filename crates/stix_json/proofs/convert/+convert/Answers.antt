@@ -1,10 +1,10 @@
-use Rattle.std.proofs.Common.{rules, string_bytes, ◌≡◌, ℕ, length, option_map, subst, List, [], ◌∷◌, ◌++◌, map, append_assoc, sym, ap, ◌∙◌}
+use Rattle.std.proofs.Common.{rules, ◌≡◌, ℕ, length, option_map, subst, List, [], ◌∷◌, ◌++◌, map, append_assoc, sym, ap, ◌∙◌}
 use Rattle.serde_json.specs.View.{view, members_view}
 use Rattle.serde_json.specs.Data.{object}
 use Rattle.serde_json.proofs.Views.{view-Object}
 use Rattle.stix_json.specs.DataOf.{data_of, field_data, members_of}
 use Rattle.stix_json.specs.inner.Flaws.{flaw_under, first_flaw, Halts}
-use Rattle.stix_json.proofs.FlawsLemmas.{Entry, entry_data, members_of-entries, data_of-Object, item_passes, member_passes, both_pushed, more_entries, item_halts, member_halts, same_length}
+use Rattle.stix_json.proofs.FlawsLemmas.{Entry, members_of-entries, data_of-Object, item_passes, member_passes, both_pushed, more_entries, item_halts, member_halts, same_length}
 use Rattle.stix_json.proofs.convert.+convert.Goals as goal
 
 pub convert_items-loop-item-preserved : goal.convert_items-loop-item-preserved
