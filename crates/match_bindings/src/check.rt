@@ -71,7 +71,7 @@ fn judge_sides(
     joined(join, &first_span, &second_span, apart)
 }
 
-/// The same of a bind under so many `First`s: each `OR` on the way down its left sides takes one off.
+/// The span of a bind under so many `First`s: each `OR` on the way down its left sides takes one off.
 #[cycle(judge)]
 fn judge_left(pattern: &Pattern, leaf: u32, log: &Log, count: u32, bind: &Bind) -> Option<Span>
     requires { leaf + leaves pattern.now < 2 ^ 32 }
