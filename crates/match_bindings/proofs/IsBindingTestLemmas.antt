@@ -7,15 +7,26 @@ use Rattle.std.proofs.lemmas.List.{take_more, length-map, length-take}
 use Rattle.std.proofs.lemmas.Grind.{common_steps}
 use Rattle.match_bindings.specs.declared.span.Span.{Span}
 use Rattle.match_bindings.specs.declared.bind.Bind.{Bind}
-use Rattle.match_bindings.specs.NumberedPattern.{NumberedPattern, Leaf, Both, Either, Between}
+use Rattle.match_bindings.specs.declared.join.Join.TheVariants as join
+use Rattle.match_bindings.specs.NumberedPattern.{NumberedPattern, Leaf, Both, Then, Either, Within, Between, Repeats}
 use Rattle.match_bindings.specs.BindTree.{tree_of, BindTree, One, Pair, Single, More, disjoint, greatest, more_of, many_of}
 use Rattle.match_bindings.specs.Log.{Observed}
 use Rattle.match_bindings.specs.Test.{is_binding, are_repeats}
 use Rattle.match_bindings.specs.inner.Kinds.{is_one, is_pair}
 use Rattle.match_bindings.proofs.PartsLemmas.{go_on}
-use Rattle.match_bindings.specs.inner.Candidates.{span_of, span_if, judged, lies_between}
+use Rattle.match_bindings.specs.inner.Candidates.{span_of, span_if, joined_span, admits, judged, lies_between}
 use Rattle.match_bindings.proofs.ManyLemmas.{of_many, many_last}
 use Rattle.match_bindings.proofs.ListLemmas.{map_append}
+
+-- how many parts a pattern has: each call of the test falls
+abbrev pub size : NumberedPattern → ℕ
+size (Leaf k) = 1
+size (Both p q) = size p + size q + 1
+size (Then p q) = size p + size q + 1
+size (Either p q) = size p + size q + 1
+size (Within p x) = size p + 1
+size (Between p x y) = size p + 1
+size (Repeats p n) = size p + 1
 
 pub no_one : (o : Observed) (k : ℕ) (x : BindTree) → is_one x ≡ false → is_binding o (Leaf k) x ≡ false
 no_one o k (One n) h = absurd (cc)
@@ -35,6 +46,38 @@ passed b s t h = cond_some b s t h
 pub failed : (b : Bool) (s : Span) → span_if b s ≡ None → b ≡ false
 failed true s h = absurd (cc)
 failed false s h = refl
+
+pub no_ordered_pair : (o : Observed) (p q : NumberedPattern) (x : BindTree) → is_pair x ≡ false → is_binding o (Then p q) x ≡ false
+no_ordered_pair o p q (Pair a b) h = absurd (cc)
+no_ordered_pair o p q x h = refl
+
+-- no span of what is no binding
+pub no_span : (b : Bool) (s : Span) → b ≡ false → None ≡ span_if b s
+no_span b s e = sym (ap (λ b. span_if b s) e)
+
+-- ---- two sides
+
+pub left_fails : (o : Observed) (p q : NumberedPattern) (a b x : BindTree) → x ≡ Pair a b → judged o p a ≡ None →
+    (is_binding o (Both p q) x ≡ false) × (is_binding o (Then p q) x ≡ false)
+left_fails o p q a b x e n =
+    let no_it_isnt = failed (is_binding o p a) (span_of o a) n in
+    rw (e, no_it_isnt) (refl, refl)
+
+pub right_fails : (o : Observed) (p q : NumberedPattern) (a b x : BindTree) (s : Span) → x ≡ Pair a b → judged o p a ≡ Some s → judged o q b ≡ None →
+    (is_binding o (Both p q) x ≡ false) × (is_binding o (Then p q) x ≡ false)
+right_fails o p q a b x s e h n =
+    let yes_it_is = (passed (is_binding o p a) (span_of o a) s h).0 in
+    let no_it_isnt = failed (is_binding o q b) (span_of o b) n in
+    rw (e, yes_it_is, no_it_isnt) (refl, refl)
+
+pub sides_pass : (o : Observed) (p q : NumberedPattern) (a b x : BindTree) (s t : Span) (d : Bool) → x ≡ Pair a b → judged o p a ≡ Some s → judged o q b ≡ Some t → d ≡ disjoint a b →
+    (span_if (admits join.Both s t && d) (joined_span s t) ≡ judged o (Both p q) x) × (span_if (admits join.Then s t && d) (joined_span s t) ≡ judged o (Then p q) x)
+sides_pass o p q a b x s t d e h k apart =
+    let left = passed (is_binding o p a) (span_of o a) s h in
+    let right = passed (is_binding o q b) (span_of o b) t k in
+    let yes_left = left.0 in
+    let yes_right = right.0 in
+    rw (apart, ← left.1, ← right.1, e, yes_left, yes_right) (refl, refl)
 
 pub judged_between : (o : Observed) (p : NumberedPattern) (x : BindTree) (start stop : ℤ) (s : Span) → judged o p x ≡ Some s →
     span_if (lies_between start stop s) s ≡ judged o (Between p start stop) x

@@ -11,6 +11,7 @@ pub mod OnceLemmas
 pub mod BoundsLemmas
 pub mod CandidatesLemmas
 pub mod SortedLemmas
+pub mod SpannedLemmas
 pub mod FlatLemmas
 pub mod LongerLogLemmas
 pub mod ExistenceLemmas

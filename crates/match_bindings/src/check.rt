@@ -1,17 +1,19 @@
-ghost use Rattle.std.specs.Prelude.{◌≡◌, ◌↔◌, ◌+◌, ◌<◌, ◌^◌, ◌&&◌, IsTrue, map};
+ghost use Rattle.std.specs.Prelude.{◌≡◌, ◌↔◌, ◌+◌, ◌<◌, ◌^◌, ◌&&◌, IsTrue, map, option_and_then};
 ghost use Rattle.pattern_types.specs.Leaves.{leaves};
-ghost use Rattle.match_bindings.specs.NumberedPattern.{numbered_pattern, numbered_from};
+ghost use Rattle.match_bindings.specs.NumberedPattern.{numbered_pattern, numbered_from, Both, Then};
 ghost use Rattle.match_bindings.specs.BindTree.{tree_of, many_of, firsts};
 ghost use Rattle.match_bindings.specs.Log.{observed_in};
 ghost use Rattle.match_bindings.specs.Binding.{IsBinding};
 ghost use Rattle.match_bindings.specs.Test.{is_binding, are_repeats};
-ghost use Rattle.match_bindings.specs.inner.Candidates.{judged, span_if, span_of, joined_span, admits};
+ghost use Rattle.match_bindings.specs.inner.Candidates.{judged, span_if, span_of, joined_span, admits, lies_within, lies_between};
+ghost use Rattle.match_bindings.specs.declared.join.Join.TheVariants as variant;
 
 use crate::join::Join;
 use crate::numbers::{all_disjoint, are_disjoint};
 use crate::span::Span;
 use crate::{Bind, Log};
 use pattern_types::{Pattern, leaf_count};
+use stix_times::Instant;
 
 /// Whether a bind is a binding of a pattern over a log. Takes no memory. A row that has no truth for a
 /// leaf is none for which the leaf holds.
@@ -30,41 +32,46 @@ fn judge(pattern: &Pattern, leaf: u32, log: &Log, bind: &Bind) -> Option<Span>
 {
     match pattern {
         Pattern::Leaf(_) => log.span_of(leaf, bind.number()?),
-        Pattern::Both(left, right) => {
-            let (first, second) = bind.sides()?;
-            let first_span = judge(left, leaf, log, first)?;
-            let second_span = judge(right, leaf + leaf_count(left), log, second)?;
-            let apart = are_disjoint(first, second);
-            joined(Join::Both, &first_span, &second_span, apart)
-        }
-        Pattern::Then(left, right) => {
-            let (first, second) = bind.sides()?;
-            let first_span = judge(left, leaf, log, first)?;
-            let second_span = judge(right, leaf + leaf_count(left), log, second)?;
-            let apart = are_disjoint(first, second);
-            joined(Join::Then, &first_span, &second_span, apart)
-        }
+        Pattern::Both(left, right) => judge_sides(Join::Both, left, right, leaf, log, bind),
+        Pattern::Then(left, right) => judge_sides(Join::Then, left, right, leaf, log, bind),
         Pattern::Either(left, right) => match bind {
             Bind::First(more, part) => judge_left(left, leaf, log, *more, part),
             Bind::Second(part) => judge(right, leaf + leaf_count(left), log, part),
             Bind::One(_) | Bind::Both(_, _) => None,
             Bind::Many(_) => None,
         },
-        Pattern::Within(part, seconds) => {
-            let span = judge(part, leaf, log, bind)?;
-            let is_within = span.is_within(*seconds);
-            span_if(is_within, span)
-        }
+        Pattern::Within(part, seconds) => within(judge(part, leaf, log, bind), *seconds),
         Pattern::Between(part, start, stop) => {
-            let span = judge(part, leaf, log, bind)?;
-            let is_between = span.is_between(*start, *stop);
-            span_if(is_between, span)
+            between(judge(part, leaf, log, bind), *start, *stop)
         }
         Pattern::Repeats(part, count) => judge_repeats(part, leaf, log, bind.parts()?, *count),
     }
 }
 
-/// The same of a bind under so many `First`s: each `OR` on the way down its left sides takes one off.
+/// The span of a bind of two sides, where it is a binding of an `AND` or a `FOLLOWEDBY` of these patterns.
+#[cycle(judge)]
+fn judge_sides(
+    join: Join,
+    left: &Pattern,
+    right: &Pattern,
+    leaf: u32,
+    log: &Log,
+    bind: &Bind,
+) -> Option<Span>
+    requires { leaf + (leaves left.now + leaves right.now) < 2 ^ 32 }
+    ensures both { join ≡ variant.Both → result
+        ≡ judged (observed_in log.now) (Both (numbered_from leaf left.now) (numbered_from (leaf + leaves left.now) right.now)) (tree_of bind.now) }
+    ensures ordered { join ≡ variant.Then → result
+        ≡ judged (observed_in log.now) (Then (numbered_from leaf left.now) (numbered_from (leaf + leaves left.now) right.now)) (tree_of bind.now) }
+{
+    let (first, second) = bind.sides()?;
+    let first_span = judge(left, leaf, log, first)?;
+    let second_span = judge(right, leaf + leaf_count(left), log, second)?;
+    let apart = are_disjoint(first, second);
+    joined(join, &first_span, &second_span, apart)
+}
+
+/// The span of a bind under so many `First`s: each `OR` on the way down its left sides takes one off.
 #[cycle(judge)]
 fn judge_left(pattern: &Pattern, leaf: u32, log: &Log, count: u32, bind: &Bind) -> Option<Span>
     requires { leaf + leaves pattern.now < 2 ^ 32 }
@@ -76,14 +83,10 @@ fn judge_left(pattern: &Pattern, leaf: u32, log: &Log, count: u32, bind: &Bind) 
     match pattern {
         Pattern::Either(left, _) => judge_left(left, leaf, log, count - 1, bind),
         Pattern::Within(part, seconds) => {
-            let span = judge_left(part, leaf, log, count, bind)?;
-            let is_within = span.is_within(*seconds);
-            span_if(is_within, span)
+            within(judge_left(part, leaf, log, count, bind), *seconds)
         }
         Pattern::Between(part, start, stop) => {
-            let span = judge_left(part, leaf, log, count, bind)?;
-            let is_between = span.is_between(*start, *stop);
-            span_if(is_between, span)
+            between(judge_left(part, leaf, log, count, bind), *start, *stop)
         }
         Pattern::Leaf(_) | Pattern::Both(_, _) | Pattern::Then(_, _) => None,
         Pattern::Repeats(_, _) => None,
@@ -115,6 +118,22 @@ fn judge_repeats(
         span = joined(Join::Repeats, &span, &next, apart)?;
     }
     Some(span)
+}
+
+/// The span, where there is one and it lies in less than so many seconds.
+fn within(span: Option<Span>, seconds: u32) -> Option<Span>
+    ensures { result ≡ option_and_then (λ span. span_if (lies_within seconds span) span) span }
+{
+    let span = span?;
+    span_if(span.is_within(seconds), span)
+}
+
+/// The span, where there is one and it lies at `start` or later, and before `stop`.
+fn between(span: Option<Span>, start: Instant, stop: Instant) -> Option<Span>
+    ensures { result ≡ option_and_then (λ span. span_if (lies_between start stop span) span) span }
+{
+    let span = span?;
+    span_if(span.is_between(start, stop), span)
 }
 
 /// The span of two binds together, where they share no number and the join admits them.

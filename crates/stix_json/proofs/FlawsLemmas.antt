@@ -109,3 +109,8 @@ same_length f g (x ∷ xs) (y ∷ ys) h = let rest : map f xs ≡ map g ys = cc 
 -- a field is the member that its entry was
 pub same_member : {name bytes : List ℕ} {d : Data} (value : Json) → name ≡ bytes → data_of value ≡ d → field_data (roll-Field (record { name = name; value = value })) ≡ record { name = bytes; value = d }
 same_member value named is = rw (named, is) refl
+
+-- one entry more
+pub more_entries : (ms : List Member) (d : Data) (name : List ℕ) (done : List Entry) (e : Entry) → ms ≡ map entry_data done → name ≡ string_bytes e.0 → d ≡ view e.1
+    → ms ++ record { name = name; value = d } ∷ [] ≡ map entry_data (done ++ e ∷ [])
+more_entries ms d name done e same named is = rw (same, named, is) (sym (map_pushed entry_data done e))

@@ -1,4 +1,4 @@
-ghost use Rattle.std.specs.Prelude.{◌≡◌, None, Some, IfOk, IfErr, map};
+ghost use Rattle.std.specs.Prelude.{◌≡◌, [], ◌∷◌, ◌++◌, None, Some, IfOk, IfErr, OnOk, map};
 ghost use Rattle.serde_json.specs.Data.{number as number_data};
 ghost use Rattle.serde_json.specs.Find.{of_integer};
 ghost use Rattle.serde_json.specs.View.{view, items_view, items_of, members_view, number_view};
@@ -8,7 +8,7 @@ ghost use Rattle.stix_json.specs.inner.Flaws.{first_flaw, items_flaw, members_fl
 use crate::flaw::{Flaw, Halt, Reason};
 use crate::place::Place;
 use crate::{Field, Json, JsonText, MAX_WHOLE, Name};
-use flow_values::{Items, Text};
+use flow_values::{Items, NoMemory, Text};
 use serde_json::{Map, Number, Value};
 use std::alloc::Global;
 
@@ -92,12 +92,28 @@ fn convert_members(alloc: Global, members: Map<String, Value>) -> Result<Items<F
     let mut fields = Items::with_capacity(alloc, members.len())?;
     for (name, member) in members {
         match convert(alloc, member) {
-            Ok(value) => fields.push(Field {
-                name: Name::from_text(alloc, name.as_str())?,
-                value,
-            })?,
+            Ok(value) => push_field(alloc, &mut fields, name.as_str(), value)?,
             Err(halt) => return Err(halt.below(alloc, name.as_str())),
         }
     }
     Ok(fields)
+}
+
+/// Adds a field at the end.
+fn push_field(
+    alloc: Global,
+    fields: &mut Items<Field>,
+    name: &str,
+    value: Json,
+) -> Result<(), NoMemory>
+    ensures { OnOk result (map field_data fields.new
+        ≡ map field_data fields.old ++ record { name = name.now; value = data_of value } ∷ []) }
+{
+    match Name::from_text(alloc, name) {
+        Ok(name) => fields.push(Field { name, value }),
+        Err(NoMemory) => {
+            drop(value);
+            Err(NoMemory)
+        }
+    }
 }

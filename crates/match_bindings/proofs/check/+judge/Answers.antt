@@ -1,15 +1,16 @@
 -- The test, kind by kind, and the loop over the parts of a Many.
-use Rattle.std.proofs.Common.{rules, ◌≡◌, ◌∙◌, refl, sym, ap, length, map, ◌≤◌, ◌<◌, get_or, take, Some, None}
+use Rattle.std.proofs.Common.{rules, ◌≡◌, ◌+◌, ◌∙◌, refl, sym, ap, length, map, ◌≤◌, ◌<◌, get_or, take, Some, None}
 use Rattle.std.specs.Prelude.{slice_get, true, ◌&&◌, nat_lt}
 use Rattle.std.proofs.lemmas.List.{length-map}
-use Rattle.match_bindings.specs.NumberedPattern.{numbered_from, Between}
+use Rattle.pattern_types.specs.Leaves.{leaves}
+use Rattle.match_bindings.specs.NumberedPattern.{numbered_from}
 use Rattle.match_bindings.specs.BindTree.{tree_of, many_of, disjoint, greatest}
 use Rattle.match_bindings.specs.Log.{observed_in}
 use Rattle.match_bindings.specs.Test.{is_binding, are_repeats}
 use Rattle.match_bindings.specs.declared.span.Span.{Span}
-use Rattle.match_bindings.specs.inner.Candidates.{judged, span_if, span_of, joined_span, lies_between}
+use Rattle.match_bindings.specs.inner.Candidates.{judged, span_if, span_of, joined_span, admits}
 use Rattle.match_bindings.proofs.BindTreeLemmas.{tree_many}
-use Rattle.match_bindings.proofs.IsBindingTestLemmas.{either_many, judged_between, wrong_count, starts_well, starts_badly, first_span, next_chain, goes_well, passed, failed}
+use Rattle.match_bindings.proofs.IsBindingTestLemmas.{either_many, no_pair, no_ordered_pair, no_span, left_fails, right_fails, sides_pass, wrong_count, starts_well, starts_badly, first_span, next_chain, goes_well, passed, failed}
 use Rattle.match_bindings.proofs.check.+judge.Goals as goal
 
 pub judge-returns-in-Many : goal.judge-returns-in-Many
@@ -18,16 +19,101 @@ judge-returns-in-Many t c =
     let g = tree_many c.in-Many.field-0 in
     rw (e, f, g, either_many) refl
 
-pub judge-returns-in_ok-span-in-Between : goal.judge-returns-in_ok-span-in-Between
-judge-returns-in_ok-span-in-Between t c =
+pub judge-returns-in-Both : goal.judge-returns-in-Both
+judge-returns-in-Both t c = rw (c.in-Both.is, ← c.deref.ensures, ← c.deref-in-Both.ensures) (c.judge_sides.ensures.both refl)
+
+pub judge-returns-in-Then : goal.judge-returns-in-Then
+judge-returns-in-Then t c = rw (c.in-Then.is, ← c.deref-in-Then.ensures, ← c.deref-in-Then-2.ensures) (c.judge_sides-in-Then.ensures.ordered refl)
+
+pub judge_sides-returns-in_err-first-clause-both : goal.judge_sides-returns-in_err-first-clause-both
+judge_sides-returns-in_err-first-clause-both t c =
     let o = observed_in c.args.log.now in
-    let p = numbered_from c.args.leaf c.deref-in-Between.result.now in
+    let p = numbered_from c.args.leaf c.args.left.now in
+    let q = numbered_from (c.args.leaf + leaves c.args.left.now) c.args.right.now in
     let x = tree_of c.args.bind.now in
-    let span = c.in_ok-span-in-Between.span in
-    let got : judged o p x ≡ Some span = search rules in
-    let test : c.is_between-is_between.result ≡ lies_between c.in-Between.start c.in-Between.stop span = search rules in
-    let whole : judged o (Between p c.in-Between.start c.in-Between.stop) x ≡ judged o (numbered_from c.args.leaf c.args.pattern.now) x = search rules in
-    c.span_if-in-Between.ensures ∙ ap (λ b. span_if b span) test ∙ judged_between o p x c.in-Between.start c.in-Between.stop span got ∙ whole
+    λ _. c.from_residual.ensures ∙ no_span _ (span_of o x) (no_pair o p q x c.in_err-first.ensures.none)
+
+pub judge_sides-returns-in_err-first_span-clause-both : goal.judge_sides-returns-in_err-first_span-clause-both
+judge_sides-returns-in_err-first_span-clause-both t c =
+    let o = observed_in c.args.log.now in
+    let p = numbered_from c.args.leaf c.args.left.now in
+    let q = numbered_from (c.args.leaf + leaves c.args.left.now) c.args.right.now in
+    let x = tree_of c.args.bind.now in
+    let a = tree_of c.in_ok-first.first.now in
+    let b = tree_of c.in_ok-first.second.now in
+    λ _. c.from_residual-in_err-first_span.ensures ∙ no_span _ (span_of o x) (left_fails o p q a b x c.in_ok-first.ensures.some (sym {b = judged o p a} c.judge.ensures ∙ c.in_err-first_span.was)).0
+
+pub judge_sides-returns-in_err-second_span-clause-both : goal.judge_sides-returns-in_err-second_span-clause-both
+judge_sides-returns-in_err-second_span-clause-both t c =
+    let o = observed_in c.args.log.now in
+    let p = numbered_from c.args.leaf c.args.left.now in
+    let q = numbered_from (c.args.leaf + leaves c.args.left.now) c.args.right.now in
+    let x = tree_of c.args.bind.now in
+    let a = tree_of c.in_ok-first.first.now in
+    let b = tree_of c.in_ok-first.second.now in
+    let first : judged o p a ≡ Some c.in_ok-first_span.first_span = sym {b = judged o p a} c.judge.ensures ∙ c.in_ok-first_span.was in
+    let second : judged o q b ≡ None = search rules in
+    λ _. c.from_residual-in_err-second_span.ensures ∙ no_span _ (span_of o x) (right_fails o p q a b x c.in_ok-first_span.first_span c.in_ok-first.ensures.some first second).0
+
+pub judge_sides-returns-clause-both : goal.judge_sides-returns-clause-both
+judge_sides-returns-clause-both t c =
+    let o = observed_in c.args.log.now in
+    let p = numbered_from c.args.leaf c.args.left.now in
+    let q = numbered_from (c.args.leaf + leaves c.args.left.now) c.args.right.now in
+    let x = tree_of c.args.bind.now in
+    let a = tree_of c.in_ok-first.first.now in
+    let b = tree_of c.in_ok-first.second.now in
+    let s = c.in_ok-first_span.first_span in
+    let r = c.in_ok-second_span.second_span in
+    let first : judged o p a ≡ Some s = sym {b = judged o p a} c.judge.ensures ∙ c.in_ok-first_span.was in
+    let second : judged o q b ≡ Some r = search rules in
+    λ e. c.joined.ensures ∙ ap (λ j. span_if (admits j s r && c.are_disjoint-apart.result) (joined_span s r)) e
+    ∙ (sides_pass o p q a b x s r c.are_disjoint-apart.result c.in_ok-first.ensures.some first second c.are_disjoint-apart.ensures).0
+
+pub judge_sides-returns-in_err-first-clause-ordered : goal.judge_sides-returns-in_err-first-clause-ordered
+judge_sides-returns-in_err-first-clause-ordered t c =
+    let o = observed_in c.args.log.now in
+    let p = numbered_from c.args.leaf c.args.left.now in
+    let q = numbered_from (c.args.leaf + leaves c.args.left.now) c.args.right.now in
+    let x = tree_of c.args.bind.now in
+    λ _. c.from_residual.ensures ∙ no_span _ (span_of o x) (no_ordered_pair o p q x c.in_err-first.ensures.none)
+
+pub judge_sides-returns-in_err-first_span-clause-ordered : goal.judge_sides-returns-in_err-first_span-clause-ordered
+judge_sides-returns-in_err-first_span-clause-ordered t c =
+    let o = observed_in c.args.log.now in
+    let p = numbered_from c.args.leaf c.args.left.now in
+    let q = numbered_from (c.args.leaf + leaves c.args.left.now) c.args.right.now in
+    let x = tree_of c.args.bind.now in
+    let a = tree_of c.in_ok-first.first.now in
+    let b = tree_of c.in_ok-first.second.now in
+    λ _. c.from_residual-in_err-first_span.ensures ∙ no_span _ (span_of o x) (left_fails o p q a b x c.in_ok-first.ensures.some (sym {b = judged o p a} c.judge.ensures ∙ c.in_err-first_span.was)).1
+
+pub judge_sides-returns-in_err-second_span-clause-ordered : goal.judge_sides-returns-in_err-second_span-clause-ordered
+judge_sides-returns-in_err-second_span-clause-ordered t c =
+    let o = observed_in c.args.log.now in
+    let p = numbered_from c.args.leaf c.args.left.now in
+    let q = numbered_from (c.args.leaf + leaves c.args.left.now) c.args.right.now in
+    let x = tree_of c.args.bind.now in
+    let a = tree_of c.in_ok-first.first.now in
+    let b = tree_of c.in_ok-first.second.now in
+    let first : judged o p a ≡ Some c.in_ok-first_span.first_span = sym {b = judged o p a} c.judge.ensures ∙ c.in_ok-first_span.was in
+    let second : judged o q b ≡ None = search rules in
+    λ _. c.from_residual-in_err-second_span.ensures ∙ no_span _ (span_of o x) (right_fails o p q a b x c.in_ok-first_span.first_span c.in_ok-first.ensures.some first second).1
+
+pub judge_sides-returns-clause-ordered : goal.judge_sides-returns-clause-ordered
+judge_sides-returns-clause-ordered t c =
+    let o = observed_in c.args.log.now in
+    let p = numbered_from c.args.leaf c.args.left.now in
+    let q = numbered_from (c.args.leaf + leaves c.args.left.now) c.args.right.now in
+    let x = tree_of c.args.bind.now in
+    let a = tree_of c.in_ok-first.first.now in
+    let b = tree_of c.in_ok-first.second.now in
+    let s = c.in_ok-first_span.first_span in
+    let r = c.in_ok-second_span.second_span in
+    let first : judged o p a ≡ Some s = sym {b = judged o p a} c.judge.ensures ∙ c.in_ok-first_span.was in
+    let second : judged o q b ≡ Some r = search rules in
+    λ e. c.joined.ensures ∙ ap (λ j. span_if (admits j s r && c.are_disjoint-apart.result) (joined_span s r)) e
+    ∙ (sides_pass o p q a b x s r c.are_disjoint-apart.result c.in_ok-first.ensures.some first second c.are_disjoint-apart.ensures).1
 
 pub judge_repeats-returns-then-parts-count : goal.judge_repeats-returns-then-parts-count
 judge_repeats-returns-then-parts-count t c =

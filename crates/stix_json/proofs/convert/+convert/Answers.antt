@@ -1,10 +1,10 @@
-use Rattle.std.proofs.Common.{rules, string_bytes, ◌≡◌, ℕ, length, option_map, subst, List, [], ◌∷◌, ◌++◌, map, append_assoc, sym, ap, ◌∙◌}
+use Rattle.std.proofs.Common.{rules, ◌≡◌, ℕ, length, option_map, subst, List, [], ◌∷◌, ◌++◌, map, append_assoc, sym, ap, ◌∙◌}
 use Rattle.serde_json.specs.View.{view, members_view}
 use Rattle.serde_json.specs.Data.{object}
 use Rattle.serde_json.proofs.Views.{view-Object}
 use Rattle.stix_json.specs.DataOf.{data_of, field_data, members_of}
 use Rattle.stix_json.specs.inner.Flaws.{flaw_under, first_flaw, Halts}
-use Rattle.stix_json.proofs.FlawsLemmas.{Entry, entry_data, same_member, members_of-entries, data_of-Object, item_passes, member_passes, both_pushed, item_halts, member_halts, same_length}
+use Rattle.stix_json.proofs.FlawsLemmas.{Entry, members_of-entries, data_of-Object, item_passes, member_passes, both_pushed, more_entries, item_halts, member_halts, same_length}
 use Rattle.stix_json.proofs.convert.+convert.Goals as goal
 
 pub convert_items-loop-item-preserved : goal.convert_items-loop-item-preserved
@@ -23,11 +23,10 @@ convert_members-loop-name-preserved t c =
     let inv = c.loop-name.invariant in
     let done = c.loop-name.yielded in
     let e : Entry = (c.in-Some.name, c.in-Some.member) in
-    let converted = c.in-Ok.ensures.ok in
-    let named : c.in_ok-from_text-in-Ok.field-0 ≡ string_bytes c.in-Some.name = search rules in (
+    let converted = c.in-Ok.ensures.ok in (
       inv.0 ∙ ap (λ es. done ++ es) c.in-Some.ensures.steps ∙ sym (append_assoc done (e ∷ []) c.next.new.self),
       member_passes done e inv.1 converted.0,
-      ap (map field_data) c.in_ok-push-in-Ok.ensures.ok ∙ both_pushed field_data entry_data c.loop-name.fields _ done e inv.2 (same_member c.in-Ok.value named converted.1),
+      c.in_ok-push_field-in-Ok.ensures ∙ more_entries (map field_data c.loop-name.fields) (data_of c.in-Ok.value) c.as_str.result.now done e inv.2 c.as_str.ensures.value converted.1,
     )
 
 pub convert_members-returns-clause-ok : goal.convert_members-returns-clause-ok
