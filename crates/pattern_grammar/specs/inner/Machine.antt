@@ -160,11 +160,6 @@ pub record LacksTestWord (ts : List Token) : Type 0 where
   pub exists : Lacks (Only kind.Exists) ts
   pub not : Lacks (Only kind.Not) ts
 
--- the rest is all of the tokens, and its first isn't of the class
-abbrev pub IsAt : TokenClass → List Token → Stop → Type 0
-IsAt class ts Memory = ⊥
-IsAt class ts (Syntax rest) = (rest.now ≡ ts) × Lacks class ts
-
 -- the tokens lead from what is wanted before them to what is wanted after them, where these come next
 pub record Leads (before after : List Want → List Want) (read rest : List Token) : Type 0 where
   pub go_on : (k : List Want) → go (reach (Some (before k)) read) rest ≡ go (Some (after k)) rest
