@@ -1,27 +1,9 @@
 #!/usr/bin/env bash
-# Times LIKE alone: texts of 8,388,608 bytes against patterns of 60,000 that are dear to search for, and short ones. The
-# program is built over copies of the crates, since a repository's gate takes no crate but its own.
+# Times LIKE alone: texts of 8,388,608 bytes against patterns of 60,000 that are dear to search for, and short ones.
 #
 #   bench/like.sh [PROGRAM]    a program that was built before
 set -eu
-top=$(cd "$(dirname "$0")/.." && pwd)
-folder=$(mktemp -d)
-trap 'rm -rf "$folder"' EXIT
-
-# build: the program, in $program.
-build() {
-  local bench=$folder/repo/crates/bench_like part
-  mkdir -p "$bench/src" "$folder/repo/crates/match_like"
-  cp "$top/HANDLES" "$folder/repo/"
-  for part in src specs proofs; do
-    cp -r "$top/crates/match_like/$part" "$folder/repo/crates/match_like/"
-  done
-  { grep '^match_like:' "$top/crates.txt"; echo "bench_like: match_like anyhow"; } > "$folder/repo/crates.txt"
-  cp "$top/bench/like/main.rt.txt" "$bench/src/main.rt"
-  echo "building; this takes a minute" >&2
-  (cd "$bench" && echo | rt run -- a 1 > "$folder/build.log" 2>&1) || { tail "$folder/build.log" >&2; exit 1; }
-  program=$bench/out/bench_like
-}
+. "$(dirname "$0")/building.sh"
 
 # repeated COUNT TEXT: the text so many times.
 repeated() { awk -v count="$1" -v text="$2" 'BEGIN { while (length(all) < count * length(text)) all = all (all == "" ? text : all); printf "%s", substr(all, 1, count * length(text)) }'; }
@@ -33,7 +15,7 @@ mixed() { awk -v count="$1" -v seed="$2" 'BEGIN { srand(seed); for (n = 0; n < c
 like() { printf '%-62s ' "$1"; (ulimit -s 1024 && "$program" "$3" "$2" < "$folder/text"); }
 
 program=${1:-}
-[ -n "$program" ] || build
+[ -n "$program" ] || build like "match_like" a 1
 uptime
 many=$(repeated 30000 a)
 repeated 8388608 a > "$folder/text"

@@ -1,38 +1,11 @@
 #!/usr/bin/env bash
 # Times the streaming matcher alone, on 100,000 rows that are made in memory and on ten times as many: for each pattern the
 # bindings, the rows kept at the end, the nanoseconds a row and the greatest memory; and with 1,000, 10,000 and 100,000
-# rows held of which one expires at each row. The program is built over copies of the crates,
-# since a repository's gate takes no crate but its own.
+# rows held of which one expires at each row.
 #
 #   bench/live.sh [PROGRAM]    a program that was built before
 set -eu
-top=$(cd "$(dirname "$0")/.." && pwd)
-folder=$(mktemp -d)
-trap 'rm -rf "$folder"' EXIT
-crates="flow_values stix_times pattern_cidr pattern_types pattern_tokens pattern_lexer pattern_grammar pattern_meaning
-  pattern_reader match_bindings match_windows match_live"
-
-# build: the program, in $program.
-build() {
-  local bench=$folder/repo/crates/bench_live crate part
-  mkdir -p "$bench/src" "$bench/proofs/take_rows"
-  cp "$top/HANDLES" "$folder/repo/"
-  for crate in $crates; do
-    mkdir "$folder/repo/crates/$crate"
-    for part in src specs proofs; do
-      [ ! -d "$top/crates/$crate/$part" ] || cp -r "$top/crates/$crate/$part" "$folder/repo/crates/$crate/"
-    done
-    grep "^$crate:" "$top/crates.txt"
-  done > "$folder/repo/crates.txt"
-  echo "bench_live: flow_values stix_times pattern_types pattern_reader match_bindings match_live anyhow" >> "$folder/repo/crates.txt"
-  cp "$top/bench/live/main.rt.txt" "$bench/src/main.rt"
-  for part in "$top"/bench/live/*.antt.txt; do
-    cp "$part" "$bench/proofs/take_rows/$(basename "$part" .txt)"
-  done
-  echo "building; this takes some minutes" >&2
-  (cd "$bench" && rt run -- "[a:b='1']" 1 drawn < /dev/null > "$folder/build.log" 2>&1) || { tail "$folder/build.log" >&2; exit 1; }
-  program=$bench/out/bench_live
-}
+. "$(dirname "$0")/building.sh"
 
 # live NAME PATTERN
 live() {
@@ -52,7 +25,7 @@ held() {
 }
 
 program=${1:-}
-[ -n "$program" ] || build
+[ -n "$program" ] || build live "flow_values stix_times pattern_types pattern_reader match_bindings match_live" "[a:b='1']" 1 drawn
 uptime
 for _ in 1 2 3; do
   live "one bracket" "[a:b='1']"
