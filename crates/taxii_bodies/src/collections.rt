@@ -49,7 +49,7 @@ pub fn collections_body(alloc: Global, infos: &[CollectionInfo]) -> Result<Text,
 {
     let values = collection_values(alloc, infos)?;
     let mut collections = Fields::new(alloc);
-    collections.push_list("collections", values)?;
+    collections.add_list("collections", values)?;
     collections.into_text()
 }
 
@@ -68,10 +68,10 @@ fn collection_value(alloc: Global, info: &CollectionInfo) -> Result<Json, NoMemo
 {
     let mut buffer = [0; 36];
     let mut collection = Fields::new(alloc);
-    collection.push_truth("can_read", info.can_read)?;
-    collection.push_truth("can_write", info.can_write)?;
-    collection.push_text("id", write_uuid(info.id, &mut buffer))?;
-    collection.push_one_text("media_types", STIX_MEDIA_TYPE)?;
-    collection.push_text("title", info.title.as_str())?;
+    collection.add_truth("can_read", info.can_read)?;
+    collection.add_truth("can_write", info.can_write)?;
+    collection.add_text("id", write_uuid(info.id, &mut buffer))?;
+    collection.add_one_text("media_types", STIX_MEDIA_TYPE)?;
+    collection.add_text("title", info.title.as_str())?;
     Ok(collection.into_object())
 }

@@ -33,9 +33,9 @@ fn based_body(alloc: Global, base: &str) -> Result<Text, NoMemory>
 {
     let url = root_url(alloc, base)?;
     let mut discovery = Fields::new(alloc);
-    discovery.push_one_text("api_roots", url.as_str())?;
-    discovery.push_text("default", url.as_str())?;
-    discovery.push_text("title", SERVER_TITLE)?;
+    discovery.add_one_text("api_roots", url.as_str())?;
+    discovery.add_text("default", url.as_str())?;
+    discovery.add_text("title", SERVER_TITLE)?;
     discovery.into_text()
 }
 
@@ -53,8 +53,8 @@ pub fn root_body(alloc: Global) -> Result<Text, NoMemory>
     ensures { IfOk result (λ text. text ≡ compact_text root_data) }
 {
     let mut root = Fields::new(alloc);
-    root.push_number("max_content_length", MAX_CONTENT_LENGTH)?;
-    root.push_text("title", "API root")?;
-    root.push_one_text("versions", TAXII_MEDIA_TYPE)?;
+    root.add_number("max_content_length", MAX_CONTENT_LENGTH)?;
+    root.add_text("title", "API root")?;
+    root.add_one_text("versions", TAXII_MEDIA_TYPE)?;
     root.into_text()
 }

@@ -29,7 +29,7 @@ impl Fields {
     }
 
     /// Adds a field of any value.
-    pub(crate) fn push(&mut self, name: &str, value: Json) -> Result<(), NoMemory>
+    pub(crate) fn add(&mut self, name: &str, value: Json) -> Result<(), NoMemory>
         ensures { OnOk result (members_in self.new ≡ members_in self.old ++ record { name = name.now; value = data_of value } ∷ []) }
     {
         match Name::from_text(self.alloc, name) {
@@ -42,51 +42,51 @@ impl Fields {
     }
 
     /// Adds a field of `true` or `false`.
-    pub(crate) fn push_truth(&mut self, name: &str, truth: bool) -> Result<(), NoMemory>
+    pub(crate) fn add_truth(&mut self, name: &str, truth: bool) -> Result<(), NoMemory>
         ensures { OnOk result (members_in self.new ≡ members_in self.old ++ record { name = name.now; value = boolean truth } ∷ []) }
     {
-        self.push(name, Json::Bool(truth))
+        self.add(name, Json::Bool(truth))
     }
 
     /// Adds a field of a number.
-    pub(crate) fn push_number(&mut self, name: &str, number: u64) -> Result<(), NoMemory>
+    pub(crate) fn add_number(&mut self, name: &str, number: u64) -> Result<(), NoMemory>
         requires { number < 2 ^ 63 }
         ensures { OnOk result (members_in self.new ≡ members_in self.old ++ record { name = name.now; value = whole (unsigned number) } ∷ []) }
     {
-        self.push(name, Json::Integer(number as i64))
+        self.add(name, Json::Integer(number as i64))
     }
 
     /// Adds a field of a text.
-    pub(crate) fn push_text(&mut self, name: &str, text: &str) -> Result<(), NoMemory>
+    pub(crate) fn add_text(&mut self, name: &str, text: &str) -> Result<(), NoMemory>
         ensures { OnOk result (members_in self.new ≡ members_in self.old ++ record { name = name.now; value = string text.now } ∷ []) }
     {
-        self.push(name, text_value(self.alloc, text)?)
+        self.add(name, text_value(self.alloc, text)?)
     }
 
     /// Adds a field of a list of one text.
-    pub(crate) fn push_one_text(&mut self, name: &str, text: &str) -> Result<(), NoMemory>
+    pub(crate) fn add_one_text(&mut self, name: &str, text: &str) -> Result<(), NoMemory>
         ensures { OnOk result (members_in self.new ≡ members_in self.old ++ record { name = name.now; value = array (item (string text.now) no_items) } ∷ []) }
     {
         let mut texts = Items::new(self.alloc);
         texts.push(text_value(self.alloc, text)?)?;
-        self.push_list(name, texts)
+        self.add_list(name, texts)
     }
 
     /// Adds a field of a list.
-    pub(crate) fn push_list(&mut self, name: &str, values: Items<Json>) -> Result<(), NoMemory>
+    pub(crate) fn add_list(&mut self, name: &str, values: Items<Json>) -> Result<(), NoMemory>
         ensures { OnOk result (members_in self.new ≡ members_in self.old ++ record { name = name.now; value = array (items_of (map data_of values)) } ∷ []) }
     {
-        self.push(name, Json::Array(values))
+        self.add(name, Json::Array(values))
     }
 
     /// Adds a field of a list, where the list isn't empty.
-    pub(crate) fn push_some(&mut self, name: &str, values: Items<Json>) -> Result<(), NoMemory>
+    pub(crate) fn add_some(&mut self, name: &str, values: Items<Json>) -> Result<(), NoMemory>
         ensures { OnOk result (members_in self.new ≡ members_in self.old ++ list_member name.now (map data_of values)) }
     {
         if values.is_empty() {
             return Ok(());
         }
-        self.push_list(name, values)
+        self.add_list(name, values)
     }
 
     /// The object of these fields.

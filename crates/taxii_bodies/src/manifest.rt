@@ -43,9 +43,9 @@ fn record_of(alloc: Global, row: &StoredRow) -> Result<Json, NoMemory>
     let id = write_id(alloc, &row.id)?;
     let version = version_text(alloc, row)?;
     let mut record = Fields::new(alloc);
-    record.push_text("date_added", date.as_str())?;
-    record.push_text("id", id.as_str())?;
-    record.push_text("media_type", STIX_MEDIA_TYPE)?;
-    record.push_text("version", version.as_str())?;
+    record.add_text("date_added", date.as_str())?;
+    record.add_text("id", id.as_str())?;
+    record.add_text("media_type", STIX_MEDIA_TYPE)?;
+    record.add_text("version", version.as_str())?;
     Ok(record.into_object())
 }

@@ -20,7 +20,7 @@ pub(crate) fn page_text(
     ensures { IfOk result (λ text. text ≡ compact_text (page_data more name.now (map data_of values))) }
 {
     let mut page = Fields::new(alloc);
-    page.push_truth("more", more)?;
-    page.push_some(name, values)?;
+    page.add_truth("more", more)?;
+    page.add_some(name, values)?;
     page.into_text()
 }

@@ -60,16 +60,16 @@ fn status_fields(alloc: Global, report: &StatusReport, moment: &str) -> Result<F
     ensures { IfOk result (λ fields. object (members_of (members_in fields)) ≡ status_data report.now moment.now) }
 {
     let mut fields = Fields::new(alloc);
-    fields.push_number("failure_count", report.failure_count)?;
-    push_details(alloc, "failures", report.failures.as_slice(), &mut fields)?;
-    push_middle(alloc, report, moment, &mut fields)?;
-    push_details(alloc, "successes", report.successes.as_slice(), &mut fields)?;
-    fields.push_number("total_count", report.success_count + report.failure_count)?;
+    fields.add_number("failure_count", report.failure_count)?;
+    add_details(alloc, "failures", report.failures.as_slice(), &mut fields)?;
+    add_middle(alloc, report, moment, &mut fields)?;
+    add_details(alloc, "successes", report.successes.as_slice(), &mut fields)?;
+    fields.add_number("total_count", report.success_count + report.failure_count)?;
     Ok(fields)
 }
 
 /// Adds the fields between the two lists.
-fn push_middle(
+fn add_middle(
     alloc: Global,
     report: &StatusReport,
     moment: &str,
@@ -79,16 +79,16 @@ fn push_middle(
     ensures { OnOk result (members_in fields.new ≡ members_in fields.old ++ middle_members report.now moment.now) }
 {
     let id = status_id(alloc, report.number)?;
-    fields.push_text("id", id.as_str())?;
-    fields.push_number("pending_count", 0)?;
-    fields.push_text("request_timestamp", moment)?;
-    fields.push_text("status", "complete")?;
-    fields.push_number("success_count", report.success_count)?;
+    fields.add_text("id", id.as_str())?;
+    fields.add_number("pending_count", 0)?;
+    fields.add_text("request_timestamp", moment)?;
+    fields.add_text("status", "complete")?;
+    fields.add_number("success_count", report.success_count)?;
     Ok(())
 }
 
 /// Adds the field of a list of details, where it isn't empty.
-fn push_details(
+fn add_details(
     alloc: Global,
     name: &str,
     details: &[Detail],
@@ -97,7 +97,7 @@ fn push_details(
     ensures { OnOk result (members_in fields.new ≡ members_in fields.old ++ list_member name.now (map detail_data details.now)) }
 {
     let values = detail_values(alloc, details)?;
-    fields.push_some(name, values)
+    fields.add_some(name, values)
 }
 
 fn detail_values(alloc: Global, details: &[Detail]) -> Result<Items<Json>, NoMemory>
@@ -114,15 +114,15 @@ fn detail_value(alloc: Global, detail: &Detail) -> Result<Json, NoMemory>
     ensures { IfOk result (λ value. data_of value ≡ detail_data detail.now) }
 {
     let mut fields = Fields::new(alloc);
-    fields.push_text("id", detail.id.as_str())?;
+    fields.add_text("id", detail.id.as_str())?;
     match &detail.message {
         Some(message) => {
-            fields.push_text("message", message.as_str())?;
-            fields.push_text("version", detail.version.as_str())?;
+            fields.add_text("message", message.as_str())?;
+            fields.add_text("version", detail.version.as_str())?;
             Ok(fields.into_object())
         }
         None => {
-            fields.push_text("version", detail.version.as_str())?;
+            fields.add_text("version", detail.version.as_str())?;
             Ok(fields.into_object())
         }
     }

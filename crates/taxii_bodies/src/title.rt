@@ -11,6 +11,6 @@ pub fn title_body(alloc: Global, title: &str) -> Result<Text, NoMemory>
     ensures { IfOk result (λ text. text ≡ compact_text (title_data title.now)) }
 {
     let mut fields = Fields::new(alloc);
-    fields.push_text("title", title)?;
+    fields.add_text("title", title)?;
     fields.into_text()
 }

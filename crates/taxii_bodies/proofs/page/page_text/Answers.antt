@@ -11,13 +11,13 @@ use Rattle.taxii_bodies.proofs.page.page_text.Goals as goal
 pub into_text-requires : goal.into_text-requires
 into_text-requires c =
     subst MembersAreOrdered
-    (sym (with_list (members_in c.new-page.result) (members_in c.push_truth.new.self) (members_in c.push_some.new.self) (record { name = codes "more"; value = boolean c.args.more })
-    c.args.name.now (map data_of c.args.values) c.new-page.ensures c.in_ok-push_truth.ensures c.in_ok-push_some.ensures))
+    (sym (with_list (members_in c.new-page.result) (members_in c.add_truth.new.self) (members_in c.add_some.new.self) (record { name = codes "more"; value = boolean c.args.more })
+    c.args.name.now (map data_of c.args.values) c.new-page.ensures c.in_ok-add_truth.ensures c.in_ok-add_some.ensures))
     c.requires
 
 pub returns : goal.returns
 returns c =
     subst (λ (ms : Members). IfOk c.into_text.result (λ text. text ≡ compact_text (object ms)))
-    (with_list (members_in c.new-page.result) (members_in c.push_truth.new.self) (members_in c.push_some.new.self) (record { name = codes "more"; value = boolean c.args.more })
-    c.args.name.now (map data_of c.args.values) c.new-page.ensures c.in_ok-push_truth.ensures c.in_ok-push_some.ensures)
+    (with_list (members_in c.new-page.result) (members_in c.add_truth.new.self) (members_in c.add_some.new.self) (record { name = codes "more"; value = boolean c.args.more })
+    c.args.name.now (map data_of c.args.values) c.new-page.ensures c.in_ok-add_truth.ensures c.in_ok-add_some.ensures)
     c.into_text.ensures
