@@ -1,9 +1,9 @@
 -- That a finder finds its brackets.
-use Rattle.std.proofs.Common.{arith, ◌≡◌, inl, inr, ℕ, ◌<◌, List, length, Some, None, slice_get, sym, ap, subst, ◌∙◌}
+use Rattle.std.proofs.Common.{arith, ◌≡◌, ◌⊎◌, inl, inr, ℕ, ◌+◌, ◌<◌, List, [], ◌∷◌, ◌++◌, length, Some, None, slice_get, sym, ap, subst, ◌∙◌}
 use Rattle.std.specs.Prelude.{All, Contains}
 use Rattle.std.specs.Borrow.{Bor}
 use Rattle.std.specs.List.Sorted.{IsPermutation}
-use Rattle.std.proofs.lemmas.List.Elements.{All-contains, All-weaker}
+use Rattle.std.proofs.lemmas.List.Elements.{All-contains, All-push, All-weaker, Contains-append_left, Contains-push}
 use Rattle.std.proofs.lemmas.List.Sorted.{Contains-permutation, All-permutation}
 use Rattle.std.proofs.lemmas.Option.{same_Some, slice_get_within}
 use Rattle.serde_json.specs.Data.{Data}
@@ -96,3 +96,28 @@ module _ (brackets : List Leaf) (rows : Rows) (filed : Filed) (kinds : List (Bor
     kinds = All-permutation (IsOfKind finder.paths.items) kinds finder.kinds.entries.items kinded
         (subst (λ (ps : List Guard). All (IsOfKind ps) kinds) (sym same) only_kinds);
   }
+
+before_or_last : (at count : ℕ) → at < count + 1 → (at < count) ⊎ (at ≡ count)
+before_or_last at count below = grind arith
+
+-- the first so many paths have their numbers beside the types of their roots
+abbrev pub AreFirstKinds : List Guard → ℕ → List (Bor (List ℕ) × ℕ) → Type 0
+AreFirstKinds paths count kinds = ((at : ℕ) (path : Guard) → at < count → slice_get paths at ≡ Some path → Contains kinds (path.kind, at)) × All (IsOfKind paths) kinds
+
+-- one path more
+pub kinds_next : (paths : List Guard) (count : ℕ) (path : Guard) (old new : List (Bor (List ℕ) × ℕ)) → slice_get paths count ≡ Some path
+    → new ≡ old ++ (path.kind, count) ∷ [] → AreFirstKinds paths count old → AreFirstKinds paths (count + 1) new
+kinds_next paths count path old new there is first = (
+  λ at other below own. elim (before_or_last at count below) [
+    | inl before ↦
+        subst (λ (kinds : List (Bor (List ℕ) × ℕ)). Contains kinds (other.kind, at)) (sym is)
+        (Contains-append_left old ((path.kind, count) ∷ []) (other.kind, at) (first.0 at other before own))
+    | inr last ↦
+        let same : path ≡ other = same_Some path other (sym there ∙ ap (slice_get paths) (sym last) ∙ own) in
+        subst (λ (n : ℕ). Contains new (other.kind, n)) (sym last)
+        (subst (λ (guard : Guard). Contains new (guard.kind, count)) same
+        (subst (λ (kinds : List (Bor (List ℕ) × ℕ)). Contains kinds (path.kind, count)) (sym is) (Contains-push old (path.kind, count))))
+  ],
+  subst (λ (kinds : List (Bor (List ℕ) × ℕ)). All (IsOfKind paths) kinds) (sym is)
+      (All-push (IsOfKind paths) old (path.kind, count) first.1 (λ other own. ap (λ (guard : Guard). guard.kind.now) (same_Some other path (sym own ∙ there)))),
+)

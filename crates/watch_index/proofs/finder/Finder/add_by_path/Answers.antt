@@ -9,7 +9,7 @@ use Rattle.watch_index.specs.declared.key.Key.{Key}
 use Rattle.watch_index.specs.declared.key.Key.TheVariants.{Any}
 use Rattle.watch_index.specs.declared.paths.Lookup.{Lookup}
 use Rattle.watch_index.specs.inner.Indexed.{IsSeenFrom}
-use Rattle.watch_index.proofs.LookupLemmas.{asks_value, only_more, only_through, seen_value}
+use Rattle.watch_index.proofs.LookupLemmas.{asks_value, keeps_more, keeps_through, only_more, only_through, seen_value}
 use Rattle.watch_index.proofs.finder.Finder.add_by_path.Goals as goal
 
 pub returns-in_ok-push-2-clause-asks : goal.returns-in_ok-push-2-clause-asks
@@ -76,3 +76,17 @@ returns-in_default-key_in-clause-only c =
     let Own = λ (lookup : Lookup). (lookup.path ≡ number) × IsSeenFrom paths objects from lookup in
     only_more Own c.args.lookups.now.items c.push.new.self.items (record { path = number; key = Any }) c.in_ok-push.ensures.items
     (seen_value paths objects from number guard Any (data_of c.in-Some-value_behind.value.now) there c.in-Some-value_behind.ensures.reached tt)
+
+pub returns-in_ok-push-2-clause-keeps : goal.returns-in_ok-push-2-clause-keeps
+returns-in_ok-push-2-clause-keeps c =
+    let old = c.args.lookups.now.items in
+    let mid = c.push.new.self.items in
+    let new = c.push-in-Some-key_in.new.self.items in
+    let any : Lookup = record { path = c.args.path; key = Any } in
+    let own : Lookup = record { path = c.args.path; key = c.in-Some-key_in.key } in
+    keeps_through old mid new (keeps_more old mid (any ∷ []) c.in_ok-push.ensures.items) (keeps_more mid new (own ∷ []) c.in_ok-push-2.ensures.items)
+
+pub returns-in_default-key_in-clause-keeps : goal.returns-in_default-key_in-clause-keeps
+returns-in_default-key_in-clause-keeps c =
+    let any : Lookup = record { path = c.args.path; key = Any } in
+    keeps_more c.args.lookups.now.items c.push.new.self.items (any ∷ []) c.in_ok-push.ensures.items
