@@ -18,6 +18,14 @@ led name (c ∷ path) =
     ∙ ap (λ (xs : List ℕ). name ++ xs) (sym (append_assoc (codes " at ") (c ∷ path) (codes "\n")))
     ∙ sym (append_assoc name (codes " at " ++ c ∷ path) (codes "\n"))
 
+-- the line of a name and a path, of the bytes that were found for each
+pub at_line : (line name path line_bytes name_bytes lead lead_bytes path_bytes : List ℕ)
+    → line_bytes ≡ line → name_bytes ≡ name → lead ≡ path_lead path → lead_bytes ≡ lead → path_bytes ≡ path
+    → codes "line " ++ (line_bytes ++ (codes " refused: " ++ (name_bytes ++ (lead_bytes ++ (path_bytes ++ codes "\n")))))
+    ≡ line_of_text line (at_path name path)
+at_line line name path line_bytes name_bytes lead lead_bytes path_bytes line_is name_is lead_is lead_bytes_is path_is =
+    rw (line_is, name_is, lead_bytes_is, lead_is, path_is) (ap (λ (xs : List ℕ). codes "line " ++ (line ++ (codes " refused: " ++ xs))) (led name path))
+
 pub broken_line : (line name object rule path : List ℕ)
     → codes "line " ++ (line ++ (codes " refused: " ++ (name ++ (codes " object " ++ (object ++ (codes ": " ++ (rule ++ (path_lead path ++ (path ++ codes "\n")))))))))
     ≡ line_of_text line (at_path (name ++ broken_words object rule) path)

@@ -1,6 +1,6 @@
 -- A sound plan may be added to the sound store that it was made for.
 use Rattle.std.proofs.Common.{◌≡◌, ℕ, ◌+◌, ◌-◌, ◌≤◌, List, [], ◌∷◌, ◌++◌, length, take, drop, filter, not, All, Option, Some, None, IfSome, refl, sym, ap, subst, ◌∙◌, arith}
-use Rattle.std.proofs.lemmas.List.{length-append, take_all}
+use Rattle.std.proofs.lemmas.List.{length-append, take-append-le, take_all}
 use Rattle.std.proofs.Math.Seq.{drop-append_seam}
 use Rattle.std.proofs.lemmas.List.Elements.{All-nil, All-cons}
 use Rattle.taxii_rows.specs.declared.stored_row.StoredRow.{StoredRow}
@@ -50,6 +50,18 @@ rows_behind rows more first all first_is all_is =
     let behind : drop (length first) all ≡ more =
     ap (λ (n : ℕ). drop n all) same ∙ ap (drop (length rows)) all_is ∙ drop-append_seam rows more in
     ap (take (length all - length first)) behind ∙ take_all (length all - length first) more (omega (arith, same, count))
+
+pub first_within : (rows more first all : List StoredRow) → first ≡ rows → all ≡ rows ++ more → length first ≤ length all
+first_within rows more first all first_is all_is =
+    let same = ap length first_is in
+    let count = ap length all_is ∙ length-append rows more in
+    omega (arith, same, count)
+
+-- the first rows alone
+pub rows_before : (rows more first all left : List StoredRow) → first ≡ rows → all ≡ rows ++ more → left ≡ take (length first) all → left ≡ rows
+rows_before rows more first all left first_is all_is left_is =
+    left_is ∙ ap (λ (n : ℕ). take n all) (ap length first_is) ∙ ap (take (length rows)) all_is
+    ∙ take-append-le (length rows) rows more (omega arith) ∙ take_all (length rows) rows (omega arith)
 
 pub if_same : (told : Option StoreState) (P : StoreState → Type 0) (state : StoreState) → IfSome told (λ kept. kept ≡ state) → P state → IfSome told P
 if_same (Some kept) P state same it = subst P (sym same) it

@@ -1,11 +1,12 @@
-use Rattle.std.proofs.Common.{ℕ, List, ap, sym, subst, ◌∙◌}
+use Rattle.std.proofs.Common.{◌≡◌, ℕ, List, ap, sym, subst, ◌∙◌}
 use Rattle.taxii_rows.specs.declared.stored_row.StoredRow.{StoredRow}
 use Rattle.taxii_rows.specs.SoundRow.{IsSoundState}
 use Rattle.taxii_rows.specs.StoreState.{StoreState}
-use Rattle.taxii_rows.specs.Keeper.{CanAppend, with_rows}
+use Rattle.taxii_rows.specs.Keeper.{CanAppend, Kept, with_rows}
+use Rattle.taxii_store.specs.Agreement.{Agrees}
 use Rattle.taxii_store.specs.Planned.{PlannedState}
 use Rattle.taxii_store.specs.inner.Moving.{planned_of}
-use Rattle.taxii_store.proofs.CommitLemmas.{can_commit, sound_committed, rows_behind, if_same}
+use Rattle.taxii_store.proofs.CommitLemmas.{can_commit, sound_committed, rows_behind, first_within, rows_before, if_same}
 use Rattle.taxii_store.proofs.library.Library.commit_add.Goals as goal
 
 pub append-requires : goal.append-requires
@@ -36,3 +37,33 @@ invariant_of-self-in-Ok g c =
     let sound = sound_committed c.later_rows.ensures c.sound_states.ensures.added state planned c.self.invariant c.planned.invariant.0 same in
     subst (λ (rows : List StoredRow). IsSoundState (record { rows = rows; mark = c.planned.inside.last })) (sym c.in_ok-append.ensures.ok)
     (subst (λ (mark : ℕ). IsSoundState (with_rows c.planned.inside.rows.items mark state)) (sym c.planned.invariant.1) sound)
+
+pub slice_bounds-append-start : goal.slice_bounds-append-start
+slice_bounds-append-start g c =
+    first_within c.self.inside.rows c.planned.inside.rows.items c.as_slice-length.result.now c.as_slice.result.now
+    c.as_slice-length.ensures.rows (c.as_slice.ensures.rows ∙ c.in_ok-append.ensures.ok)
+
+pub slice_bounds-append-count : goal.slice_bounds-append-count
+slice_bounds-append-count g c =
+    first_within c.self.inside.rows c.planned.inside.rows.items c.as_slice-length.result.now c.as_slice.result.now
+    c.as_slice-length.ensures.rows (c.as_slice.ensures.rows ∙ c.in_ok-append.ensures.ok)
+
+pub invariant_of-self-in-Err : goal.invariant_of-self-in-Err
+invariant_of-self-in-Err g c =
+    let back = rows_before c.self.inside.rows c.planned.inside.rows.items c.as_slice-length.result.now c.append.new.self c.truncate.new.self
+    c.as_slice-length.ensures.rows c.in_ok-append.ensures.ok c.truncate.ensures in
+    subst (λ (rows : List StoredRow). IsSoundState (record { rows = rows; mark = c.self.inside.mark })) (sym back) c.self.invariant
+
+pub returns-clause-err : goal.returns-clause-err
+returns-clause-err g c =
+    let back = rows_before c.self.inside.rows c.planned.inside.rows.items c.as_slice-length.result.now c.append.new.self c.truncate.new.self
+    c.as_slice-length.ensures.rows c.in_ok-append.ensures.ok c.truncate.ensures in
+    ap (λ (rows : List StoredRow). record { rows = rows; mark = c.self.inside.mark }) back ∙ c.self.view_is
+
+pub returns-clause-agrees : goal.returns-clause-agrees
+returns-clause-agrees g c =
+    let back = rows_before c.self.inside.rows c.planned.inside.rows.items c.as_slice-length.result.now c.append.new.self c.truncate.new.self
+    c.as_slice-length.ensures.rows c.in_ok-append.ensures.ok c.truncate.ensures in
+    let state : StoreState = record { rows = c.truncate.new.self; mark = c.self.inside.mark } in
+    let same : state ≡ c.args.self.now = ap (λ (rows : List StoredRow). record { rows = rows; mark = c.self.inside.mark }) back ∙ c.self.view_is in
+    subst (λ (kept : Kept). Agrees kept state) (sym c.in-Err.ensures.err) (subst (Agrees (g.K.Keeper.kept c.args.keeper.now)) (sym same) c.requires.agrees)
