@@ -22,7 +22,7 @@ fn main(rt: HostRuntime) -> ExitCode {
 
 /// Runs the program over the outside that the system has, with a file that held what `S` stands for, and answers its status.
 fn run_over<S: Start>(rt: HostRuntime, words: &[String], start: S) -> u8 {
-    let mut keeper = SqliteKeeper::new(rt.alloc(), rt, start);
+    let mut keeper = SqliteKeeper::new(rt, start);
     let status = run(
         rt.alloc(),
         words,

@@ -22,7 +22,7 @@ fn main(rt: HostRuntime) -> ExitCode {
 
 /// Does what the words ask for, over a file that held what `S` stands for, and answers the program's status.
 fn mirror<S: Start>(rt: HostRuntime, words: &[String], start: S) -> u8 {
-    let mut keeper = SqliteKeeper::new(rt.alloc(), rt, start);
+    let mut keeper = SqliteKeeper::new(rt, start);
     let status = run_mirror(
         rt.alloc(),
         words,

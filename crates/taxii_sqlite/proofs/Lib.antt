@@ -1,4 +1,3 @@
-mod BehindLemmas
 mod InTurnLemmas
 mod CommitLemmas
 mod ShutLemmas

@@ -1,4 +1,4 @@
--- What a database answers and does: by statements over its file, or over rows in memory.
+-- What a database answers and does: by statements over its file. Without a file nothing is kept, and so nothing is ever there.
 use Rattle.std.specs.Prelude.{◌≡◌, ◌≢◌, ⊤, true, false, Bool, ℕ, List, [], Option, None, Some}
 use Rattle.sqlite_disk.specs.declared.Disk.{Ghosts}
 use Rattle.sqlite_disk.specs.declared.Files.{Files}
@@ -10,12 +10,11 @@ use Rattle.sqlite.specs.Closing.{IsCopied}
 use Rattle.sqlite.specs.Files.{file_state, IsOpened}
 use Rattle.sqlite.specs.Held.{IsNew}
 use Rattle.taxii_rows.specs.declared.stored_row.StoredRow.{StoredRow}
-use Rattle.taxii_rows.specs.Keeper.{row_after, with_rows, without}
 use Rattle.taxii_sqlite.specs.Statements.{AnswersNext, AnswersMark, Transacts, Adds, DeletesAll}
 use Rattle.taxii_sqlite.specs.Forms.{IsReady}
 use Rattle.taxii_sqlite.specs.Transactions.{IsUntouched}
 use Rattle.taxii_sqlite.specs.declared.connection.Database.{Database}
-use Rattle.taxii_sqlite.specs.declared.connection.Database.TheVariants.{Closed, Memory, Disk}
+use Rattle.taxii_sqlite.specs.declared.connection.Database.TheVariants.{Closed, Nowhere, Disk}
 
 module _ {D : Type 0} {disk : Ghosts D} where
   -- whether there is a database
@@ -26,31 +25,31 @@ module _ {D : Type 0} {disk : Ghosts D} where
   -- the first row that is later than the date
   abbrev pub FindsNext : ℕ → Database D disk → Database D disk → Option StoredRow → Type 0
   FindsNext date (Disk before) (Disk after) found = HasCleanDisk (file_state after) → AnswersNext date (file_state before) (file_state after) found
-  FindsNext date (Memory before) (Memory after) found = found ≡ row_after date before.state.rows
+  FindsNext date Nowhere Nowhere found = found ≡ None
   FindsNext date _ _ found = ⊥
 
   -- the last date ever given
   abbrev pub FindsMark : Database D disk → Database D disk → ℕ → Type 0
   FindsMark (Disk before) (Disk after) mark = HasCleanDisk (file_state after) → AnswersMark (file_state before) (file_state after) mark
-  FindsMark (Memory before) (Memory after) mark = mark ≡ before.state.mark
+  FindsMark Nowhere Nowhere mark = mark ≡ 0
   FindsMark _ _ mark = ⊥
 
   -- the rows were added, and the date was made the mark
   abbrev pub Appends : List StoredRow → ℕ → Database D disk → Database D disk → Type 0
   Appends rows mark (Disk before) (Disk after) = HasCleanDisk (file_state after) → Transacts file_state (Adds file_state rows mark) before after
-  Appends rows mark (Memory before) (Memory after) = after.state ≡ with_rows rows mark before.state
+  Appends rows mark Nowhere Nowhere = ⊤
   Appends rows mark _ _ = ⊥
 
   -- the rows of the dates were removed, and the mark stayed
   abbrev pub Removes : List ℕ → Database D disk → Database D disk → Type 0
   Removes dates (Disk before) (Disk after) = HasCleanDisk (file_state after) → Transacts file_state (DeletesAll file_state dates) before after
-  Removes dates (Memory before) (Memory after) = after.state ≡ without dates before.state
+  Removes dates Nowhere Nowhere = ⊤
   Removes dates _ _ = ⊥
 
   -- nothing was added or removed; of a file: what it holds and what is committed are as before, unless a failure has shut it
   abbrev pub StaysAs : Database D disk → Database D disk → Type 0
   StaysAs (Disk before) (Disk after) = HasCleanDisk (file_state after) → IsUntouched (file_state before) (file_state after)
-  StaysAs (Memory before) (Memory after) = after.state ≡ before.state
+  StaysAs Nowhere Nowhere = ⊤
   StaysAs Closed Closed = ⊤
   StaysAs _ _ = ⊥
 
@@ -64,19 +63,19 @@ module _ {D : Type 0} {disk : Ghosts D} where
   IsClean (Disk held) = HasCleanDisk (file_state held)
   IsClean _ = ⊤
 
-  -- what was opened under a path: with an empty one no rows, in memory; with another one a file, whose database is the one that these
+  -- what was opened under a path: with an empty one nothing; with another one a file, whose database is the one that these
   -- files held, a database and its log, and which was then made ready
   abbrev pub IsOpenAt : Image → List ℕ → Database D disk → Type 0
-  IsOpenAt files path (Memory keeper) = (path ≡ []) × (keeper.state ≡ record { rows = []; mark = 0 })
+  IsOpenAt files path Nowhere = path ≡ []
   IsOpenAt files path (Disk after) =
       (path ≢ [])
       × (HasCleanDisk (file_state after) → (before : _) × IsNew before × IsOpened before × FindsIn files (file_state before) × IsReady file_state before after)
   IsOpenAt files path Closed = ⊥
 
   -- what an end leaves: of a file, both of its files, of which the database alone holds what was committed last, also after a crash;
-  -- of rows in memory, nothing
+  -- else nothing
   abbrev pub Leaves : Database D disk → Option (Files D) → Type 0
   Leaves (Disk held) (Some files) = AreClean disk files.log files.db → IsCopied held files
   Leaves (Disk held) None = ⊥
-  Leaves (Memory _) left = left ≡ None
+  Leaves Nowhere left = left ≡ None
   Leaves Closed left = left ≡ None

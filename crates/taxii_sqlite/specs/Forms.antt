@@ -50,12 +50,16 @@ module _ {S : Type 0} (shown : Held S → State) where
   NamesForm before after = (made : Held S) × Runs shown FORM_TABLE.now [] before made × Runs shown NAME_FORM.now [] made after
 
   -- all tables were made
-  abbrev pub MakesAll : Held S → Held S → Type 0
-  MakesAll before after = (made : Held S) × MakesRows before made × NamesForm made after
+  abbrev pub MakesTables : Held S → Held S → Type 0
+  MakesTables before after = (made : Held S) × MakesRows before made × NamesForm made after
+
+  -- this version was written over another one
+  abbrev pub WritesVersion : Held S → Held S → Type 0
+  WritesVersion = Runs shown NAME_FORM.now []
 
   -- a database of that form got what it lacks, and nothing else
   abbrev pub Completes : Form → Held S → Held S → Type 0
-  Completes Blank before after = Transacts shown MakesAll before after
+  Completes Blank before after = Transacts shown MakesTables before after
   Completes Unnamed before after = Transacts shown NamesForm before after
   Completes Named before after = after ≡ before
   Completes Other before after = ⊥
@@ -63,7 +67,7 @@ module _ {S : Type 0} (shown : Held S → State) where
   -- a store of this version stayed as it was, one of the version before got this one, and nothing else
   abbrev pub Renews : ℤ → Held S → Held S → Type 0
   Renews version before after =
-      ((version ≡ VERSION) × (after ≡ before)) ⊎ ((version ≡ VERSION_BEFORE) × Transacts shown (Runs shown NAME_FORM.now []) before after)
+      ((version ≡ VERSION) × (after ≡ before)) ⊎ ((version ≡ VERSION_BEFORE) × Transacts shown WritesVersion before after)
 
   -- the schema was asked for its form, the database got what it lacked of a store's, and its version is this one, or was the one
   -- before and was made this one

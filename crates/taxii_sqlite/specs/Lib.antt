@@ -3,4 +3,5 @@ pub mod Columns
 pub mod Transactions
 pub mod Statements
 pub mod Forms
+pub mod Changes
 pub mod Databases

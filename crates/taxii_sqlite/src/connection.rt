@@ -1,41 +1,31 @@
 ghost use Rattle.std.specs.Prelude.{◌≡◌, ◌≢◌, true, [], IfOk, OnOk, OnErr};
 ghost use Rattle.sqlite_wal.specs.Files.{image_at};
 ghost use Rattle.sqlite_wal.specs.Reads.{AreClean};
-ghost use Rattle.sqlite_wal.specs.Recovery.{Image};
 ghost use Rattle.sqlite.specs.Closing.{IsCopied};
 ghost use Rattle.taxii_rows.specs.StoreState.{RiseFrom};
 ghost use Rattle.taxii_sqlite.specs.Databases.{is_open, FindsNext, FindsMark, Appends, Removes, StaysAs, IsOpenAt, Leaves};
 
+use crate::change::Change;
 use crate::failure::Failure;
-use crate::{file, memory, statements};
-use flow_values::Items;
+use crate::{file, statements};
 use sqlite::{Connection, Error, ErrorCode, FileFrom, FileStore, Files, Start};
 use sqlite_disk::Disk;
-use std::alloc::Global;
 use std::rt::HostRuntime;
-use taxii_memory::MemoryKeeper;
-use taxii_rows::{FaultCause, Keeper, StoredRow};
+use taxii_rows::{FaultCause, StoredRow};
 
-/// What a keeper has its rows in. One that is closed fails each call.
+/// What a keeper has its rows in.
 #[derive(Drop)]
 pub(crate) enum Database<D: Disk + Drop> {
+    /// None yet: each call fails.
     Closed,
-    Memory(MemoryKeeper),
+    /// A store without a file: its rows last in the library alone, and are held once.
+    Nowhere,
     Disk(Connection<FileStore<D>>),
 }
 
 const CLOSED: Failure = Failure::Fault(FaultCause::Closed);
 
 impl<D: Disk + Drop> Database<D> {
-    /// A database without rows, in memory.
-    pub(crate) fn in_memory(alloc: Global) -> Database<D>
-        ensures open { is_open result ≡ true }
-        ensures ready { (files : Image) → IsOpenAt files [] result }
-    {
-        let rows = MemoryKeeper::new(alloc, Items::new(alloc), 0, Items::new(alloc));
-        Database::Memory(rows)
-    }
-
     /// Ends the database. Where it is in a file, the log is copied into that, so that the file alone is the whole store, and both are
     /// given back. Without this the two are the store together.
     pub(crate) fn close(self) -> Result<Option<Files<D>>, Failure>
@@ -43,7 +33,7 @@ impl<D: Disk + Drop> Database<D> {
     {
         match self {
             Database::Disk(connection) => Ok(Some(copy_log(connection)?)),
-            Database::Closed | Database::Memory(_) => Ok(None),
+            Database::Closed | Database::Nowhere => Ok(None),
         }
     }
 
@@ -54,7 +44,7 @@ impl<D: Disk + Drop> Database<D> {
     {
         match self {
             Database::Closed => Err(CLOSED),
-            Database::Memory(keeper) => Ok(keeper.next_after(date)?),
+            Database::Nowhere => Ok(None),
             Database::Disk(connection) => statements::next_after(connection, date),
         }
     }
@@ -66,7 +56,7 @@ impl<D: Disk + Drop> Database<D> {
     {
         match self {
             Database::Closed => Err(CLOSED),
-            Database::Memory(keeper) => Ok(keeper.mark()?),
+            Database::Nowhere => Ok(0),
             Database::Disk(connection) => statements::read_mark(connection),
         }
     }
@@ -79,8 +69,8 @@ impl<D: Disk + Drop> Database<D> {
     {
         match self {
             Database::Closed => Err(CLOSED),
-            Database::Memory(keeper) => memory::append(keeper, rows, mark),
-            Database::Disk(connection) => statements::append(connection, rows, mark),
+            Database::Nowhere => Ok(()),
+            Database::Disk(connection) => Change::Append { rows, mark }.commit(connection),
         }
     }
 
@@ -93,8 +83,8 @@ impl<D: Disk + Drop> Database<D> {
     {
         match self {
             Database::Closed => Err(CLOSED),
-            Database::Memory(keeper) => Ok(keeper.remove(dates)?),
-            Database::Disk(connection) => statements::remove(connection, dates),
+            Database::Nowhere => Ok(()),
+            Database::Disk(connection) => Change::Remove { dates }.commit(connection),
         }
     }
 }

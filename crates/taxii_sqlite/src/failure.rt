@@ -9,7 +9,7 @@ use std::alloc::AllocError;
 use taxii_rows::{FaultCause, KeeperRefusal};
 
 /// Why a call of the database failed. It isn't counted yet.
-#[derive(Clone, Copy, Debug, PartialEq, Eq)]
+#[derive(Clone, Copy)]
 pub(crate) enum Failure {
     /// The outside failed, or gave what isn't of a store's form.
     Fault(FaultCause),
@@ -43,15 +43,6 @@ impl From<AllocError> for Failure {
     }
 }
 
-impl From<KeeperRefusal> for Failure {
-    fn from(refusal: KeeperRefusal) -> Failure {
-        match refusal {
-            KeeperRefusal::Fault => Failure::Fault(FaultCause::Untold),
-            KeeperRefusal::NoMemory => Failure::NoMemory,
-        }
-    }
-}
-
 /// Whether an error of the database is want of memory: of its store, of its compiler or of its parser.
 fn is_want_of_memory(error: Error) -> bool
     ensures { result ≡ is_want error }
@@ -81,7 +72,7 @@ fn cause_of(error: Error) -> FaultCause
 }
 
 /// How many calls of a keeper failed, and why the last of them did.
-#[derive(Clone, Copy, Debug, PartialEq, Eq)]
+#[derive(Clone, Copy)]
 pub(crate) struct Faults {
     pub(crate) count: u64,
     pub(crate) cause: FaultCause,

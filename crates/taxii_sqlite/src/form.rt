@@ -1,12 +1,12 @@
 //! What form a database has: what tables it has, and which version of a store they are.
 
-ghost use Rattle.std.specs.Prelude.{◌≡◌, ◌<ℤ◌, [], Err, IfOk, OnOk};
+ghost use Rattle.std.specs.Prelude.{◌≡◌, ◌<ℤ◌, Err, IfOk, OnOk};
 ghost use Rattle.sqlite.specs.Held.{state};
 ghost use Rattle.sqlite.specs.State.{HasCleanDisk};
-ghost use Rattle.taxii_sqlite.specs.Forms.{IsFormOf, AnswersForm, AnswersVersion, MakesRows, NamesForm, MakesAll, Completes, Renews, IsTaken};
-ghost use Rattle.taxii_sqlite.specs.Statements.{Runs, Transacts};
+ghost use Rattle.taxii_sqlite.specs.Forms.{IsFormOf, AnswersForm, AnswersVersion, MakesRows, NamesForm, MakesTables, WritesVersion, Completes, Renews, IsTaken};
 ghost use Rattle.taxii_sqlite.specs.Transactions.{GoesOn, StaysUnended};
 
+use crate::change::Change;
 use crate::failure::Failure;
 use crate::schema::{
     COUNT_TABLES, FIRST_MARK, FORM_TABLE, MARK_TABLE, NAME_FORM, READ_VERSION, ROW_TABLE, VERSION,
@@ -17,7 +17,7 @@ use sqlite::{Alter, Connection, Transaction, params};
 use taxii_rows::FaultCause;
 
 /// What tables a database has.
-#[derive(Clone, Copy, Debug, PartialEq, Eq)]
+#[derive(Clone, Copy)]
 pub(crate) enum Form {
     /// None: it is new.
     Blank,
@@ -75,39 +75,22 @@ fn complete<S: Alter>(connection: &mut Connection<S>, form: Form) -> Result<(), 
     ensures clean { HasCleanDisk (state S.Store connection.new) → HasCleanDisk (state S.Store connection.old) }
 {
     match form {
-        Form::Blank => make_all(connection),
-        Form::Unnamed => name(connection),
+        Form::Blank => Change::MakeTables.commit(connection),
+        Form::Unnamed => Change::NameForm.commit(connection),
         Form::Named => Ok(()),
         Form::Other => Err(Failure::Fault(FaultCause::OtherForm)),
     }
 }
 
-/// Makes all tables, and commits; or changes nothing.
-fn make_all<S: Alter>(connection: &mut Connection<S>) -> Result<(), Failure>
-    ensures runs { HasCleanDisk (state S.Store connection.new) → OnOk result (Transacts (state S.Store) (MakesAll (state S.Store)) connection.old connection.new) }
-    ensures clean { HasCleanDisk (state S.Store connection.new) → HasCleanDisk (state S.Store connection.old) }
+/// Makes all tables, and names the form.
+pub(crate) fn make_tables<S: Alter>(transaction: &mut Transaction<'_, S>) -> Result<(), Failure>
+    ensures same_reference { transaction.new.conn.ghost_name ≡ transaction.old.conn.ghost_name }
+    ensures inside { GoesOn (state S.Store transaction.old.conn.now) (state S.Store transaction.new.conn.now) }
+    ensures unended { OnOk result (StaysUnended (state S.Store transaction.old.conn.now) (state S.Store transaction.new.conn.now)) }
+    ensures makes { HasCleanDisk (state S.Store transaction.new.conn.now) → OnOk result (MakesTables (state S.Store) transaction.old.conn.now transaction.new.conn.now) }
 {
-    if !connection.is_autocommit() {
-        return Err(Failure::Fault(FaultCause::Closed));
-    }
-    let mut transaction = connection.transaction();
-    make_rows(&mut transaction)?;
-    make_name(&mut transaction)?;
-    transaction.commit()?;
-    Ok(())
-}
-
-/// Names the form, and commits; or changes nothing.
-fn name<S: Alter>(connection: &mut Connection<S>) -> Result<(), Failure>
-    ensures runs { HasCleanDisk (state S.Store connection.new) → OnOk result (Transacts (state S.Store) (NamesForm (state S.Store)) connection.old connection.new) }
-    ensures clean { HasCleanDisk (state S.Store connection.new) → HasCleanDisk (state S.Store connection.old) }
-{
-    if !connection.is_autocommit() {
-        return Err(Failure::Fault(FaultCause::Closed));
-    }
-    let mut transaction = connection.transaction();
-    make_name(&mut transaction)?;
-    transaction.commit()?;
+    make_rows(transaction)?;
+    name(transaction)?;
     Ok(())
 }
 
@@ -123,7 +106,8 @@ fn make_rows<S: Alter>(transaction: &mut Transaction<'_, S>) -> Result<(), Failu
     Ok(())
 }
 
-fn make_name<S: Alter>(transaction: &mut Transaction<'_, S>) -> Result<(), Failure>
+/// Names the form.
+pub(crate) fn name<S: Alter>(transaction: &mut Transaction<'_, S>) -> Result<(), Failure>
     ensures same_reference { transaction.new.conn.ghost_name ≡ transaction.old.conn.ghost_name }
     ensures inside { GoesOn (state S.Store transaction.old.conn.now) (state S.Store transaction.new.conn.now) }
     ensures unended { OnOk result (StaysUnended (state S.Store transaction.old.conn.now) (state S.Store transaction.new.conn.now)) }
@@ -151,24 +135,20 @@ fn renew<S: Alter>(connection: &mut Connection<S>, version: i64) -> Result<(), F
     ensures clean { HasCleanDisk (state S.Store connection.new) → HasCleanDisk (state S.Store connection.old) }
 {
     if version == VERSION_BEFORE {
-        write_version(connection)
+        Change::Renew.commit(connection)
     } else {
         check_version(version)
     }
 }
 
-/// Writes this version over another one, and commits; or changes nothing.
-fn write_version<S: Alter>(connection: &mut Connection<S>) -> Result<(), Failure>
-    ensures runs { HasCleanDisk (state S.Store connection.new) → OnOk result (Transacts (state S.Store) (Runs (state S.Store) NAME_FORM.now []) connection.old connection.new) }
-    ensures clean { HasCleanDisk (state S.Store connection.new) → HasCleanDisk (state S.Store connection.old) }
+/// Writes this version over another one.
+pub(crate) fn write_version<S: Alter>(transaction: &mut Transaction<'_, S>) -> Result<(), Failure>
+    ensures same_reference { transaction.new.conn.ghost_name ≡ transaction.old.conn.ghost_name }
+    ensures inside { GoesOn (state S.Store transaction.old.conn.now) (state S.Store transaction.new.conn.now) }
+    ensures unended { OnOk result (StaysUnended (state S.Store transaction.old.conn.now) (state S.Store transaction.new.conn.now)) }
+    ensures writes { HasCleanDisk (state S.Store transaction.new.conn.now) → OnOk result (WritesVersion (state S.Store) transaction.old.conn.now transaction.new.conn.now) }
 {
-    if !connection.is_autocommit() {
-        return Err(Failure::Fault(FaultCause::Closed));
-    }
-    let mut transaction = connection.transaction();
-    execute(&mut transaction, NAME_FORM, &[])?;
-    transaction.commit()?;
-    Ok(())
+    execute(transaction, NAME_FORM, &[])
 }
 
 /// Whether the form has this version. A later one has a cause of its own.

@@ -9,16 +9,14 @@ use crate::connection::{self, Database};
 use crate::failure::{Failure, Faults};
 use sqlite::{FileFrom, Files, Start};
 use sqlite_disk::Disk;
-use std::alloc::Global;
 use std::random::RandomSource;
 use std::rt::HostRuntime;
 use taxii_rows::{FaultCause, Keeper, KeeperRefusal, StoredRow};
 
-/// Rows in a database of SQLite, or in memory. It tells no rows; contracts see its database, whose calls are told in
+/// Rows in a database of SQLite, or nowhere. It tells no rows; contracts see its database, whose calls are told in
 /// `specs/Databases.antt`, and its faults. `S` stands for what the file held before it is opened.
 #[derive(Drop)]
 pub struct SqliteKeeper<D: Disk + Drop, S: Start> {
-    alloc: Global,
     rt: HostRuntime,
     start: Option<S>,
     database: Database<D>,
@@ -27,12 +25,11 @@ pub struct SqliteKeeper<D: Disk + Drop, S: Start> {
 
 impl<S: Start> SqliteKeeper<FileFrom<S>, S> {
     /// A keeper that isn't attached, and has failed in no call yet. Opens nothing and takes no memory.
-    pub fn new(alloc: Global, rt: HostRuntime, start: S) -> SqliteKeeper<FileFrom<S>, S>
+    pub fn new(rt: HostRuntime, start: S) -> SqliteKeeper<FileFrom<S>, S>
         ensures closed { result.database ≡ Closed }
         ensures faults { result.faults ≡ record { count = 0; cause = FaultCause.Untold } }
     {
         SqliteKeeper {
-            alloc,
             rt,
             start: Some(start),
             database: Database::Closed,
@@ -61,7 +58,7 @@ impl<S: Start> SqliteKeeper<FileFrom<S>, S> {
         ensures faults { self.new.faults ≡ self.old.faults }
     {
         if path.is_empty() {
-            return Ok(Database::in_memory(self.alloc));
+            return Ok(Database::Nowhere);
         }
         match self.start.take() {
             Some(start) => connection::open(&self.rt, path, start),
@@ -92,8 +89,8 @@ impl<S: Start> Keeper for SqliteKeeper<FileFrom<S>, S> {
         self.faults.cause
     }
 
-    /// Opens the file of this path, once in a keeper's life, and makes the tables where it has none; or begins without rows, in
-    /// memory, where the text is empty. A file that is no store, or a store of a later version, is a fault, and isn't written to.
+    /// Opens the file of this path, once in a keeper's life, and makes the tables where it has none; or none where the text is empty,
+    /// and then keeps nothing. A file that is no store, or a store of a later version, is a fault, and isn't written to.
     fn attach(&mut self, text: &str) -> Result<(), KeeperRefusal>
         ensures ok { OnOk result (is_open self.new.database ≡ true) }
         ensures ready { OnOk result (IsOpenAt (image_at S.Start) text.now self.new.database) }

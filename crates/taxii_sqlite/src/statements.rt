@@ -1,12 +1,12 @@
 //! What is asked of an open database.
 
-ghost use Rattle.std.specs.Prelude.{◌≡◌, IfOk, OnOk, OnErr};
+ghost use Rattle.std.specs.Prelude.{◌≡◌, IfOk, OnOk};
 ghost use Rattle.sqlite.specs.Held.{state};
 ghost use Rattle.sqlite.specs.State.{HasCleanDisk};
 ghost use Rattle.sqlite.specs.Values.{bound};
 ghost use Rattle.taxii_sqlite.specs.Forms.{IsReady};
-ghost use Rattle.taxii_sqlite.specs.Statements.{AnswersNext, AnswersMark, AnswersCount, Runs, Inserts, Deletes, WritesMark, ends_at, SetsMark, InTurn, Adds, DeletesAll, Transacts};
-ghost use Rattle.taxii_sqlite.specs.Transactions.{IsUntouched, IsSettled, GoesOn, StaysUnended};
+ghost use Rattle.taxii_sqlite.specs.Statements.{AnswersNext, AnswersMark, AnswersCount, Runs, Inserts, Deletes, WritesMark, ends_at, SetsMark, InTurn, Adds, DeletesAll};
+ghost use Rattle.taxii_sqlite.specs.Transactions.{GoesOn, StaysUnended};
 
 use crate::failure::Failure;
 use crate::form;
@@ -66,39 +66,34 @@ fn count_early_rows<S: Alter>(connection: &mut Connection<S>) -> Result<i64, Fai
     Ok(columns.get(0)?)
 }
 
-/// Adds the rows and sets the mark, and commits; or changes nothing.
+/// Adds the rows and sets the mark.
 pub(crate) fn append<S: Alter>(
-    connection: &mut Connection<S>,
+    transaction: &mut Transaction<'_, S>,
     rows: &[StoredRow],
     mark: u64,
 ) -> Result<(), Failure>
-    ensures ok { HasCleanDisk (state S.Store connection.new) → OnOk result (IsSettled (state S.Store connection.new)) }
-    ensures err { HasCleanDisk (state S.Store connection.new) → OnErr result (IsUntouched (state S.Store connection.old) (state S.Store connection.new)) }
-    ensures runs { HasCleanDisk (state S.Store connection.new) → OnOk result (Transacts (state S.Store) (Adds (state S.Store) rows.now mark) connection.old connection.new) }
+    ensures same_reference { transaction.new.conn.ghost_name ≡ transaction.old.conn.ghost_name }
+    ensures inside { GoesOn (state S.Store transaction.old.conn.now) (state S.Store transaction.new.conn.now) }
+    ensures unended { OnOk result (StaysUnended (state S.Store transaction.old.conn.now) (state S.Store transaction.new.conn.now)) }
+    ensures runs { HasCleanDisk (state S.Store transaction.new.conn.now) → OnOk result (Adds (state S.Store) rows.now mark transaction.old.conn.now transaction.new.conn.now) }
 {
-    if !connection.is_autocommit() {
-        return Err(Failure::Fault(FaultCause::Closed));
-    }
-    let mut transaction = connection.transaction();
-    insert_rows(&mut transaction, rows)?;
-    set_mark(&mut transaction, rows, mark)?;
-    transaction.commit()?;
+    insert_rows(transaction, rows)?;
+    set_mark(transaction, rows, mark)?;
     Ok(())
 }
 
-/// Removes the rows of these dates, and commits; or changes nothing. The mark is written first, since the last row may go.
-pub(crate) fn remove<S: Alter>(connection: &mut Connection<S>, dates: &[u64]) -> Result<(), Failure>
-    ensures ok { HasCleanDisk (state S.Store connection.new) → OnOk result (IsSettled (state S.Store connection.new)) }
-    ensures err { HasCleanDisk (state S.Store connection.new) → OnErr result (IsUntouched (state S.Store connection.old) (state S.Store connection.new)) }
-    ensures runs { HasCleanDisk (state S.Store connection.new) → OnOk result (Transacts (state S.Store) (DeletesAll (state S.Store) dates.now) connection.old connection.new) }
+/// Removes the rows of these dates. The mark is written first, since the last row may go.
+pub(crate) fn remove<S: Alter>(
+    transaction: &mut Transaction<'_, S>,
+    dates: &[u64],
+) -> Result<(), Failure>
+    ensures same_reference { transaction.new.conn.ghost_name ≡ transaction.old.conn.ghost_name }
+    ensures inside { GoesOn (state S.Store transaction.old.conn.now) (state S.Store transaction.new.conn.now) }
+    ensures unended { OnOk result (StaysUnended (state S.Store transaction.old.conn.now) (state S.Store transaction.new.conn.now)) }
+    ensures runs { HasCleanDisk (state S.Store transaction.new.conn.now) → OnOk result (DeletesAll (state S.Store) dates.now transaction.old.conn.now transaction.new.conn.now) }
 {
-    if !connection.is_autocommit() {
-        return Err(Failure::Fault(FaultCause::Closed));
-    }
-    let mut transaction = connection.transaction();
-    execute(&mut transaction, KEEP_MARK, &[])?;
-    delete_rows(&mut transaction, dates)?;
-    transaction.commit()?;
+    execute(transaction, KEEP_MARK, &[])?;
+    delete_rows(transaction, dates)?;
     Ok(())
 }
 

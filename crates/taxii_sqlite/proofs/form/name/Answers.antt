@@ -1,17 +1,7 @@
--- The form is named, and that is committed.
-use Rattle.std.proofs.Common.{rules, arith}
-use Rattle.sqlite.specs.Held.{state}
-use Rattle.taxii_sqlite.specs.Forms.{NamesForm}
-use Rattle.taxii_sqlite.proofs.CommitLemmas.{transacts}
+-- The table was made, and then the form was named in it.
 use Rattle.taxii_sqlite.proofs.form.name.Goals as goal
 
-pub returns-clause-runs : goal.returns-clause-runs
-returns-clause-runs g c =
-    let last = c.make_name.new.transaction.conn.now in
-    transacts (state g.S.Store) (NamesForm (state g.S.Store)) c.args.connection.now c.transaction-transaction.result.conn.now last c.commit.new.self.0 _ c.transaction-transaction.ensures.begun
-    c.in_ok-make_name.ensures.names
-    (record {
-      clean = λ kept. omega (arith, c.commit.ensures.survives.clean);
-      commits = λ kept. let done = c.in_ok-commit.ensures.ok kept in (done.1, done.2, done.3);
-    })
-    (search rules)
+pub returns-clause-names : goal.returns-clause-names
+returns-clause-names g c = λ clean.
+    let made = (c.execute-2.ensures.inside clean).0 in
+    (c.execute.new.transaction.conn.now, c.in_ok-execute.ensures.runs made, c.in_ok-execute-2.ensures.runs clean)

@@ -1,0 +1,62 @@
+//! What is done to an open database, each change whole in a transaction of its own.
+
+ghost use Rattle.std.specs.Prelude.{◌≡◌, OnOk, OnErr};
+ghost use Rattle.sqlite.specs.Held.{state};
+ghost use Rattle.sqlite.specs.State.{HasCleanDisk};
+ghost use Rattle.taxii_sqlite.specs.Changes.{Does};
+ghost use Rattle.taxii_sqlite.specs.Statements.{Transacts};
+ghost use Rattle.taxii_sqlite.specs.Transactions.{IsUntouched, IsSettled, GoesOn, StaysUnended};
+
+use crate::failure::Failure;
+use crate::{form, statements};
+use sqlite::{Alter, Connection, Transaction};
+use taxii_rows::{FaultCause, StoredRow};
+
+/// A change of a database.
+#[derive(Clone, Copy)]
+pub(crate) enum Change<'a> {
+    /// All tables are made, of a database that has none.
+    MakeTables,
+    /// The form is named, of a store that was made before forms had names.
+    NameForm,
+    /// The version becomes this one, of a store of the version before.
+    Renew,
+    /// These rows are added, and the date is made the mark.
+    Append { rows: &'a [StoredRow], mark: u64 },
+    /// The rows of these dates are removed.
+    Remove { dates: &'a [u64] },
+}
+
+impl Change<'_> {
+    /// Does the change, and commits; or changes nothing.
+    pub(crate) fn commit<S: Alter>(self, connection: &mut Connection<S>) -> Result<(), Failure>
+        ensures ok { HasCleanDisk (state S.Store connection.new) → OnOk result (IsSettled (state S.Store connection.new)) }
+        ensures err { HasCleanDisk (state S.Store connection.new) → OnErr result (IsUntouched (state S.Store connection.old) (state S.Store connection.new)) }
+        ensures does { HasCleanDisk (state S.Store connection.new) → OnOk result (Transacts (state S.Store) (Does (state S.Store) self.entry) connection.old connection.new) }
+        ensures clean { HasCleanDisk (state S.Store connection.new) → HasCleanDisk (state S.Store connection.old) }
+    {
+        if !connection.is_autocommit() {
+            return Err(Failure::Fault(FaultCause::Closed));
+        }
+        let mut transaction = connection.transaction();
+        self.perform(&mut transaction)?;
+        transaction.commit()?;
+        Ok(())
+    }
+
+    /// Does the change in a transaction, which it doesn't end.
+    fn perform<S: Alter>(self, transaction: &mut Transaction<'_, S>) -> Result<(), Failure>
+        ensures same_reference { transaction.new.conn.ghost_name ≡ transaction.old.conn.ghost_name }
+        ensures inside { GoesOn (state S.Store transaction.old.conn.now) (state S.Store transaction.new.conn.now) }
+        ensures unended { OnOk result (StaysUnended (state S.Store transaction.old.conn.now) (state S.Store transaction.new.conn.now)) }
+        ensures does { HasCleanDisk (state S.Store transaction.new.conn.now) → OnOk result (Does (state S.Store) self.entry transaction.old.conn.now transaction.new.conn.now) }
+    {
+        match self {
+            Change::MakeTables => form::make_tables(transaction),
+            Change::NameForm => form::name(transaction),
+            Change::Renew => form::write_version(transaction),
+            Change::Append { rows, mark } => statements::append(transaction, rows, mark),
+            Change::Remove { dates } => statements::remove(transaction, dates),
+        }
+    }
+}
