@@ -7,10 +7,9 @@ use Rattle.flow_lines.specs.declared.refusal.LineRefusal.{LineRefusal}
 use Rattle.flow_lines.specs.declared.refusal.LineRefusal.TheVariants as length_refusal
 use Rattle.stix_json.specs.declared.value.Json.{Json}
 use Rattle.stix_json.specs.declared.refusal.JsonRefusal.{JsonRefusal}
-use Rattle.stix_json.specs.declared.refusal.JsonRefusal.TheVariants.{NotJson, TooDeep, NotWhole, Null, OutOfRange, NotList, NoMemory}
+use Rattle.stix_json.specs.declared.refusal.JsonRefusal.TheVariants.{NoMemory}
 use Rattle.stix_json.specs.DataOf.{data_of}
-use Rattle.stix_json.specs.Refusal.{refusal_of}
-use Rattle.stix_json.specs.Reading.{IsValueOf, HasNoValue, IsJsonOf, IsJsonRefusedAs}
+use Rattle.stix_json.specs.Reading.{IsJsonOf, IsJsonRefusedAs}
 use Rattle.stix_bundles.specs.declared.observation.Observation.{Observation}
 use Rattle.stix_bundles.specs.declared.refusal.BundleRefusal.{BundleRefusal}
 use Rattle.stix_bundles.specs.Bundle.{IsBundle, IsBundleRefused}
@@ -20,67 +19,31 @@ use Rattle.match_input.specs.declared.rule.InputRule.TheVariants as rule
 use Rattle.match_input.specs.Line.{IsTextOf, IsInOrder, IsBehind, last_after, IsBundleLine, IsNoBundle, IsEmbedded, IsOutOfOrder, IsRefusedFor}
 use Rattle.match_input.specs.Reading.{BundleOf, InputEnd, Refused, IsTooLong, IsRefusedAt, Reads, at_end, at_refusal, one_bundle}
 
--- the laws of bundles and of their observations
+-- the laws of JSON, of bundles and of their observations
 pub record Laws : Type 0 where
+  pub same_json : (bytes : List ℕ) (first second : Json) → IsJsonOf bytes first → IsJsonOf bytes second → data_of first ≡ data_of second
+  pub json_refusal : (bytes : List ℕ) (first second : JsonRefusal) → first ≢ NoMemory → second ≢ NoMemory → IsJsonRefusedAs bytes first
+      → IsJsonRefusedAs bytes second → first ≡ second
+  pub no_json : (bytes : List ℕ) (refusal : JsonRefusal) (value : Json) → refusal ≢ NoMemory → IsJsonRefusedAs bytes refusal → ¬ IsJsonOf bytes value
   pub bundle : (value : Data) (first second : List Data) → IsBundle value first → IsBundle value second → first ≡ second
   pub refusal : (value : Data) (first second : BundleRefusal) → IsBundleRefused value first → IsBundleRefused value second → first ≡ second
   pub either : (value : Data) (objects : List Data) (refusal : BundleRefusal) → IsBundle value objects → ¬ IsBundleRefused value refusal
   pub list : (objects : List Data) (number : ℕ) (first second : List Observation) → AreObservations objects number first
       → AreObservations objects number second → first ≡ second
 
-one_value : (bytes : List ℕ) (d e : Data) → IsValueOf bytes d → IsValueOf bytes e → d ≡ e
-one_value bytes d e p q = let same : Some d ≡ Some e = sym p.value ∙ q.value in cc
-
--- what bytes are refused for as JSON: they are no value, or their value is refused so
-told : (bytes : List ℕ) (r : JsonRefusal) → r ≢ NoMemory → IsJsonRefusedAs bytes r
-    → ((r ≡ NotJson) × HasNoValue bytes) ⊎ ((d : Data) × IsValueOf bytes d × (refusal_of d ≡ Some r))
-told bytes NotJson some h = inl (refl, h)
-told bytes (TooDeep path) some h = inr h
-told bytes (NotWhole path) some h = inr h
-told bytes (Null path) some h = inr h
-told bytes (OutOfRange path) some h = inr h
-told bytes NotList some h = absurd h
-told bytes NoMemory some h = absurd (some refl)
-
-one_json_refusal : (bytes : List ℕ) (r s : JsonRefusal) → r ≢ NoMemory → s ≢ NoMemory → IsJsonRefusedAs bytes r → IsJsonRefusedAs bytes s → r ≡ s
-one_json_refusal bytes r s first second p q = go (told bytes r first p) (told bytes s second q)
-  where
-    go : ((r ≡ NotJson) × HasNoValue bytes) ⊎ ((d : Data) × IsValueOf bytes d × (refusal_of d ≡ Some r))
-        → ((s ≡ NotJson) × HasNoValue bytes) ⊎ ((d : Data) × IsValueOf bytes d × (refusal_of d ≡ Some s)) → r ≡ s
-    go (inl x) (inl y) = x.0 ∙ sym y.0
-    go (inl x) (inr y) = absurd (x.1 y.0 y.1)
-    go (inr x) (inl y) = absurd (y.1 x.0 x.1)
-    go (inr x) (inr y) =
-        let same = one_value bytes x.0 y.0 x.1 y.1 in
-        let both : Some r ≡ Some s = sym x.2 ∙ ap refusal_of same ∙ y.2 in
-        cc
-
-no_json : (bytes : List ℕ) (r : JsonRefusal) (value : Json) → r ≢ NoMemory → IsJsonRefusedAs bytes r → IsJsonOf bytes value → ⊥
-no_json bytes r value some p q = go (told bytes r some p)
-  where
-    go : ((r ≡ NotJson) × HasNoValue bytes) ⊎ ((d : Data) × IsValueOf bytes d × (refusal_of d ≡ Some r)) → ⊥
-    go (inl x) = x.1 (data_of value) q.value
-    go (inr x) =
-        let same = one_value bytes x.0 (data_of value) x.1 q.value in
-        let both : Some r ≡ None = sym x.2 ∙ ap refusal_of same ∙ q.good in
-        cc
-
-same_json : (bytes : List ℕ) (v w : Json) → IsJsonOf bytes v → IsJsonOf bytes w → data_of v ≡ data_of w
-same_json bytes v w p q = one_value bytes (data_of v) (data_of w) p.value q.value
-
 one_text : Laws → (bytes : List ℕ) (first second : List Data) → IsTextOf bytes first → IsTextOf bytes second → first ≡ second
 one_text laws bytes first second p q =
-    let same = same_json bytes p.value q.value p.json q.json in
+    let same = laws.same_json bytes p.value q.value p.json q.json in
     laws.bundle (data_of q.value) first second (subst (λ (d : Data). IsBundle d first) same p.bundle) q.bundle
 
 no_text : Laws → (bytes : List ℕ) (objects : List Data) (refusal : BundleRefusal) → IsNoBundle bytes refusal → IsTextOf bytes objects → ⊥
 no_text laws bytes objects refusal p q =
-    let same = same_json bytes p.0 q.value p.1 q.json in
+    let same = laws.same_json bytes p.0 q.value p.1 q.json in
     laws.either (data_of q.value) objects refusal q.bundle (subst (λ (d : Data). IsBundleRefused d refusal) same p.2)
 
 one_no_bundle : Laws → (bytes : List ℕ) (first second : BundleRefusal) → IsNoBundle bytes first → IsNoBundle bytes second → first ≡ second
 one_no_bundle laws bytes first second p q =
-    let same = same_json bytes p.0 q.0 p.1 q.1 in
+    let same = laws.same_json bytes p.0 q.0 p.1 q.1 in
     laws.refusal (data_of q.0) first second (subst (λ (d : Data). IsBundleRefused d first) same p.2) q.2
 
 compare : (a b : ℕ) → (a < b) ⊎ ((a ≡ b) ⊎ (b < a))
@@ -137,19 +100,19 @@ one_out_of_order laws last next bytes a b c d p q =
     one_behind last q.observations a b c d (subst (λ (os : List Observation). IsBehind last os a b) same p.behind) q.behind
 
 one_rule : Laws → (last : Option ℤ) (next : ℕ) (bytes : List ℕ) (why other : InputRule) → IsRefusedFor last next bytes why → IsRefusedFor last next bytes other → why ≡ other
-one_rule laws last next bytes (rule.Json r) (rule.Json s) p q = ap rule.Json (one_json_refusal bytes r s p.0 q.0 p.1 q.1)
-one_rule laws last next bytes (rule.Json r) (rule.Bundle s) p q = absurd (no_json bytes r q.0 p.0 p.1 q.1)
-one_rule laws last next bytes (rule.Json r) (rule.Embedded at) p q = absurd (no_json bytes r q.1.value p.0 p.1 q.1.json)
-one_rule laws last next bytes (rule.Json r) (rule.OutOfOrder a b) p q = absurd (no_json bytes r q.text.value p.0 p.1 q.text.json)
-one_rule laws last next bytes (rule.Bundle r) (rule.Json s) p q = absurd (no_json bytes s p.0 q.0 q.1 p.1)
+one_rule laws last next bytes (rule.Json r) (rule.Json s) p q = ap rule.Json (laws.json_refusal bytes r s p.0 q.0 p.1 q.1)
+one_rule laws last next bytes (rule.Json r) (rule.Bundle s) p q = absurd (laws.no_json bytes r q.0 p.0 p.1 q.1)
+one_rule laws last next bytes (rule.Json r) (rule.Embedded at) p q = absurd (laws.no_json bytes r q.1.value p.0 p.1 q.1.json)
+one_rule laws last next bytes (rule.Json r) (rule.OutOfOrder a b) p q = absurd (laws.no_json bytes r q.text.value p.0 p.1 q.text.json)
+one_rule laws last next bytes (rule.Bundle r) (rule.Json s) p q = absurd (laws.no_json bytes s p.0 q.0 q.1 p.1)
 one_rule laws last next bytes (rule.Bundle r) (rule.Bundle s) p q = ap rule.Bundle (one_no_bundle laws bytes r s p q)
 one_rule laws last next bytes (rule.Bundle r) (rule.Embedded at) p q = absurd (no_text laws bytes q.0 r p q.1)
 one_rule laws last next bytes (rule.Bundle r) (rule.OutOfOrder a b) p q = absurd (no_text laws bytes q.objects r p q.text)
-one_rule laws last next bytes (rule.Embedded at) (rule.Json s) p q = absurd (no_json bytes s p.1.value q.0 q.1 p.1.json)
+one_rule laws last next bytes (rule.Embedded at) (rule.Json s) p q = absurd (laws.no_json bytes s p.1.value q.0 q.1 p.1.json)
 one_rule laws last next bytes (rule.Embedded at) (rule.Bundle s) p q = absurd (no_text laws bytes p.0 s q p.1)
 one_rule laws last next bytes (rule.Embedded at) (rule.Embedded n) p q = ap rule.Embedded (one_embedded laws bytes at n p q)
 one_rule laws last next bytes (rule.Embedded at) (rule.OutOfOrder a b) p q = absurd (not_apart laws bytes at q.objects p q.text q.apart)
-one_rule laws last next bytes (rule.OutOfOrder a b) (rule.Json s) p q = absurd (no_json bytes s p.text.value q.0 q.1 p.text.json)
+one_rule laws last next bytes (rule.OutOfOrder a b) (rule.Json s) p q = absurd (laws.no_json bytes s p.text.value q.0 q.1 p.text.json)
 one_rule laws last next bytes (rule.OutOfOrder a b) (rule.Bundle s) p q = absurd (no_text laws bytes p.objects s q p.text)
 one_rule laws last next bytes (rule.OutOfOrder a b) (rule.Embedded at) p q = absurd (not_apart laws bytes at p.objects q p.text p.apart)
 one_rule laws last next bytes (rule.OutOfOrder a b) (rule.OutOfOrder c d) p q =
@@ -164,7 +127,7 @@ no_line : Laws → (last : Option ℤ) (next : ℕ) (bytes : List ℕ) (objects 
     → IsRefusedFor last next bytes why → IsBundleLine last next bytes objects observations → ⊥
 no_line laws last next bytes objects observations rule.LineTooLong p q = p
 no_line laws last next bytes objects observations rule.InputTooLong p q = p
-no_line laws last next bytes objects observations (rule.Json r) p q = no_json bytes r q.text.value p.0 p.1 q.text.json
+no_line laws last next bytes objects observations (rule.Json r) p q = laws.no_json bytes r q.text.value p.0 p.1 q.text.json
 no_line laws last next bytes objects observations (rule.Bundle r) p q = no_text laws bytes objects r p q.text
 no_line laws last next bytes objects observations (rule.Embedded at) p q = not_apart laws bytes at objects p q.text q.apart
 no_line laws last next bytes objects observations (rule.OutOfOrder a b) p q =

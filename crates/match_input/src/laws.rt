@@ -16,7 +16,7 @@ use stix_bundles::laws::{
     bundle_or_refusal, first_embedding_or_none, one_list_of_observations,
     one_reading as one_bundle, some_observations,
 };
-use stix_json::laws::value_or_refusal;
+use stix_json::laws::{one_json, value_or_refusal};
 
 /// No input is without a reading.
 pub fn some_reading()
@@ -34,6 +34,7 @@ pub fn one_reading()
     ensures { (mode : Mode) (bytes : List ℕ) (bundles others : List BundleOf) (end other : InputEnd)
         → Reading mode bytes bundles end → Reading mode bytes others other → (bundles ≡ others) × (end ≡ other) }
 {
+    one_json();
     one_bundle();
     one_list_of_observations();
 }
@@ -45,6 +46,7 @@ pub fn goes_on()
         → (rest : List BundleOf) × (all ≡ record { line = number; objects = objects; observations = observations } ∷ rest)
         × Reads (last_after last observations) (next + length observations) later rest end }
 {
+    one_json();
     one_bundle();
     one_list_of_observations();
 }

@@ -12,3 +12,4 @@ pub mod PlacesLemmas
 pub mod FitsLemmas
 pub mod TokensLemmas
 mod SomeJsonLemmas
+mod OneJsonLemmas

@@ -4,6 +4,7 @@ ghost use Rattle.std.specs.Prelude.{◌≡◌, ◌≢◌, ◌⊎◌, ℕ, List, 
 ghost use Rattle.serde_json.specs.Data.{Data, Items};
 ghost use Rattle.serde_json.specs.Find.{get, as_array};
 ghost use Rattle.serde_json.specs.View.{items_of};
+ghost use Rattle.stix_json.specs.DataOf.{data_of};
 ghost use Rattle.stix_json.specs.Ordered.{IsOrdered, ItemsAreOrdered};
 ghost use Rattle.stix_json.specs.Reading.{IsJsonOf, IsJsonRefusedAs};
 ghost use Rattle.stix_json.specs.declared.refusal.JsonRefusal.{JsonRefusal};
@@ -21,4 +22,12 @@ pub fn ordered_parts()
 pub fn value_or_refusal()
     ensures { (bytes : List ℕ) → ((value : Json) × IsJsonOf bytes value)
         ⊎ ((refusal : JsonRefusal) × (refusal ≢ NoMemory) × IsJsonRefusedAs bytes refusal) }
+{}
+
+/// Bytes are read in one way: they have one value or one refusal, and not both.
+pub fn one_json()
+    ensures value { (bytes : List ℕ) (first second : Json) → IsJsonOf bytes first → IsJsonOf bytes second → data_of first ≡ data_of second }
+    ensures refusal { (bytes : List ℕ) (first second : JsonRefusal) → first ≢ NoMemory → second ≢ NoMemory
+        → IsJsonRefusedAs bytes first → IsJsonRefusedAs bytes second → first ≡ second }
+    ensures either { (bytes : List ℕ) (refusal : JsonRefusal) (value : Json) → refusal ≢ NoMemory → IsJsonRefusedAs bytes refusal → ¬ IsJsonOf bytes value }
 {}

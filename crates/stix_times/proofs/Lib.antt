@@ -7,3 +7,4 @@ pub mod ReadingLemmas
 pub mod CivilLemmas
 pub mod WritingLemmas
 pub mod LawLemmas
+pub mod WholeLemmas

@@ -3,7 +3,7 @@
 
 ghost use Rattle.std.specs.Prelude.{◌≡◌, ◌↔◌, ℕ, ℤ, List, IsTrue, ◌<ℤ◌, ◌≤◌};
 ghost use Rattle.stix_times.specs.Reading.{IsTextOf, IsMillisTextOf};
-ghost use Rattle.stix_times.specs.Writing.{IsCanonicalTextOf, IsTextOfDigits};
+ghost use Rattle.stix_times.specs.Writing.{IsCanonicalTextOf, IsTextOfDigits, IsWhole};
 
 use crate::Instant;
 
@@ -35,6 +35,11 @@ pub fn written_reads_back()
         → IsTextOf text instant }
     ensures millis { (digits : ℕ) (instant : ℤ) (text : List ℕ) → 3 ≤ digits → digits ≤ 6
         → IsTextOfDigits digits text instant → IsMillisTextOf text instant }
+{}
+
+/// A text with three to six digits of a second names a whole number of microseconds.
+pub fn millis_are_whole()
+    ensures { (text : List ℕ) (instant : ℤ) → IsMillisTextOf text instant → IsWhole 1000 instant }
 {}
 
 /// Instants are ordered as their numbers are.

@@ -1,4 +1,3 @@
-pub mod TimeLemmas
 pub mod VersionLemmas
 pub mod SoundLemmas
 pub mod RiseLemmas

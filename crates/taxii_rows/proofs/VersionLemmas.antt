@@ -9,7 +9,7 @@ use Rattle.stix_objects.specs.declared.groups.Group.{Group}
 use Rattle.stix_objects.specs.declared.groups.Group.TheVariants.{Domain, Marking, Observable, Other}
 use Rattle.taxii_rows.specs.declared.type_set.TypeSet.{TypeSet}
 use Rattle.taxii_rows.specs.Version.{group_under, IsObservableOf, IsTimeAt, HasNoTimeAt, IsVersionTime, HasVersion, IsUndated}
-use Rattle.taxii_rows.proofs.TimeLemmas.{millis_whole}
+use Rattle.stix_times.proofs.WholeLemmas.{millis_whole}
 
 -- a time at a property is the only one there
 abbrev pub OneTime : Type 0

@@ -15,8 +15,8 @@ ghost use Rattle.watch_hits.specs.Hunting.{IsHuntable};
 use match_live::laws::answers_are_the_listing;
 use pattern_types::laws::leaves_are_brackets;
 use stix_objects::laws::{no_breaks, one_id};
+use stix_times::laws::millis_are_whole;
 use watch_hunt::laws::one_log;
-use watch_sightings::laws::versions_are_whole;
 
 /// The answers to the rows of a log, one after another, are its hits.
 pub fn answers_are_the_hits()
@@ -33,7 +33,7 @@ pub fn hunted_are_huntable()
 {
     no_breaks();
     one_id();
-    versions_are_whole();
+    millis_are_whole();
     leaves_are_brackets();
 }
 

@@ -4,4 +4,3 @@ mod RoundingLemmas
 mod KindLemmas
 mod SightingLemmas
 mod EnvelopeLemmas
-mod WholeLemmas

@@ -1,8 +1,6 @@
 //! What follows from the definitions: the contracts are the laws, and the functions do nothing.
 
-ghost use Rattle.std.specs.Prelude.{◌≡◌, ℕ, ℤ, List, [], ◌∷◌, ◌++◌, map, codes};
-ghost use Rattle.stix_times.specs.Reading.{IsMillisTextOf};
-ghost use Rattle.stix_times.specs.Writing.{IsWhole};
+ghost use Rattle.std.specs.Prelude.{◌≡◌, ℕ, List, [], ◌∷◌, ◌++◌, map, codes};
 ghost use Rattle.serde_json.specs.Data.{Data};
 ghost use Rattle.serde_json.specs.Written.{compact_text};
 ghost use Rattle.watch_sightings.specs.Envelope.{opened, envelope_text, envelope_data};
@@ -17,9 +15,4 @@ pub fn one_text_more()
 /// The envelope of the texts of some objects is the text of the object whose `objects` they are.
 pub fn envelope_is_an_object()
     ensures { (objects : List Data) → envelope_text (map compact_text objects) ≡ compact_text (envelope_data objects) }
-{}
-
-/// The time of a version, which has three to six digits of a second, is a whole number of microseconds.
-pub fn versions_are_whole()
-    ensures { (text : List ℕ) (instant : ℤ) → IsMillisTextOf text instant → IsWhole 1000 instant }
 {}

@@ -4,6 +4,9 @@ use Rattle.match_input.proofs.laws.goes_on.Goals as goal
 pub returns : goal.returns
 returns c = λ last next number bytes later objects observations all end.
     goes_on (record {
+      same_json = c.one_json.ensures.value;
+      json_refusal = c.one_json.ensures.refusal;
+      no_json = c.one_json.ensures.either;
       bundle = c.one_reading.ensures.bundle;
       refusal = c.one_reading.ensures.refusal;
       either = c.one_reading.ensures.either;

@@ -4,7 +4,7 @@ use Rattle.std.proofs.lemmas.Int.{to_z-of_z}
 use mir.Syntax.{w64}
 use mir.Val.{SFits}
 use Rattle.stix_json.specs.DataOf.{data_of}
-use Rattle.taxii_rows.proofs.TimeLemmas.{is_whole}
+use Rattle.stix_times.proofs.WholeLemmas.{is_whole}
 use Rattle.taxii_rows.proofs.VersionLemmas.{time_whole, no_version, version_at}
 use Rattle.taxii_rows.proofs.version.version_of.Goals as goal
 

@@ -3,4 +3,10 @@ use Rattle.watch_feed.proofs.OneReadingLemmas.{one_reads}
 use Rattle.watch_feed.proofs.laws.one_reading.Goals as goal
 
 pub returns : goal.returns
-returns c = λ bytes objects others close other. one_reads c.one_list.ensures (lines_of bytes) objects others close other
+returns c = λ bytes objects others close other.
+    one_reads (record {
+      same_json = c.one_json.ensures.value;
+      json_refusal = c.one_json.ensures.refusal;
+      no_json = c.one_json.ensures.either;
+      breaks = c.one_list.ensures;
+    }) (lines_of bytes) objects others close other
