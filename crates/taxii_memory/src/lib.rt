@@ -1,5 +1,5 @@
-//! A keeper of rows in memory whose calls can be made to fail: a store without a file, and the double
-//! that a server is tested with.
+//! A keeper of rows in memory that tells them all to contracts, and whose calls can be made to fail: the
+//! double that whatever keeps rows can be tested with.
 #![tactic(auto)]
 
 mod calls;
