@@ -5,3 +5,5 @@ pub mod AccountsForLemmas
 pub mod LastReadLemmas
 pub mod TakesAtMostLemmas
 pub mod WholeLinesLemmas
+pub mod CausesLemmas
+pub mod ChunkLemmas

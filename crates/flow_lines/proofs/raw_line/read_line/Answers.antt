@@ -1,25 +1,23 @@
-use Rattle.std.proofs.Common.{[], ◌≡◌, inr, ◌∙◌, refl, sym, ap, arith, length, rules}
-use Rattle.flow_lines.specs.Lines.{length_refusal}
+use Rattle.std.proofs.Common.{[], ◌≡◌, inr, ◌∙◌, Some, refl, sym, ap, subst, arith, length, rules}
+use Rattle.flow_lines.specs.Lines.{NoLineFeed, length_refusal}
 use Rattle.flow_lines.specs.inner.Reading.{bytes_ahead}
-use Rattle.flow_lines.proofs.RawLinesLemmas.{refused-step, taken-closed, length_refusal-short, length_refusal-number, bytes_ahead-all, bytes_ahead-filled, plain-all, takes-part}
+use Rattle.flow_lines.proofs.RawLinesLemmas.{refused-step, taken-closed, length_refusal-short, length_refusal-fault, bytes_ahead-all, bytes_ahead-filled, plain-all, takes-part, breaks-off-memory, breaks-off-length}
 use Rattle.flow_lines.proofs.LastReadLemmas.{within_line}
+use Rattle.flow_lines.proofs.CausesLemmas.{counts_none, counts_fine, counts_failed, other_error}
 use Rattle.flow_lines.proofs.raw_line.read_line.Goals as goal
 
 pub returns-in-Some-clause-refused : goal.returns-in-Some-clause-refused
 returns-in-Some-clause-refused g c =
     let size : length c.take_line.new.line.items ≡ c.len.result = omega arith in
-    record {
-      length = λ for_length. refused-step _ _ _ _ _ _ _ _ _ _ c.requires.place c.reads.invariant.plain c.reads.invariant.bytes (taken-closed _ _ _ _ c.is_none-closed.ensures c.in_ok-due.ensures.taken)
-          (ap (λ size. length_refusal c.args.start.number c.args.start.place size c.is_none-closed.result) size ∙ sym c.in-Some.ensures);
-      fault = λ failed. search rules;
-      number_is = length_refusal-number c.args.start.number c.args.start.place c.len.result c.is_none-closed.result c.in-Some.refusal (sym c.in-Some.ensures);
-      stops = takes-part _ _ _ _ _ c.reads.invariant.bytes refl c.reads.invariant.short c.reads.invariant.room;
-    }
+    let is : length_refusal c.args.start.number c.args.start.place c.len.result c.is_none-closed.result ≡ Some c.in-Some.refusal = sym c.in-Some.ensures in
+    breaks-off-length _ _ _ _ _ _ _ _ _ is
+    (refused-step _ _ _ _ _ _ _ _ _ _ c.requires.place c.reads.invariant.plain c.reads.invariant.bytes (taken-closed _ _ _ _ c.is_none-closed.ensures c.in_ok-due.ensures.taken)
+    (ap (λ size. length_refusal c.args.start.number c.args.start.place size c.is_none-closed.result) size ∙ is))
+    (takes-part _ _ _ _ _ c.reads.invariant.bytes refl c.reads.invariant.short c.reads.invariant.room)
 
 pub returns-in_err-due-clause-refused : goal.returns-in_err-due-clause-refused
 returns-in_err-due-clause-refused g c =
-    let few = takes-part _ _ _ _ _ c.reads.invariant.bytes refl c.reads.invariant.short c.reads.invariant.room in
-    search rules
+    breaks-off-memory _ _ _ _ _ _ _ c.from_residual.ensures.1 (takes-part _ _ _ _ _ c.reads.invariant.bytes refl c.reads.invariant.short c.reads.invariant.room)
 
 pub returns-in-Err-clause-refused : goal.returns-in-Err-clause-refused
 returns-in-Err-clause-refused g c =
@@ -46,12 +44,33 @@ reads-preserved g c =
       short = grind (arith, length_refusal-short);
       within = grind arith;
       room = c.fill.ensures.room;
-      held = search rules;
+      held = λ feed. absurd (feed (subst NoLineFeed (c.reads.invariant.held feed).1 takes.plain));
       in_time = inr (within_line _ _ _ _ (plain-all _ _ _ _ c.reads.invariant.plain takes) (bytes_ahead-all _ _ _ _ _ _ c.reads.invariant.bytes takes) c.in-Ok.ensures.began);
-      quiet = search rules;
+      quiet = c.in-Ok.ensures.causes.quiet (λ failed. cc) ∙ c.reads.invariant.quiet;
     }
 
 pub returns-in-Ok-eq0-clause-in_time : goal.returns-in-Ok-eq0-clause-in_time
 returns-in-Ok-eq0-clause-in_time g c plain =
     let takes = rw c.in-Some-due.is at c.in_ok-due.ensures.taken in
     within_line _ _ _ _ (plain-all _ _ _ _ c.reads.invariant.plain takes) (bytes_ahead-all _ _ _ _ _ _ c.reads.invariant.bytes takes) c.in-Ok-eq0.ensures.began
+
+pub returns-in_err-due-clause-causes : goal.returns-in_err-due-clause-causes
+returns-in_err-due-clause-causes g c =
+    counts_none _ _ c.reads.invariant.quiet (other_error _ _ _ c.from_residual.ensures.1 (λ is. cc))
+
+pub returns-in-Some-clause-causes : goal.returns-in-Some-clause-causes
+returns-in-Some-clause-causes g c =
+    counts_none _ _ c.reads.invariant.quiet
+    (length_refusal-fault c.args.start.number c.args.start.place c.len.result c.is_none-closed.result c.in-Some.refusal (sym c.in-Some.ensures))
+
+pub returns-in_default-due-clause-causes : goal.returns-in_default-due-clause-causes
+returns-in_default-due-clause-causes g c =
+    counts_none _ _ c.reads.invariant.quiet (λ is. cc)
+
+pub returns-in-Ok-eq0-clause-causes : goal.returns-in-Ok-eq0-clause-causes
+returns-in-Ok-eq0-clause-causes g c =
+    counts_fine _ _ _ c.reads.invariant.quiet c.in-Ok-eq0.ensures.causes (λ failed. cc) (λ is. cc)
+
+pub returns-in-Err-clause-causes : goal.returns-in-Err-clause-causes
+returns-in-Err-clause-causes g c =
+    counts_failed _ _ _ c.reads.invariant.quiet c.in-Err.ensures.causes refl refl
