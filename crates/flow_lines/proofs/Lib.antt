@@ -7,3 +7,4 @@ pub mod TakesAtMostLemmas
 pub mod WholeLinesLemmas
 pub mod CausesLemmas
 pub mod ChunkLemmas
+pub mod ReadsLineLemmas

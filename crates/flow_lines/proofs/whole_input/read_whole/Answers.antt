@@ -1,6 +1,6 @@
 use Rattle.std.proofs.Common.{arith, refl}
 use Rattle.flow_edges.specs.declared.source.TheConstants.{MAX_READ}
-use Rattle.flow_lines.proofs.TakesAtMostLemmas.{takes-these, takes-more}
+use Rattle.flow_lines.proofs.TakesAtMostLemmas.{takes-these, takes-more, taken-more, is-whole, is-too-long}
 use Rattle.flow_lines.proofs.CausesLemmas.{counts_none, counts_fine, counts_failed, other_error}
 use Rattle.flow_lines.proofs.whole_input.read_whole.Goals as goal
 
@@ -34,3 +34,17 @@ returns-in-Err-clause-causes g c =
 pub returns-then-count-len-clause-causes : goal.returns-then-count-len-clause-causes
 returns-then-count-len-clause-causes g c =
     counts_fine _ _ _ c.loop-turn.invariant.quiet c.in-Ok.ensures.causes (λ failed. cc) (λ is. cc)
+
+pub returns-in-Ok-eq0-clause-whole : goal.returns-in-Ok-eq0-clause-whole
+returns-in-Ok-eq0-clause-whole g c =
+    let filled = rw c.in-Ok-eq0.field-0-test at c.in-Ok-eq0.ensures.filled in
+    is-whole _ _ _ _ _ _ _ _ _ c.loop-turn.invariant c.in_ok-due.ensures.ok.1 c.from_vec.ensures (c.fill.ensures.end (rw c.in-Ok-eq0.field-0-test at c.in-Ok-eq0.is)) filled.rest
+
+pub returns-then-count-len-clause-too_long : goal.returns-then-count-len-clause-too_long
+returns-then-count-len-clause-too_long g c long =
+    is-too-long _ _ _ _ _ _ _ _ _ _ c.loop-turn.invariant c.in_ok-due.ensures.ok.1 c.in-Ok.ensures.filled (omega (arith, c.if-count-len.true, c.len.ensures))
+
+pub loop-turn-preserved : goal.loop-turn-preserved
+loop-turn-preserved g c =
+    taken-more _ _ _ _ _ _ _ _ _ _ _ c.loop-turn.invariant c.in_ok-due.ensures.ok.1 c.in-Ok.ensures.filled c.in-Ok.count-test.1 (grind arith)
+    (c.in-Ok.ensures.causes.quiet (λ failed. cc))
