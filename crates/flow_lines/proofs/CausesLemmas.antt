@@ -20,3 +20,10 @@ counts_failed {Failed} before middle now same causes called is =
 pub other_error : {A E : Type 0} (result : Result A E) (this other : E) → IsErrAnd result (λ e. e ≡ this) → ¬ (this ≡ other) → ¬ (result ≡ Err other)
 other_error (Ok a) this other found differs is = cc
 other_error (Err e) this other found differs is = differs cc
+
+-- the error of the last call was passed on
+pub counts_passed : {A B E : Type 0} (result : Result A E) (its other : E) (before middle now : ℕ) → middle ≡ before → IsErrAnd result (λ e. e ≡ its)
+    → Counted (◌≡◌ {A = Result B E} (Err its) (Err other)) middle now → Counted (result ≡ Err other) before now
+counts_passed (Ok a) its other before middle now same passed causes = absurd passed
+counts_passed {A} {B} {E} (Err e) its other before middle now same passed causes =
+    subst (λ (n : ℕ). Counted (◌≡◌ {A = Result A E} (Err e) (Err other)) n now) same (record { later = causes.later; failed = λ is. causes.failed cc; quiet = λ fine. causes.quiet (λ called. fine cc) })

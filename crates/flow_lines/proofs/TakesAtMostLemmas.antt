@@ -17,6 +17,10 @@ left_after-twice : (n more : ℕ) (left : Option (List ℕ)) → left_after more
 left_after-twice n more None = refl
 left_after-twice n more (Some bytes) = ap Some (drop-drop more n bytes)
 
+pub left_after-none : (left : Option (List ℕ)) → left ≡ left_after 0 left
+left_after-none None = refl
+left_after-none (Some bytes) = refl
+
 -- these bytes were taken
 pub takes-these : (most : ℕ) (bytes : List ℕ) (start left : Option (List ℕ)) → start ≡ before bytes left → length bytes ≤ most → TakesAtMost most start left
 takes-these most bytes start left all few = (length bytes, few, left_after-before bytes left ∙ ap (left_after (length bytes)) (sym all))
@@ -69,3 +73,8 @@ is-too-long turns count held bytes chunk start left left_new faults faults_now t
     long : (left : Option (List ℕ)) → IsTooLong (before (bytes ++ chunk) left)
     long None = tt
     long (Some rest) = omega (arith, fills.count_is, many, length-append bytes chunk, length-append (bytes ++ chunk) rest)
+
+-- the last read began at the end
+pub began-at-end : (left began : Option (List ℕ)) → IsAtEnd left → IfSome began (λ bytes. left ≡ Some bytes) → IsAtEnd began
+began-at-end left None end told = tt
+began-at-end left (Some bytes) end told = subst IsAtEnd told end

@@ -1,6 +1,6 @@
-use Rattle.std.proofs.Common.{arith, refl}
+use Rattle.std.proofs.Common.{◌∙◌, arith, refl}
 use Rattle.flow_edges.specs.declared.source.TheConstants.{MAX_READ}
-use Rattle.flow_lines.proofs.TakesAtMostLemmas.{takes-these, takes-more, taken-more, is-whole, is-too-long}
+use Rattle.flow_lines.proofs.TakesAtMostLemmas.{takes-these, takes-more, taken-more, is-whole, is-too-long, began-at-end, left_after-none}
 use Rattle.flow_lines.proofs.CausesLemmas.{counts_none, counts_fine, counts_failed, other_error}
 use Rattle.flow_lines.proofs.whole_input.read_whole.Goals as goal
 
@@ -48,3 +48,10 @@ pub loop-turn-preserved : goal.loop-turn-preserved
 loop-turn-preserved g c =
     taken-more _ _ _ _ _ _ _ _ _ _ _ c.loop-turn.invariant c.in_ok-due.ensures.ok.1 c.in-Ok.ensures.filled c.in-Ok.count-test.1 (grind arith)
     (c.in-Ok.ensures.causes.quiet (λ failed. cc))
+
+pub returns-in-Ok-eq0-clause-to_end : goal.returns-in-Ok-eq0-clause-to_end
+returns-in-Ok-eq0-clause-to_end g c = began-at-end _ _ (c.fill.ensures.end (rw c.in-Ok-eq0.field-0-test at c.in-Ok-eq0.is)) c.in-Ok-eq0.ensures.began
+
+pub returns-in-Err-clause-taken : goal.returns-in-Err-clause-taken
+returns-in-Err-clause-taken g c =
+    takes-more _ MAX_READ 0 _ _ _ (takes-these _ _ _ _ c.loop-turn.invariant.all c.loop-turn.invariant.fits) (c.in-Err.ensures.err ∙ left_after-none _) (omega arith)
