@@ -5,3 +5,6 @@ pub mod AccountsForLemmas
 pub mod LastReadLemmas
 pub mod TakesAtMostLemmas
 pub mod WholeLinesLemmas
+pub mod CausesLemmas
+pub mod ChunkLemmas
+pub mod ReadsLineLemmas

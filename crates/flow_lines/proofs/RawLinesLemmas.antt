@@ -1,5 +1,5 @@
 -- How the bytes of an input are cut into lines, from what a reader has of them.
-use Rattle.std.proofs.Common.{◌≡◌, ℕ, ◌<◌, ◌≤◌, Bool, true, false, List, [], ◌∷◌, ◌++◌, length, drop, Option, Some, None, option_map, IfSome, MatchBool, MatchOption, is_some, not, refl, sym, ap, ◌∙◌, arith, append_assoc, length-append, cond, eqb, ◌⊎◌, inl, inr, Result, Ok, Err, OnErr}
+use Rattle.std.proofs.Common.{◌≡◌, ℕ, ◌<◌, ◌≤◌, Bool, true, false, List, [], ◌∷◌, ◌++◌, length, drop, Option, Some, None, option_map, IfSome, MatchBool, MatchOption, is_some, not, refl, sym, ap, ◌∙◌, arith, append_assoc, length-append, cond, eqb, ◌⊎◌, inl, inr, Result, Ok, Err, OnErr, IfErr, IsErrAnd, subst}
 use Rattle.std.proofs.lemmas.List.{take-append-drop}
 use Rattle.std.proofs.lemmas.List.Elements.{All-append, All-cons, All-nil}
 use Rattle.std.proofs.lemmas.List.Splits.{slice_split_at, slice_split_none}
@@ -12,7 +12,7 @@ use Rattle.flow_lines.specs.declared.refusal.LineRefusal.{LineRefusal}
 use Rattle.flow_lines.specs.declared.refusal.LineRefusal.TheVariants.{Fault, LineTooLong, InputTooLong, NoMemory}
 use Rattle.flow_edges.specs.Flow.{left_after, IsNextOf}
 use Rattle.flow_lines.specs.Lines.{is_line_feed, IsNoLineFeed, NoLineFeed, raw_lines, raw_lines_of, length_refusal, IsOfLine}
-use Rattle.flow_lines.specs.inner.Reading.{bytes_ahead, TakesToLineFeed, TakesAll, TakesPart, IsFirstRefused}
+use Rattle.flow_lines.specs.inner.Reading.{bytes_ahead, TakesToLineFeed, TakesAll, TakesPart, IsFirstRefused, IsForLength, BreaksOffLine}
 
 -- ---- the bytes that a source tells
 
@@ -68,6 +68,14 @@ length_refusal-number number place size closed Fault is = tt
 length_refusal-number number place size closed (LineTooLong n) is = grind (arith, nat_tests)
 length_refusal-number number place size closed (InputTooLong n) is = grind (arith, nat_tests)
 length_refusal-number number place size closed NoMemory is = tt
+
+-- and it is no fault
+pub length_refusal-fault : (number place size : ℕ) (closed : Bool) (refusal : LineRefusal) → length_refusal number place size closed ≡ Some refusal
+    → ¬ (◌≡◌ {A = Result Bool LineRefusal} (Err refusal) (Err Fault))
+length_refusal-fault number place size closed Fault is same = grind (arith, nat_tests)
+length_refusal-fault number place size closed (LineTooLong n) is same = cc
+length_refusal-fault number place size closed (InputTooLong n) is same = cc
+length_refusal-fault number place size closed NoMemory is same = cc
 
 -- the bytes up to a line feed and after it, or none is there
 cut : (bytes : List ℕ) → ((front : List ℕ) × (back : List ℕ) × (bytes ≡ front ++ 10 ∷ back) × NoLineFeed front) ⊎ NoLineFeed bytes
@@ -152,4 +160,29 @@ takes-part all left left_new line chunk is same short room = record {
   taken = line ++ chunk;
   few = omega (arith, length-append line chunk);
   bytes = is ∙ bytes_ahead-taken line chunk left ∙ ap (λ left. bytes_ahead (line ++ chunk) [] left) (sym same);
+}
+
+-- memory ran out in a line
+pub breaks-off-memory : (result : Result Bool LineRefusal) (number place : ℕ) (all left : Option (List ℕ)) (line chunk : List ℕ)
+    → IsErrAnd result (λ e. e ≡ NoMemory) → TakesPart all left → IfErr result (BreaksOffLine number place all left line chunk)
+breaks-off-memory (Ok closed) number place all left line chunk found stops = tt
+breaks-off-memory (Err e) number place all left line chunk found stops = record {
+  length = λ for_length. absurd (subst IsForLength found for_length);
+  fault = λ failed. absurd (no_fault (sym found ∙ failed));
+  number_is = subst (IsOfLine number) (sym found) tt;
+  stops = stops;
+}
+  where
+    no_fault : ¬ (◌≡◌ {A = LineRefusal} NoMemory Fault)
+    no_fault is = cc
+
+-- the line or the input is too long
+pub breaks-off-length : (number place size : ℕ) (closed : Bool) (refusal : LineRefusal) (all left : Option (List ℕ)) (line chunk : List ℕ)
+    → length_refusal number place size closed ≡ Some refusal → IfSome all (IsFirstRefused number place refusal) → TakesPart all left
+    → BreaksOffLine number place all left line chunk refusal
+breaks-off-length number place size closed refusal all left line chunk is first stops = record {
+  length = λ _. first;
+  fault = λ failed. absurd (length_refusal-fault number place size closed refusal is (ap Err failed));
+  number_is = length_refusal-number number place size closed refusal is;
+  stops = stops;
 }

@@ -3,6 +3,7 @@ use Rattle.flow_lines.specs.Lines.{is_blank, StopsInLine}
 use Rattle.flow_lines.specs.inner.Reading.{lines_state}
 use Rattle.flow_lines.proofs.AccountsForLemmas.{accounts-start, accounts-then, goes_on, accounts-emptied, loses-passed_on, passed_on, stops-then}
 use Rattle.flow_lines.proofs.LastReadLemmas.{still_in_time, given_in_time}
+use Rattle.flow_lines.proofs.CausesLemmas.{counts_fine, counts_passed}
 use Rattle.flow_lines.proofs.cursor.Cursor.next_line.Goals as goal
 
 pub returns-in_err-read_next-clause-accounted : goal.returns-in_err-read_next-clause-accounted
@@ -68,3 +69,12 @@ returns-then-not-is_blank_line-clause-in_time g c unheld =
     c.lines.invariant.in_time c.lines.invariant.accounted c.in_ok-read_next.ensures.in_time
     (λ feed. c.in_ok-read_next.ensures.there feed (ap Ok c.if-not-branch.false)) (c.in_ok-read_next.ensures.next.counts c.if-not-branch.false)
     (ap is_blank (sym c.deref.ensures.value) ∙ sym c.if-not-is_blank_line.ensures) unheld
+
+pub returns-in_err-read_next-clause-causes : goal.returns-in_err-read_next-clause-causes
+returns-in_err-read_next-clause-causes g c = counts_passed _ _ _ _ _ _ c.lines.invariant.quiet c.from_residual.ensures.1 c.in_err-read_next.ensures.causes
+
+pub returns-then-not-branch-clause-causes : goal.returns-then-not-branch-clause-causes
+returns-then-not-branch-clause-causes g c = counts_fine _ _ _ c.lines.invariant.quiet c.in_ok-read_next.ensures.causes (λ failed. cc failed) (λ is. cc)
+
+pub returns-then-not-is_blank_line-clause-causes : goal.returns-then-not-is_blank_line-clause-causes
+returns-then-not-is_blank_line-clause-causes g c = counts_fine _ _ _ c.lines.invariant.quiet c.in_ok-read_next.ensures.causes (λ failed. cc failed) (λ is. cc)
