@@ -1,4 +1,5 @@
 pub mod HasLemmas
+pub mod MakingLemmas
 pub mod FormLemmas
 pub mod LexerLemmas
 pub mod RowsLemmas

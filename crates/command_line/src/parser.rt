@@ -1,10 +1,10 @@
 //! The program's commands, as `clap` parses them.
 
-ghost use Rattle.std.specs.Prelude.{◌≡◌, IfOk, map, true, false};
-ghost use Rattle.clap.specs.Words.{app_of, rule_of, with_rule, with_subcommand, FailsBy, fault_of, subcommand_of, subcommand_rows_of};
-ghost use Rattle.clap.specs.declared.builder.command.Command.TheViews.{out-Command as fields_of};
+ghost use Rattle.std.specs.Prelude.{◌≡◌, ◌++◌, ◌∷◌, [], List, IfOk, OnOk, map, true, false};
+ghost use Rattle.std.specs.List.{AllZip};
+ghost use Rattle.clap.specs.Words.{App, Rule, app_of, rule_of, FailsBy, fault_of, subcommand_of, subcommand_rows_of};
 ghost use Rattle.command_line.specs.CommandLines.{texts};
-ghost use Rattle.command_line.specs.inner.Forms.{flag_rule, option_rule, position_rule, with_positions, command_of};
+ghost use Rattle.command_line.specs.inner.Forms.{flag_rule, option_rule, position_rule, free_rules, app_with, command_of, HasRule, IsCommandOf};
 ghost use Rattle.command_line.specs.inner.Forms.{bare_app, program_app, match_form, check_form, show_form, make_form, serve_form};
 
 use crate::serve::COLLECTION_NAMES;
@@ -43,44 +43,35 @@ fn free_position<'a>(alloc: Global, name: &'a str) -> Arg<'a>
     Arg::new(alloc, name)
 }
 
-/// The command with one more option or position.
-fn with_arg<'a>(command: Command<'a>, arg: Arg<'a>) -> Result<Command<'a>, AllocError>
-    requires { arg.global ≡ false }
-    ensures app { IfOk result
-        (λ r. app_of r ≡ with_rule (app_of command.entry) (rule_of arg.entry)) }
-    ensures local { (fields_of command.entry).has_globals ≡ false
-        → IfOk result (λ r. (fields_of r).has_globals ≡ false) }
-{
-    let command = command.arg(arg)?;
-    Ok(command)
-}
-
-/// The command with positions that may be missing.
-fn with_free_positions<'a>(
+/// Adds positions that may be missing.
+fn add_free_positions<'a>(
     alloc: Global,
-    command: Command<'a>,
+    args: &mut Vec<Arg<'a>>,
     names: &'a [&'a str],
-) -> Result<Command<'a>, AllocError>
-    requires { (fields_of command).has_globals ≡ false }
-    ensures app { IfOk result (λ r. app_of r
-        ≡ with_positions (app_of command.entry) (map (λ name. name.now) names.entry.now)) }
-    ensures local { IfOk result (λ r. (fields_of r).has_globals ≡ false) }
+) -> Result<(), AllocError>
+    ensures { (rules : List Rule) → AllZip HasRule args.old.items rules
+        → OnOk result (AllZip HasRule args.new.items (rules ++ free_rules (map (λ name. name.now) names.entry.now))) }
 {
-    let mut longer = command;
     for name in names {
-        longer = with_arg(longer, free_position(alloc, name))?;
+        args.push(free_position(alloc, name))?;
     }
-    Ok(longer)
+    Ok(())
 }
 
-/// The program with one more command.
-fn with_command<'a>(program: Command<'a>, command: Command<'a>) -> Result<Command<'a>, AllocError>
-    requires { (fields_of command).has_globals ≡ false }
-    ensures { IfOk result
-        (λ r. app_of r ≡ with_subcommand (app_of program.entry) (app_of command.entry).top) }
+/// Adds a command that takes these options and positions. The list is let go by one call where memory runs
+/// out, whatever is in it.
+fn add_command<'a>(
+    alloc: Global,
+    commands: &mut Vec<Command<'a>>,
+    name: &'a str,
+    args: Vec<Arg<'a>>,
+) -> Result<(), AllocError>
+    ensures { (rules : List Rule) (apps : List App) → AllZip HasRule args.entry.items rules → AllZip IsCommandOf commands.old.items apps
+        → OnOk result (AllZip IsCommandOf commands.new.items (apps ++ app_with name.entry.now rules ∷ [])) }
 {
-    let program = program.subcommand(command)?;
-    Ok(program)
+    let command = Command::new(alloc, name).args(args)?;
+    commands.push(command)?;
+    Ok(())
 }
 
 /// The program without commands. It has no help and no version, and its words don't begin with its
@@ -96,61 +87,66 @@ fn bare_program<'a>(alloc: Global) -> Command<'a>
         .subcommand_required(true)
 }
 
-fn match_command<'a>(alloc: Global) -> Result<Command<'a>, AllocError>
-    ensures app { IfOk result (λ c. app_of c ≡ command_of match_form) }
-    ensures local { IfOk result (λ c. (fields_of c).has_globals ≡ false) }
+fn add_match<'a>(alloc: Global, commands: &mut Vec<Command<'a>>) -> Result<(), AllocError>
+    ensures { (apps : List App) → AllZip IsCommandOf commands.old.items apps
+        → OnOk result (AllZip IsCommandOf commands.new.items (apps ++ command_of match_form ∷ [])) }
 {
-    let command = with_arg(Command::new(alloc, "match"), flag(alloc, "whole"))?;
-    let command = with_arg(command, option(alloc, "cap"))?;
-    let command = with_arg(command, position(alloc, "pattern"))?;
-    Ok(command)
+    let args = vec![in alloc;
+        flag(alloc, "whole"),
+        option(alloc, "cap"),
+        position(alloc, "pattern"),
+    ]?;
+    add_command(alloc, commands, "match", args)
 }
 
-fn check_command<'a>(alloc: Global) -> Command<'a>
-    ensures app { app_of result ≡ command_of check_form }
-    ensures local { (fields_of result).has_globals ≡ false }
+fn add_check<'a>(alloc: Global, commands: &mut Vec<Command<'a>>) -> Result<(), AllocError>
+    ensures { (apps : List App) → AllZip IsCommandOf commands.old.items apps
+        → OnOk result (AllZip IsCommandOf commands.new.items (apps ++ command_of check_form ∷ [])) }
 {
-    Command::new(alloc, "check")
+    add_command(alloc, commands, "check", Vec::new(alloc))
 }
 
-fn show_command<'a>(alloc: Global) -> Result<Command<'a>, AllocError>
-    ensures app { IfOk result (λ c. app_of c ≡ command_of show_form) }
-    ensures local { IfOk result (λ c. (fields_of c).has_globals ≡ false) }
+fn add_show<'a>(alloc: Global, commands: &mut Vec<Command<'a>>) -> Result<(), AllocError>
+    ensures { (apps : List App) → AllZip IsCommandOf commands.old.items apps
+        → OnOk result (AllZip IsCommandOf commands.new.items (apps ++ command_of show_form ∷ [])) }
 {
-    let command = with_arg(Command::new(alloc, "show"), position(alloc, "pattern"))?;
-    Ok(command)
+    let args = vec![in alloc; position(alloc, "pattern")]?;
+    add_command(alloc, commands, "show", args)
 }
 
-fn make_command<'a>(alloc: Global) -> Result<Command<'a>, AllocError>
-    ensures app { IfOk result (λ c. app_of c ≡ command_of make_form) }
-    ensures local { IfOk result (λ c. (fields_of c).has_globals ≡ false) }
+fn add_make<'a>(alloc: Global, commands: &mut Vec<Command<'a>>) -> Result<(), AllocError>
+    ensures { (apps : List App) → AllZip IsCommandOf commands.old.items apps
+        → OnOk result (AllZip IsCommandOf commands.new.items (apps ++ command_of make_form ∷ [])) }
 {
-    let command = with_arg(Command::new(alloc, "make"), position(alloc, "seed"))?;
-    let command = with_arg(command, position(alloc, "count"))?;
-    Ok(command)
+    let args = vec![in alloc; position(alloc, "seed"), position(alloc, "count")]?;
+    add_command(alloc, commands, "make", args)
 }
 
-fn serve_command<'a>(alloc: Global) -> Result<Command<'a>, AllocError>
-    ensures app { IfOk result (λ c. app_of c ≡ command_of serve_form) }
-    ensures local { IfOk result (λ c. (fields_of c).has_globals ≡ false) }
+fn add_serve<'a>(alloc: Global, commands: &mut Vec<Command<'a>>) -> Result<(), AllocError>
+    ensures { (apps : List App) → AllZip IsCommandOf commands.old.items apps
+        → OnOk result (AllZip IsCommandOf commands.new.items (apps ++ command_of serve_form ∷ [])) }
 {
-    let command = with_arg(Command::new(alloc, "serve"), option(alloc, "port"))?;
-    let command = with_arg(command, option(alloc, "connections"))?;
-    let command = with_arg(command, option(alloc, "store"))?;
-    let command = with_arg(command, option(alloc, "base"))?;
-    with_free_positions(alloc, command, &COLLECTION_NAMES)
+    let mut args = vec![in alloc;
+        option(alloc, "port"),
+        option(alloc, "connections"),
+        option(alloc, "store"),
+        option(alloc, "base"),
+    ]?;
+    add_free_positions(alloc, &mut args, &COLLECTION_NAMES)?;
+    add_command(alloc, commands, "serve", args)
 }
 
 /// The program with its commands.
 fn program<'a>(alloc: Global) -> Result<Command<'a>, AllocError>
     ensures { IfOk result (λ c. app_of c ≡ program_app) }
 {
-    let program = with_command(bare_program(alloc), match_command(alloc)?)?;
-    let program = with_command(program, check_command(alloc))?;
-    let program = with_command(program, show_command(alloc)?)?;
-    let program = with_command(program, make_command(alloc)?)?;
-    let program = with_command(program, serve_command(alloc)?)?;
-    Ok(program)
+    let mut commands = Vec::new(alloc);
+    add_match(alloc, &mut commands)?;
+    add_check(alloc, &mut commands)?;
+    add_show(alloc, &mut commands)?;
+    add_make(alloc, &mut commands)?;
+    add_serve(alloc, &mut commands)?;
+    bare_program(alloc).subcommands(commands)
 }
 
 /// What `clap` finds in the words.

@@ -1,5 +1,7 @@
 -- In a tree that a text spells no value is refused as NoValue.
-use Rattle.std.proofs.Common.{◌≡◌, ◌⊎◌, inl, inr, ℕ, true, false, List, [], ◌∷◌, ◌++◌, refl}
+use denote.Enum.Bare.{same_true, same_false}
+use Rattle.std.proofs.Common.{◌≡◌, ◌≢◌, ◌⊎◌, inl, inr, ℕ, Bool, true, false, ◌||◌, List, [], ◌∷◌, ◌++◌, refl, sym, ap, ◌∙◌, subst}
+use Rattle.pattern_tokens.specs.contracts.token.TokenKind.{the_type}
 use Rattle.pattern_tokens.specs.declared.token.Token.{Token}
 use Rattle.pattern_tokens.specs.declared.token.TokenKind.{TokenKind}
 use Rattle.pattern_tokens.specs.declared.token.TokenKind.TheVariants as kind
@@ -21,7 +23,7 @@ use Rattle.pattern_types.specs.declared.constant.Constant.{Constant}
 use Rattle.pattern_types.specs.declared.constant.Constant.TheVariants.{Integer, String, Boolean, Hex, Binary, Timestamp}
 use Rattle.pattern_types.specs.declared.check.Check.{Check}
 use Rattle.pattern_types.specs.declared.check.Check.TheVariants as check
-use Rattle.pattern_meaning.specs.declared.refusal.ValueRefusal.TheVariants.{NoValue}
+use Rattle.pattern_meaning.specs.declared.refusal.ValueRefusal.TheVariants.{NoValue, BadAddress}
 use Rattle.pattern_meaning.specs.Meaning.{IsNameOf, IsConstantOf, IsCheckOf}
 use Rattle.std.specs.List.{AllZip}
 use Rattle.std.proofs.lemmas.Slice.Zip.{all_zipped_more}
@@ -29,36 +31,46 @@ use Rattle.pattern_meaning.specs.Refusals.{Lacks, RefusalOfSteps, RefusalOfPath,
 use Rattle.pattern_reader.specs.Read.{IsFaulty}
 use Rattle.pattern_reader.proofs.TokenValueLemmas.{HasWorth, AllWorth, worth_left, worth_right, tokens_worth}
 
+same_is : (w k : TokenKind) → same w k ≡ true → k ≡ w
+same_is w k e = sym (same_true the_type tt w k e)
+
+same_not : (w k : TokenKind) → same w k ≡ false → k ≢ w
+same_not w k e f = same_false the_type w k e (sym f)
+
+either_way : {C : Type 0} (a b : Bool) → (a || b) ≡ true → (a ≡ true → C) → (b ≡ true → C) → C
+either_way true b e f g = f refl
+either_way false b e f g = g e
+
 module _ (whole : List ℕ) (at : ℕ) where
-  -- names and constants by their token's kind
-  name_by : (t : Token) (k : TokenKind) → t.kind ≡ k → is_in class.Name k ≡ true → IsCut whole t → HasValue k (text_at whole t)
-      → (name : List ℕ) × IsNameOf whole t name
-  name_by t kind.Word e i cut v = (text_at whole t, inr (λ f. cc, record { cut = cut; is = refl }))
-  name_by t kind.String e i cut v = (v.0, inl (e, record { cut = cut; is = v.1 }))
-  name_by t _ e i cut v = absurd (cc)
+  valued : (t : Token) (k : TokenKind) → same k t.kind ≡ true → HasWorth whole t → HasValue k (text_at whole t)
+  valued t k e w = subst (λ x. HasValue x (text_at whole t)) (same_is k t.kind e) w.value
 
-  constant_by : (t : Token) (k : TokenKind) → t.kind ≡ k → is_in class.Constant k ≡ true → IsCut whole t → HasValue k (text_at whole t)
-      → (c : Constant) × IsConstantOf whole t c
-  constant_by t kind.Number e i cut v = (Integer v.0, (e, record { cut = cut; is = v.1 }))
-  constant_by t kind.String e i cut v = (String v.0, (e, record { cut = cut; is = v.1 }))
-  constant_by t kind.Hex e i cut v = (Hex v.0, (e, record { cut = cut; is = v.1 }))
-  constant_by t kind.Binary e i cut v = (Binary v.0, (e, record { cut = cut; is = v.1 }))
-  constant_by t kind.Timestamp e i cut v = (Timestamp v.0, (e, record { cut = cut; is = v.1 }))
-  constant_by t kind.TrueWord e i cut v = (Boolean true, inl (e, refl))
-  constant_by t kind.FalseWord e i cut v = (Boolean false, inr (e, refl))
-  constant_by t _ e i cut v = absurd (cc)
+  -- names and constants by the tests of their token's kind: a case for each kind of a class, none for the others
+  name_by : (t : Token) (b : Bool) → same kind.String t.kind ≡ b → HasWorth whole t → (name : List ℕ) × IsNameOf whole t name
+  name_by t true e w =
+      let v = valued t kind.String e w in (v.0, inl (same_is kind.String t.kind e, record { cut = w.cut; is = v.1 }))
+  name_by t false e w = (text_at whole t, inr (same_not kind.String t.kind e, record { cut = w.cut; is = refl }))
 
-  constant_at : (t : Token) → is_in class.Constant t.kind ≡ true → HasWorth whole t → (c : Constant) × IsConstantOf whole t c
-  constant_at t i w = constant_by t t.kind refl i w.cut w.value
+  string_at : (t : Token) → same kind.String t.kind ≡ true → HasWorth whole t → (words : List ℕ) × At IsStringText whole t words
+  string_at t e w = let v = valued t kind.String e w in (v.0, record { cut = w.cut; is = v.1 })
 
-  ordered_constant : (k : TokenKind) → is_in class.Ordered k ≡ true → is_in class.Constant k ≡ true
-  ordered_constant kind.Number e = refl
-  ordered_constant _ e = cc
+  abbrev Meant : Token → Type 0
+  Meant t = (c : Constant) × IsConstantOf whole t c
 
-  string_by : (t : Token) (k : TokenKind) → same kind.String k ≡ true → IsCut whole t → HasValue k (text_at whole t)
-      → (words : List ℕ) × At IsStringText whole t words
-  string_by t kind.String i cut v = (v.0, record { cut = cut; is = v.1 })
-  string_by t _ i cut v = absurd (cc)
+  ordered_at : (t : Token) → is_in class.Ordered t.kind ≡ true → HasWorth whole t → Meant t
+  ordered_at t i w =
+      let number : same kind.Number t.kind ≡ true → Meant t = λ e. let v = valued t kind.Number e w in (Integer v.0, (same_is kind.Number t.kind e, record { cut = w.cut; is = v.1 })) in
+      let string : same kind.String t.kind ≡ true → Meant t = λ e. let v = valued t kind.String e w in (String v.0, (same_is kind.String t.kind e, record { cut = w.cut; is = v.1 })) in
+      let hex : same kind.Hex t.kind ≡ true → Meant t = λ e. let v = valued t kind.Hex e w in (Hex v.0, (same_is kind.Hex t.kind e, record { cut = w.cut; is = v.1 })) in
+      let binary : same kind.Binary t.kind ≡ true → Meant t = λ e. let v = valued t kind.Binary e w in (Binary v.0, (same_is kind.Binary t.kind e, record { cut = w.cut; is = v.1 })) in
+      let timestamp : same kind.Timestamp t.kind ≡ true → Meant t = λ e. let v = valued t kind.Timestamp e w in (Timestamp v.0, (same_is kind.Timestamp t.kind e, record { cut = w.cut; is = v.1 })) in
+      either_way _ _ i (λ i. either_way _ _ i (λ i. either_way _ _ i (λ i. either_way _ _ i number string) hex) binary) timestamp
+
+  constant_at : (t : Token) → is_in class.Constant t.kind ≡ true → HasWorth whole t → Meant t
+  constant_at t i w =
+      let yes : same kind.TrueWord t.kind ≡ true → Meant t = λ e. (Boolean true, inl (same_is kind.TrueWord t.kind e, refl)) in
+      let no : same kind.FalseWord t.kind ≡ true → Meant t = λ e. (Boolean false, inr (same_is kind.FalseWord t.kind e, refl)) in
+      either_way _ _ i (λ i. either_way _ _ i (λ i. ordered_at t i w) yes) no
 
   -- paths
   steps_split : (xs : List StepTree) (x : StepTree) → RefusalOfSteps whole (xs ++ x ∷ []) (NoValue at)
@@ -68,7 +80,7 @@ module _ (whole : List ℕ) (at : ℕ) where
   steps_split (y ∷ ys) x (inr h) = elim (steps_split ys x h) [ inl g ↦ inl (inr g) | inr g ↦ inr g ]
 
   no_name : (t : Token) → is_in class.Name t.kind ≡ true → HasWorth whole t → ¬ RefusalOfSteps whole (step_tree.Name t ∷ []) (NoValue at)
-  no_name t i w (inl h) = let n = name_by t t.kind refl i w.cut w.value in h.none (step.Name n.0) n.1
+  no_name t i w (inl h) = let n = name_by t (same kind.String t.kind) refl w in h.none (step.Name n.0) n.1
   no_name t i w (inr h) = h
 
   no_step : (ts : List Token) (s : StepTree) → IsStep ts s → AllWorth whole ts → ¬ RefusalOfSteps whole (s ∷ []) (NoValue at)
@@ -93,29 +105,35 @@ module _ (whole : List ℕ) (at : ℕ) where
   no_path ts p i w (inr (inr h)) = no_steps ts p i w h
 
   -- what is asked
-  compared_by : (a b : Token) (k : TokenKind) (v : Constant) → a.kind ≡ k → (is_in class.Equality k ≡ true) ⊎ (is_in class.Order k ≡ true)
-      → IsConstantOf whole b v → (c : Check) × IsCheckOf whole (check_tree.Compare a b) c
-  compared_by a b kind.Equal v e i h = (check.Equal v, (e, h))
-  compared_by a b kind.Differ v e i h = (check.Differ v, (e, h))
-  compared_by a b kind.Less v e i h = (check.Less v, (e, h))
-  compared_by a b kind.LessEqual v e i h = (check.LessEqual v, (e, h))
-  compared_by a b kind.Greater v e i h = (check.Greater v, (e, h))
-  compared_by a b kind.GreaterEqual v e i h = (check.GreaterEqual v, (e, h))
-  compared_by a b _ v e (inl i) h = absurd (cc)
-  compared_by a b _ v e (inr i) h = absurd (cc)
+  abbrev Asked : Token → Token → Type 0
+  Asked a b = (c : Check) × IsCheckOf whole (check_tree.Compare a b) c
 
-  no_compared : (a b : Token) → (is_in class.Equality a.kind ≡ true) ⊎ (is_in class.Order a.kind ≡ true) → is_in class.Constant b.kind ≡ true → HasWorth whole b
-      → ¬ Lacks (IsCheckOf whole (check_tree.Compare a b)) (NoValue b.from) (NoValue at)
-  no_compared a b i j w h =
-      let v = constant_at b j w in
-      let c = compared_by a b a.kind v.0 refl i v.1 in h.none c.0 c.1
+  equality_of : (a b : Token) → is_in class.Equality a.kind ≡ true → Meant b → Asked a b
+  equality_of a b i v =
+      let equal : same kind.Equal a.kind ≡ true → Asked a b = λ e. (check.Equal v.0, (same_is kind.Equal a.kind e, v.1)) in
+      let differ : same kind.Differ a.kind ≡ true → Asked a b = λ e. (check.Differ v.0, (same_is kind.Differ a.kind e, v.1)) in
+      either_way _ _ i equal differ
 
-  no_textual : (a b : Token) (k : TokenKind) → a.kind ≡ k → is_in class.Textual k ≡ true → ((words : List ℕ) × At IsStringText whole b words)
-      → ¬ Lacks (IsCheckOf whole (check_tree.Textual a b)) (textual_refusal k b.from) (NoValue at)
-  no_textual a b kind.Like e i v h = h.none (check.Like v.0) (e, v.1)
-  no_textual a b kind.Subset e i v h = let f = h.here in cc
-  no_textual a b kind.Superset e i v h = let f = h.here in cc
-  no_textual a b _ e i v h = cc
+  order_of : (a b : Token) → is_in class.Order a.kind ≡ true → Meant b → Asked a b
+  order_of a b i v =
+      let less : same kind.Less a.kind ≡ true → Asked a b = λ e. (check.Less v.0, (same_is kind.Less a.kind e, v.1)) in
+      let less_equal : same kind.LessEqual a.kind ≡ true → Asked a b = λ e. (check.LessEqual v.0, (same_is kind.LessEqual a.kind e, v.1)) in
+      let greater : same kind.Greater a.kind ≡ true → Asked a b = λ e. (check.Greater v.0, (same_is kind.Greater a.kind e, v.1)) in
+      let greater_equal : same kind.GreaterEqual a.kind ≡ true → Asked a b = λ e. (check.GreaterEqual v.0, (same_is kind.GreaterEqual a.kind e, v.1)) in
+      either_way _ _ i (λ i. either_way _ _ i (λ i. either_way _ _ i less less_equal) greater) greater_equal
+
+  no_block : (at from : ℕ) → NoValue at ≡ BadAddress from → ⊥
+  no_block at from e = cc
+
+  no_textual : (a b : Token) → is_in class.Textual a.kind ≡ true → ((words : List ℕ) × At IsStringText whole b words)
+      → ¬ Lacks (IsCheckOf whole (check_tree.Textual a b)) (textual_refusal a.kind b.from) (NoValue at)
+  no_textual a b i v h =
+      let refusal : (k : TokenKind) → same k a.kind ≡ true → NoValue at ≡ textual_refusal k b.from
+      = λ k e. h.here ∙ ap (λ (x : TokenKind). textual_refusal x b.from) (same_is k a.kind e) in
+      let like : same kind.Like a.kind ≡ true → ⊥ = λ e. h.none (check.Like v.0) (same_is kind.Like a.kind e, v.1) in
+      let subset : same kind.Subset a.kind ≡ true → ⊥ = λ e. no_block at b.from (refusal kind.Subset e) in
+      let superset : same kind.Superset a.kind ≡ true → ⊥ = λ e. no_block at b.from (refusal kind.Superset e) in
+      either_way _ _ i (λ i. either_way _ _ i like subset) superset
 
   constants_at : (ts cs : List Token) → AreConstants ts cs → AllWorth whole ts → (vs : List Constant) × AllZip (IsConstantOf whole) cs vs
   constants_at ts cs (constants_one a i) w = let v = constant_at a i w.0 in (v.0 ∷ [], (v.1, tt))
@@ -126,11 +144,11 @@ module _ (whole : List ℕ) (at : ℕ) where
 
   no_check : (ts : List Token) (c : CheckTree) → IsCheck ts c → AllWorth whole ts
       → ¬ Lacks (IsCheckOf whole c) (check_refusal c) (NoValue at)
-  no_check ts c (check_equality a b i j) w h = no_compared a b (inl i) j w.1.0 h
-  no_check ts c (check_order a b i j) w h = no_compared a b (inr i) (ordered_constant b.kind j) w.1.0 h
+  no_check ts c (check_equality a b i j) w h = let asks = equality_of a b i (constant_at b j w.1.0) in h.none asks.0 asks.1
+  no_check ts c (check_order a b i j) w h = let asks = order_of a b i (ordered_at b j w.1.0) in h.none asks.0 asks.1
   no_check ts c (check_among a b d {ts = us} {cs = cs} i j k l) w h =
       let vs = constants_at us cs k (worth_left whole us (d ∷ []) w.1.1) in h.none (check.Among vs.0) vs.1
-  no_check ts c (check_textual a b i j) w h = no_textual a b a.kind refl i (string_by b b.kind j w.1.0.cut w.1.0.value) h
+  no_check ts c (check_textual a b i j) w h = no_textual a b i (string_at b j w.1.0) h
 
   mutual
     no_test : (ts : List Token) (c : Comparison) → IsTest ts c → AllWorth whole ts → ¬ RefusalOfComparison whole c (NoValue at)
@@ -158,7 +176,8 @@ module _ (whole : List ℕ) (at : ℕ) where
   -- patterns
   no_limit : (q : Qualifier) → NoValue at ≡ limit_refusal q → ⊥
   no_limit (qualifier.Within number) e = cc
-  no_limit _ e = cc
+  no_limit (qualifier.Repeats number) e = cc
+  no_limit (qualifier.Between start from to) e = cc
 
   mutual
     no_start : (ts : List Token) (p : Tree) → IsStart ts p → AllWorth whole ts → ¬ RefusalOf whole p (NoValue at)

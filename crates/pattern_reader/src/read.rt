@@ -26,7 +26,9 @@ pub fn read_pattern(alloc: Global, text: &str) -> Result<Pattern, PatternRefusal
     }
     let tokens = tokens(alloc, text)??;
     let tree = read_tree(alloc, tokens.as_slice(), text.len())??;
-    match meaning_of(alloc, text, &tree)? {
+    let meaning = meaning_of(alloc, text, &tree);
+    drop(tree);
+    match meaning? {
         Meaning::Sound(pattern) => Ok(pattern),
         Meaning::TooWide => Err(PatternRefusal::TooWide),
         Meaning::Refused(refusal) => Err(PatternRefusal::Value(refusal)),

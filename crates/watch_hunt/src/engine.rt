@@ -86,11 +86,11 @@ impl<'p> Engine<'p> {
         ensures patterns { IfOk result (λ engine. engine.patterns ≡ map (λ h. h.pattern) hunted.now) }
         ensures cap { IfOk result (λ engine. engine.cap ≡ cap) }
     {
-        let brackets = brackets_of(alloc, hunted)?;
         let followers = followers_of(alloc, hunted, cap)?;
         let turns = turns_of(alloc, followers.as_slice())?;
-        let index = Index::new(alloc, brackets.leaves.as_slice())?;
+        let brackets = brackets_of(alloc, hunted)?;
         let marks = vec![in alloc; false; brackets.leaves.len()]?;
+        let index = Index::new(alloc, brackets.leaves.as_slice())?;
         Ok(Engine {
             alloc,
             hunted,

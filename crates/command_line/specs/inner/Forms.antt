@@ -1,6 +1,9 @@
 -- What each command takes, and the program with its commands as `clap` has it.
-use Rattle.std.specs.Prelude.{ℕ, List, [], ◌∷◌, ◌++◌, map, Bool, true, false, Some, codes}
-use Rattle.clap.specs.Words.{App, Rule, new_app, new_rule, with_subcommand}
+use Rattle.std.specs.Prelude.{◌≡◌, ℕ, List, [], ◌∷◌, ◌++◌, map, Bool, true, false, Some, codes}
+use Rattle.clap.specs.Words.{App, Rule, app_of, new_app, new_rule, rule_of, with_subcommand}
+use Rattle.clap.specs.declared.builder.arg.Arg.{Arg}
+use Rattle.clap.specs.declared.builder.command.Command.{Command}
+use Rattle.clap.specs.declared.builder.command.Command.TheViews.{out-Command as fields_of}
 use Rattle.clap.specs.Simple.{Shape, new_shape, on_top}
 use Rattle.clap.specs.declared.builder.action.ArgAction.TheVariants.{SetTrue}
 use Rattle.command_line.specs.Parts.{Options}
@@ -26,16 +29,28 @@ option_rule name = record (new_rule name) { long = Some name }
 abbrev pub position_rule : Bool → List ℕ → Rule
 position_rule needed name = record (new_rule name) { required = needed }
 
--- the command with positions that may be missing
-abbrev pub with_positions : App → List (List ℕ) → App
-with_positions app names = on_top (λ shape. record shape { rules = shape.rules ++ map (position_rule false) names }) app
+-- positions that may be missing
+abbrev pub free_rules : List (List ℕ) → List Rule
+free_rules names = map (position_rule false) names
 
 abbrev pub rules_of_form : Form → List Rule
 rules_of_form form = map flag_rule form.options.flags ++ (map option_rule form.options.valued ++ map (position_rule form.needs_all) form.positions)
 
+-- a command of that name and these rules
+abbrev pub app_with : List ℕ → List Rule → App
+app_with name rules = record { top = record (new_shape name) { rules = rules }; subs = [] }
+
 -- the command as `clap` has it
 abbrev pub command_of : Form → App
-command_of form = record { top = record (new_shape form.name) { rules = rules_of_form form }; subs = [] }
+command_of form = app_with form.name (rules_of_form form)
+
+-- the option or position has the rule, for its own command alone
+abbrev pub HasRule : Arg → Rule → Type 0
+HasRule arg rule = (rule_of arg ≡ rule) × (arg.global ≡ false)
+
+-- the command is this one, and nothing of it is for others
+abbrev pub IsCommandOf : Command → App → Type 0
+IsCommandOf command app = (app_of command ≡ app) × ((fields_of command).has_globals ≡ false)
 
 -- no help, no version, no name of the program among the words, and no words without a command
 abbrev pub without_extras : Shape → Shape
