@@ -9,7 +9,7 @@ ghost use Rattle.match_live.specs.inner.Steps.{held_with, a_leaf, a_join, a_choi
 ghost use Rattle.match_live.specs.inner.Wanted.{wanted, closed, leads_right, leads_part};
 ghost use Rattle.match_live.specs.inner.Leads.{ahead_of, leads_of};
 ghost use Rattle.match_live.specs.inner.Totals.{held_after, live_at, Admits, IsOverAt};
-ghost use Rattle.match_live.specs.inner.Nodes.{side_stores, leaves_of, state_of};
+ghost use Rattle.match_live.specs.inner.Nodes.{side_stores, leaves_of, levels_state, state_of};
 ghost use Rattle.match_live.specs.declared.stop.Stop.TheVariants as stop;
 
 use crate::join::Join;
@@ -183,32 +183,115 @@ pub(crate) fn step(
             Ok(new)
         }
         Node::Sides(join, left, right, sides) => {
-            let sides = &mut **sides;
-            sides.expire(row.last, room)?;
-            let mut none = Vec::new(alloc);
-            let new_left = step(alloc, left, row, truths, &mut none, room)?;
-            room.take_admitted(&new_left, &sides.left_window, row.last)?;
-            let new_right = step_right(alloc, *join, right, sides, row, truths, leads, room)?;
-            room.take_admitted(&new_right, &sides.right_window, row.last)?;
-            let new = sides.join(
-                alloc, *join, row.last, new_left, new_right, leads, room.left,
-            )?;
-            Ok(new)
+            step_sides(alloc, *join, left, right, sides, row, truths, leads, room)
         }
-        Node::Either(left, right) => {
-            let mut new = Vec::new(alloc);
-            step_first(alloc, 1, left, row, truths, leads, room, &mut new)?;
-            step_second(alloc, 0, right, row, truths, leads, room, &mut new)?;
-            Ok(new)
-        }
+        Node::Either(left, right) => step_either(alloc, left, right, row, truths, leads, room),
         Node::Under(part) => step(alloc, part, row, truths, leads, room),
         Node::Repeats(part, levels) => {
-            let levels = &mut **levels;
-            let new = step_part(alloc, part, levels, row, truths, leads, room)?;
-            let answer = levels.step(alloc, row.last, &new, leads, room)?;
-            Ok(answer)
+            step_repeats(alloc, part, levels, row, truths, leads, room)
         }
     }
+}
+
+/// One row at a node with nothing ahead of it, where all that ends is wanted.
+#[cycle(step)]
+fn step_alone(
+    alloc: Global,
+    node: &mut Node,
+    row: &Row,
+    truths: &[bool],
+    room: &mut Room,
+) -> Result<Vec<Piece>, Stop>
+    ensures new { IfOk result (λ new. piece_trees new.items ≡ wanted row.now.last [] (step_new row.now truths.now (state_of node.old))) }
+    ensures kept { OnOk result (state_of node.new ≡ step_state row.now truths.now (state_of node.old)) }
+    ensures counted { OnOk result (room.new.left + held_after row.now truths.now (state_of node.old) ≡ room.old.left) }
+    ensures crowded { result ≡ Err stop.Crowded → IsOverAt row.now truths.now [] (state_of node.old) room.old.left }
+{
+    let mut none = Vec::new(alloc);
+    let new = step(alloc, node, row, truths, &mut none, room)?;
+    Ok(new)
+}
+
+/// One row at an `AND` or a `FOLLOWEDBY`.
+#[cycle(step)]
+fn step_sides(
+    alloc: Global,
+    join: Join,
+    left: &mut Node,
+    right: &mut Node,
+    sides: &mut Sides,
+    row: &Row,
+    truths: &[bool],
+    leads: &mut Vec<Lead>,
+    room: &mut Room,
+) -> Result<Vec<Piece>, Stop>
+    ensures new { IfOk result (λ new. piece_trees new.items
+        ≡ wanted row.now.last (leads_of leads.old.items) (step_new row.now truths.now (a_join join (state_of left.old) (state_of right.old) (side_stores sides.old)))) }
+    ensures kept { OnOk result (a_join join (state_of left.new) (state_of right.new) (side_stores sides.new)
+        ≡ step_state row.now truths.now (a_join join (state_of left.old) (state_of right.old) (side_stores sides.old))) }
+    ensures leads { OnOk result (leads.new.items ≡ leads.old.items) }
+    ensures counted { OnOk result (room.new.left
+        + held_after row.now truths.now (a_join join (state_of left.old) (state_of right.old) (side_stores sides.old)) ≡ room.old.left) }
+    ensures crowded { result ≡ Err stop.Crowded → IsOverAt row.now truths.now (leads_of leads.old.items)
+        (a_join join (state_of left.old) (state_of right.old) (side_stores sides.old)) room.old.left }
+{
+    sides.expire(row.last, room)?;
+    let new_left = step_alone(alloc, left, row, truths, room)?;
+    room.take_admitted(&new_left, &sides.left_window, row.last)?;
+    let new_right = step_right(alloc, join, right, sides, row, truths, leads, room)?;
+    room.take_admitted(&new_right, &sides.right_window, row.last)?;
+    let new = sides.join(alloc, join, row.last, new_left, new_right, leads, room.left)?;
+    Ok(new)
+}
+
+/// One row at an `OR`.
+#[cycle(step)]
+fn step_either(
+    alloc: Global,
+    left: &mut Node,
+    right: &mut Node,
+    row: &Row,
+    truths: &[bool],
+    leads: &mut Vec<Lead>,
+    room: &mut Room,
+) -> Result<Vec<Piece>, Stop>
+    ensures new { IfOk result (λ new. piece_trees new.items
+        ≡ wanted row.now.last (leads_of leads.old.items) (step_new row.now truths.now (a_choice (state_of left.old) (state_of right.old)))) }
+    ensures kept { OnOk result (a_choice (state_of left.new) (state_of right.new)
+        ≡ step_state row.now truths.now (a_choice (state_of left.old) (state_of right.old))) }
+    ensures leads { OnOk result (leads.new.items ≡ leads.old.items) }
+    ensures counted { OnOk result (room.new.left + held_after row.now truths.now (a_choice (state_of left.old) (state_of right.old)) ≡ room.old.left) }
+    ensures crowded { result ≡ Err stop.Crowded
+        → IsOverAt row.now truths.now (leads_of leads.old.items) (a_choice (state_of left.old) (state_of right.old)) room.old.left }
+{
+    let mut new = Vec::new(alloc);
+    step_first(alloc, 1, left, row, truths, leads, room, &mut new)?;
+    step_second(alloc, 0, right, row, truths, leads, room, &mut new)?;
+    Ok(new)
+}
+
+/// One row at a `REPEATS`.
+#[cycle(step)]
+fn step_repeats(
+    alloc: Global,
+    part: &mut Node,
+    levels: &mut Levels,
+    row: &Row,
+    truths: &[bool],
+    leads: &mut Vec<Lead>,
+    room: &mut Room,
+) -> Result<Vec<Piece>, Stop>
+    ensures new { IfOk result (λ new. piece_trees new.items
+        ≡ wanted row.now.last (leads_of leads.old.items) (step_new row.now truths.now (levels_state (state_of part.old) levels.old))) }
+    ensures kept { OnOk result (levels_state (state_of part.new) levels.new ≡ step_state row.now truths.now (levels_state (state_of part.old) levels.old)) }
+    ensures leads { OnOk result (leads.new.items ≡ leads.old.items) }
+    ensures counted { OnOk result (room.new.left + held_after row.now truths.now (levels_state (state_of part.old) levels.old) ≡ room.old.left) }
+    ensures crowded { result ≡ Err stop.Crowded
+        → IsOverAt row.now truths.now (leads_of leads.old.items) (levels_state (state_of part.old) levels.old) room.old.left }
+{
+    let new = step_part(alloc, part, levels, row, truths, leads, room)?;
+    let answer = levels.step(alloc, row.last, &new, leads, room)?;
+    Ok(answer)
 }
 
 /// One row at the left side of an `OR`, the innermost of so many that it is a left side of: adds what ends
@@ -312,11 +395,7 @@ fn step_right(
             }
             Ok(new)
         }
-        Join::Both | Join::Repeats => {
-            let mut none = Vec::new(alloc);
-            let new = step(alloc, right, row, truths, &mut none, room)?;
-            Ok(new)
-        }
+        Join::Both | Join::Repeats => step_alone(alloc, right, row, truths, room),
     }
 }
 
@@ -347,11 +426,7 @@ fn step_part(
             Ok(new)
         }
         1 => step(alloc, part, row, truths, leads, room),
-        _ => {
-            let mut none = Vec::new(alloc);
-            let new = step(alloc, part, row, truths, &mut none, room)?;
-            Ok(new)
-        }
+        _ => step_alone(alloc, part, row, truths, room),
     }
 }
 
