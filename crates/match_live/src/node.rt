@@ -163,7 +163,7 @@ fn repeats_node(
 /// One row: what ends at it and is wanted, and what is kept after it. What the stores then hold is
 /// counted; it stops at the piece by which more would be live than there is room for.
 #[cycle(step)]
-pub(crate) fn step(
+fn step(
     alloc: Global,
     node: &mut Node,
     row: &Row,
@@ -195,7 +195,7 @@ pub(crate) fn step(
 
 /// One row at a node with nothing ahead of it, where all that ends is wanted.
 #[cycle(step)]
-fn step_alone(
+pub(crate) fn step_alone(
     alloc: Global,
     node: &mut Node,
     row: &Row,
