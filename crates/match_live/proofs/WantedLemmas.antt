@@ -1,6 +1,6 @@
 -- What is wanted: leads one by one, and joins of which only what is wanted is made.
 use Rattle.std.proofs.Common.{◌≡◌, ℕ, ◌+◌, ◌≤◌, ◌<◌, ℤ, List, [], ◌∷◌, ◌++◌, length, get_or, take, drop, refl, sym, ◌∙◌, ap, arith, length-append, append-nil}
-use Rattle.std.specs.Prelude.{Bool, true, false, ◌&&◌, ◌||◌, map, filter, cond}
+use Rattle.std.specs.Prelude.{Bool, true, false, ◌&&◌, ◌||◌, map, filter}
 use Rattle.std.specs.List.{list_any}
 use Rattle.std.proofs.lemmas.List.{take-append-drop, length-map}
 use Rattle.std.proofs.lemmas.List.Elements.{filter-append}

@@ -49,6 +49,7 @@ pub(crate) enum Node {
 /// What is kept for a pattern under these bounds before any row, where its leftmost leaf has the number
 /// `leaf`. A pattern may have 1,024 leaves in a chain: so what is made on the way lies in boxes, and
 /// each kind of node is made in a function of its own, that little of the stack is taken for a leaf.
+#[cycle(empty_node)]
 pub(crate) fn empty_node(
     alloc: Global,
     pattern: &Pattern,
@@ -61,20 +62,12 @@ pub(crate) fn empty_node(
     match pattern {
         Pattern::Leaf(_) => leaf_node(alloc, leaf, above),
         Pattern::Both(left, right) => {
-            let left_node = empty_node(alloc, left, leaf, above)?;
-            let right_node = empty_node(alloc, right, leaf + leaf_count(left), above)?;
-            sides_node(alloc, Join::Both, left_node, right_node, above, false)
+            empty_sides(alloc, Join::Both, left, right, leaf, above, false)
         }
         Pattern::Then(left, right) => {
-            let left_node = empty_node(alloc, left, leaf, above)?;
-            let right_node = empty_node(alloc, right, leaf + leaf_count(left), above)?;
-            sides_node(alloc, Join::Then, left_node, right_node, above, true)
+            empty_sides(alloc, Join::Then, left, right, leaf, above, true)
         }
-        Pattern::Either(left, right) => {
-            let left_node = empty_node(alloc, left, leaf, above)?;
-            let right_node = empty_node(alloc, right, leaf + leaf_count(left), above)?;
-            either_node(alloc, left_node, right_node)
-        }
+        Pattern::Either(left, right) => empty_either(alloc, left, right, leaf, above),
         Pattern::Within(part, seconds) => {
             let node = empty_node(alloc, part, leaf, &above.within(*seconds))?;
             under_node(alloc, node)
@@ -88,6 +81,44 @@ pub(crate) fn empty_node(
             repeats_node(alloc, node, *count, above)
         }
     }
+}
+
+/// The same of a pattern that joins two sides, the right one behind the left where this is asked.
+#[cycle(empty_node)]
+fn empty_sides(
+    alloc: Global,
+    join: Join,
+    left: &Pattern,
+    right: &Pattern,
+    leaf: u32,
+    above: &Bounds,
+    behind: bool,
+) -> Result<Box<Node>, NoMemory>
+    requires { leaf + (leaves left.now + leaves right.now) < 2 ^ 32 }
+    ensures { IfOk result (λ node. state_of (box_value node) ≡ a_join join (empty_state above.now (numbered_from leaf left.now))
+        (empty_state above.now (numbered_from (leaf + leaves left.now) right.now)) (empty_sides (window_of above.now false) (window_of above.now behind))) }
+{
+    let left_node = empty_node(alloc, left, leaf, above)?;
+    let right_node = empty_node(alloc, right, leaf + leaf_count(left), above)?;
+    sides_node(alloc, join, left_node, right_node, above, behind)
+}
+
+/// The same of an `OR`.
+#[cycle(empty_node)]
+fn empty_either(
+    alloc: Global,
+    left: &Pattern,
+    right: &Pattern,
+    leaf: u32,
+    above: &Bounds,
+) -> Result<Box<Node>, NoMemory>
+    requires { leaf + (leaves left.now + leaves right.now) < 2 ^ 32 }
+    ensures { IfOk result (λ node. state_of (box_value node) ≡ a_choice (empty_state above.now (numbered_from leaf left.now))
+        (empty_state above.now (numbered_from (leaf + leaves left.now) right.now))) }
+{
+    let left_node = empty_node(alloc, left, leaf, above)?;
+    let right_node = empty_node(alloc, right, leaf + leaf_count(left), above)?;
+    either_node(alloc, left_node, right_node)
 }
 
 /// A leaf under these bounds.

@@ -1,5 +1,5 @@
 -- One row, node by node.
-use Rattle.std.proofs.Common.{refl, ◌-◌, ◌≡◌, ◌+◌, ◌<◌, ◌≤◌, [], ◌∷◌, ◌++◌, List, length, Err, rules, arith, ap, sym, ◌∙◌, subst}
+use Rattle.std.proofs.Common.{refl, ◌-◌, ◌≡◌, ◌+◌, ◌<◌, ◌≤◌, ◌∷◌, ◌++◌, List, length, Err, rules, arith, ap, sym, ◌∙◌, subst}
 use Rattle.std.specs.Prelude.{ℕ, Bool, map, IfOk}
 use Rattle.match_bindings.specs.BindTree.{Second, Single, firsts}
 use Rattle.match_live.specs.LivePart.{held_count}
@@ -150,21 +150,12 @@ step_sides-returns-clause-new t c =
     let row = c.args.row.now in let truths = c.args.truths.now in let ahead = leads_of c.args.leads.now.items in
     let l = state_of c.args.left.now in let r = state_of c.args.right.now in let s = side_stores c.args.sides.now in let z = a_join c.args.join l r s in
     let k = side_stores c.expire.new.self in
-    let kept_is = c.in_ok-expire.ensures.kept in let first = c.in_ok-expire.ensures.counted in
-    let room = c.args.room.now.left in let room1 = c.expire.new.room.left in
+    let kept_is = c.in_ok-expire.ensures.kept in
     let nl = piece_trees c.in_ok-new_left.new_left.items in
     let f = c.in_ok-new_left.ensures.new in
-    let room2 = c.step_alone.new.room.left in let second = c.in_ok-new_left.ensures.counted in
-    let left = ap (λ (y : List Piece). length (kept k.left_window row.last (piece_trees y))) c.deref.ensures.value in
-    let room3 = c.take_admitted.new.self.left in
-    let third : room3 + length (kept k.left_window row.last nl) ≡ room2 = omega (arith, left, c.in_ok-take_admitted.ensures.taken) in
     let m = side_stores c.step_right.new.sides in let same = c.in_ok-new_right.ensures.sides in
     let nr = piece_trees c.in_ok-new_right.new_right.items in
     let g = c.in_ok-new_right.ensures.new in
-    let room4 = c.step_right.new.room.left in let fourth = c.in_ok-new_right.ensures.counted in
-    let right = ap (λ (y : List Piece). length (kept m.right_window row.last (piece_trees y))) c.deref-2.ensures.value in
-    let room5 = c.take_admitted-2.new.self.left in
-    let fifth : room5 + length (kept m.right_window row.last nr) ≡ room4 = omega (arith, right, c.in_ok-take_admitted-2.ensures.taken) in
     let leads = ap leads_of (c.deref-3.ensures.value ∙ c.in_ok-new_right.ensures.leads) in
     c.in_ok-new.ensures.new ∙ ap (λ y. wanted row.last y (joins_both c.args.join m nl nr)) leads ∙ join_is row truths ahead c.args.join l r z s k m refl kept_is same nl nr f g
 
@@ -173,19 +164,12 @@ step_sides-returns-clause-kept t c =
     let row = c.args.row.now in let truths = c.args.truths.now in let ahead = leads_of c.args.leads.now.items in
     let l = state_of c.args.left.now in let r = state_of c.args.right.now in let s = side_stores c.args.sides.now in let z = a_join c.args.join l r s in
     let k = side_stores c.expire.new.self in
-    let kept_is = c.in_ok-expire.ensures.kept in let first = c.in_ok-expire.ensures.counted in
-    let room = c.args.room.now.left in let room1 = c.expire.new.room.left in
+    let kept_is = c.in_ok-expire.ensures.kept in
     let nl = piece_trees c.in_ok-new_left.new_left.items in
     let f = c.in_ok-new_left.ensures.new in
-    let room2 = c.step_alone.new.room.left in let second = c.in_ok-new_left.ensures.counted in
-    let left = ap (λ (y : List Piece). length (kept k.left_window row.last (piece_trees y))) c.deref.ensures.value in
-    let room3 = c.take_admitted.new.self.left in
-    let third : room3 + length (kept k.left_window row.last nl) ≡ room2 = omega (arith, left, c.in_ok-take_admitted.ensures.taken) in
     let m = side_stores c.step_right.new.sides in let same = c.in_ok-new_right.ensures.sides in
     let nr = piece_trees c.in_ok-new_right.new_right.items in
     let g = c.in_ok-new_right.ensures.new in
-    let room4 = c.step_right.new.room.left in let fourth = c.in_ok-new_right.ensures.counted in
-    let right = ap (λ (y : List Piece). length (kept m.right_window row.last (piece_trees y))) c.deref-2.ensures.value in
     join_kept row truths ahead c.args.join l r z s k m refl kept_is same nl nr f g (state_of c.step_alone.new.node) (state_of c.step_right.new.right) (side_stores c.join.new.self)
     c.in_ok-new_left.ensures.kept c.in_ok-new_right.ensures.kept c.in_ok-new.ensures.kept
 
@@ -209,7 +193,6 @@ step_sides-returns-clause-counted t c =
     let right = ap (λ (y : List Piece). length (kept m.right_window row.last (piece_trees y))) c.deref-2.ensures.value in
     let room5 = c.take_admitted-2.new.self.left in
     let fifth : room5 + length (kept m.right_window row.last nr) ≡ room4 = omega (arith, right, c.in_ok-take_admitted-2.ensures.taken) in
-    let leads = ap leads_of (c.deref-3.ensures.value ∙ c.in_ok-new_right.ensures.leads) in
     join_counted row truths ahead c.args.join l r z s k m refl kept_is same nl nr f g room room1 room2 room3 room4 room5 first second third fourth fifth
 
 pub step_either-returns-in_err-step_first-clause-crowded : goal.step_either-returns-in_err-step_first-clause-crowded
@@ -244,9 +227,7 @@ pub step_either-returns-clause-new : goal.step_either-returns-clause-new
 step_either-returns-clause-new t c =
     let row = c.args.row.now in let truths = c.args.truths.now in let ahead = leads_of c.args.leads.now.items in
     let l = state_of c.args.left.now in let r = state_of c.args.right.now in let z = a_choice l r in
-    let room = c.args.room.now.left in
     let nl = wanted row.last ahead (step_new row truths l) in
-    let room1 = c.step_first.new.room.left in let first = c.in_ok-step_first.ensures.counted in
     let leads = ap leads_of c.in_ok-step_first.ensures.leads in
     let nr = wanted row.last ahead (step_new row truths r) in
     let g = new_at row truths (wanted row.last (leads_of c.step_first.new.leads.items) (step_new row truths r)) r r (leads_of c.step_first.new.leads.items) ahead refl leads refl in
@@ -298,9 +279,7 @@ step_first-returns-in-Either-clause-new t c =
     let row = c.args.row.now in let truths = c.args.truths.now in let ahead = leads_of c.args.leads.now.items in
     let l = state_of c.deref_mut.result.now in let r = state_of c.deref_mut-in-Either.result.now in let z = state_of c.args.node.now in
     let is = sym (choice_at c.in-Either.left.value c.in-Either.right.value c.deref_mut.result.now c.deref_mut-in-Either.result.now z c.deref_mut.ensures.value c.deref_mut-in-Either.ensures.value (ap state_of c.in-Either.is)) in
-    let room = c.args.room.now.left in
     let nl = wanted row.last ahead (step_new row truths l) in
-    let room1 = c.step_first.new.room.left in let first = c.in_ok-step_first.ensures.counted in
     let leads = ap leads_of c.in_ok-step_first.ensures.leads in
     let nr = wanted row.last ahead (step_new row truths r) in
     let g = new_at row truths (wanted row.last (leads_of c.step_first.new.leads.items) (step_new row truths r)) r r (leads_of c.step_first.new.leads.items) ahead refl leads refl in
@@ -381,10 +360,8 @@ step_repeats-returns-clause-new t c =
     let levels = c.args.levels.now in let xs = store_lists levels.stores.items in let count = levels.count in let w = levels.window in
     let part = state_of c.args.part.now in let z = levels_state part levels in
     let few : length xs ≤ count - 1 = omega (arith, length-map levels.stores.items store_list, levels.few) in
-    let room = c.args.room.now.left in
     let new = piece_trees c.deref.result.now in
     let f = ap piece_trees c.deref.ensures.value ∙ c.in_ok-new.ensures.new in
-    let room1 = c.step_part.new.room.left in let first = c.in_ok-new.ensures.counted in
     let leads = ap leads_of (c.deref-2.ensures.value ∙ c.in_ok-new.ensures.leads) in
     c.in_ok-answer.ensures.new
     ∙ ap (λ y. chosen count row.last y (levels_new w row.last (map (held_with Single) new) new (all_levels count xs))) leads
@@ -396,11 +373,8 @@ step_repeats-returns-clause-kept t c =
     let levels = c.args.levels.now in let xs = store_lists levels.stores.items in let count = levels.count in let w = levels.window in
     let part = state_of c.args.part.now in let z = levels_state part levels in
     let few : length xs ≤ count - 1 = omega (arith, length-map levels.stores.items store_list, levels.few) in
-    let room = c.args.room.now.left in
     let new = piece_trees c.deref.result.now in
     let f = ap piece_trees c.deref.ensures.value ∙ c.in_ok-new.ensures.new in
-    let room1 = c.step_part.new.room.left in let first = c.in_ok-new.ensures.counted in
-    let leads = ap leads_of (c.deref-2.ensures.value ∙ c.in_ok-new.ensures.leads) in
     chain_kept row truths ahead part z count w xs refl few new f (state_of c.step_part.new.part) c.step.new.self.count c.step.new.self.window
     (all_levels c.step.new.self.count (store_lists c.step.new.self.stores.items))
     c.in_ok-new.ensures.kept c.in_ok-answer.ensures.count c.in_ok-answer.ensures.window c.in_ok-answer.ensures.kept
@@ -415,7 +389,6 @@ step_repeats-returns-clause-counted t c =
     let new = piece_trees c.deref.result.now in
     let f = ap piece_trees c.deref.ensures.value ∙ c.in_ok-new.ensures.new in
     let room1 = c.step_part.new.room.left in let first = c.in_ok-new.ensures.counted in
-    let leads = ap leads_of (c.deref-2.ensures.value ∙ c.in_ok-new.ensures.leads) in
     chain_counted row truths ahead part z count w xs refl few new f room room1 c.step.new.room.left first c.in_ok-answer.ensures.counted
 
 pub step-returns-in_ok-new-in-Leaves-clause-new : goal.step-returns-in_ok-new-in-Leaves-clause-new
