@@ -3,7 +3,7 @@ ghost use Rattle.pattern_types.specs.Leaves.{leaves};
 ghost use Rattle.match_bindings.specs.NumberedPattern.{numbered_from};
 ghost use Rattle.match_bindings.specs.BindTree.{First, Second, Single};
 ghost use Rattle.match_bindings.specs.Log.{observed_in};
-ghost use Rattle.match_bindings.specs.inner.Candidates.{spanned_trees, spanned_with, ones, repeats_of, candidates};
+ghost use Rattle.match_bindings.specs.inner.Candidates.{spanned_trees, spanned_with, ones, joins, repeats_of, candidates};
 
 use crate::bounds::Bounds;
 use crate::copy::copy_bind;
@@ -15,6 +15,7 @@ use pattern_types::{Pattern, leaf_count};
 use std::alloc::Global;
 
 /// The bindings of a pattern that fit the bounds, where its leftmost leaf has the number `leaf`.
+#[cycle(candidates)]
 pub(crate) fn candidates(
     alloc: Global,
     pattern: &Pattern,
@@ -29,20 +30,12 @@ pub(crate) fn candidates(
     match pattern {
         Pattern::Leaf(_) => found_at_leaf(alloc, leaf, log, bounds),
         Pattern::Both(left, right) => {
-            let firsts = candidates(alloc, left, leaf, log, bounds)?;
-            let seconds = candidates(alloc, right, leaf + leaf_count(left), log, bounds)?;
-            Join::Both.join(alloc, bounds, &firsts, &seconds)
+            joined_sides(alloc, Join::Both, left, right, leaf, log, bounds)
         }
         Pattern::Then(left, right) => {
-            let firsts = candidates(alloc, left, leaf, log, bounds)?;
-            let seconds = candidates(alloc, right, leaf + leaf_count(left), log, bounds)?;
-            Join::Then.join(alloc, bounds, &firsts, &seconds)
+            joined_sides(alloc, Join::Then, left, right, leaf, log, bounds)
         }
-        Pattern::Either(left, right) => {
-            let firsts = candidates(alloc, left, leaf, log, bounds)?;
-            let seconds = candidates(alloc, right, leaf + leaf_count(left), log, bounds)?;
-            either_of(alloc, firsts, seconds)
-        }
+        Pattern::Either(left, right) => either_side(alloc, left, right, leaf, log, bounds),
         Pattern::Within(part, seconds) => {
             let narrow = bounds.within(*seconds);
             candidates(alloc, part, leaf, log, &narrow)
@@ -56,6 +49,47 @@ pub(crate) fn candidates(
             repeats_of(alloc, bounds, &parts, *count)
         }
     }
+}
+
+/// Those of both sides of an `AND` or a `FOLLOWEDBY`, joined.
+#[cycle(candidates)]
+fn joined_sides(
+    alloc: Global,
+    join: Join,
+    left: &Pattern,
+    right: &Pattern,
+    leaf: u32,
+    log: &Log,
+    bounds: &Bounds,
+) -> Result<Vec<SpannedBind>, NoMemory>
+    requires { leaf + (leaves left.now + leaves right.now) < 2 ^ 32 }
+    ensures { IfOk result (λ out. spanned_trees out.items
+        ≡ joins join bounds.now (candidates (observed_in log.now) (length log.now) bounds.now (numbered_from leaf left.now))
+        (candidates (observed_in log.now) (length log.now) bounds.now (numbered_from (leaf + leaves left.now) right.now))) }
+{
+    let firsts = candidates(alloc, left, leaf, log, bounds)?;
+    let seconds = candidates(alloc, right, leaf + leaf_count(left), log, bounds)?;
+    join.join(alloc, bounds, &firsts, &seconds)
+}
+
+/// Those of either side of an `OR`.
+#[cycle(candidates)]
+fn either_side(
+    alloc: Global,
+    left: &Pattern,
+    right: &Pattern,
+    leaf: u32,
+    log: &Log,
+    bounds: &Bounds,
+) -> Result<Vec<SpannedBind>, NoMemory>
+    requires { leaf + (leaves left.now + leaves right.now) < 2 ^ 32 }
+    ensures { IfOk result (λ out. spanned_trees out.items
+        ≡ map (spanned_with First) (candidates (observed_in log.now) (length log.now) bounds.now (numbered_from leaf left.now))
+        ++ map (spanned_with Second) (candidates (observed_in log.now) (length log.now) bounds.now (numbered_from (leaf + leaves left.now) right.now))) }
+{
+    let firsts = candidates(alloc, left, leaf, log, bounds)?;
+    let seconds = candidates(alloc, right, leaf + leaf_count(left), log, bounds)?;
+    either_of(alloc, firsts, seconds)
 }
 
 /// The observations that fit the bounds and for which a leaf holds.

@@ -5,7 +5,7 @@ ghost use Rattle.match_bindings.specs.inner.Kinds.{chain_of};
 
 use crate::Bind;
 use crate::bounds::Bounds;
-use crate::copy::{copy_bind, copy_binds};
+use crate::copy::{boxed_copy, copy_bind, copy_binds};
 use crate::numbers::are_disjoint;
 use crate::span::Span;
 use crate::spanned_bind::SpannedBind;
@@ -41,9 +41,9 @@ impl Join {
     {
         match self {
             Join::Both | Join::Then => {
-                let left = copy_bind(alloc, first)?;
-                let right = copy_bind(alloc, second)?;
-                Ok(Bind::Both(Box::new(alloc, left)?, Box::new(alloc, right)?))
+                let left = boxed_copy(alloc, first)?;
+                let right = boxed_copy(alloc, second)?;
+                Ok(Bind::Both(left, right))
             }
             Join::Repeats => with_part(alloc, first, second),
         }

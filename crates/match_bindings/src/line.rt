@@ -14,11 +14,19 @@ pub fn line_of(alloc: Global, bind: &Bind) -> Result<Text, NoMemory>
     ensures { IfOk result (λ line. line ≡ line_text (tree_of bind.now)) }
 {
     let mut line = String::new(alloc);
-    push_number(greatest_number(bind), &mut line)?;
-    line.push_str(":")?;
-    push_entries(bind, &mut line)?;
-    line.push_str("\n")?;
+    push_line(bind, &mut line)?;
     Ok(Text::from_string(line))
+}
+
+/// Adds the line of a bind.
+fn push_line(bind: &Bind, line: &mut String) -> Result<(), NoMemory>
+    ensures { OnOk result (string_bytes line.new ≡ string_bytes line.old ++ line_text (tree_of bind.now)) }
+{
+    push_number(greatest_number(bind), line)?;
+    line.push_str(":")?;
+    push_entries(bind, line)?;
+    line.push_str("\n")?;
+    Ok(())
 }
 
 /// Adds the entries of a bind, a space before each.

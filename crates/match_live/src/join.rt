@@ -1,9 +1,10 @@
-ghost use Rattle.std.specs.Prelude.{◌≡◌, ◌++◌, ◌+◌, ◌<◌, length, IfOk, OnOk, Err};
+ghost use Rattle.std.specs.Prelude.{◌≡◌, ◌++◌, ◌∷◌, ◌+◌, ◌<◌, ◌≤◌, [], true, length, IfOk, OnOk, Err};
+ghost use Rattle.std.specs.Box.{box_value};
 ghost use Rattle.std.specs.Int.{int_min, int_max};
 ghost use Rattle.match_bindings.specs.BindTree.{tree_of};
 ghost use Rattle.match_live.specs.inner.Pieces.{piece_tree, piece_trees};
 ghost use Rattle.match_live.specs.inner.Steps.{joined_tree, joined, may_join, join_row, joins};
-ghost use Rattle.match_live.specs.inner.Wanted.{wanted};
+ghost use Rattle.match_live.specs.inner.Wanted.{is_wanted, wanted};
 ghost use Rattle.match_live.specs.inner.Leads.{leads_of};
 ghost use Rattle.match_live.specs.declared.stop.Stop.TheVariants as stop;
 
@@ -34,9 +35,9 @@ impl Join {
     {
         match self {
             Join::Both | Join::Then => {
-                let left = copy_bind(alloc, first)?;
-                let right = copy_bind(alloc, second)?;
-                Ok(Bind::Both(Box::new(alloc, left)?, Box::new(alloc, right)?))
+                let left = boxed_copy(alloc, first)?;
+                let right = boxed_copy(alloc, second)?;
+                Ok(Bind::Both(left, right))
             }
             Join::Repeats => with_part(alloc, first, second),
         }
@@ -86,12 +87,7 @@ impl Join {
         for second in seconds {
             if self.may_join(first, second) {
                 let held = self.joined(alloc, first, second)?;
-                if is_wanted(alloc, &held, now, leads)? {
-                    if out.len() as u64 >= room {
-                        return Err(Stop::Crowded);
-                    }
-                    out.push(held)?;
-                }
+                push_wanted(alloc, held, now, leads, room, out)?;
             }
         }
         Ok(())
@@ -122,6 +118,61 @@ impl Join {
         }
         Ok(())
     }
+}
+
+/// A copy of a bind, in a box of its own.
+fn boxed_copy(alloc: Global, bind: &Bind) -> Result<Box<Bind>, NoMemory>
+    ensures { IfOk result (λ copy. tree_of (box_value copy) ≡ tree_of bind.now) }
+{
+    let copy = copy_bind(alloc, bind)?;
+    Ok(Box::new(alloc, copy)?)
+}
+
+/// Adds a new thing where it is wanted, unless there is no room for it.
+fn push_wanted(
+    alloc: Global,
+    piece: Piece,
+    now: Instant,
+    leads: &[Lead],
+    room: u64,
+    out: &mut Vec<Piece>,
+) -> Result<(), Stop>
+    ensures pushed { OnOk result (piece_trees out.new.items ≡ piece_trees out.old.items ++ wanted now (leads_of leads.now) (piece_tree piece ∷ [])) }
+    ensures crowded { result ≡ Err stop.Crowded → room < length out.old.items + length (wanted now (leads_of leads.now) (piece_tree piece ∷ [])) }
+{
+    match is_taken(alloc, &piece, now, leads, room, out) {
+        Ok(true) => {
+            out.push(piece)?;
+            Ok(())
+        }
+        Ok(false) => {
+            drop(piece);
+            Ok(())
+        }
+        Err(stop) => {
+            drop(piece);
+            Err(stop)
+        }
+    }
+}
+
+/// Whether a new thing is wanted; it stops where there is no room for it beside others.
+fn is_taken(
+    alloc: Global,
+    piece: &Piece,
+    now: Instant,
+    leads: &[Lead],
+    room: u64,
+    others: &[Piece],
+) -> Result<bool, Stop>
+    ensures taken { IfOk result (λ taken. taken ≡ is_wanted now (leads_of leads.now) (piece_tree piece.now)) }
+    ensures crowded { result ≡ Err stop.Crowded → (is_wanted now (leads_of leads.now) (piece_tree piece.now) ≡ true) × (room ≤ length others.now) }
+{
+    let is = is_wanted(alloc, piece, now, leads)?;
+    if is && others.len() as u64 >= room {
+        return Err(Stop::Crowded);
+    }
+    Ok(is)
 }
 
 /// The earlier of two instants.

@@ -124,8 +124,7 @@ impl Leaves {
     {
         let mut new = Vec::new(alloc);
         if holds(truths, self.first) {
-            let bind = Bind::under_firsts(alloc, self.more, Bind::One(row.number))?;
-            new.push(piece(bind, row))?;
+            push_under(alloc, self.more, Bind::One(row.number), row, &mut new)?;
         }
         for at in 0..self.more {
             if holds(truths, self.first + at + 1) {
@@ -176,7 +175,21 @@ fn push_second(alloc: Global, above: u32, row: &Row, new: &mut Vec<Piece>) -> Re
     ensures { OnOk result (piece_trees new.new.items ≡ piece_trees new.old.items ++ held_with (firsts above) (held_with Second (row_alone row.now)) ∷ []) }
 {
     let one = Box::new(alloc, Bind::One(row.number))?;
-    let bind = Bind::under_firsts(alloc, above, Bind::Second(one))?;
-    new.push(piece(bind, row))?;
+    push_under(alloc, above, Bind::Second(one), row, new)
+}
+
+/// Adds a bind of a row alone, under so many `First`s.
+fn push_under(
+    alloc: Global,
+    above: u32,
+    bind: Bind,
+    row: &Row,
+    new: &mut Vec<Piece>,
+) -> Result<(), NoMemory>
+    ensures { OnOk result (piece_trees new.new.items ≡ piece_trees new.old.items
+        ++ held_with (firsts above) (record { tree = tree_of bind; earliest = row.now.first; latest = row.now.last }) ∷ []) }
+{
+    let longer = Bind::under_firsts(alloc, above, bind)?;
+    new.push(piece(longer, row))?;
     Ok(())
 }

@@ -56,9 +56,9 @@ impl Levels {
             (levels_new self.old.window now (map (held_with Single) (piece_trees new.now)) (piece_trees new.now)
             (all_levels self.old.count (store_lists self.old.stores.items)))) }
     {
+        let first = singles(alloc, new)?;
         let mut stores = mem::replace(&mut self.stores, Vec::new(alloc));
         let last = last_made(&mut stores, self.count);
-        let first = singles(alloc, new)?;
         let (made, sets) = step_made(alloc, stores, &self.window, now, first, new, room)?;
         self.stores = made;
         match last {

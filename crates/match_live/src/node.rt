@@ -9,7 +9,7 @@ ghost use Rattle.match_live.specs.inner.Steps.{held_with, a_leaf, a_join, a_choi
 ghost use Rattle.match_live.specs.inner.Wanted.{wanted, closed, leads_right, leads_part};
 ghost use Rattle.match_live.specs.inner.Leads.{ahead_of, leads_of};
 ghost use Rattle.match_live.specs.inner.Totals.{held_after, live_at, Admits, IsOverAt};
-ghost use Rattle.match_live.specs.inner.Nodes.{side_stores, leaves_of, state_of};
+ghost use Rattle.match_live.specs.inner.Nodes.{side_stores, leaves_of, levels_state, state_of};
 ghost use Rattle.match_live.specs.declared.stop.Stop.TheVariants as stop;
 
 use crate::join::Join;
@@ -49,6 +49,7 @@ pub(crate) enum Node {
 /// What is kept for a pattern under these bounds before any row, where its leftmost leaf has the number
 /// `leaf`. A pattern may have 1,024 leaves in a chain: so what is made on the way lies in boxes, and
 /// each kind of node is made in a function of its own, that little of the stack is taken for a leaf.
+#[cycle(empty_node)]
 pub(crate) fn empty_node(
     alloc: Global,
     pattern: &Pattern,
@@ -61,20 +62,12 @@ pub(crate) fn empty_node(
     match pattern {
         Pattern::Leaf(_) => leaf_node(alloc, leaf, above),
         Pattern::Both(left, right) => {
-            let left_node = empty_node(alloc, left, leaf, above)?;
-            let right_node = empty_node(alloc, right, leaf + leaf_count(left), above)?;
-            sides_node(alloc, Join::Both, left_node, right_node, above, false)
+            empty_sides(alloc, Join::Both, left, right, leaf, above, false)
         }
         Pattern::Then(left, right) => {
-            let left_node = empty_node(alloc, left, leaf, above)?;
-            let right_node = empty_node(alloc, right, leaf + leaf_count(left), above)?;
-            sides_node(alloc, Join::Then, left_node, right_node, above, true)
+            empty_sides(alloc, Join::Then, left, right, leaf, above, true)
         }
-        Pattern::Either(left, right) => {
-            let left_node = empty_node(alloc, left, leaf, above)?;
-            let right_node = empty_node(alloc, right, leaf + leaf_count(left), above)?;
-            either_node(alloc, left_node, right_node)
-        }
+        Pattern::Either(left, right) => empty_either(alloc, left, right, leaf, above),
         Pattern::Within(part, seconds) => {
             let node = empty_node(alloc, part, leaf, &above.within(*seconds))?;
             under_node(alloc, node)
@@ -88,6 +81,44 @@ pub(crate) fn empty_node(
             repeats_node(alloc, node, *count, above)
         }
     }
+}
+
+/// The same of a pattern that joins two sides, the right one behind the left where this is asked.
+#[cycle(empty_node)]
+fn empty_sides(
+    alloc: Global,
+    join: Join,
+    left: &Pattern,
+    right: &Pattern,
+    leaf: u32,
+    above: &Bounds,
+    behind: bool,
+) -> Result<Box<Node>, NoMemory>
+    requires { leaf + (leaves left.now + leaves right.now) < 2 ^ 32 }
+    ensures { IfOk result (λ node. state_of (box_value node) ≡ a_join join (empty_state above.now (numbered_from leaf left.now))
+        (empty_state above.now (numbered_from (leaf + leaves left.now) right.now)) (empty_sides (window_of above.now false) (window_of above.now behind))) }
+{
+    let left_node = empty_node(alloc, left, leaf, above)?;
+    let right_node = empty_node(alloc, right, leaf + leaf_count(left), above)?;
+    sides_node(alloc, join, left_node, right_node, above, behind)
+}
+
+/// The same of an `OR`.
+#[cycle(empty_node)]
+fn empty_either(
+    alloc: Global,
+    left: &Pattern,
+    right: &Pattern,
+    leaf: u32,
+    above: &Bounds,
+) -> Result<Box<Node>, NoMemory>
+    requires { leaf + (leaves left.now + leaves right.now) < 2 ^ 32 }
+    ensures { IfOk result (λ node. state_of (box_value node) ≡ a_choice (empty_state above.now (numbered_from leaf left.now))
+        (empty_state above.now (numbered_from (leaf + leaves left.now) right.now))) }
+{
+    let left_node = empty_node(alloc, left, leaf, above)?;
+    let right_node = empty_node(alloc, right, leaf + leaf_count(left), above)?;
+    either_node(alloc, left_node, right_node)
 }
 
 /// A leaf under these bounds.
@@ -163,7 +194,7 @@ fn repeats_node(
 /// One row: what ends at it and is wanted, and what is kept after it. What the stores then hold is
 /// counted; it stops at the piece by which more would be live than there is room for.
 #[cycle(step)]
-pub(crate) fn step(
+fn step(
     alloc: Global,
     node: &mut Node,
     row: &Row,
@@ -183,32 +214,115 @@ pub(crate) fn step(
             Ok(new)
         }
         Node::Sides(join, left, right, sides) => {
-            let sides = &mut **sides;
-            sides.expire(row.last, room)?;
-            let mut none = Vec::new(alloc);
-            let new_left = step(alloc, left, row, truths, &mut none, room)?;
-            room.take_admitted(&new_left, &sides.left_window, row.last)?;
-            let new_right = step_right(alloc, *join, right, sides, row, truths, leads, room)?;
-            room.take_admitted(&new_right, &sides.right_window, row.last)?;
-            let new = sides.join(
-                alloc, *join, row.last, new_left, new_right, leads, room.left,
-            )?;
-            Ok(new)
+            step_sides(alloc, *join, left, right, sides, row, truths, leads, room)
         }
-        Node::Either(left, right) => {
-            let mut new = Vec::new(alloc);
-            step_first(alloc, 1, left, row, truths, leads, room, &mut new)?;
-            step_second(alloc, 0, right, row, truths, leads, room, &mut new)?;
-            Ok(new)
-        }
+        Node::Either(left, right) => step_either(alloc, left, right, row, truths, leads, room),
         Node::Under(part) => step(alloc, part, row, truths, leads, room),
         Node::Repeats(part, levels) => {
-            let levels = &mut **levels;
-            let new = step_part(alloc, part, levels, row, truths, leads, room)?;
-            let answer = levels.step(alloc, row.last, &new, leads, room)?;
-            Ok(answer)
+            step_repeats(alloc, part, levels, row, truths, leads, room)
         }
     }
+}
+
+/// One row at a node with nothing ahead of it, where all that ends is wanted.
+#[cycle(step)]
+pub(crate) fn step_alone(
+    alloc: Global,
+    node: &mut Node,
+    row: &Row,
+    truths: &[bool],
+    room: &mut Room,
+) -> Result<Vec<Piece>, Stop>
+    ensures new { IfOk result (λ new. piece_trees new.items ≡ wanted row.now.last [] (step_new row.now truths.now (state_of node.old))) }
+    ensures kept { OnOk result (state_of node.new ≡ step_state row.now truths.now (state_of node.old)) }
+    ensures counted { OnOk result (room.new.left + held_after row.now truths.now (state_of node.old) ≡ room.old.left) }
+    ensures crowded { result ≡ Err stop.Crowded → IsOverAt row.now truths.now [] (state_of node.old) room.old.left }
+{
+    let mut none = Vec::new(alloc);
+    let new = step(alloc, node, row, truths, &mut none, room)?;
+    Ok(new)
+}
+
+/// One row at an `AND` or a `FOLLOWEDBY`.
+#[cycle(step)]
+fn step_sides(
+    alloc: Global,
+    join: Join,
+    left: &mut Node,
+    right: &mut Node,
+    sides: &mut Sides,
+    row: &Row,
+    truths: &[bool],
+    leads: &mut Vec<Lead>,
+    room: &mut Room,
+) -> Result<Vec<Piece>, Stop>
+    ensures new { IfOk result (λ new. piece_trees new.items
+        ≡ wanted row.now.last (leads_of leads.old.items) (step_new row.now truths.now (a_join join (state_of left.old) (state_of right.old) (side_stores sides.old)))) }
+    ensures kept { OnOk result (a_join join (state_of left.new) (state_of right.new) (side_stores sides.new)
+        ≡ step_state row.now truths.now (a_join join (state_of left.old) (state_of right.old) (side_stores sides.old))) }
+    ensures leads { OnOk result (leads.new.items ≡ leads.old.items) }
+    ensures counted { OnOk result (room.new.left
+        + held_after row.now truths.now (a_join join (state_of left.old) (state_of right.old) (side_stores sides.old)) ≡ room.old.left) }
+    ensures crowded { result ≡ Err stop.Crowded → IsOverAt row.now truths.now (leads_of leads.old.items)
+        (a_join join (state_of left.old) (state_of right.old) (side_stores sides.old)) room.old.left }
+{
+    sides.expire(row.last, room)?;
+    let new_left = step_alone(alloc, left, row, truths, room)?;
+    room.take_admitted(&new_left, &sides.left_window, row.last)?;
+    let new_right = step_right(alloc, join, right, sides, row, truths, leads, room)?;
+    room.take_admitted(&new_right, &sides.right_window, row.last)?;
+    let new = sides.join(alloc, join, row.last, new_left, new_right, leads, room.left)?;
+    Ok(new)
+}
+
+/// One row at an `OR`.
+#[cycle(step)]
+fn step_either(
+    alloc: Global,
+    left: &mut Node,
+    right: &mut Node,
+    row: &Row,
+    truths: &[bool],
+    leads: &mut Vec<Lead>,
+    room: &mut Room,
+) -> Result<Vec<Piece>, Stop>
+    ensures new { IfOk result (λ new. piece_trees new.items
+        ≡ wanted row.now.last (leads_of leads.old.items) (step_new row.now truths.now (a_choice (state_of left.old) (state_of right.old)))) }
+    ensures kept { OnOk result (a_choice (state_of left.new) (state_of right.new)
+        ≡ step_state row.now truths.now (a_choice (state_of left.old) (state_of right.old))) }
+    ensures leads { OnOk result (leads.new.items ≡ leads.old.items) }
+    ensures counted { OnOk result (room.new.left + held_after row.now truths.now (a_choice (state_of left.old) (state_of right.old)) ≡ room.old.left) }
+    ensures crowded { result ≡ Err stop.Crowded
+        → IsOverAt row.now truths.now (leads_of leads.old.items) (a_choice (state_of left.old) (state_of right.old)) room.old.left }
+{
+    let mut new = Vec::new(alloc);
+    step_first(alloc, 1, left, row, truths, leads, room, &mut new)?;
+    step_second(alloc, 0, right, row, truths, leads, room, &mut new)?;
+    Ok(new)
+}
+
+/// One row at a `REPEATS`.
+#[cycle(step)]
+fn step_repeats(
+    alloc: Global,
+    part: &mut Node,
+    levels: &mut Levels,
+    row: &Row,
+    truths: &[bool],
+    leads: &mut Vec<Lead>,
+    room: &mut Room,
+) -> Result<Vec<Piece>, Stop>
+    ensures new { IfOk result (λ new. piece_trees new.items
+        ≡ wanted row.now.last (leads_of leads.old.items) (step_new row.now truths.now (levels_state (state_of part.old) levels.old))) }
+    ensures kept { OnOk result (levels_state (state_of part.new) levels.new ≡ step_state row.now truths.now (levels_state (state_of part.old) levels.old)) }
+    ensures leads { OnOk result (leads.new.items ≡ leads.old.items) }
+    ensures counted { OnOk result (room.new.left + held_after row.now truths.now (levels_state (state_of part.old) levels.old) ≡ room.old.left) }
+    ensures crowded { result ≡ Err stop.Crowded
+        → IsOverAt row.now truths.now (leads_of leads.old.items) (levels_state (state_of part.old) levels.old) room.old.left }
+{
+    let new = step_part(alloc, part, levels, row, truths, leads, room)?;
+    let answer = levels.step(alloc, row.last, &new, leads, room)?;
+    Ok(answer)
 }
 
 /// One row at the left side of an `OR`, the innermost of so many that it is a left side of: adds what ends
@@ -312,11 +426,7 @@ fn step_right(
             }
             Ok(new)
         }
-        Join::Both | Join::Repeats => {
-            let mut none = Vec::new(alloc);
-            let new = step(alloc, right, row, truths, &mut none, room)?;
-            Ok(new)
-        }
+        Join::Both | Join::Repeats => step_alone(alloc, right, row, truths, room),
     }
 }
 
@@ -347,11 +457,7 @@ fn step_part(
             Ok(new)
         }
         1 => step(alloc, part, row, truths, leads, room),
-        _ => {
-            let mut none = Vec::new(alloc);
-            let new = step(alloc, part, row, truths, &mut none, room)?;
-            Ok(new)
-        }
+        _ => step_alone(alloc, part, row, truths, room),
     }
 }
 

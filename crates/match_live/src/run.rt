@@ -7,7 +7,7 @@ ghost use Rattle.match_live.specs.declared.stop.Stop.TheVariants as stop;
 
 use crate::Ending;
 use crate::expired::clear;
-use crate::node::{Node, step};
+use crate::node::{Node, step_alone};
 use crate::piece::Piece;
 use crate::room::Room;
 use crate::row::Row;
@@ -104,15 +104,7 @@ impl Run {
         ensures cap { self.new.cap ≡ self.old.cap }
     {
         let mut room = Room { left: self.cap };
-        let mut leads = Vec::new(self.alloc);
-        let new = step(
-            self.alloc,
-            &mut self.node,
-            row,
-            truths,
-            &mut leads,
-            &mut room,
-        )?;
+        let new = step_alone(self.alloc, &mut self.node, row, truths, &mut room)?;
         room.take(new.len())?;
         let binds = binds_of(self.alloc, new)?;
         let sorted = in_order(self.alloc, binds)?;

@@ -71,7 +71,7 @@ impl Store {
         ensures heaped { self.new.heaped ≡ length self.new.held.items }
         ensures fewer { length self.new.held.items < length self.old.held.items }
     {
-        self.held.swap_remove(0);
+        drop(self.held.swap_remove(0));
         sink(&mut self.held);
         self.heaped = self.held.len();
     }
@@ -84,7 +84,7 @@ impl Store {
             return;
         }
         self.heaped = 0;
-        self.held.retain(|held| is_live(window, held.earliest, now));
+        keep_live(&mut self.held, window, now);
     }
 
     /// Whether it is seen at once that nothing has expired.
@@ -104,13 +104,18 @@ impl Store {
     pub fn admit(&mut self, new: Vec<Piece>, window: &Window, now: Instant) -> Result<(), NoMemory>
         ensures { OnOk result (piece_trees self.new.held.items ≡ piece_trees self.old.held.items ++ kept window.now now (piece_trees new.items)) }
     {
-        for held in new {
-            if is_live(window, held.earliest, now) {
-                self.held.push(held)?;
-            }
-        }
+        let mut live = new;
+        keep_live(&mut live, window, now);
+        self.held.append(&mut live)?;
         Ok(())
     }
+}
+
+/// Takes out of some things those that have expired. The rest stays in its order.
+fn keep_live(held: &mut Vec<Piece>, window: &Window, now: Instant)
+    ensures { piece_trees held.new.items ≡ kept window.now now (piece_trees held.old.items) }
+{
+    held.retain(|piece| is_live(window, piece.earliest, now));
 }
 
 /// The window of a store under these bounds.

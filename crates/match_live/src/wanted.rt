@@ -30,7 +30,9 @@ pub(crate) fn is_wanted(
     for left in &innermost.left.held {
         if Join::Then.may_join(left, piece) {
             let longer = Join::Then.joined(alloc, left, piece)?;
-            if is_wanted(alloc, &longer, now, above)? {
+            let is = is_wanted(alloc, &longer, now, above);
+            drop(longer);
+            if is? {
                 return Ok(true);
             }
         }

@@ -1,6 +1,6 @@
 -- One row, node by node.
-use Rattle.std.proofs.Common.{refl, ◌-◌, ◌≡◌, ◌+◌, ◌<◌, ◌≤◌, [], ◌∷◌, ◌++◌, List, length, Err, rules, arith, ap, sym, ◌∙◌, subst}
-use Rattle.std.specs.Prelude.{ℕ, Bool, map}
+use Rattle.std.proofs.Common.{refl, ◌-◌, ◌≡◌, ◌+◌, ◌<◌, ◌≤◌, ◌∷◌, ◌++◌, List, length, Err, rules, arith, ap, sym, ◌∙◌, subst}
+use Rattle.std.specs.Prelude.{ℕ, Bool, map, IfOk}
 use Rattle.match_bindings.specs.BindTree.{Second, Single, firsts}
 use Rattle.match_live.specs.LivePart.{held_count}
 use Rattle.std.proofs.lemmas.List.{length-map, length-append}
@@ -10,6 +10,7 @@ use Rattle.match_live.specs.declared.store.Store.{Store}
 use Rattle.match_live.specs.declared.sides.Sides.{Sides}
 use Rattle.match_live.specs.declared.piece.Piece.{Piece}
 use Rattle.match_live.specs.declared.row.Row.{Row}
+use Rattle.match_live.specs.declared.join.Join.{Join}
 use Rattle.match_live.specs.declared.node.Node.{Node}
 use Rattle.match_live.specs.PieceTree.{PieceTree}
 use Rattle.match_live.specs.inner.Pieces.{piece_tree, piece_trees}
@@ -33,240 +34,217 @@ over_at row truths room a b u v e f h =
 new_at : (row : Row) (truths : List Bool) (new : List PieceTree) (a b : State) (u v : List Ahead) → a ≡ b → u ≡ v → new ≡ wanted row.last u (step_new row truths a) → new ≡ wanted row.last v (step_new row truths b)
 new_at row truths new a b u v e f h = h ∙ ap (λ x. wanted row.last x (step_new row truths a)) f ∙ ap (λ y. wanted row.last v (step_new row truths y)) e
 
-held_at : (row : Row) (truths : List Bool) (left room : ℕ) (a b : State) → a ≡ b → left + held_after row truths a ≡ room → left + held_after row truths b ≡ room
-held_at row truths left room a b e h = sym (ap (λ y. left + held_after row truths y) e) ∙ h
-
 -- the state of an OR whose sides are named otherwise
 choice_at : (left right l r : Node) (z : State) → l ≡ left → r ≡ right → z ≡ a_choice (state_of left) (state_of right) → a_choice (state_of l) (state_of r) ≡ z
 choice_at left right l r z e f is = ap (λ x. a_choice (state_of x) (state_of r)) e ∙ ap (λ x. a_choice (state_of left) (state_of x)) f ∙ sym is
 
-pub step-returns-in_err-new_left-in-Sides-clause-crowded : goal.step-returns-in_err-new_left-in-Sides-clause-crowded
-step-returns-in_err-new_left-in-Sides-clause-crowded t c = λ e a.
-    let row = c.args.row.now in let truths = c.args.truths.now in let ahead = leads_of c.args.leads.now.items in
-    let l = state_of c.in-Sides.left.value in let r = state_of c.in-Sides.right.value in let z = state_of c.args.node.now in
-    let s = side_stores c.deref_mut-sides.result.now in let k = side_stores c.expire.new.self in
-    let is = ap state_of c.in-Sides.is ∙ ap (λ (y : Sides). a_join c.in-Sides.join l r (side_stores y)) (sym c.deref_mut-sides.ensures.value) in let kept_is = c.in_ok-expire-in-Sides.ensures.kept in let first = c.in_ok-expire-in-Sides.ensures.counted in
-    let el = ap state_of c.deref_mut.ensures.value in let none = ap leads_of c.new-none.ensures.items in
-    let room = c.args.room.now.left in let room1 = c.expire.new.room.left in
-    let failed : c.step.result ≡ Err stop.Crowded = search rules in
-    over_left row truths ahead c.in-Sides.join l r z s k k is kept_is refl a room room1 first
-    (over_at row truths room1 (state_of c.deref_mut.result.now) l (leads_of c.new-none.result.items) [] el none (c.step.ensures.crowded failed))
+-- the state of an AND or a FOLLOWEDBY whose sides are named otherwise
+join_at : (j : Join) (left right l r : Node) (sides s : Sides) (z : State) → l ≡ left → r ≡ right → s ≡ sides → z ≡ a_join j (state_of left) (state_of right) (side_stores sides) →
+    a_join j (state_of l) (state_of r) (side_stores s) ≡ z
+join_at j left right l r sides s z e f g is =
+    ap (λ x. a_join j (state_of x) (state_of r) (side_stores s)) e
+    ∙ ap (λ x. a_join j (state_of left) (state_of x) (side_stores s)) f
+    ∙ ap (λ x. a_join j (state_of left) (state_of right) (side_stores x)) g
+    ∙ sym is
 
-pub step-returns-in_err-take_admitted-in-Sides-clause-crowded : goal.step-returns-in_err-take_admitted-in-Sides-clause-crowded
-step-returns-in_err-take_admitted-in-Sides-clause-crowded t c = λ e a.
+pub step-returns-in-Sides-clause-new : goal.step-returns-in-Sides-clause-new
+step-returns-in-Sides-clause-new t c =
     let row = c.args.row.now in let truths = c.args.truths.now in let ahead = leads_of c.args.leads.now.items in
-    let l = state_of c.in-Sides.left.value in let r = state_of c.in-Sides.right.value in let z = state_of c.args.node.now in
-    let s = side_stores c.deref_mut-sides.result.now in let k = side_stores c.expire.new.self in
-    let is = ap state_of c.in-Sides.is ∙ ap (λ (y : Sides). a_join c.in-Sides.join l r (side_stores y)) (sym c.deref_mut-sides.ensures.value) in let kept_is = c.in_ok-expire-in-Sides.ensures.kept in let first = c.in_ok-expire-in-Sides.ensures.counted in
-    let el = ap state_of c.deref_mut.ensures.value in let none = ap leads_of c.new-none.ensures.items in
+    subst (λ (z : State). IfOk c.step_sides.result (λ new. piece_trees new.items ≡ wanted row.last ahead (step_new row truths z)))
+    (join_at c.in-Sides.join c.in-Sides.left.value c.in-Sides.right.value c.deref_mut.result.now c.deref_mut-in-Sides.result.now c.in-Sides.sides.value c.deref_mut-in-Sides-2.result.now
+    (state_of c.args.node.now) c.deref_mut.ensures.value c.deref_mut-in-Sides.ensures.value c.deref_mut-in-Sides-2.ensures.value (ap state_of c.in-Sides.is))
+    c.step_sides.ensures.new
+
+pub step_sides-returns-in_err-new_left-clause-crowded : goal.step_sides-returns-in_err-new_left-clause-crowded
+step_sides-returns-in_err-new_left-clause-crowded t c = λ e a.
+    let row = c.args.row.now in let truths = c.args.truths.now in let ahead = leads_of c.args.leads.now.items in
+    let l = state_of c.args.left.now in let r = state_of c.args.right.now in let s = side_stores c.args.sides.now in let z = a_join c.args.join l r s in
+    let k = side_stores c.expire.new.self in
+    let kept_is = c.in_ok-expire.ensures.kept in let first = c.in_ok-expire.ensures.counted in
     let room = c.args.room.now.left in let room1 = c.expire.new.room.left in
-    let nl = piece_trees c.in_ok-new_left-in-Sides.new_left.items in
-    let f = new_at row truths nl (state_of c.deref_mut.result.now) l (leads_of c.new-none.result.items) [] el none c.in_ok-new_left-in-Sides.ensures.new in
-    let room2 = c.step.new.room.left in let second = held_at row truths room2 room1 (state_of c.deref_mut.result.now) l el c.in_ok-new_left-in-Sides.ensures.counted in
-    let left = ap (λ (y : List Piece). length (kept k.left_window row.last (piece_trees y))) c.deref-in-Sides.ensures.value in
+    let failed : c.step_alone.result ≡ Err stop.Crowded = search rules in
+    over_left row truths ahead c.args.join l r z s k k refl kept_is refl a room room1 first
+    (c.step_alone.ensures.crowded failed)
+
+pub step_sides-returns-in_err-take_admitted-clause-crowded : goal.step_sides-returns-in_err-take_admitted-clause-crowded
+step_sides-returns-in_err-take_admitted-clause-crowded t c = λ e a.
+    let row = c.args.row.now in let truths = c.args.truths.now in let ahead = leads_of c.args.leads.now.items in
+    let l = state_of c.args.left.now in let r = state_of c.args.right.now in let s = side_stores c.args.sides.now in let z = a_join c.args.join l r s in
+    let k = side_stores c.expire.new.self in
+    let kept_is = c.in_ok-expire.ensures.kept in let first = c.in_ok-expire.ensures.counted in
+    let room = c.args.room.now.left in let room1 = c.expire.new.room.left in
+    let nl = piece_trees c.in_ok-new_left.new_left.items in
+    let f = c.in_ok-new_left.ensures.new in
+    let room2 = c.step_alone.new.room.left in let second = c.in_ok-new_left.ensures.counted in
+    let left = ap (λ (y : List Piece). length (kept k.left_window row.last (piece_trees y))) c.deref.ensures.value in
     let failed : c.take_admitted.result ≡ Err stop.Crowded = search rules in
-    over_left_held row truths ahead c.in-Sides.join l r z s k k is kept_is refl nl f room room1 room2 first second (omega (arith, left, c.take_admitted.ensures.crowded failed))
+    over_left_held row truths ahead c.args.join l r z s k k refl kept_is refl nl f room room1 room2 first second (omega (arith, left, c.take_admitted.ensures.crowded failed))
 
-pub step-returns-in_err-new_right-in-Sides-clause-crowded : goal.step-returns-in_err-new_right-in-Sides-clause-crowded
-step-returns-in_err-new_right-in-Sides-clause-crowded t c = λ e a.
+pub step_sides-returns-in_err-new_right-clause-crowded : goal.step_sides-returns-in_err-new_right-clause-crowded
+step_sides-returns-in_err-new_right-clause-crowded t c = λ e a.
     let row = c.args.row.now in let truths = c.args.truths.now in let ahead = leads_of c.args.leads.now.items in
-    let l = state_of c.in-Sides.left.value in let r = state_of c.in-Sides.right.value in let z = state_of c.args.node.now in
-    let s = side_stores c.deref_mut-sides.result.now in let k = side_stores c.expire.new.self in
-    let is = ap state_of c.in-Sides.is ∙ ap (λ (y : Sides). a_join c.in-Sides.join l r (side_stores y)) (sym c.deref_mut-sides.ensures.value) in let kept_is = c.in_ok-expire-in-Sides.ensures.kept in let first = c.in_ok-expire-in-Sides.ensures.counted in
-    let el = ap state_of c.deref_mut.ensures.value in let none = ap leads_of c.new-none.ensures.items in
+    let l = state_of c.args.left.now in let r = state_of c.args.right.now in let s = side_stores c.args.sides.now in let z = a_join c.args.join l r s in
+    let k = side_stores c.expire.new.self in
+    let kept_is = c.in_ok-expire.ensures.kept in let first = c.in_ok-expire.ensures.counted in
     let room = c.args.room.now.left in let room1 = c.expire.new.room.left in
-    let nl = piece_trees c.in_ok-new_left-in-Sides.new_left.items in
-    let f = new_at row truths nl (state_of c.deref_mut.result.now) l (leads_of c.new-none.result.items) [] el none c.in_ok-new_left-in-Sides.ensures.new in
-    let room2 = c.step.new.room.left in let second = held_at row truths room2 room1 (state_of c.deref_mut.result.now) l el c.in_ok-new_left-in-Sides.ensures.counted in
-    let left = ap (λ (y : List Piece). length (kept k.left_window row.last (piece_trees y))) c.deref-in-Sides.ensures.value in
+    let nl = piece_trees c.in_ok-new_left.new_left.items in
+    let f = c.in_ok-new_left.ensures.new in
+    let room2 = c.step_alone.new.room.left in let second = c.in_ok-new_left.ensures.counted in
+    let left = ap (λ (y : List Piece). length (kept k.left_window row.last (piece_trees y))) c.deref.ensures.value in
     let room3 = c.take_admitted.new.self.left in
-    let third : room3 + length (kept k.left_window row.last nl) ≡ room2 = omega (arith, left, c.in_ok-take_admitted-in-Sides.ensures.taken) in
-    let er = ap state_of c.deref_mut-in-Sides.ensures.value in
+    let third : room3 + length (kept k.left_window row.last nl) ≡ room2 = omega (arith, left, c.in_ok-take_admitted.ensures.taken) in
     let failed : c.step_right.result ≡ Err stop.Crowded = search rules in
-    over_right row truths ahead c.in-Sides.join l r z s k k is kept_is refl nl f a room room1 room2 room3 first second third
-    (over_at row truths room3 (state_of c.deref_mut-in-Sides.result.now) r (leads_right c.in-Sides.join k ahead) (leads_right c.in-Sides.join k ahead) er refl (c.step_right.ensures.crowded failed))
+    over_right row truths ahead c.args.join l r z s k k refl kept_is refl nl f a room room1 room2 room3 first second third
+    (c.step_right.ensures.crowded failed)
 
-pub step-returns-in_err-take_admitted-in-Sides-2-clause-crowded : goal.step-returns-in_err-take_admitted-in-Sides-2-clause-crowded
-step-returns-in_err-take_admitted-in-Sides-2-clause-crowded t c = λ e a.
+pub step_sides-returns-in_err-take_admitted-2-clause-crowded : goal.step_sides-returns-in_err-take_admitted-2-clause-crowded
+step_sides-returns-in_err-take_admitted-2-clause-crowded t c = λ e a.
     let row = c.args.row.now in let truths = c.args.truths.now in let ahead = leads_of c.args.leads.now.items in
-    let l = state_of c.in-Sides.left.value in let r = state_of c.in-Sides.right.value in let z = state_of c.args.node.now in
-    let s = side_stores c.deref_mut-sides.result.now in let k = side_stores c.expire.new.self in
-    let is = ap state_of c.in-Sides.is ∙ ap (λ (y : Sides). a_join c.in-Sides.join l r (side_stores y)) (sym c.deref_mut-sides.ensures.value) in let kept_is = c.in_ok-expire-in-Sides.ensures.kept in let first = c.in_ok-expire-in-Sides.ensures.counted in
-    let el = ap state_of c.deref_mut.ensures.value in let none = ap leads_of c.new-none.ensures.items in
+    let l = state_of c.args.left.now in let r = state_of c.args.right.now in let s = side_stores c.args.sides.now in let z = a_join c.args.join l r s in
+    let k = side_stores c.expire.new.self in
+    let kept_is = c.in_ok-expire.ensures.kept in let first = c.in_ok-expire.ensures.counted in
     let room = c.args.room.now.left in let room1 = c.expire.new.room.left in
-    let nl = piece_trees c.in_ok-new_left-in-Sides.new_left.items in
-    let f = new_at row truths nl (state_of c.deref_mut.result.now) l (leads_of c.new-none.result.items) [] el none c.in_ok-new_left-in-Sides.ensures.new in
-    let room2 = c.step.new.room.left in let second = held_at row truths room2 room1 (state_of c.deref_mut.result.now) l el c.in_ok-new_left-in-Sides.ensures.counted in
-    let left = ap (λ (y : List Piece). length (kept k.left_window row.last (piece_trees y))) c.deref-in-Sides.ensures.value in
+    let nl = piece_trees c.in_ok-new_left.new_left.items in
+    let f = c.in_ok-new_left.ensures.new in
+    let room2 = c.step_alone.new.room.left in let second = c.in_ok-new_left.ensures.counted in
+    let left = ap (λ (y : List Piece). length (kept k.left_window row.last (piece_trees y))) c.deref.ensures.value in
     let room3 = c.take_admitted.new.self.left in
-    let third : room3 + length (kept k.left_window row.last nl) ≡ room2 = omega (arith, left, c.in_ok-take_admitted-in-Sides.ensures.taken) in
-    let er = ap state_of c.deref_mut-in-Sides.ensures.value in
-    let m = side_stores c.step_right.new.sides in let same = c.in_ok-new_right-in-Sides.ensures.sides in
-    let nr = piece_trees c.in_ok-new_right-in-Sides.new_right.items in
-    let g = new_at row truths nr (state_of c.deref_mut-in-Sides.result.now) r (leads_right c.in-Sides.join k ahead) (leads_right c.in-Sides.join k ahead) er refl c.in_ok-new_right-in-Sides.ensures.new in
-    let room4 = c.step_right.new.room.left in let fourth = held_at row truths room4 room3 (state_of c.deref_mut-in-Sides.result.now) r er c.in_ok-new_right-in-Sides.ensures.counted in
-    let right = ap (λ (y : List Piece). length (kept m.right_window row.last (piece_trees y))) c.deref-in-Sides-2.ensures.value in
-    let failed : c.take_admitted-in-Sides.result ≡ Err stop.Crowded = search rules in
-    over_right_held row truths ahead c.in-Sides.join l r z s k m is kept_is same nl nr f g room room1 room2 room3 room4 first second third fourth (omega (arith, right, c.take_admitted-in-Sides.ensures.crowded failed))
+    let third : room3 + length (kept k.left_window row.last nl) ≡ room2 = omega (arith, left, c.in_ok-take_admitted.ensures.taken) in
+    let m = side_stores c.step_right.new.sides in let same = c.in_ok-new_right.ensures.sides in
+    let nr = piece_trees c.in_ok-new_right.new_right.items in
+    let g = c.in_ok-new_right.ensures.new in
+    let room4 = c.step_right.new.room.left in let fourth = c.in_ok-new_right.ensures.counted in
+    let right = ap (λ (y : List Piece). length (kept m.right_window row.last (piece_trees y))) c.deref-2.ensures.value in
+    let failed : c.take_admitted-2.result ≡ Err stop.Crowded = search rules in
+    over_right_held row truths ahead c.args.join l r z s k m refl kept_is same nl nr f g room room1 room2 room3 room4 first second third fourth (omega (arith, right, c.take_admitted-2.ensures.crowded failed))
 
-pub step-returns-in_err-new-in-Sides-clause-crowded : goal.step-returns-in_err-new-in-Sides-clause-crowded
-step-returns-in_err-new-in-Sides-clause-crowded t c = λ e a.
+pub step_sides-returns-in_err-new-clause-crowded : goal.step_sides-returns-in_err-new-clause-crowded
+step_sides-returns-in_err-new-clause-crowded t c = λ e a.
     let row = c.args.row.now in let truths = c.args.truths.now in let ahead = leads_of c.args.leads.now.items in
-    let l = state_of c.in-Sides.left.value in let r = state_of c.in-Sides.right.value in let z = state_of c.args.node.now in
-    let s = side_stores c.deref_mut-sides.result.now in let k = side_stores c.expire.new.self in
-    let is = ap state_of c.in-Sides.is ∙ ap (λ (y : Sides). a_join c.in-Sides.join l r (side_stores y)) (sym c.deref_mut-sides.ensures.value) in let kept_is = c.in_ok-expire-in-Sides.ensures.kept in let first = c.in_ok-expire-in-Sides.ensures.counted in
-    let el = ap state_of c.deref_mut.ensures.value in let none = ap leads_of c.new-none.ensures.items in
+    let l = state_of c.args.left.now in let r = state_of c.args.right.now in let s = side_stores c.args.sides.now in let z = a_join c.args.join l r s in
+    let k = side_stores c.expire.new.self in
+    let kept_is = c.in_ok-expire.ensures.kept in let first = c.in_ok-expire.ensures.counted in
     let room = c.args.room.now.left in let room1 = c.expire.new.room.left in
-    let nl = piece_trees c.in_ok-new_left-in-Sides.new_left.items in
-    let f = new_at row truths nl (state_of c.deref_mut.result.now) l (leads_of c.new-none.result.items) [] el none c.in_ok-new_left-in-Sides.ensures.new in
-    let room2 = c.step.new.room.left in let second = held_at row truths room2 room1 (state_of c.deref_mut.result.now) l el c.in_ok-new_left-in-Sides.ensures.counted in
-    let left = ap (λ (y : List Piece). length (kept k.left_window row.last (piece_trees y))) c.deref-in-Sides.ensures.value in
+    let nl = piece_trees c.in_ok-new_left.new_left.items in
+    let f = c.in_ok-new_left.ensures.new in
+    let room2 = c.step_alone.new.room.left in let second = c.in_ok-new_left.ensures.counted in
+    let left = ap (λ (y : List Piece). length (kept k.left_window row.last (piece_trees y))) c.deref.ensures.value in
     let room3 = c.take_admitted.new.self.left in
-    let third : room3 + length (kept k.left_window row.last nl) ≡ room2 = omega (arith, left, c.in_ok-take_admitted-in-Sides.ensures.taken) in
-    let er = ap state_of c.deref_mut-in-Sides.ensures.value in
-    let m = side_stores c.step_right.new.sides in let same = c.in_ok-new_right-in-Sides.ensures.sides in
-    let nr = piece_trees c.in_ok-new_right-in-Sides.new_right.items in
-    let g = new_at row truths nr (state_of c.deref_mut-in-Sides.result.now) r (leads_right c.in-Sides.join k ahead) (leads_right c.in-Sides.join k ahead) er refl c.in_ok-new_right-in-Sides.ensures.new in
-    let room4 = c.step_right.new.room.left in let fourth = held_at row truths room4 room3 (state_of c.deref_mut-in-Sides.result.now) r er c.in_ok-new_right-in-Sides.ensures.counted in
-    let right = ap (λ (y : List Piece). length (kept m.right_window row.last (piece_trees y))) c.deref-in-Sides-2.ensures.value in
-    let room5 = c.take_admitted-in-Sides.new.self.left in
-    let fifth : room5 + length (kept m.right_window row.last nr) ≡ room4 = omega (arith, right, c.in_ok-take_admitted-in-Sides-2.ensures.taken) in
-    let leads = ap leads_of (c.deref-in-Sides-3.ensures.value ∙ c.in_ok-new_right-in-Sides.ensures.leads) in
+    let third : room3 + length (kept k.left_window row.last nl) ≡ room2 = omega (arith, left, c.in_ok-take_admitted.ensures.taken) in
+    let m = side_stores c.step_right.new.sides in let same = c.in_ok-new_right.ensures.sides in
+    let nr = piece_trees c.in_ok-new_right.new_right.items in
+    let g = c.in_ok-new_right.ensures.new in
+    let room4 = c.step_right.new.room.left in let fourth = c.in_ok-new_right.ensures.counted in
+    let right = ap (λ (y : List Piece). length (kept m.right_window row.last (piece_trees y))) c.deref-2.ensures.value in
+    let room5 = c.take_admitted-2.new.self.left in
+    let fifth : room5 + length (kept m.right_window row.last nr) ≡ room4 = omega (arith, right, c.in_ok-take_admitted-2.ensures.taken) in
+    let leads = ap leads_of (c.deref-3.ensures.value ∙ c.in_ok-new_right.ensures.leads) in
     let failed : c.join.result ≡ Err stop.Crowded = search rules in
     let over = c.join.ensures.crowded failed in
-    let counted = join_counted row truths ahead c.in-Sides.join l r z s k m is kept_is same nl nr f g room room1 room2 room3 room4 room5 first second third fourth fifth in
-    let new = ap (λ y. length (wanted row.last y (joins_both c.in-Sides.join m nl nr))) leads ∙ ap length (join_is row truths ahead c.in-Sides.join l r z s k m is kept_is same nl nr f g) in
+    let counted = join_counted row truths ahead c.args.join l r z s k m refl kept_is same nl nr f g room room1 room2 room3 room4 room5 first second third fourth fifth in
+    let new = ap (λ y. length (wanted row.last y (joins_both c.args.join m nl nr))) leads ∙ ap length (join_is row truths ahead c.args.join l r z s k m refl kept_is same nl nr f g) in
     omega (arith, over, counted, new)
 
-pub step-returns-in_ok-new-in-Sides-clause-new : goal.step-returns-in_ok-new-in-Sides-clause-new
-step-returns-in_ok-new-in-Sides-clause-new t c =
+pub step_sides-returns-clause-new : goal.step_sides-returns-clause-new
+step_sides-returns-clause-new t c =
     let row = c.args.row.now in let truths = c.args.truths.now in let ahead = leads_of c.args.leads.now.items in
-    let l = state_of c.in-Sides.left.value in let r = state_of c.in-Sides.right.value in let z = state_of c.args.node.now in
-    let s = side_stores c.deref_mut-sides.result.now in let k = side_stores c.expire.new.self in
-    let is = ap state_of c.in-Sides.is ∙ ap (λ (y : Sides). a_join c.in-Sides.join l r (side_stores y)) (sym c.deref_mut-sides.ensures.value) in let kept_is = c.in_ok-expire-in-Sides.ensures.kept in let first = c.in_ok-expire-in-Sides.ensures.counted in
-    let el = ap state_of c.deref_mut.ensures.value in let none = ap leads_of c.new-none.ensures.items in
-    let room = c.args.room.now.left in let room1 = c.expire.new.room.left in
-    let nl = piece_trees c.in_ok-new_left-in-Sides.new_left.items in
-    let f = new_at row truths nl (state_of c.deref_mut.result.now) l (leads_of c.new-none.result.items) [] el none c.in_ok-new_left-in-Sides.ensures.new in
-    let room2 = c.step.new.room.left in let second = held_at row truths room2 room1 (state_of c.deref_mut.result.now) l el c.in_ok-new_left-in-Sides.ensures.counted in
-    let left = ap (λ (y : List Piece). length (kept k.left_window row.last (piece_trees y))) c.deref-in-Sides.ensures.value in
-    let room3 = c.take_admitted.new.self.left in
-    let third : room3 + length (kept k.left_window row.last nl) ≡ room2 = omega (arith, left, c.in_ok-take_admitted-in-Sides.ensures.taken) in
-    let er = ap state_of c.deref_mut-in-Sides.ensures.value in
-    let m = side_stores c.step_right.new.sides in let same = c.in_ok-new_right-in-Sides.ensures.sides in
-    let nr = piece_trees c.in_ok-new_right-in-Sides.new_right.items in
-    let g = new_at row truths nr (state_of c.deref_mut-in-Sides.result.now) r (leads_right c.in-Sides.join k ahead) (leads_right c.in-Sides.join k ahead) er refl c.in_ok-new_right-in-Sides.ensures.new in
-    let room4 = c.step_right.new.room.left in let fourth = held_at row truths room4 room3 (state_of c.deref_mut-in-Sides.result.now) r er c.in_ok-new_right-in-Sides.ensures.counted in
-    let right = ap (λ (y : List Piece). length (kept m.right_window row.last (piece_trees y))) c.deref-in-Sides-2.ensures.value in
-    let room5 = c.take_admitted-in-Sides.new.self.left in
-    let fifth : room5 + length (kept m.right_window row.last nr) ≡ room4 = omega (arith, right, c.in_ok-take_admitted-in-Sides-2.ensures.taken) in
-    let leads = ap leads_of (c.deref-in-Sides-3.ensures.value ∙ c.in_ok-new_right-in-Sides.ensures.leads) in
-    c.in_ok-new-in-Sides.ensures.new ∙ ap (λ y. wanted row.last y (joins_both c.in-Sides.join m nl nr)) leads ∙ join_is row truths ahead c.in-Sides.join l r z s k m is kept_is same nl nr f g
+    let l = state_of c.args.left.now in let r = state_of c.args.right.now in let s = side_stores c.args.sides.now in let z = a_join c.args.join l r s in
+    let k = side_stores c.expire.new.self in
+    let kept_is = c.in_ok-expire.ensures.kept in
+    let nl = piece_trees c.in_ok-new_left.new_left.items in
+    let f = c.in_ok-new_left.ensures.new in
+    let m = side_stores c.step_right.new.sides in let same = c.in_ok-new_right.ensures.sides in
+    let nr = piece_trees c.in_ok-new_right.new_right.items in
+    let g = c.in_ok-new_right.ensures.new in
+    let leads = ap leads_of (c.deref-3.ensures.value ∙ c.in_ok-new_right.ensures.leads) in
+    c.in_ok-new.ensures.new ∙ ap (λ y. wanted row.last y (joins_both c.args.join m nl nr)) leads ∙ join_is row truths ahead c.args.join l r z s k m refl kept_is same nl nr f g
 
-pub step-returns-in_ok-new-in-Sides-clause-kept : goal.step-returns-in_ok-new-in-Sides-clause-kept
-step-returns-in_ok-new-in-Sides-clause-kept t c =
+pub step_sides-returns-clause-kept : goal.step_sides-returns-clause-kept
+step_sides-returns-clause-kept t c =
     let row = c.args.row.now in let truths = c.args.truths.now in let ahead = leads_of c.args.leads.now.items in
-    let l = state_of c.in-Sides.left.value in let r = state_of c.in-Sides.right.value in let z = state_of c.args.node.now in
-    let s = side_stores c.deref_mut-sides.result.now in let k = side_stores c.expire.new.self in
-    let is = ap state_of c.in-Sides.is ∙ ap (λ (y : Sides). a_join c.in-Sides.join l r (side_stores y)) (sym c.deref_mut-sides.ensures.value) in let kept_is = c.in_ok-expire-in-Sides.ensures.kept in let first = c.in_ok-expire-in-Sides.ensures.counted in
-    let el = ap state_of c.deref_mut.ensures.value in let none = ap leads_of c.new-none.ensures.items in
-    let room = c.args.room.now.left in let room1 = c.expire.new.room.left in
-    let nl = piece_trees c.in_ok-new_left-in-Sides.new_left.items in
-    let f = new_at row truths nl (state_of c.deref_mut.result.now) l (leads_of c.new-none.result.items) [] el none c.in_ok-new_left-in-Sides.ensures.new in
-    let room2 = c.step.new.room.left in let second = held_at row truths room2 room1 (state_of c.deref_mut.result.now) l el c.in_ok-new_left-in-Sides.ensures.counted in
-    let left = ap (λ (y : List Piece). length (kept k.left_window row.last (piece_trees y))) c.deref-in-Sides.ensures.value in
-    let room3 = c.take_admitted.new.self.left in
-    let third : room3 + length (kept k.left_window row.last nl) ≡ room2 = omega (arith, left, c.in_ok-take_admitted-in-Sides.ensures.taken) in
-    let er = ap state_of c.deref_mut-in-Sides.ensures.value in
-    let m = side_stores c.step_right.new.sides in let same = c.in_ok-new_right-in-Sides.ensures.sides in
-    let nr = piece_trees c.in_ok-new_right-in-Sides.new_right.items in
-    let g = new_at row truths nr (state_of c.deref_mut-in-Sides.result.now) r (leads_right c.in-Sides.join k ahead) (leads_right c.in-Sides.join k ahead) er refl c.in_ok-new_right-in-Sides.ensures.new in
-    let room4 = c.step_right.new.room.left in let fourth = held_at row truths room4 room3 (state_of c.deref_mut-in-Sides.result.now) r er c.in_ok-new_right-in-Sides.ensures.counted in
-    let right = ap (λ (y : List Piece). length (kept m.right_window row.last (piece_trees y))) c.deref-in-Sides-2.ensures.value in
-    join_kept row truths ahead c.in-Sides.join l r z s k m is kept_is same nl nr f g (state_of c.step.new.node) (state_of c.step_right.new.right) (side_stores c.join.new.self)
-    (c.in_ok-new_left-in-Sides.ensures.kept ∙ ap (step_state row truths) el) (c.in_ok-new_right-in-Sides.ensures.kept ∙ ap (step_state row truths) er) c.in_ok-new-in-Sides.ensures.kept
+    let l = state_of c.args.left.now in let r = state_of c.args.right.now in let s = side_stores c.args.sides.now in let z = a_join c.args.join l r s in
+    let k = side_stores c.expire.new.self in
+    let kept_is = c.in_ok-expire.ensures.kept in
+    let nl = piece_trees c.in_ok-new_left.new_left.items in
+    let f = c.in_ok-new_left.ensures.new in
+    let m = side_stores c.step_right.new.sides in let same = c.in_ok-new_right.ensures.sides in
+    let nr = piece_trees c.in_ok-new_right.new_right.items in
+    let g = c.in_ok-new_right.ensures.new in
+    join_kept row truths ahead c.args.join l r z s k m refl kept_is same nl nr f g (state_of c.step_alone.new.node) (state_of c.step_right.new.right) (side_stores c.join.new.self)
+    c.in_ok-new_left.ensures.kept c.in_ok-new_right.ensures.kept c.in_ok-new.ensures.kept
 
-pub step-returns-in_ok-new-in-Sides-clause-counted : goal.step-returns-in_ok-new-in-Sides-clause-counted
-step-returns-in_ok-new-in-Sides-clause-counted t c =
+pub step_sides-returns-clause-counted : goal.step_sides-returns-clause-counted
+step_sides-returns-clause-counted t c =
     let row = c.args.row.now in let truths = c.args.truths.now in let ahead = leads_of c.args.leads.now.items in
-    let l = state_of c.in-Sides.left.value in let r = state_of c.in-Sides.right.value in let z = state_of c.args.node.now in
-    let s = side_stores c.deref_mut-sides.result.now in let k = side_stores c.expire.new.self in
-    let is = ap state_of c.in-Sides.is ∙ ap (λ (y : Sides). a_join c.in-Sides.join l r (side_stores y)) (sym c.deref_mut-sides.ensures.value) in let kept_is = c.in_ok-expire-in-Sides.ensures.kept in let first = c.in_ok-expire-in-Sides.ensures.counted in
-    let el = ap state_of c.deref_mut.ensures.value in let none = ap leads_of c.new-none.ensures.items in
+    let l = state_of c.args.left.now in let r = state_of c.args.right.now in let s = side_stores c.args.sides.now in let z = a_join c.args.join l r s in
+    let k = side_stores c.expire.new.self in
+    let kept_is = c.in_ok-expire.ensures.kept in let first = c.in_ok-expire.ensures.counted in
     let room = c.args.room.now.left in let room1 = c.expire.new.room.left in
-    let nl = piece_trees c.in_ok-new_left-in-Sides.new_left.items in
-    let f = new_at row truths nl (state_of c.deref_mut.result.now) l (leads_of c.new-none.result.items) [] el none c.in_ok-new_left-in-Sides.ensures.new in
-    let room2 = c.step.new.room.left in let second = held_at row truths room2 room1 (state_of c.deref_mut.result.now) l el c.in_ok-new_left-in-Sides.ensures.counted in
-    let left = ap (λ (y : List Piece). length (kept k.left_window row.last (piece_trees y))) c.deref-in-Sides.ensures.value in
+    let nl = piece_trees c.in_ok-new_left.new_left.items in
+    let f = c.in_ok-new_left.ensures.new in
+    let room2 = c.step_alone.new.room.left in let second = c.in_ok-new_left.ensures.counted in
+    let left = ap (λ (y : List Piece). length (kept k.left_window row.last (piece_trees y))) c.deref.ensures.value in
     let room3 = c.take_admitted.new.self.left in
-    let third : room3 + length (kept k.left_window row.last nl) ≡ room2 = omega (arith, left, c.in_ok-take_admitted-in-Sides.ensures.taken) in
-    let er = ap state_of c.deref_mut-in-Sides.ensures.value in
-    let m = side_stores c.step_right.new.sides in let same = c.in_ok-new_right-in-Sides.ensures.sides in
-    let nr = piece_trees c.in_ok-new_right-in-Sides.new_right.items in
-    let g = new_at row truths nr (state_of c.deref_mut-in-Sides.result.now) r (leads_right c.in-Sides.join k ahead) (leads_right c.in-Sides.join k ahead) er refl c.in_ok-new_right-in-Sides.ensures.new in
-    let room4 = c.step_right.new.room.left in let fourth = held_at row truths room4 room3 (state_of c.deref_mut-in-Sides.result.now) r er c.in_ok-new_right-in-Sides.ensures.counted in
-    let right = ap (λ (y : List Piece). length (kept m.right_window row.last (piece_trees y))) c.deref-in-Sides-2.ensures.value in
-    let room5 = c.take_admitted-in-Sides.new.self.left in
-    let fifth : room5 + length (kept m.right_window row.last nr) ≡ room4 = omega (arith, right, c.in_ok-take_admitted-in-Sides-2.ensures.taken) in
-    let leads = ap leads_of (c.deref-in-Sides-3.ensures.value ∙ c.in_ok-new_right-in-Sides.ensures.leads) in
-    join_counted row truths ahead c.in-Sides.join l r z s k m is kept_is same nl nr f g room room1 room2 room3 room4 room5 first second third fourth fifth
+    let third : room3 + length (kept k.left_window row.last nl) ≡ room2 = omega (arith, left, c.in_ok-take_admitted.ensures.taken) in
+    let m = side_stores c.step_right.new.sides in let same = c.in_ok-new_right.ensures.sides in
+    let nr = piece_trees c.in_ok-new_right.new_right.items in
+    let g = c.in_ok-new_right.ensures.new in
+    let room4 = c.step_right.new.room.left in let fourth = c.in_ok-new_right.ensures.counted in
+    let right = ap (λ (y : List Piece). length (kept m.right_window row.last (piece_trees y))) c.deref-2.ensures.value in
+    let room5 = c.take_admitted-2.new.self.left in
+    let fifth : room5 + length (kept m.right_window row.last nr) ≡ room4 = omega (arith, right, c.in_ok-take_admitted-2.ensures.taken) in
+    join_counted row truths ahead c.args.join l r z s k m refl kept_is same nl nr f g room room1 room2 room3 room4 room5 first second third fourth fifth
 
-pub step-returns-in_err-step_first-in-Either-clause-crowded : goal.step-returns-in_err-step_first-in-Either-clause-crowded
-step-returns-in_err-step_first-in-Either-clause-crowded t c = λ e a.
+pub step_either-returns-in_err-step_first-clause-crowded : goal.step_either-returns-in_err-step_first-clause-crowded
+step_either-returns-in_err-step_first-clause-crowded t c = λ e a.
     let row = c.args.row.now in let truths = c.args.truths.now in let ahead = leads_of c.args.leads.now.items in
-    let l = state_of c.deref_mut-in-Either.result.now in let r = state_of c.in-Either.right.value in let z = state_of c.args.node.now in
-    let is = sym (choice_at c.in-Either.left.value c.in-Either.right.value c.deref_mut-in-Either.result.now c.in-Either.right.value z c.deref_mut-in-Either.ensures.value refl (ap state_of c.in-Either.is)) in
+    let l = state_of c.args.left.now in let r = state_of c.args.right.now in let z = a_choice l r in
     let room = c.args.room.now.left in
     let none = ap length c.new-new.ensures.items in
     let failed : c.step_first.result ≡ Err stop.Crowded = search rules in
-    let over' = over_first row truths ahead l r z is a room 0 (λ b. let more = c.step_first.ensures.crowded failed b in omega (arith, more, none)) in omega (arith, over')
+    let over' = over_first row truths ahead l r z refl a room 0 (λ b. let more = c.step_first.ensures.crowded failed b in omega (arith, more, none)) in omega (arith, over')
 
-pub step-returns-in_err-step_second-in-Either-clause-crowded : goal.step-returns-in_err-step_second-in-Either-clause-crowded
-step-returns-in_err-step_second-in-Either-clause-crowded t c = λ e a.
+pub step_either-returns-in_err-step_second-clause-crowded : goal.step_either-returns-in_err-step_second-clause-crowded
+step_either-returns-in_err-step_second-clause-crowded t c = λ e a.
     let row = c.args.row.now in let truths = c.args.truths.now in let ahead = leads_of c.args.leads.now.items in
-    let l = state_of c.deref_mut-in-Either.result.now in let r = state_of c.deref_mut-in-Either-2.result.now in let z = state_of c.args.node.now in
-    let is = sym (choice_at c.in-Either.left.value c.in-Either.right.value c.deref_mut-in-Either.result.now c.deref_mut-in-Either-2.result.now z c.deref_mut-in-Either.ensures.value c.deref_mut-in-Either-2.ensures.value (ap state_of c.in-Either.is)) in
+    let l = state_of c.args.left.now in let r = state_of c.args.right.now in let z = a_choice l r in
     let room = c.args.room.now.left in
     let nl = wanted row.last ahead (step_new row truths l) in
-    let room1 = c.step_first.new.room.left in let first = c.in_ok-step_first-in-Either.ensures.counted in
-    let leads = ap leads_of c.in_ok-step_first-in-Either.ensures.leads in
+    let room1 = c.step_first.new.room.left in let first = c.in_ok-step_first.ensures.counted in
+    let leads = ap leads_of c.in_ok-step_first.ensures.leads in
     let none = ap length c.new-new.ensures.items in
     let mid = c.step_first.new.out.items in
     let long : length mid ≡ length c.new-new.result.items + length nl
-    = sym (length-map mid piece_tree) ∙ ap length c.in_ok-step_first-in-Either.ensures.new
+    = sym (length-map mid piece_tree) ∙ ap length c.in_ok-step_first.ensures.new
     ∙ length-append (piece_trees c.new-new.result.items) (map (held_with (firsts 1)) nl)
     ∙ ap (λ k. k + length (map (held_with (firsts 1)) nl)) (length-map c.new-new.result.items piece_tree)
     ∙ ap (λ k. length c.new-new.result.items + k) (length-map nl (held_with (firsts 1))) in
     let failed : c.step_second.result ≡ Err stop.Crowded = search rules in
     let over = subst (λ (x : List Ahead). Admits row truths r → room1 < length mid + live_at row truths x r) leads (c.step_second.ensures.crowded failed) in
-    let over' = over_second row truths ahead l r z is a room room1 0 first (λ b. let more = over b in omega (arith, long, more, none)) in omega (arith, over')
+    let over' = over_second row truths ahead l r z refl a room room1 0 first (λ b. let more = over b in omega (arith, long, more, none)) in omega (arith, over')
 
-pub step-returns-in_ok-step_second-in-Either-clause-new : goal.step-returns-in_ok-step_second-in-Either-clause-new
-step-returns-in_ok-step_second-in-Either-clause-new t c =
+pub step_either-returns-clause-new : goal.step_either-returns-clause-new
+step_either-returns-clause-new t c =
     let row = c.args.row.now in let truths = c.args.truths.now in let ahead = leads_of c.args.leads.now.items in
-    let l = state_of c.deref_mut-in-Either.result.now in let r = state_of c.deref_mut-in-Either-2.result.now in let z = state_of c.args.node.now in
-    let is = sym (choice_at c.in-Either.left.value c.in-Either.right.value c.deref_mut-in-Either.result.now c.deref_mut-in-Either-2.result.now z c.deref_mut-in-Either.ensures.value c.deref_mut-in-Either-2.ensures.value (ap state_of c.in-Either.is)) in
-    let room = c.args.room.now.left in
+    let l = state_of c.args.left.now in let r = state_of c.args.right.now in let z = a_choice l r in
     let nl = wanted row.last ahead (step_new row truths l) in
-    let room1 = c.step_first.new.room.left in let first = c.in_ok-step_first-in-Either.ensures.counted in
-    let leads = ap leads_of c.in_ok-step_first-in-Either.ensures.leads in
+    let leads = ap leads_of c.in_ok-step_first.ensures.leads in
     let nr = wanted row.last ahead (step_new row truths r) in
     let g = new_at row truths (wanted row.last (leads_of c.step_first.new.leads.items) (step_new row truths r)) r r (leads_of c.step_first.new.leads.items) ahead refl leads refl in
     let mid = piece_trees c.step_first.new.out.items in let new = piece_trees c.step_second.new.out.items in
-    let second = c.in_ok-step_second-in-Either.ensures.new ∙ ap (λ y. mid ++ map (held_with (firsts 0)) (map (held_with Second) y)) g in
-    choice_added 0 (piece_trees c.new-new.result.items) mid new nl nr c.in_ok-step_first-in-Either.ensures.new second
-    ∙ ap (λ y. piece_trees c.new-new.result.items ++ map (held_with (firsts 0)) y) (choice_is row truths ahead l r z is nl nr refl refl)
+    let second = c.in_ok-step_second.ensures.new ∙ ap (λ y. mid ++ map (held_with (firsts 0)) (map (held_with Second) y)) g in
+    choice_added 0 (piece_trees c.new-new.result.items) mid new nl nr c.in_ok-step_first.ensures.new second
+    ∙ ap (λ y. piece_trees c.new-new.result.items ++ map (held_with (firsts 0)) y) (choice_is row truths ahead l r z refl nl nr refl refl)
     ∙ ap (λ y. piece_trees y ++ map (held_with (firsts 0)) (wanted row.last ahead (step_new row truths z))) c.new-new.ensures.items
     ∙ under_none (wanted row.last ahead (step_new row truths z))
 
-pub step-returns-in_ok-step_second-in-Either-clause-counted : goal.step-returns-in_ok-step_second-in-Either-clause-counted
-step-returns-in_ok-step_second-in-Either-clause-counted t c =
+pub step_either-returns-clause-counted : goal.step_either-returns-clause-counted
+step_either-returns-clause-counted t c =
     let row = c.args.row.now in let truths = c.args.truths.now in let ahead = leads_of c.args.leads.now.items in
-    let l = state_of c.deref_mut-in-Either.result.now in let r = state_of c.deref_mut-in-Either-2.result.now in let z = state_of c.args.node.now in
-    let is = sym (choice_at c.in-Either.left.value c.in-Either.right.value c.deref_mut-in-Either.result.now c.deref_mut-in-Either-2.result.now z c.deref_mut-in-Either.ensures.value c.deref_mut-in-Either-2.ensures.value (ap state_of c.in-Either.is)) in
+    let l = state_of c.args.left.now in let r = state_of c.args.right.now in let z = a_choice l r in
     let room = c.args.room.now.left in
-    let room1 = c.step_first.new.room.left in let first = c.in_ok-step_first-in-Either.ensures.counted in
-    choice_counted row truths ahead l r z is room room1 c.step_second.new.room.left first c.in_ok-step_second-in-Either.ensures.counted
+    let room1 = c.step_first.new.room.left in let first = c.in_ok-step_first.ensures.counted in
+    choice_counted row truths ahead l r z refl room room1 c.step_second.new.room.left first c.in_ok-step_second.ensures.counted
 
 pub step_first-returns-in_err-step_first-clause-crowded : goal.step_first-returns-in_err-step_first-clause-crowded
 step_first-returns-in_err-step_first-clause-crowded t c = λ e a.
@@ -301,9 +279,7 @@ step_first-returns-in-Either-clause-new t c =
     let row = c.args.row.now in let truths = c.args.truths.now in let ahead = leads_of c.args.leads.now.items in
     let l = state_of c.deref_mut.result.now in let r = state_of c.deref_mut-in-Either.result.now in let z = state_of c.args.node.now in
     let is = sym (choice_at c.in-Either.left.value c.in-Either.right.value c.deref_mut.result.now c.deref_mut-in-Either.result.now z c.deref_mut.ensures.value c.deref_mut-in-Either.ensures.value (ap state_of c.in-Either.is)) in
-    let room = c.args.room.now.left in
     let nl = wanted row.last ahead (step_new row truths l) in
-    let room1 = c.step_first.new.room.left in let first = c.in_ok-step_first.ensures.counted in
     let leads = ap leads_of c.in_ok-step_first.ensures.leads in
     let nr = wanted row.last ahead (step_new row truths r) in
     let g = new_at row truths (wanted row.last (leads_of c.step_first.new.leads.items) (step_new row truths r)) r r (leads_of c.step_first.new.leads.items) ahead refl leads refl in
@@ -350,85 +326,70 @@ pub step_second-give_back-requires : goal.step_second-give_back-requires
 step_second-give_back-requires t c =
     omega (arith, c.in_ok-take.ensures.taken, c.len.ensures, c.len-2.ensures, c.in_ok-new.ensures.counted)
 
-pub step-returns-in_err-new-in-Repeats-clause-crowded : goal.step-returns-in_err-new-in-Repeats-clause-crowded
-step-returns-in_err-new-in-Repeats-clause-crowded t c = λ e a.
+pub step_repeats-returns-in_err-new-clause-crowded : goal.step_repeats-returns-in_err-new-clause-crowded
+step_repeats-returns-in_err-new-clause-crowded t c = λ e a.
     let row = c.args.row.now in let truths = c.args.truths.now in let ahead = leads_of c.args.leads.now.items in
-    let levels = c.deref_mut-levels.result.now in let xs = store_lists levels.stores.items in let count = levels.count in let w = levels.window in
-    let part = state_of c.in-Repeats.part.value in let z = state_of c.args.node.now in
-    let is = ap state_of c.in-Repeats.is ∙ ap (levels_state part) (sym c.deref_mut-levels.ensures.value) in let ep = ap state_of c.deref_mut-in-Repeats.ensures.value in
+    let levels = c.args.levels.now in let xs = store_lists levels.stores.items in let count = levels.count in let w = levels.window in
+    let part = state_of c.args.part.now in let z = levels_state part levels in
     let few : length xs ≤ count - 1 = omega (arith, length-map levels.stores.items store_list, levels.few) in
     let room = c.args.room.now.left in
     let failed : c.step_part.result ≡ Err stop.Crowded = search rules in
-    over_part row truths ahead part z count w xs is few a room
-    (over_at row truths room (state_of c.deref_mut-in-Repeats.result.now) part (leads_part count w row.last ahead) (leads_part count w row.last ahead) ep refl (c.step_part.ensures.crowded failed))
+    over_part row truths ahead part z count w xs refl few a room
+    (c.step_part.ensures.crowded failed)
 
-pub step-returns-in_err-answer-in-Repeats-clause-crowded : goal.step-returns-in_err-answer-in-Repeats-clause-crowded
-step-returns-in_err-answer-in-Repeats-clause-crowded t c = λ e a.
+pub step_repeats-returns-in_err-answer-clause-crowded : goal.step_repeats-returns-in_err-answer-clause-crowded
+step_repeats-returns-in_err-answer-clause-crowded t c = λ e a.
     let row = c.args.row.now in let truths = c.args.truths.now in let ahead = leads_of c.args.leads.now.items in
-    let levels = c.deref_mut-levels.result.now in let xs = store_lists levels.stores.items in let count = levels.count in let w = levels.window in
-    let part = state_of c.in-Repeats.part.value in let z = state_of c.args.node.now in
-    let is = ap state_of c.in-Repeats.is ∙ ap (levels_state part) (sym c.deref_mut-levels.ensures.value) in let ep = ap state_of c.deref_mut-in-Repeats.ensures.value in
+    let levels = c.args.levels.now in let xs = store_lists levels.stores.items in let count = levels.count in let w = levels.window in
+    let part = state_of c.args.part.now in let z = levels_state part levels in
     let few : length xs ≤ count - 1 = omega (arith, length-map levels.stores.items store_list, levels.few) in
     let room = c.args.room.now.left in
-    let new = piece_trees c.deref-in-Repeats.result.now in
-    let f = ap piece_trees c.deref-in-Repeats.ensures.value ∙ new_at row truths (piece_trees c.in_ok-new-in-Repeats.new.items) (state_of c.deref_mut-in-Repeats.result.now) part
-    (leads_part count w row.last ahead) (leads_part count w row.last ahead) ep refl c.in_ok-new-in-Repeats.ensures.new in
-    let room1 = c.step_part.new.room.left in let first = held_at row truths room1 room (state_of c.deref_mut-in-Repeats.result.now) part ep c.in_ok-new-in-Repeats.ensures.counted in
-    let leads = ap leads_of (c.deref-in-Repeats-2.ensures.value ∙ c.in_ok-new-in-Repeats.ensures.leads) in
-    let failed : c.step-in-Repeats.result ≡ Err stop.Crowded = search rules in
-    over_levels row truths ahead part z count w xs is few new f a room room1 first
+    let new = piece_trees c.deref.result.now in
+    let f = ap piece_trees c.deref.ensures.value ∙ c.in_ok-new.ensures.new in
+    let room1 = c.step_part.new.room.left in let first = c.in_ok-new.ensures.counted in
+    let leads = ap leads_of (c.deref-2.ensures.value ∙ c.in_ok-new.ensures.leads) in
+    let failed : c.step.result ≡ Err stop.Crowded = search rules in
+    over_levels row truths ahead part z count w xs refl few new f a room room1 first
     (subst (λ (y : List Ahead). AdmitLevels w row.last (map (held_with Single) new) new (all_levels count xs) →
     room1 < held_count (levels_after w row.last (map (held_with Single) new) new (all_levels count xs))
-    + length (chosen count row.last y (levels_new w row.last (map (held_with Single) new) new (all_levels count xs)))) leads (c.step-in-Repeats.ensures.crowded failed))
+    + length (chosen count row.last y (levels_new w row.last (map (held_with Single) new) new (all_levels count xs)))) leads (c.step.ensures.crowded failed))
 
-pub step-returns-in_ok-answer-in-Repeats-clause-new : goal.step-returns-in_ok-answer-in-Repeats-clause-new
-step-returns-in_ok-answer-in-Repeats-clause-new t c =
+pub step_repeats-returns-clause-new : goal.step_repeats-returns-clause-new
+step_repeats-returns-clause-new t c =
     let row = c.args.row.now in let truths = c.args.truths.now in let ahead = leads_of c.args.leads.now.items in
-    let levels = c.deref_mut-levels.result.now in let xs = store_lists levels.stores.items in let count = levels.count in let w = levels.window in
-    let part = state_of c.in-Repeats.part.value in let z = state_of c.args.node.now in
-    let is = ap state_of c.in-Repeats.is ∙ ap (levels_state part) (sym c.deref_mut-levels.ensures.value) in let ep = ap state_of c.deref_mut-in-Repeats.ensures.value in
+    let levels = c.args.levels.now in let xs = store_lists levels.stores.items in let count = levels.count in let w = levels.window in
+    let part = state_of c.args.part.now in let z = levels_state part levels in
     let few : length xs ≤ count - 1 = omega (arith, length-map levels.stores.items store_list, levels.few) in
-    let room = c.args.room.now.left in
-    let new = piece_trees c.deref-in-Repeats.result.now in
-    let f = ap piece_trees c.deref-in-Repeats.ensures.value ∙ new_at row truths (piece_trees c.in_ok-new-in-Repeats.new.items) (state_of c.deref_mut-in-Repeats.result.now) part
-    (leads_part count w row.last ahead) (leads_part count w row.last ahead) ep refl c.in_ok-new-in-Repeats.ensures.new in
-    let room1 = c.step_part.new.room.left in let first = held_at row truths room1 room (state_of c.deref_mut-in-Repeats.result.now) part ep c.in_ok-new-in-Repeats.ensures.counted in
-    let leads = ap leads_of (c.deref-in-Repeats-2.ensures.value ∙ c.in_ok-new-in-Repeats.ensures.leads) in
-    c.in_ok-answer-in-Repeats.ensures.new
+    let new = piece_trees c.deref.result.now in
+    let f = ap piece_trees c.deref.ensures.value ∙ c.in_ok-new.ensures.new in
+    let leads = ap leads_of (c.deref-2.ensures.value ∙ c.in_ok-new.ensures.leads) in
+    c.in_ok-answer.ensures.new
     ∙ ap (λ y. chosen count row.last y (levels_new w row.last (map (held_with Single) new) new (all_levels count xs))) leads
-    ∙ chain_is row truths ahead part z count w xs is few new f
+    ∙ chain_is row truths ahead part z count w xs refl few new f
 
-pub step-returns-in_ok-answer-in-Repeats-clause-kept : goal.step-returns-in_ok-answer-in-Repeats-clause-kept
-step-returns-in_ok-answer-in-Repeats-clause-kept t c =
+pub step_repeats-returns-clause-kept : goal.step_repeats-returns-clause-kept
+step_repeats-returns-clause-kept t c =
     let row = c.args.row.now in let truths = c.args.truths.now in let ahead = leads_of c.args.leads.now.items in
-    let levels = c.deref_mut-levels.result.now in let xs = store_lists levels.stores.items in let count = levels.count in let w = levels.window in
-    let part = state_of c.in-Repeats.part.value in let z = state_of c.args.node.now in
-    let is = ap state_of c.in-Repeats.is ∙ ap (levels_state part) (sym c.deref_mut-levels.ensures.value) in let ep = ap state_of c.deref_mut-in-Repeats.ensures.value in
+    let levels = c.args.levels.now in let xs = store_lists levels.stores.items in let count = levels.count in let w = levels.window in
+    let part = state_of c.args.part.now in let z = levels_state part levels in
+    let few : length xs ≤ count - 1 = omega (arith, length-map levels.stores.items store_list, levels.few) in
+    let new = piece_trees c.deref.result.now in
+    let f = ap piece_trees c.deref.ensures.value ∙ c.in_ok-new.ensures.new in
+    chain_kept row truths ahead part z count w xs refl few new f (state_of c.step_part.new.part) c.step.new.self.count c.step.new.self.window
+    (all_levels c.step.new.self.count (store_lists c.step.new.self.stores.items))
+    c.in_ok-new.ensures.kept c.in_ok-answer.ensures.count c.in_ok-answer.ensures.window c.in_ok-answer.ensures.kept
+
+pub step_repeats-returns-clause-counted : goal.step_repeats-returns-clause-counted
+step_repeats-returns-clause-counted t c =
+    let row = c.args.row.now in let truths = c.args.truths.now in let ahead = leads_of c.args.leads.now.items in
+    let levels = c.args.levels.now in let xs = store_lists levels.stores.items in let count = levels.count in let w = levels.window in
+    let part = state_of c.args.part.now in let z = levels_state part levels in
     let few : length xs ≤ count - 1 = omega (arith, length-map levels.stores.items store_list, levels.few) in
     let room = c.args.room.now.left in
-    let new = piece_trees c.deref-in-Repeats.result.now in
-    let f = ap piece_trees c.deref-in-Repeats.ensures.value ∙ new_at row truths (piece_trees c.in_ok-new-in-Repeats.new.items) (state_of c.deref_mut-in-Repeats.result.now) part
-    (leads_part count w row.last ahead) (leads_part count w row.last ahead) ep refl c.in_ok-new-in-Repeats.ensures.new in
-    let room1 = c.step_part.new.room.left in let first = held_at row truths room1 room (state_of c.deref_mut-in-Repeats.result.now) part ep c.in_ok-new-in-Repeats.ensures.counted in
-    let leads = ap leads_of (c.deref-in-Repeats-2.ensures.value ∙ c.in_ok-new-in-Repeats.ensures.leads) in
-    chain_kept row truths ahead part z count w xs is few new f (state_of c.step_part.new.part) c.step-in-Repeats.new.self.count c.step-in-Repeats.new.self.window
-    (all_levels c.step-in-Repeats.new.self.count (store_lists c.step-in-Repeats.new.self.stores.items))
-    (c.in_ok-new-in-Repeats.ensures.kept ∙ ap (step_state row truths) ep) c.in_ok-answer-in-Repeats.ensures.count c.in_ok-answer-in-Repeats.ensures.window c.in_ok-answer-in-Repeats.ensures.kept
-
-pub step-returns-in_ok-answer-in-Repeats-clause-counted : goal.step-returns-in_ok-answer-in-Repeats-clause-counted
-step-returns-in_ok-answer-in-Repeats-clause-counted t c =
-    let row = c.args.row.now in let truths = c.args.truths.now in let ahead = leads_of c.args.leads.now.items in
-    let levels = c.deref_mut-levels.result.now in let xs = store_lists levels.stores.items in let count = levels.count in let w = levels.window in
-    let part = state_of c.in-Repeats.part.value in let z = state_of c.args.node.now in
-    let is = ap state_of c.in-Repeats.is ∙ ap (levels_state part) (sym c.deref_mut-levels.ensures.value) in let ep = ap state_of c.deref_mut-in-Repeats.ensures.value in
-    let few : length xs ≤ count - 1 = omega (arith, length-map levels.stores.items store_list, levels.few) in
-    let room = c.args.room.now.left in
-    let new = piece_trees c.deref-in-Repeats.result.now in
-    let f = ap piece_trees c.deref-in-Repeats.ensures.value ∙ new_at row truths (piece_trees c.in_ok-new-in-Repeats.new.items) (state_of c.deref_mut-in-Repeats.result.now) part
-    (leads_part count w row.last ahead) (leads_part count w row.last ahead) ep refl c.in_ok-new-in-Repeats.ensures.new in
-    let room1 = c.step_part.new.room.left in let first = held_at row truths room1 room (state_of c.deref_mut-in-Repeats.result.now) part ep c.in_ok-new-in-Repeats.ensures.counted in
-    let leads = ap leads_of (c.deref-in-Repeats-2.ensures.value ∙ c.in_ok-new-in-Repeats.ensures.leads) in
-    chain_counted row truths ahead part z count w xs is few new f room room1 c.step-in-Repeats.new.room.left first c.in_ok-answer-in-Repeats.ensures.counted
+    let new = piece_trees c.deref.result.now in
+    let f = ap piece_trees c.deref.ensures.value ∙ c.in_ok-new.ensures.new in
+    let room1 = c.step_part.new.room.left in let first = c.in_ok-new.ensures.counted in
+    chain_counted row truths ahead part z count w xs refl few new f room room1 c.step.new.room.left first c.in_ok-answer.ensures.counted
 
 pub step-returns-in_ok-new-in-Leaves-clause-new : goal.step-returns-in_ok-new-in-Leaves-clause-new
 step-returns-in_ok-new-in-Leaves-clause-new t c =

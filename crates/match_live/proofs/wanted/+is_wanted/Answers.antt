@@ -33,7 +33,7 @@ returns-then-branch t c =
     let l = c.left-item.result in
     let may : may_join join.Then (piece_tree l) p ≡ true = sym c.may_join.ensures ∙ c.if-may_join.true in
     let longer : is_wanted c.args.now (leads_of above) (joined join.Then (piece_tree l) p) ≡ true
-    = ap (is_wanted c.args.now (leads_of above)) (sym c.in_ok-longer.ensures) ∙ sym c.in_ok-is_wanted.ensures ∙ c.if-branch.true in
+    = ap (is_wanted c.args.now (leads_of above)) (sym c.in_ok-longer.ensures) ∙ sym c.in_ok-is.ensures ∙ c.if-branch.true in
     let passes : f (piece_tree l) ≡ true = and_from _ _ may longer in
     let there : f (piece_tree (get_or c.deref-left-items.result.now c.loop-left.left-index l)) ≡ true = ap (λ (z : Piece). f (piece_tree z)) (sym c.left-item.is) ∙ passes in
     let found = any_found f c.deref-left-items.result.now c.loop-left.left-index l c.loop-left-test.true there in
