@@ -5,7 +5,7 @@ use Rattle.flow_values.specs.Answers.{FindsExactly}
 use Rattle.serde_json.specs.Data.{Data}
 use Rattle.stix_times.specs.Writing.{IsWhole}
 use Rattle.taxii_rows.specs.Version.{IsVersionTime}
-use Rattle.taxii_rows.proofs.TimeLemmas.{is_whole}
+use Rattle.stix_times.proofs.WholeLemmas.{is_whole}
 use Rattle.taxii_rows.proofs.VersionLemmas.{time_whole}
 
 pub ok_then : {T E : Type 0} (answer : Result T E) (P Q : T → Type 0) → ((value : T) → P value → Q value) → IfOk answer P → IfOk answer Q
