@@ -27,3 +27,4 @@ pub mod InPlaceLemmas
 pub mod UnderFirstsLemmas
 pub mod QuietLemmas
 pub mod LeavesLemmas
+pub mod ReachLemmas

@@ -29,7 +29,8 @@ ahead_later : (b : Bool) (e f t : ℤ) → e ≤ℤ f → is_ahead b e t ≡ tru
 ahead_later false e f t h k = refl
 ahead_later true e f t h k = true_le t f (le_trans t e f (le_true t e k) h)
 
-lives_later : (w : Window) (e f t : ℤ) → e ≤ℤ f → lives w e t ≡ true → lives w f t ≡ true
+-- what begins later lives longer
+pub lives_later : (w : Window) (e f t : ℤ) → e ≤ℤ f → lives w e t ≡ true → lives w f t ≡ true
 lives_later w e f t h k =
     let front = and_parts (is_ahead w.behind e t) (in_seconds w.seconds e t && (from_start w.start e && before_stop w.stop t)) k in
     let parts = and_parts (in_seconds w.seconds e t) (from_start w.start e && before_stop w.stop t) front.1 in

@@ -32,7 +32,7 @@ pub push_all : (old out : List ℕ) (binds : List Bind) (i : ℕ) →
 push_all old out binds i h e =
     e ∙ ap (λ z. old ++ flat_map numbers (map tree_of z)) (take_all i binds h) ∙ ap (λ z. old ++ z) (sym (many_numbers (map tree_of binds)))
 
-numbers_firsts : (n : ℕ) (x : BindTree) → numbers (firsts n x) ≡ numbers x
+pub numbers_firsts : (n : ℕ) (x : BindTree) → numbers (firsts n x) ≡ numbers x
 numbers_firsts zero x = refl
 numbers_firsts (suc n) x = numbers_firsts n x
 
@@ -103,6 +103,13 @@ among_contains n (x ∷ xs) h = elim (or_cases (nat_eq n x) (among n xs) h) [
   | inl e ↦ (zero, omega arith, sym (eqb-true n x e))
   | inr e ↦ (let rest = among_contains n xs e in (suc rest.0, omega (arith, rest.1), rest.2))
 ]
+
+-- the numbers of a tree are those that it has
+pub contains_numbers : (n : ℕ) (x : BindTree) → Contains (numbers x) n ↔ (has n x ≡ true)
+contains_numbers n x = (
+  λ h. sym (among_numbers n x) ∙ contains_among n (numbers x) h.0 h.1 h.2,
+  λ h. among_contains n (numbers x) (among_numbers n x ∙ h),
+)
 
 -- what is among the numbers is kept
 pub contains_kept : (n : ℕ) (contents : List (List PieceTree)) → Contains (all_numbers contents) n ↔ (is_kept n contents ≡ true)

@@ -142,27 +142,18 @@ kept_more w now xs at d h live =
 
 -- ---- a test of all that is held
 
-pub any_more : (f : PieceTree → Bool) (xs : List Piece) (at : ℕ) (d : Piece) → at < length xs →
-    list_any f (piece_trees (take (at + 1) xs)) ≡ (list_any f (piece_trees (take at xs)) || f (piece_tree (get_or xs at d)))
-any_more f xs at d h =
-    ap (list_any f) (next_taken xs at d h)
-    ∙ list_any-append f (piece_trees (take at xs)) (piece_tree (get_or xs at d) ∷ [])
-    ∙ ap (λ z. list_any f (piece_trees (take at xs)) || z) (last (f (piece_tree (get_or xs at d)))) where
+pub any_of_none : (f : PieceTree → Bool) (xs : List Piece) → length xs ≡ 0 → list_any f (piece_trees xs) ≡ false
+any_of_none f [] h = refl
+any_of_none f (x ∷ xs) h = absurd (omega (arith, h))
+
+pub any_last : (f : PieceTree → Bool) (xs : List Piece) (x : Piece) → list_any f (piece_trees (xs ++ x ∷ [])) ≡ (list_any f (piece_trees xs) || f (piece_tree x))
+any_last f xs x =
+    ap (list_any f) (map_append piece_tree xs (x ∷ []))
+    ∙ list_any-append f (piece_trees xs) (piece_tree x ∷ [])
+    ∙ ap (λ z. list_any f (piece_trees xs) || z) (last (f (piece_tree x))) where
       last : (b : Bool) → (b || false) ≡ b
       last true = refl
       last false = refl
-
--- one that passes is enough
-pub any_found : (f : PieceTree → Bool) (xs : List Piece) (at : ℕ) (d : Piece) → at < length xs → f (piece_tree (get_or xs at d)) ≡ true → list_any f (piece_trees xs) ≡ true
-any_found f xs at d h passes =
-    ap (λ z. list_any f (piece_trees z)) (sym (take-append-drop (at + 1) xs))
-    ∙ ap (list_any f) (map_append piece_tree (take (at + 1) xs) (drop (at + 1) xs))
-    ∙ list_any-append f (piece_trees (take (at + 1) xs)) (piece_trees (drop (at + 1) xs))
-    ∙ ap (λ z. z || list_any f (piece_trees (drop (at + 1) xs))) (any_more f xs at d h ∙ ap (λ z. list_any f (piece_trees (take at xs)) || z) passes)
-    ∙ yes_it_is (list_any f (piece_trees (take at xs))) (list_any f (piece_trees (drop (at + 1) xs))) where
-      yes_it_is : (a b : Bool) → ((a || true) || b) ≡ true
-      yes_it_is true b = refl
-      yes_it_is false b = refl
 
 pub wanted_by : (now : ℤ) (leads : List Lead) (above : List Lead) (x : Lead) (p : PieceTree) → leads ≡ above ++ x ∷ [] →
     is_wanted now (leads_of leads) p

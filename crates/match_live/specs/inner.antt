@@ -10,5 +10,6 @@ pub mod Heaps
 pub mod Arranged
 pub mod Runs
 pub mod Numbers
+pub mod Reaches
 pub mod TreeCode
 pub mod Seen

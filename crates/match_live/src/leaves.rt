@@ -1,12 +1,13 @@
 //! Leaves in a chain of `OR`s, which take a row at once.
 
-ghost use Rattle.std.specs.Prelude.{◌≡◌, ◌+◌, ◌<◌, ◌≤◌, ◌^◌, ◌++◌, ◌∷◌, [], ℕ, true, false, IsTrue, IfOk, IfSome, OnOk};
+ghost use Rattle.std.specs.Prelude.{◌≡◌, ◌+◌, ◌<◌, ◌≤ℤ◌, ◌≤◌, ◌^◌, ◌++◌, ◌∷◌, [], ℕ, true, false, IsTrue, IfOk, IfSome, OnOk, length};
 ghost use Rattle.match_bindings.specs.BindTree.{Second, firsts, tree_of};
 ghost use Rattle.match_live.specs.inner.Pieces.{piece_tree, piece_trees};
 ghost use Rattle.match_live.specs.inner.Lives.{lives};
 ghost use Rattle.match_live.specs.inner.Steps.{held_with, a_leaf, a_choice, row_alone, truth_at, IsQuiet, step_new};
 ghost use Rattle.match_live.specs.inner.Wanted.{is_wanted, wanted};
 ghost use Rattle.match_live.specs.inner.Leads.{leads_of};
+ghost use Rattle.match_live.specs.inner.Numbers.{numbers};
 
 use crate::lead::Lead;
 use crate::piece::Piece;
@@ -87,6 +88,7 @@ impl Leaves {
         truths: &[bool],
         leads: &[Lead],
     ) -> Result<Vec<Piece>, NoMemory>
+        requires span { row.now.first ≤ℤ row.now.last }
         ensures { IfOk result (λ new. piece_trees new.items ≡ wanted row.now.last (leads_of leads.now) (step_new row.now truths.now (leaves_of self.now))) }
     {
         if self.any_is_wanted(alloc, row, truths, leads)? {
@@ -104,6 +106,7 @@ impl Leaves {
         truths: &[bool],
         leads: &[Lead],
     ) -> Result<bool, NoMemory>
+        requires span { row.now.first ≤ℤ row.now.last }
         ensures all { IfOk result (λ is. is ≡ true
             → wanted row.now.last (leads_of leads.now) (step_new row.now truths.now (leaves_of self.now)) ≡ step_new row.now truths.now (leaves_of self.now)) }
         ensures none { IfOk result (λ is. is ≡ false
@@ -119,6 +122,7 @@ impl Leaves {
 
     /// What is new at one of them.
     fn all_new(&self, alloc: Global, row: &Row, truths: &[bool]) -> Result<Vec<Piece>, NoMemory>
+        requires span { row.now.first ≤ℤ row.now.last }
         requires live { lives self.now.window row.now.first row.now.last ≡ true }
         ensures { IfOk result (λ new. piece_trees new.items ≡ step_new row.now truths.now (leaves_of self.now)) }
     {
@@ -144,6 +148,7 @@ fn holds(truths: &[bool], leaf: u32) -> bool
 
 /// A row alone.
 fn alone(row: &Row) -> Piece
+    requires span { row.now.first ≤ℤ row.now.last }
     ensures { piece_tree result ≡ row_alone row.now }
 {
     piece(Bind::One(row.number), row)
@@ -151,6 +156,7 @@ fn alone(row: &Row) -> Piece
 
 /// Whether a row alone is wanted.
 fn alone_is_wanted(alloc: Global, row: &Row, leads: &[Lead]) -> Result<bool, NoMemory>
+    requires span { row.now.first ≤ℤ row.now.last }
     ensures { IfOk result (λ is. is ≡ is_wanted row.now.last (leads_of leads.now) (row_alone row.now)) }
 {
     let piece = alone(row);
@@ -161,6 +167,8 @@ fn alone_is_wanted(alloc: Global, row: &Row, leads: &[Lead]) -> Result<bool, NoM
 
 /// A bind of a row alone.
 fn piece(bind: Bind, row: &Row) -> Piece
+    requires span { row.now.first ≤ℤ row.now.last }
+    requires some { 0 < length (numbers (tree_of bind)) }
     ensures { piece_tree result ≡ record { tree = tree_of bind; earliest = row.now.first; latest = row.now.last } }
 {
     Piece {
@@ -172,6 +180,7 @@ fn piece(bind: Bind, row: &Row) -> Piece
 
 /// Adds a row alone, under a `Second` and so many `First`s.
 fn push_second(alloc: Global, above: u32, row: &Row, new: &mut Vec<Piece>) -> Result<(), NoMemory>
+    requires span { row.now.first ≤ℤ row.now.last }
     ensures { OnOk result (piece_trees new.new.items ≡ piece_trees new.old.items ++ held_with (firsts above) (held_with Second (row_alone row.now)) ∷ []) }
 {
     let one = Box::new(alloc, Bind::One(row.number))?;
@@ -186,6 +195,8 @@ fn push_under(
     row: &Row,
     new: &mut Vec<Piece>,
 ) -> Result<(), NoMemory>
+    requires span { row.now.first ≤ℤ row.now.last }
+    requires some { 0 < length (numbers (tree_of bind)) }
     ensures { OnOk result (piece_trees new.new.items ≡ piece_trees new.old.items
         ++ held_with (firsts above) (record { tree = tree_of bind; earliest = row.now.first; latest = row.now.last }) ∷ []) }
 {

@@ -20,6 +20,7 @@ mod levels;
 mod matcher;
 mod node;
 mod piece;
+mod reach;
 mod room;
 mod row;
 mod row_numbers;

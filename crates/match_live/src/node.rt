@@ -1,4 +1,4 @@
-ghost use Rattle.std.specs.Prelude.{◌≡◌, ◌+◌, ◌<◌, ◌^◌, ◌++◌, [], false, IsTrue, IfOk, IfSome, OnOk, Err, map, length};
+ghost use Rattle.std.specs.Prelude.{◌≡◌, ◌+◌, ◌<◌, ◌≤ℤ◌, ◌^◌, ◌++◌, [], false, IsTrue, IfOk, IfSome, OnOk, Err, map, length};
 ghost use Rattle.std.specs.Box.{box_value};
 ghost use Rattle.pattern_types.specs.Leaves.{leaves};
 ghost use Rattle.match_bindings.specs.NumberedPattern.{numbered_from};
@@ -202,6 +202,7 @@ fn step(
     leads: &mut Vec<Lead>,
     room: &mut Room,
 ) -> Result<Vec<Piece>, Stop>
+    requires span { row.now.first ≤ℤ row.now.last }
     ensures new { IfOk result (λ new. piece_trees new.items ≡ wanted row.now.last (leads_of leads.old.items) (step_new row.now truths.now (state_of node.old))) }
     ensures kept { OnOk result (state_of node.new ≡ step_state row.now truths.now (state_of node.old)) }
     ensures leads { OnOk result (leads.new.items ≡ leads.old.items) }
@@ -233,6 +234,7 @@ pub(crate) fn step_alone(
     truths: &[bool],
     room: &mut Room,
 ) -> Result<Vec<Piece>, Stop>
+    requires span { row.now.first ≤ℤ row.now.last }
     ensures new { IfOk result (λ new. piece_trees new.items ≡ wanted row.now.last [] (step_new row.now truths.now (state_of node.old))) }
     ensures kept { OnOk result (state_of node.new ≡ step_state row.now truths.now (state_of node.old)) }
     ensures counted { OnOk result (room.new.left + held_after row.now truths.now (state_of node.old) ≡ room.old.left) }
@@ -256,6 +258,7 @@ fn step_sides(
     leads: &mut Vec<Lead>,
     room: &mut Room,
 ) -> Result<Vec<Piece>, Stop>
+    requires span { row.now.first ≤ℤ row.now.last }
     ensures new { IfOk result (λ new. piece_trees new.items
         ≡ wanted row.now.last (leads_of leads.old.items) (step_new row.now truths.now (a_join join (state_of left.old) (state_of right.old) (side_stores sides.old)))) }
     ensures kept { OnOk result (a_join join (state_of left.new) (state_of right.new) (side_stores sides.new)
@@ -286,6 +289,7 @@ fn step_either(
     leads: &mut Vec<Lead>,
     room: &mut Room,
 ) -> Result<Vec<Piece>, Stop>
+    requires span { row.now.first ≤ℤ row.now.last }
     ensures new { IfOk result (λ new. piece_trees new.items
         ≡ wanted row.now.last (leads_of leads.old.items) (step_new row.now truths.now (a_choice (state_of left.old) (state_of right.old)))) }
     ensures kept { OnOk result (a_choice (state_of left.new) (state_of right.new)
@@ -312,6 +316,7 @@ fn step_repeats(
     leads: &mut Vec<Lead>,
     room: &mut Room,
 ) -> Result<Vec<Piece>, Stop>
+    requires span { row.now.first ≤ℤ row.now.last }
     ensures new { IfOk result (λ new. piece_trees new.items
         ≡ wanted row.now.last (leads_of leads.old.items) (step_new row.now truths.now (levels_state (state_of part.old) levels.old))) }
     ensures kept { OnOk result (levels_state (state_of part.new) levels.new ≡ step_state row.now truths.now (levels_state (state_of part.old) levels.old)) }
@@ -338,6 +343,7 @@ fn step_first(
     room: &mut Room,
     out: &mut Vec<Piece>,
 ) -> Result<(), Stop>
+    requires span { row.now.first ≤ℤ row.now.last }
     ensures new { OnOk result (piece_trees out.new.items ≡ piece_trees out.old.items ++ map (held_with (firsts count))
         (wanted row.now.last (leads_of leads.old.items) (step_new row.now truths.now (state_of node.old)))) }
     ensures kept { OnOk result (state_of node.new ≡ step_state row.now truths.now (state_of node.old)) }
@@ -372,6 +378,7 @@ fn step_second(
     room: &mut Room,
     out: &mut Vec<Piece>,
 ) -> Result<(), Stop>
+    requires span { row.now.first ≤ℤ row.now.last }
     ensures new { OnOk result (piece_trees out.new.items ≡ piece_trees out.old.items ++ map (held_with (firsts count))
         (map (held_with Second) (wanted row.now.last (leads_of leads.old.items) (step_new row.now truths.now (state_of node.old))))) }
     ensures kept { OnOk result (state_of node.new ≡ step_state row.now truths.now (state_of node.old)) }
@@ -404,6 +411,7 @@ fn step_right(
     leads: &mut Vec<Lead>,
     room: &mut Room,
 ) -> Result<Vec<Piece>, Stop>
+    requires span { row.now.first ≤ℤ row.now.last }
     ensures new { IfOk result (λ new. piece_trees new.items
         ≡ wanted row.now.last (leads_right join (side_stores sides.old) (leads_of leads.old.items)) (step_new row.now truths.now (state_of right.old))) }
     ensures kept { OnOk result (state_of right.new ≡ step_state row.now truths.now (state_of right.old)) }
@@ -441,6 +449,7 @@ fn step_part(
     leads: &mut Vec<Lead>,
     room: &mut Room,
 ) -> Result<Vec<Piece>, Stop>
+    requires span { row.now.first ≤ℤ row.now.last }
     ensures new { IfOk result (λ new. piece_trees new.items
         ≡ wanted row.now.last (leads_part levels.now.count levels.now.window row.now.last (leads_of leads.old.items)) (step_new row.now truths.now (state_of part.old))) }
     ensures kept { OnOk result (state_of part.new ≡ step_state row.now truths.now (state_of part.old)) }

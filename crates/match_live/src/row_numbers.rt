@@ -82,7 +82,7 @@ fn push_store(store: &Store, out: &mut Vec<u64>) -> Result<(), NoMemory>
 
 /// Adds the numbers of a bind.
 #[cycle(numbers)]
-fn push_numbers(bind: &Bind, out: &mut Vec<u64>) -> Result<(), NoMemory>
+pub(crate) fn push_numbers(bind: &Bind, out: &mut Vec<u64>) -> Result<(), NoMemory>
     ensures { OnOk result (out.new.items ≡ out.old.items ++ numbers (tree_of bind.now)) }
 {
     match bind {

@@ -1,4 +1,4 @@
-ghost use Rattle.std.specs.Prelude.{◌≡◌, ◌<◌, ◌+◌, ◌^◌, ◌↔◌, ℕ, ℤ, ◌<ℤ◌, Err, Some, map, IfOk, OnOk};
+ghost use Rattle.std.specs.Prelude.{◌≡◌, ◌<◌, ◌+◌, ◌^◌, ◌↔◌, ℕ, ℤ, ◌≤ℤ◌, ◌<ℤ◌, Err, Some, map, IfOk, OnOk};
 ghost use Rattle.match_bindings.specs.BindTree.{tree_of};
 ghost use Rattle.match_live.specs.declared.ending.Ending.TheVariants as ending;
 ghost use Rattle.match_live.specs.PieceTree.{trees_in};
@@ -54,7 +54,8 @@ impl Run {
         last: Instant,
         truths: &[bool],
     ) -> Result<Items<Bind>, Ending>
-        requires { self.old.rows + 1 < 2 ^ 64 }
+        requires span { first ≤ℤ last }
+        requires room { self.old.rows + 1 < 2 ^ 64 }
         ensures in_order { (before now : ℤ) → ¬ (result ≡ Err (ending.OutOfOrder before now)) }
         ensures crowded { (number cap : ℕ) → result ≡ Err (ending.Crowded number cap)
             → (number ≡ self.old.rows + 1) × (cap ≡ self.old.cap) × IsOver self.old (next_row self.old.rows first last) truths.now }
@@ -98,6 +99,7 @@ impl Run {
 
     /// The binds that end at a row, unless more is live after it than the cap allows.
     fn answer(&mut self, row: &Row, truths: &[bool]) -> Result<Items<Bind>, Stop>
+        requires span { row.now.first ≤ℤ row.now.last }
         ensures took { OnOk result (TookRow self.old self.new row.now truths.now) }
         ensures binds { IfOk result (λ binds. AreSteps self.old row.now truths.now (map tree_of binds)) }
         ensures crowded { result ≡ Err stop.Crowded → IsOver self.old row.now truths.now }

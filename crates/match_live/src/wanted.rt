@@ -6,13 +6,16 @@ ghost use Rattle.match_live.specs.inner.Leads.{leads_of};
 use crate::join::Join;
 use crate::lead::Lead;
 use crate::piece::Piece;
+use crate::reach::Reach;
 use crate::store::is_live;
 use flow_values::NoMemory;
 use std::alloc::Global;
 use stix_times::Instant;
 
 /// Whether a new thing is wanted: on the right of a `FOLLOWEDBY` only where the store there keeps it, or
-/// something on the left is joined with it to what is wanted above. The innermost lead is the last.
+/// something on the left is joined with it to what is wanted above. The innermost lead is the last. What
+/// can't reach that far by its times is let go at once; of the rest what came last is tried first, since
+/// what begins later reaches as far at least.
 pub(crate) fn is_wanted(
     alloc: Global,
     piece: &Piece,
@@ -27,7 +30,11 @@ pub(crate) fn is_wanted(
     if is_live(&innermost.window, piece.earliest, now) {
         return Ok(true);
     }
-    for left in &innermost.left.held {
+    if !above.is_empty() && !Reach::new(alloc, piece).may_go_on(piece, now, leads)? {
+        return Ok(false);
+    }
+    let mut lefts = innermost.left.held.as_slice();
+    while let Some((left, earlier)) = lefts.split_last() {
         if Join::Then.may_join(left, piece) {
             let longer = Join::Then.joined(alloc, left, piece)?;
             let is = is_wanted(alloc, &longer, now, above);
@@ -36,6 +43,7 @@ pub(crate) fn is_wanted(
                 return Ok(true);
             }
         }
+        lefts = earlier;
     }
     Ok(false)
 }

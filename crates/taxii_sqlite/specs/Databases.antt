@@ -46,10 +46,15 @@ module _ {D : Type 0} {disk : Ghosts D} where
   Removes dates Nowhere Nowhere = ⊤
   Removes dates _ _ = ⊥
 
-  -- nothing was added or removed; of a file: what it holds and what is committed are as before, unless a failure has shut it
+  -- a call can fail: not where nothing is kept
+  abbrev pub CanFail : Database D disk → Type 0
+  CanFail Nowhere = ⊥
+  CanFail _ = ⊤
+
+  -- a change failed and nothing was added or removed; of a file: what it holds and what is committed are as before, unless a failure
+  -- has shut it
   abbrev pub StaysAs : Database D disk → Database D disk → Type 0
   StaysAs (Disk before) (Disk after) = HasCleanDisk (file_state after) → IsUntouched (file_state before) (file_state after)
-  StaysAs Nowhere Nowhere = ⊤
   StaysAs Closed Closed = ⊤
   StaysAs _ _ = ⊥
 

@@ -3,7 +3,7 @@ ghost use Rattle.sqlite_wal.specs.Files.{image_at};
 ghost use Rattle.sqlite_wal.specs.Reads.{AreClean};
 ghost use Rattle.sqlite.specs.Closing.{IsCopied};
 ghost use Rattle.taxii_rows.specs.StoreState.{RiseFrom};
-ghost use Rattle.taxii_sqlite.specs.Databases.{is_open, FindsNext, FindsMark, Appends, Removes, StaysAs, IsOpenAt, Leaves};
+ghost use Rattle.taxii_sqlite.specs.Databases.{is_open, FindsNext, FindsMark, Appends, Removes, CanFail, StaysAs, IsOpenAt, Leaves};
 
 use crate::change::Change;
 use crate::failure::Failure;
@@ -41,6 +41,7 @@ impl<D: Disk + Drop> Database<D> {
     pub(crate) fn next_after(&mut self, date: u64) -> Result<Option<StoredRow>, Failure>
         ensures open { is_open self.new ≡ is_open self.old }
         ensures finds { IfOk result (FindsNext date self.old self.new) }
+        ensures fails { OnErr result (CanFail self.old) }
     {
         match self {
             Database::Closed => Err(CLOSED),
@@ -53,6 +54,7 @@ impl<D: Disk + Drop> Database<D> {
     pub(crate) fn read_mark(&mut self) -> Result<u64, Failure>
         ensures open { is_open self.new ≡ is_open self.old }
         ensures finds { IfOk result (FindsMark self.old self.new) }
+        ensures fails { OnErr result (CanFail self.old) }
     {
         match self {
             Database::Closed => Err(CLOSED),

@@ -2,7 +2,7 @@ ghost use Rattle.std.specs.Prelude.{◌≡◌, None, true, false, IfOk, OnOk, On
 ghost use Rattle.flow_edges.specs.Faults.{Counted};
 ghost use Rattle.sqlite_wal.specs.Files.{image_at};
 ghost use Rattle.taxii_rows.specs.StoreState.{RiseFrom};
-ghost use Rattle.taxii_sqlite.specs.Databases.{is_open, FindsNext, FindsMark, Appends, Removes, StaysAs, IsOpenAt, Leaves};
+ghost use Rattle.taxii_sqlite.specs.Databases.{is_open, FindsNext, FindsMark, Appends, Removes, CanFail, StaysAs, IsOpenAt, Leaves};
 ghost use Rattle.taxii_sqlite.specs.declared.connection.Database.TheVariants.{Closed};
 
 use crate::connection::{self, Database};
@@ -104,6 +104,7 @@ impl<S: Start> Keeper for SqliteKeeper<FileFrom<S>, S> {
 
     fn next_after(&mut self, date: u64) -> Result<Option<StoredRow>, KeeperRefusal>
         ensures finds { IfOk result (FindsNext date self.old.database self.new.database) }
+        ensures fails { OnErr result (CanFail self.old.database) }
         ensures attached { is_open self.new.database ≡ is_open self.old.database }
         ensures causes { Counted (result ≡ Err KeeperRefusal.Fault) self.old.faults.count self.new.faults.count }
     {
@@ -113,6 +114,7 @@ impl<S: Start> Keeper for SqliteKeeper<FileFrom<S>, S> {
 
     fn mark(&mut self) -> Result<u64, KeeperRefusal>
         ensures finds { IfOk result (FindsMark self.old.database self.new.database) }
+        ensures fails { OnErr result (CanFail self.old.database) }
         ensures attached { is_open self.new.database ≡ is_open self.old.database }
         ensures causes { Counted (result ≡ Err KeeperRefusal.Fault) self.old.faults.count self.new.faults.count }
     {

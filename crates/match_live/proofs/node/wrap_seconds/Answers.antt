@@ -14,14 +14,13 @@ pub loop-piece-preserved : goal.loop-piece-preserved
 loop-piece-preserved c =
     let items = c.loop-piece.piece-items in let index = c.loop-piece.piece-index in let x : Piece = c.piece-item.result in
     let there : Piece = slice_index_or items index x in
-    let new : Piece = record { bind = bind.Second c.in_ok-new.field-0; earliest = there.earliest; latest = there.latest } in
     let within : index < length c.args.held.now.items = omega (arith, c.loop-piece-test.true, ap length c.deref_mut-piece-items.ensures.value) in
     let held : tree_of (box_value c.in_ok-new.field-0) ≡ tree_of x.bind = search rules in
     let same : tree_of (bind.Second c.in_ok-new.field-0) ≡ Second (tree_of x.bind) = tree_second c.in_ok-new.field-0 ∙ ap Second held in
     let seen : BindTree → Piece → PieceTree = λ tree p. record { tree = tree; earliest = p.earliest; latest = p.latest } in
-    let wrapped : piece_tree new ≡ held_with Second (piece_tree x)
+    let wrapped : record { tree = tree_of (bind.Second c.in_ok-new.field-0); earliest = there.earliest; latest = there.latest } ≡ held_with Second (piece_tree x)
     = ap (λ tree. seen tree there) same ∙ ap (seen (Second (tree_of x.bind))) (sym c.piece-item.is) in
     record {
-      wrapped = changed_more piece_tree (held_with Second) c.args.held.now.items items index x new within c.loop-piece.invariant.wrapped c.piece-item.is wrapped c.loop-piece.invariant.length;
-      length = length-set items index new ∙ c.loop-piece.invariant.length;
+      wrapped = changed_more piece_tree (held_with Second) c.args.held.now.items items index x _ within c.loop-piece.invariant.wrapped c.piece-item.is wrapped c.loop-piece.invariant.length;
+      length = length-set items index _ ∙ c.loop-piece.invariant.length;
     }

@@ -1,18 +1,16 @@
--- A lead alone, and the things of its left side one after another.
-use Rattle.std.proofs.Common.{◌≡◌, get_or, take, sym, ◌∙◌, ap, refl}
+-- A lead alone, and the things of its left side, the last one first.
+use Rattle.std.proofs.Common.{◌≡◌, sym, ◌∙◌, ap, refl}
 use Rattle.std.specs.Prelude.{Bool, true, false, ◌&&◌, ◌||◌}
 use Rattle.std.specs.List.{list_any}
 use Rattle.std.proofs.lemmas.Bool.{and_from}
-use Rattle.std.proofs.lemmas.List.{take_all}
 use Rattle.match_live.specs.declared.join.Join.TheVariants as join
-use Rattle.match_live.specs.declared.piece.Piece.{Piece}
 use Rattle.match_live.specs.PieceTree.{PieceTree}
 use Rattle.match_live.specs.inner.Lives.{lives}
 use Rattle.match_live.specs.inner.Pieces.{piece_tree, piece_trees}
 use Rattle.match_live.specs.inner.Steps.{may_join, joined}
 use Rattle.match_live.specs.inner.Wanted.{is_wanted}
 use Rattle.match_live.specs.inner.Leads.{leads_of}
-use Rattle.match_live.proofs.WantedLemmas.{wanted_by, any_found}
+use Rattle.match_live.proofs.WantedLemmas.{wanted_by, any_last, any_of_none}
 use Rattle.match_live.proofs.wanted.+is_wanted.Goals as goal
 
 or_true : (a : Bool) → (a || true) ≡ true
@@ -30,24 +28,22 @@ pub returns-then-branch : goal.returns-then-branch
 returns-then-branch t c =
     let p = piece_tree c.args.piece.now in let x = c.in-Some.innermost.now in let above = c.in-Some.above.now in
     let f = λ (h : PieceTree). may_join join.Then h p && is_wanted c.args.now (leads_of above) (joined join.Then h p) in
-    let l = c.left-item.result in
+    let l = c.in-Some-split_last.left.now in let earlier = c.in-Some-split_last.earlier.now in
     let may : may_join join.Then (piece_tree l) p ≡ true = sym c.may_join.ensures ∙ c.if-may_join.true in
     let longer : is_wanted c.args.now (leads_of above) (joined join.Then (piece_tree l) p) ≡ true
     = ap (is_wanted c.args.now (leads_of above)) (sym c.in_ok-longer.ensures) ∙ sym c.in_ok-is.ensures ∙ c.if-branch.true in
-    let passes : f (piece_tree l) ≡ true = and_from _ _ may longer in
-    let there : f (piece_tree (get_or c.deref-left-items.result.now c.loop-left.left-index l)) ≡ true = ap (λ (z : Piece). f (piece_tree z)) (sym c.left-item.is) ∙ passes in
-    let found = any_found f c.deref-left-items.result.now c.loop-left.left-index l c.loop-left-test.true there in
+    let there : list_any f (piece_trees c.loop-left.lefts.now) ≡ true
+    = ap (λ z. list_any f (piece_trees z)) c.in-Some-split_last.ensures.cases.0 ∙ any_last f earlier l
+    ∙ ap (λ z. list_any f (piece_trees earlier) || z) (and_from _ _ may longer) ∙ or_true (list_any f (piece_trees earlier)) in
     sym (wanted_by c.args.now c.args.leads.now above x p c.in-Some.ensures.cases.0
-    ∙ ap (λ z. lives x.window p.earliest c.args.now || list_any f (piece_trees z)) (sym c.deref-left-items.ensures.value)
-    ∙ ap (λ z. lives x.window p.earliest c.args.now || z) found ∙ or_true (lives x.window p.earliest c.args.now))
+    ∙ ap (λ z. lives x.window p.earliest c.args.now || list_any f (piece_trees z)) (sym c.as_slice-lefts.ensures.value)
+    ∙ ap (λ z. lives x.window p.earliest c.args.now || z) (c.loop-left.invariant ∙ there) ∙ or_true (lives x.window p.earliest c.args.now))
 
 pub returns : goal.returns
 returns t c =
     let p = piece_tree c.args.piece.now in let x = c.in-Some.innermost.now in let above = c.in-Some.above.now in
     let f = λ (h : PieceTree). may_join join.Then h p && is_wanted c.args.now (leads_of above) (joined join.Then h p) in
-    let all : take c.loop-left.left-index c.deref-left-items.result.now ≡ c.deref-left-items.result.now = take_all c.loop-left.left-index c.deref-left-items.result.now c.loop-left-test.false in
-    let none : list_any f (piece_trees c.deref-left-items.result.now) ≡ false = ap (λ z. list_any f (piece_trees z)) (sym all) ∙ c.loop-left.invariant in
     sym (wanted_by c.args.now c.args.leads.now above x p c.in-Some.ensures.cases.0
-    ∙ ap (λ z. lives x.window p.earliest c.args.now || list_any f (piece_trees z)) (sym c.deref-left-items.ensures.value)
-    ∙ ap (λ z. lives x.window p.earliest c.args.now || z) none
+    ∙ ap (λ z. lives x.window p.earliest c.args.now || list_any f (piece_trees z)) (sym c.as_slice-lefts.ensures.value)
+    ∙ ap (λ z. lives x.window p.earliest c.args.now || z) (c.loop-left.invariant ∙ any_of_none f c.loop-left.lefts.now c.in_default-split_last.ensures.cases)
     ∙ ap (λ z. z || false) (sym c.is_live.ensures ∙ c.if-is_live.false))

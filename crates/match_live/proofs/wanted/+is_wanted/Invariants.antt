@@ -1,5 +1,5 @@
-use Rattle.std.proofs.Common.{◌≡◌, length, take}
-use Rattle.std.specs.Prelude.{false, ◌&&◌}
+use Rattle.std.proofs.Common.{◌≡◌, length}
+use Rattle.std.specs.Prelude.{◌&&◌}
 use Rattle.std.specs.List.{list_any}
 use Rattle.match_live.specs.PieceTree.{PieceTree}
 use Rattle.match_live.specs.declared.join.Join.TheVariants as join
@@ -12,7 +12,12 @@ use Rattle.match_live.proofs.wanted.+is_wanted.Given as goal
 abbrev pub decreases-is_wanted : goal.decreases-is_wanted
 decreases-is_wanted l = length l.leads.now
 
+abbrev pub decreases-loop-left : goal.decreases-loop-left
+decreases-loop-left l = length l.lefts
+
 abbrev pub invariant-loop-left : goal.invariant-loop-left
 invariant-loop-left l =
     list_any (λ (h : PieceTree). may_join join.Then h (piece_tree l.piece) && is_wanted l.now (leads_of l.above) (joined join.Then h (piece_tree l.piece)))
-    (piece_trees (take l.left-index l.left-items)) ≡ false
+    (piece_trees l.initial.lefts)
+    ≡ list_any (λ (h : PieceTree). may_join join.Then h (piece_tree l.piece) && is_wanted l.now (leads_of l.above) (joined join.Then h (piece_tree l.piece)))
+    (piece_trees l.lefts)
