@@ -1,6 +1,6 @@
 -- Leaves in a chain of ORs: what is new at them, that they stay as they are, and hold nothing.
 use Rattle.std.proofs.Common.{◌≡◌, ℕ, zero, suc, ◌+◌, ◌-◌, ◌<◌, ℤ, List, [], ◌∷◌, ◌++◌, refl, sym, ◌∙◌, ap, arith, append-nil}
-use Rattle.std.specs.Prelude.{Bool, true, false, ◌&&◌, cond, map, Option, Some, None, nat_eq}
+use Rattle.std.specs.Prelude.{Bool, true, false, ◌&&◌, map, Option, Some, None, nat_eq}
 use Rattle.std.specs.Ordering.{int_eq}
 use Rattle.std.specs.Cmp.{booleans_Decides}
 use Rattle.std.specs.Option.{option_eq}
@@ -13,7 +13,7 @@ use Rattle.match_live.specs.declared.row.Row.{Row}
 use Rattle.match_live.specs.PieceTree.{PieceTree}
 use Rattle.match_live.specs.LivePart.{held_count}
 use Rattle.match_live.specs.inner.Lives.{lives}
-use Rattle.match_live.specs.inner.Steps.{State, a_leaf, a_choice, held_with, truth_at, row_alone, new_at_leaf, leaves_state, step_new, step_state, contents_of, expired}
+use Rattle.match_live.specs.inner.Steps.{a_leaf, a_choice, held_with, truth_at, row_alone, new_at_leaf, leaves_state, step_new, step_state, contents_of, expired}
 use Rattle.match_live.specs.inner.Wanted.{Ahead, is_wanted, wanted}
 use Rattle.match_live.specs.inner.Totals.{held_after}
 use Rattle.match_live.specs.inner.Arranged.{IsArranged}

@@ -28,3 +28,4 @@ pub mod UnderFirstsLemmas
 pub mod QuietLemmas
 pub mod LeavesLemmas
 pub mod ReachLemmas
+pub mod SinceLemmas

@@ -1,7 +1,6 @@
 -- What bounds the chains that join a new thing to one thing held on the left of each FOLLOWEDBY.
 use Rattle.std.proofs.Common.{◌≡◌, ℕ, zero, suc, ◌+◌, ◌≤◌, ◌<◌, ℤ, ◌≤ℤ◌, ◌<ℤ◌, List, [], ◌∷◌, length, refl, sym, ◌∙◌, ap, subst, arith, ◌⊎◌, inl, inr}
-use Rattle.std.specs.Prelude.{Bool, true, false, ◌&&◌, ◌||◌, nat_eq, int_lt}
-use Rattle.std.specs.Int.{int_min, int_max}
+use Rattle.std.specs.Prelude.{Bool, true, false, nat_eq, int_lt}
 use Rattle.std.specs.List.{AllByRecursion, Contains, IsDistinct, list_any}
 use Rattle.std.proofs.lemmas.Bool.{and_parts, and_from, or_left, or_right, or_cases, eqb-true}
 use Rattle.std.proofs.lemmas.Int.{ints, clamps}
@@ -149,7 +148,7 @@ falls_to p old new chain left held h there may bound one added =
 
 -- ---- what is wanted is reached
 
-any_item : (f : PieceTree → Bool) (xs : List PieceTree) → list_any f xs ≡ true → (x : PieceTree) × Contains xs x × (f x ≡ true)
+pub any_item : (f : PieceTree → Bool) (xs : List PieceTree) → list_any f xs ≡ true → (x : PieceTree) × Contains xs x × (f x ≡ true)
 any_item f [] h = absurd (cc)
 any_item f (x ∷ xs) h = elim (or_cases (f x) (list_any f xs) h) [
   | inl here ↦ (x, (zero, omega arith, refl), here)

@@ -1,5 +1,5 @@
 -- What is wanted: leads one by one, and joins of which only what is wanted is made.
-use Rattle.std.proofs.Common.{◌≡◌, ℕ, ◌+◌, ◌≤◌, ◌<◌, ℤ, List, [], ◌∷◌, ◌++◌, length, get_or, take, drop, refl, sym, ◌∙◌, ap, arith, length-append, append-nil}
+use Rattle.std.proofs.Common.{◌≡◌, ℕ, ◌+◌, ◌≤◌, ◌<◌, ℤ, List, [], ◌∷◌, ◌++◌, length, get_or, take, drop, refl, sym, ◌∙◌, ap, arith, length-append, append-nil, append_assoc}
 use Rattle.std.specs.Prelude.{Bool, true, false, ◌&&◌, ◌||◌, map, filter}
 use Rattle.std.specs.List.{list_any}
 use Rattle.std.proofs.lemmas.List.{take-append-drop, length-map}
@@ -108,6 +108,15 @@ joins_more now ahead j xs ys at d h =
     ap (λ z. wanted now ahead (joins j z ys)) (next_taken xs at d h)
     ∙ joins_append now ahead j (piece_trees (take at xs)) (piece_tree (get_or xs at d) ∷ []) ys
     ∙ ap (λ z. wanted now ahead (joins j (piece_trees (take at xs)) ys) ++ z) (joins_one now ahead j (piece_tree (get_or xs at d)) ys)
+
+-- one row more, or nothing of it
+pub joins_grown : (now : ℤ) (ahead : List Ahead) (j : Join) (xs : List Piece) (ys : List PieceTree) (at : ℕ) (d : Piece) (old mid : List PieceTree) → at < length xs →
+    mid ≡ old ++ wanted now ahead (joins j (piece_trees (take at xs)) ys) →
+    mid ++ wanted now ahead (join_row j (piece_tree (get_or xs at d)) ys) ≡ old ++ wanted now ahead (joins j (piece_trees (take (at + 1) xs)) ys)
+joins_grown now ahead j xs ys at d old mid h is =
+    ap (λ z. z ++ wanted now ahead (join_row j (piece_tree (get_or xs at d)) ys)) is
+    ∙ append_assoc old (wanted now ahead (joins j (piece_trees (take at xs)) ys)) (wanted now ahead (join_row j (piece_tree (get_or xs at d)) ys))
+    ∙ ap (λ z. old ++ z) (sym (joins_more now ahead j xs ys at d h))
 
 pub joins_part : (now : ℤ) (ahead : List Ahead) (j : Join) (xs : List Piece) (ys : List PieceTree) (at : ℕ) →
     length (wanted now ahead (joins j (piece_trees (take at xs)) ys)) ≤ length (wanted now ahead (joins j (piece_trees xs) ys))

@@ -10,6 +10,7 @@ ghost use Rattle.match_live.specs.declared.stop.Stop.TheVariants as stop;
 
 use crate::lead::Lead;
 use crate::piece::Piece;
+use crate::since::Since;
 use crate::stop::Stop;
 use crate::wanted::is_wanted;
 use flow_values::NoMemory;
@@ -94,7 +95,8 @@ impl Join {
     }
 
     /// Adds each of the first things joined with each of the second ones that it is joined with, as far as
-    /// what comes of it is wanted, up to the thing that there is no room for.
+    /// what comes of it is wanted, up to the thing that there is no room for. It is joined with none where
+    /// it begins too early for all.
     pub fn join(
         self,
         alloc: Global,
@@ -113,8 +115,14 @@ impl Join {
         if seconds.is_empty() {
             return Ok(());
         }
+        if firsts.is_empty() {
+            return Ok(());
+        }
+        let since = Since::new(now, leads);
         for first in firsts {
-            self.join_row(alloc, first, seconds, now, leads, room, out)?;
+            if since.covers(first.earliest) {
+                self.join_row(alloc, first, seconds, now, leads, room, out)?;
+            }
         }
         Ok(())
     }

@@ -26,6 +26,7 @@ mod row;
 mod row_numbers;
 mod run;
 mod sides;
+mod since;
 mod stop;
 mod store;
 mod wanted;

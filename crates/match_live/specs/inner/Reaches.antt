@@ -1,9 +1,14 @@
 -- For private clauses: what bounds the chains that join a new thing to one thing held on the left of each FOLLOWEDBY.
-use Rattle.std.specs.Prelude.{◌≡◌, ℕ, nat_eq, ℤ, int_le, ◌≤ℤ◌, Bool, true, ◌&&◌, List, length}
+use Rattle.std.specs.Prelude.{◌≡◌, ℕ, nat_eq, ℤ, int_le, ◌≤ℤ◌, Bool, true, ◌&&◌, Option, Some, None, List, length}
 use Rattle.std.specs.List.{Contains, IsDistinct}
 use Rattle.match_bindings.specs.BindTree.{BindTree, has, disjoint}
 use Rattle.match_live.specs.declared.reach.Reach.{Reach}
 use Rattle.match_live.specs.PieceTree.{PieceTree}
+
+-- whether a time isn't before another one, where there is one
+abbrev pub covers : Option ℤ → ℤ → Bool
+covers None time = true
+covers (Some start) time = int_le start time
 
 -- whether a thing may go before a chain that joins a new thing and begins at a time at the latest
 abbrev pub may_precede : PieceTree → ℤ → PieceTree → Bool

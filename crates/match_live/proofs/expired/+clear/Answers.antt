@@ -1,4 +1,4 @@
-use Rattle.std.proofs.Common.{◌≡◌, sym, ◌∙◌, ap, subst}
+use Rattle.std.proofs.Common.{sym, ap, subst}
 use Rattle.match_live.specs.inner.Steps.{State, expired}
 use Rattle.match_live.specs.inner.Nodes.{state_of}
 use Rattle.match_live.specs.inner.Arranged.{IsArranged}

@@ -29,14 +29,14 @@ loop-left-preserved c = λ left in_more may before.
       | else-lt w ↦ elim cases [
         | inl old ↦ (let found = c.loop-left.invariant left old may before in (found.0, w.latest-is ∙ found.1, found.2))
         | inr is ↦ absurd (
-          let same : piece_tree d ≡ left = ap piece_tree c.left-item.is ∙ is in
-          elim w.else-lt.branch [
-            | else-lt-via-then-lt+else-may_precede v ↦ (
-              let e : false ≡ true = sym v.if-may_precede.false ∙ v.may_precede.ensures ∙ ap (λ (q : PieceTree). may_precede q c.args.bound (piece_tree c.args.piece.now)) same ∙ may in cc)
-            | else-lt-via-else-lt v ↦ (
-              let e : false ≡ true = sym v.if-lt.false ∙ c.lt.ensures
-              ∙ ap is_lt (sym (int_cmp_is d.earliest c.args.bound Less (subst (λ (q : PieceTree). q.earliest <ℤ c.args.bound) (sym same) before))) in cc)
-          ])
+            let same : piece_tree d ≡ left = ap piece_tree c.left-item.is ∙ is in
+            elim w.else-lt.branch [
+              | else-lt-via-then-lt+else-may_precede v ↦ (
+                  let e : false ≡ true = sym v.if-may_precede.false ∙ v.may_precede.ensures ∙ ap (λ (q : PieceTree). may_precede q c.args.bound (piece_tree c.args.piece.now)) same ∙ may in cc)
+              | else-lt-via-else-lt v ↦ (
+                  let e : false ≡ true = sym v.if-lt.false ∙ c.lt.ensures
+                  ∙ ap is_lt (sym (int_cmp_is d.earliest c.args.bound Less (subst (λ (q : PieceTree). q.earliest <ℤ c.args.bound) (sym same) before))) in cc)
+            ])
       ]
     ]
 

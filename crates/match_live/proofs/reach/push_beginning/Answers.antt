@@ -1,5 +1,5 @@
 -- One thing more, whose numbers are added, or aren't.
-use Rattle.std.proofs.Common.{◌≡◌, ◌+◌, ◌≤◌, ◌<◌, ℕ, ℤ, List, ◌++◌, length, get_or, take, sym, ◌∙◌, ap, subst, arith, inl, inr, length-append}
+use Rattle.std.proofs.Common.{◌≡◌, ◌+◌, ℕ, ℤ, List, ◌++◌, length, get_or, take, sym, ◌∙◌, ap, subst, arith, inl, inr, length-append}
 use Rattle.std.specs.Prelude.{true, false}
 use Rattle.std.specs.Ordering.{int_eq}
 use Rattle.std.proofs.lemmas.Cmp.{int_eq_equiv}
@@ -26,42 +26,42 @@ loop-left-preserved c =
     (subst (λ (z : List PieceTree). Contains z left) (next_taken held i d c.loop-left-test.true) more) in
     elim c.if-eq.branch [
       | then-eq+then-may_precede+in_ok-push_numbers w ↦ (
-        let items : new ≡ older ++ numbers (tree_of d.bind) = ap (λ v. v.items) w.numbers-is ∙ w.in_ok-push_numbers.ensures in
-        let long = ap length items ∙ length-append older (numbers (tree_of d.bind)) in
-        let stays : (n : ℕ) → Contains older n → Contains new n
-        = λ n k. subst (λ (z : List ℕ). Contains z n) (sym items) (Contains-append_left older (numbers (tree_of d.bind)) n k) in
-        record {
-          kept = λ n k. stays n (before.kept n k);
-          longer = omega (arith, long, before.longer);
-          added = λ left more may e. elim (cases left more) [
-            | inl old ↦ (λ n h. stays n ((before.added left old may e).0 n h), omega (arith, long, (before.added left old may e).1))
-            | inr is ↦ (
-              λ n h. subst (λ (z : List ℕ). Contains z n) (sym items) (Contains-append_right older (numbers (tree_of d.bind)) n
-              ((contains_numbers n (tree_of d.bind)).1 (ap (λ (q : PieceTree). has n q.tree) (ap piece_tree c.left-item.is ∙ is) ∙ h))),
-              omega (arith, long, before.longer, d.some),
-            )
-          ];
-        })
+          let items : new ≡ older ++ numbers (tree_of d.bind) = ap (λ v. v.items) w.numbers-is ∙ w.in_ok-push_numbers.ensures in
+          let long = ap length items ∙ length-append older (numbers (tree_of d.bind)) in
+          let stays : (n : ℕ) → Contains older n → Contains new n
+          = λ n k. subst (λ (z : List ℕ). Contains z n) (sym items) (Contains-append_left older (numbers (tree_of d.bind)) n k) in
+          record {
+            kept = λ n k. stays n (before.kept n k);
+            longer = omega (arith, long, before.longer);
+            added = λ left more may e. elim (cases left more) [
+              | inl old ↦ (λ n h. stays n ((before.added left old may e).0 n h), omega (arith, long, (before.added left old may e).1))
+              | inr is ↦ (
+                λ n h. subst (λ (z : List ℕ). Contains z n) (sym items) (Contains-append_right older (numbers (tree_of d.bind)) n
+                    ((contains_numbers n (tree_of d.bind)).1 (ap (λ (q : PieceTree). has n q.tree) (ap piece_tree c.left-item.is ∙ is) ∙ h))),
+                omega (arith, long, before.longer, d.some),
+              )
+            ];
+          })
       | else-eq w ↦ (
-        let items : new ≡ older = ap (λ v. v.items) w.numbers-is in
-        let stays : (n : ℕ) → Contains older n → Contains new n = λ n k. subst (λ (z : List ℕ). Contains z n) (sym items) k in
-        record {
-          kept = λ n k. stays n (before.kept n k);
-          longer = omega (arith, ap length items, before.longer);
-          added = λ left more may e. elim (cases left more) [
-            | inl old ↦ (λ n h. stays n ((before.added left old may e).0 n h), omega (arith, ap length items, (before.added left old may e).1))
-            | inr is ↦ absurd (
-              let same : piece_tree d ≡ left = ap piece_tree c.left-item.is ∙ is in
-              elim w.else-eq.branch [
-                | else-eq-via-then-eq+else-may_precede v ↦ (
-                  let f : false ≡ true
-                  = sym v.if-may_precede.false ∙ v.may_precede.ensures ∙ ap (λ (q : PieceTree). may_precede q c.args.bound (piece_tree c.args.piece.now)) same ∙ may in cc)
-                | else-eq-via-else-eq v ↦ (
-                  let f : false ≡ true
-                  = sym v.if-eq.false ∙ c.eq.ensures ∙ ap (λ (t : ℤ). int_eq t c.args.earliest) (ap (λ (q : PieceTree). q.earliest) same ∙ e) ∙ int_eq_equiv.refl c.args.earliest in cc)
-              ])
-          ];
-        })
+          let items : new ≡ older = ap (λ v. v.items) w.numbers-is in
+          let stays : (n : ℕ) → Contains older n → Contains new n = λ n k. subst (λ (z : List ℕ). Contains z n) (sym items) k in
+          record {
+            kept = λ n k. stays n (before.kept n k);
+            longer = omega (arith, ap length items, before.longer);
+            added = λ left more may e. elim (cases left more) [
+              | inl old ↦ (λ n h. stays n ((before.added left old may e).0 n h), omega (arith, ap length items, (before.added left old may e).1))
+              | inr is ↦ absurd (
+                  let same : piece_tree d ≡ left = ap piece_tree c.left-item.is ∙ is in
+                  elim w.else-eq.branch [
+                    | else-eq-via-then-eq+else-may_precede v ↦ (
+                        let f : false ≡ true
+                        = sym v.if-may_precede.false ∙ v.may_precede.ensures ∙ ap (λ (q : PieceTree). may_precede q c.args.bound (piece_tree c.args.piece.now)) same ∙ may in cc)
+                    | else-eq-via-else-eq v ↦ (
+                        let f : false ≡ true
+                        = sym v.if-eq.false ∙ c.eq.ensures ∙ ap (λ (t : ℤ). int_eq t c.args.earliest) (ap (λ (q : PieceTree). q.earliest) same ∙ e) ∙ int_eq_equiv.refl c.args.earliest in cc)
+                  ])
+            ];
+          })
     ]
 
 pub returns-clause-added : goal.returns-clause-added

@@ -1,6 +1,6 @@
 -- One leaf after another.
-use Rattle.std.proofs.Common.{◌≡◌, ◌+◌, ◌≤◌, ◌-◌, [], ◌∷◌, ◌++◌, sym, ◌∙◌, ap, arith, append-nil}
-use Rattle.std.specs.Prelude.{Bool, true, false, map}
+use Rattle.std.proofs.Common.{◌≡◌, ◌+◌, ◌-◌, [], ◌∷◌, sym, ◌∙◌, ap, arith, append-nil}
+use Rattle.std.specs.Prelude.{map}
 use Rattle.match_bindings.specs.BindTree.{firsts}
 use Rattle.match_live.specs.inner.Pieces.{piece_trees}
 use Rattle.match_live.specs.inner.Steps.{held_with, row_alone, leaves_state, step_new}

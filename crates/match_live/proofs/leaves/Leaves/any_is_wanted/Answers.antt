@@ -1,6 +1,5 @@
 -- What is new at leaves is the row alone, so it is wanted at each of them or at none.
 use Rattle.std.proofs.Common.{◌≡◌, [], sym, ◌∙◌, ap}
-use Rattle.std.specs.Prelude.{false}
 use Rattle.match_live.specs.inner.Steps.{leaves_state, step_new}
 use Rattle.match_live.specs.inner.Wanted.{wanted}
 use Rattle.match_live.specs.inner.Leads.{leads_of}

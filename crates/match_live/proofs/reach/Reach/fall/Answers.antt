@@ -1,6 +1,5 @@
 -- By something that begins before the chains.
 use Rattle.std.proofs.Common.{◌≡◌, ℤ, true, refl, subst}
-use Rattle.match_live.specs.PieceTree.{PieceTree}
 use Rattle.match_live.specs.inner.Pieces.{piece_tree}
 use Rattle.match_live.specs.inner.Reaches.{may_precede}
 use Rattle.match_live.proofs.ReachLemmas.{falls_to}

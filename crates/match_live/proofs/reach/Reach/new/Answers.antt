@@ -1,5 +1,4 @@
 -- A new thing alone.
-use Rattle.match_live.specs.inner.Pieces.{piece_tree}
 use Rattle.match_bindings.specs.BindTree.{tree_of}
 use Rattle.match_live.proofs.LivesLemmas.{le_self}
 use Rattle.match_live.proofs.ReachLemmas.{none_of}

@@ -1,0 +1,72 @@
+-- What begins too early isn't wanted.
+use Rattle.std.proofs.Common.{Less, Greater, ◌≡◌, ℤ, ◌≤ℤ◌, List, [], ◌∷◌, refl, sym, ◌∙◌, ap, inl, inr, arith}
+use Rattle.std.specs.Prelude.{Bool, true, false, int_le, int_lt, ◌&&◌, Option, Some, None}
+use Rattle.std.specs.Cmp.{int_cmp_is}
+use Rattle.std.specs.Int.{int_min}
+use Rattle.std.specs.List.{Contains, list_any}
+use Rattle.std.specs.Ordering.{is_lt, int_cmp}
+use Rattle.std.proofs.lemmas.Bool.{and_parts, or_cases}
+use Rattle.std.proofs.lemmas.Int.{ints, clamps}
+use Rattle.match_bindings.proofs.IsBindingLemmas.{lt_true, le_true, true_le}
+use Rattle.match_live.specs.declared.join.Join.{Join}
+use Rattle.match_live.specs.declared.join.Join.TheVariants as join
+use Rattle.match_live.specs.PieceTree.{PieceTree}
+use Rattle.match_live.specs.inner.Lives.{is_ahead, lives}
+use Rattle.match_live.specs.inner.Reaches.{covers}
+use Rattle.match_live.specs.inner.Steps.{joined, may_join, join_row}
+use Rattle.match_live.specs.inner.Wanted.{Ahead, is_wanted, wanted}
+use Rattle.match_live.proofs.LivesLemmas.{le_trans, le_false, lt_false}
+use Rattle.match_live.proofs.ReachLemmas.{any_item}
+
+-- tests of order
+pub lt_before : (a b : ℤ) → is_lt (int_cmp a b) ≡ true → a ≤ℤ b
+lt_before a b h = by (int_le a b) refl where
+  by : (c : Bool) → int_le a b ≡ c → a ≤ℤ b
+  by true is = le_true a b is
+  by false is = absurd (let e : true ≡ false = sym h ∙ ap is_lt (sym (int_cmp_is a b Greater (le_false a b is))) in cc)
+
+pub not_lt_after : (a b : ℤ) → is_lt (int_cmp a b) ≡ false → b ≤ℤ a
+not_lt_after a b h = by (int_lt a b) refl where
+  by : (c : Bool) → int_lt a b ≡ c → b ≤ℤ a
+  by false is = lt_false a b is
+  by true is = absurd (let e : false ≡ true = sym h ∙ ap is_lt (sym (int_cmp_is a b Less (lt_true a b is))) in cc)
+
+-- a later time is since it, too
+pub since_later : (since : Option ℤ) (a b : ℤ) → a ≤ℤ b → covers since a ≡ true → covers since b ≡ true
+since_later None a b h k = refl
+since_later (Some s) a b h k = true_le s b (le_trans s a b (le_true s a k) h)
+
+min_left : (a b : ℤ) → int_min a b ≤ℤ a
+min_left a b = omega (arith, ints, clamps)
+
+-- one side more ahead
+pub since_more : (now : ℤ) (x : Ahead) (ahead : List Ahead) (above result : Option ℤ) (p : PieceTree) → (x.window.behind ≡ false → result ≡ None) →
+    (x.window.behind ≡ true → covers result now ≡ true) →
+    (x.window.behind ≡ true → (left : PieceTree) → Contains x.left left → covers above left.earliest ≡ true → covers result left.latest ≡ true) →
+    ((q : PieceTree) → is_wanted now ahead q ≡ true → covers above q.earliest ≡ true) → is_wanted now (x ∷ ahead) p ≡ true → covers result p.earliest ≡ true
+since_more now x ahead above result p any at_now held all wants = by x.window.behind refl where
+  by : (b : Bool) → x.window.behind ≡ b → covers result p.earliest ≡ true
+  by false is = ap (λ (r : Option ℤ). covers r p.earliest) (any is)
+  by true is = elim (or_cases (lives x.window p.earliest now) (list_any (λ (l : PieceTree). may_join join.Then l p && is_wanted now ahead (joined join.Then l p)) x.left) wants) [
+    | inl live ↦ (
+        let ahead_of_now : is_ahead true p.earliest now ≡ true = ap (λ (b : Bool). is_ahead b p.earliest now) (sym is) ∙ (and_parts _ _ live).0 in
+        since_later result now p.earliest (le_true now p.earliest ahead_of_now) (at_now is))
+    | inr one ↦ (
+        let found = any_item _ x.left one in let l = found.0 in let parts = and_parts _ _ found.2 in
+        let begins = since_later above (joined join.Then l p).earliest l.earliest (min_left l.earliest p.earliest) (all (joined join.Then l p) parts.1) in
+        since_later result l.latest p.earliest (le_true l.latest p.earliest (and_parts _ _ parts.0).0) (held is l found.1 begins))
+  ]
+
+-- nothing is wanted of what is joined with a thing that begins before
+pub row_too_early : (now : ℤ) (ahead : List Ahead) (since : Option ℤ) (j : Join) (x : PieceTree) (ys : List PieceTree) →
+    ((q : PieceTree) → is_wanted now ahead q ≡ true → covers since q.earliest ≡ true) → covers since x.earliest ≡ false → wanted now ahead (join_row j x ys) ≡ []
+row_too_early now ahead since j x [] all early = refl
+row_too_early now ahead since j x (y ∷ ys) all early = by (may_join j x y) refl (row_too_early now ahead since j x ys all early) where
+  not_wanted : (b : Bool) → is_wanted now ahead (joined j x y) ≡ b → is_wanted now ahead (joined j x y) ≡ false
+  not_wanted false is = is
+  not_wanted true is = absurd (let e : false ≡ true
+      = sym early ∙ since_later since (joined j x y).earliest x.earliest (min_left x.earliest y.earliest) (all (joined j x y) is) in cc)
+
+  by : (b : Bool) → may_join j x y ≡ b → wanted now ahead (join_row j x ys) ≡ [] → wanted now ahead (join_row j x (y ∷ ys)) ≡ []
+  by false is rest = rw is rest
+  by true is rest = rw is (let out : is_wanted now ahead (joined j x y) ≡ false = not_wanted (is_wanted now ahead (joined j x y)) refl in rw out rest)
