@@ -1,5 +1,5 @@
 ghost use Rattle.std.specs.Prelude.{◌≡◌, ◌++◌, IfOk, OnOk, map};
-ghost use Rattle.match_bindings.specs.BindTree.{tree_of, many_of, add_part};
+ghost use Rattle.match_bindings.specs.BindTree.{Pair, tree_of, many_of, add_part};
 ghost use Rattle.match_bindings.specs.inner.Candidates.{spanned_tree, spanned_trees, joined_tree, admits, may_join, join_row, joins};
 ghost use Rattle.match_bindings.specs.inner.Kinds.{chain_of};
 
@@ -40,11 +40,7 @@ impl Join {
         ensures { IfOk result (λ bind. tree_of bind ≡ joined_tree self (tree_of first.now) (tree_of second.now)) }
     {
         match self {
-            Join::Both | Join::Then => {
-                let left = boxed_copy(alloc, first)?;
-                let right = boxed_copy(alloc, second)?;
-                Ok(Bind::Both(left, right))
-            }
+            Join::Both | Join::Then => with_sides(alloc, first, second),
             Join::Repeats => with_part(alloc, first, second),
         }
     }
@@ -95,6 +91,15 @@ impl Join {
         }
         Ok(out)
     }
+}
+
+/// Copies of two binds as the sides of an `AND` or a `FOLLOWEDBY`.
+pub fn with_sides(alloc: Global, left: &Bind, right: &Bind) -> Result<Bind, NoMemory>
+    ensures { IfOk result (λ bind. tree_of bind ≡ Pair (tree_of left.now) (tree_of right.now)) }
+{
+    let left = boxed_copy(alloc, left)?;
+    let right = boxed_copy(alloc, right)?;
+    Ok(Bind::Both(left, right))
 }
 
 /// Copies of the parts of a `Many`, and one more part at the end; that part alone for another bind.

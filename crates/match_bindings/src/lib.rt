@@ -29,7 +29,7 @@ pub use bounds::Bounds;
 pub use check::check_binding;
 pub use copy::copy_bind;
 pub use flat_list::flat;
-pub use join::with_part;
+pub use join::{with_part, with_sides};
 pub use line::line_of;
 pub use log::Log;
 pub use numbers::are_disjoint;

@@ -1,4 +1,4 @@
--- What bounds the chains that join a new thing to one thing held on the left of each FOLLOWEDBY.
+-- What bounds the sequences that join a new thing to one thing held on the left of each FOLLOWEDBY.
 use Rattle.std.proofs.Common.{◌≡◌, ℕ, zero, suc, ◌+◌, ◌≤◌, ◌<◌, ℤ, ◌≤ℤ◌, ◌<ℤ◌, List, [], ◌∷◌, length, refl, sym, ◌∙◌, ap, subst, arith, ◌⊎◌, inl, inr}
 use Rattle.std.specs.Prelude.{Bool, true, false, nat_eq, int_lt}
 use Rattle.std.specs.List.{AllByRecursion, Contains, IsDistinct, list_any}
@@ -23,23 +23,23 @@ use Rattle.match_live.proofs.LivesLemmas.{le_trans, le_both, lt_false}
 use Rattle.match_live.proofs.OldestLemmas.{lives_later}
 use Rattle.match_live.proofs.RowNumbersLemmas.{contains_numbers}
 
--- what may be joined with a chain may go before it
-pub join_precedes : (p : PieceTree) (r : Reach) (chain left : PieceTree) → IsReached p r chain → may_join join.Then left chain ≡ true → may_precede left r.earliest p ≡ true
-join_precedes p r chain left h may =
+-- what may be joined with a sequence may go before it
+pub join_precedes : (p : PieceTree) (r : Reach) (sequence left : PieceTree) → IsReached p r sequence → may_join join.Then left sequence ≡ true → may_precede left r.earliest p ≡ true
+join_precedes p r sequence left h may =
     let parts = and_parts _ _ may in
-    let apart = apart_to left.tree chain.tree parts.1 in
-    and_from _ _ (true_le left.latest r.earliest (le_trans left.latest chain.earliest r.earliest (le_true left.latest chain.earliest parts.0) h.bound))
+    let apart = apart_to left.tree sequence.tree parts.1 in
+    and_from _ _ (true_le left.latest r.earliest (le_trans left.latest sequence.earliest r.earliest (le_true left.latest sequence.earliest parts.0) h.bound))
     (apart_from left.tree p.tree (λ n has_left. not_it n (has n p.tree) refl (apart n has_left))) where
-      not_it : (n : ℕ) (b : Bool) → has n p.tree ≡ b → has n chain.tree ≡ false → has n p.tree ≡ false
+      not_it : (n : ℕ) (b : Bool) → has n p.tree ≡ b → has n sequence.tree ≡ false → has n p.tree ≡ false
       not_it n false is not_there = is
       not_it n true is not_there = absurd (let e : false ≡ true = sym not_there ∙ h.has_piece n is in cc)
 
--- where a thing begins that may be joined with a chain, the two begin together
-pub join_begins : (chain left : PieceTree) → left.earliest ≤ℤ left.latest → may_join join.Then left chain ≡ true →
-    ((joined join.Then left chain).earliest ≡ left.earliest) × (left.earliest ≤ℤ chain.earliest)
-join_begins chain left span may =
-    let before = le_true left.latest chain.earliest (and_parts _ _ may).0 in
-    let order = le_trans left.earliest left.latest chain.earliest span before in
+-- where a thing begins that may be joined with a sequence, the two begin together
+pub join_begins : (sequence left : PieceTree) → left.earliest ≤ℤ left.latest → may_join join.Then left sequence ≡ true →
+    ((joined join.Then left sequence).earliest ≡ left.earliest) × (left.earliest ≤ℤ sequence.earliest)
+join_begins sequence left span may =
+    let before = le_true left.latest sequence.earliest (and_parts _ _ may).0 in
+    let order = le_trans left.earliest left.latest sequence.earliest span before in
     (omega (arith, ints, clamps, order), order)
 
 -- ---- numbers that a tree has of some
@@ -59,15 +59,15 @@ other n m x out there = by (nat_eq n m) refl where
   by true is = absurd (let same : n ≡ m = eqb-true n m is in let e : false ≡ true = sym out ∙ ap (λ k. has k x) same ∙ there in cc)
 
 -- one number more, of what is joined on the left
-more_of : (k : ℕ) (old new : List ℕ) (chain left : BindTree) (n : ℕ) → HasOf k old chain → disjoint left chain ≡ true → has n left ≡ true →
-    ((m : ℕ) → Contains old m → Contains new m) → Contains new n → HasOf (k + 1) new (Pair left chain)
+more_of : (k : ℕ) (old new : List ℕ) (sequence left : BindTree) (n : ℕ) → HasOf k old sequence → disjoint left sequence ≡ true → has n left ≡ true →
+    ((m : ℕ) → Contains old m → Contains new m) → Contains new n → HasOf (k + 1) new (Pair left sequence)
 unfolding IsDistinct
-more_of k old new chain left n h apart here kept there = record {
+more_of k old new sequence left n h apart here kept there = record {
   numbers = n ∷ h.numbers;
-  differ = (all_differ n h.numbers (λ m c. other n m chain (apart_to left chain apart n here) (h.each m c).1), h.differ);
+  differ = (all_differ n h.numbers (λ m c. other n m sequence (apart_to left sequence apart n here) (h.each m c).1), h.differ);
   each = λ m c. elim (contains_next n m h.numbers c) [
-    | inl e ↦ (subst (λ i. Contains new i) e there, or_left (has m left) (has m chain) (subst (λ i. has i left ≡ true) e here))
-    | inr d ↦ (kept m (h.each m d).0, or_right (has m left) (has m chain) (h.each m d).1)
+    | inl e ↦ (subst (λ i. Contains new i) e there, or_left (has m left) (has m sequence) (subst (λ i. has i left ≡ true) e here))
+    | inr d ↦ (kept m (h.each m d).0, or_right (has m left) (has m sequence) (h.each m d).1)
   ];
   counted = omega (arith, h.counted);
 }
@@ -84,16 +84,16 @@ pub none_of : (all : List ℕ) (x : BindTree) → HasOf 0 all x
 unfolding IsDistinct
 none_of all x = record { numbers = []; differ = tt; each = λ n c. absurd (omega (arith, c.1)); counted = refl }
 
--- ---- chains that go on
+-- ---- sequences that go on
 
--- by something, where the chains begin no later
-pub goes_on : (p : PieceTree) (old new : Reach) (chain left : PieceTree) → IsReached p old chain → may_join join.Then left chain ≡ true → left.earliest ≤ℤ left.latest →
-    left.earliest ≤ℤ new.earliest → (left.earliest ≡ new.earliest → HasOf new.used new.numbers.items (joined join.Then left chain).tree) →
-    IsReached p new (joined join.Then left chain)
-goes_on p old new chain left h may span bound used =
-    let begins = join_begins chain left span may in
+-- by something, where the sequences begin no later
+pub goes_on : (p : PieceTree) (old new : Reach) (sequence left : PieceTree) → IsReached p old sequence → may_join join.Then left sequence ≡ true → left.earliest ≤ℤ left.latest →
+    left.earliest ≤ℤ new.earliest → (left.earliest ≡ new.earliest → HasOf new.used new.numbers.items (joined join.Then left sequence).tree) →
+    IsReached p new (joined join.Then left sequence)
+goes_on p old new sequence left h may span bound used =
+    let begins = join_begins sequence left span may in
     record {
-      has_piece = λ n k. or_right (has n left.tree) (has n chain.tree) (h.has_piece n k);
+      has_piece = λ n k. or_right (has n left.tree) (has n sequence.tree) (h.has_piece n k);
       bound = subst (λ t. t ≤ℤ new.earliest) (sym begins.0) bound;
       used = λ e. used (sym begins.0 ∙ e);
     }
@@ -113,38 +113,38 @@ held_number (x ∷ held) left (zero, l, is) = subst (λ (p : PieceTree). (n : �
 held_number (x ∷ held) left (suc k, l, is) = held_number held left (k, omega (arith, l), is)
 
 -- by something that lies wholly where they begin
-pub stays_with : (p : PieceTree) (old : Reach) (all : List ℕ) (chain left : PieceTree) (held : List Piece) → IsReached p old chain → Contains (piece_trees held) left →
-    may_join join.Then left chain ≡ true → left.earliest ≡ old.earliest → ((m : ℕ) → Contains old.numbers.items m → Contains all m) →
-    ((n : ℕ) → has n left.tree ≡ true → Contains all n) → HasOf (old.used + 1) all (joined join.Then left chain).tree
-stays_with p old all chain left held h there may here kept added =
-    let begins = join_begins chain left (held_span held left there) may in
-    let same : chain.earliest ≡ old.earliest = le_both chain.earliest old.earliest h.bound (subst (λ (t : ℤ). t ≤ℤ chain.earliest) here begins.1) in
+pub stays_with : (p : PieceTree) (old : Reach) (all : List ℕ) (sequence left : PieceTree) (held : List Piece) → IsReached p old sequence → Contains (piece_trees held) left →
+    may_join join.Then left sequence ≡ true → left.earliest ≡ old.earliest → ((m : ℕ) → Contains old.numbers.items m → Contains all m) →
+    ((n : ℕ) → has n left.tree ≡ true → Contains all n) → HasOf (old.used + 1) all (joined join.Then left sequence).tree
+stays_with p old all sequence left held h there may here kept added =
+    let begins = join_begins sequence left (held_span held left there) may in
+    let same : sequence.earliest ≡ old.earliest = le_both sequence.earliest old.earliest h.bound (subst (λ (t : ℤ). t ≤ℤ sequence.earliest) here begins.1) in
     let number = held_number held left there in
-    more_of old.used old.numbers.items all chain.tree left.tree number.0 (h.used same) (and_parts _ _ may).1 number.1 kept (added number.0 number.1)
+    more_of old.used old.numbers.items all sequence.tree left.tree number.0 (h.used same) (and_parts _ _ may).1 number.1 kept (added number.0 number.1)
 
--- what begins no later than the chains, and not with them, begins before
-pub begins_before : (p : PieceTree) (old : Reach) (chain left : PieceTree) (held : List Piece) → IsReached p old chain → Contains (piece_trees held) left →
-    may_join join.Then left chain ≡ true → (left.earliest ≡ old.earliest → ⊥) → left.earliest <ℤ old.earliest
-begins_before p old chain left held h there may apart =
+-- what begins no later than the sequences, and not with them, begins before
+pub begins_before : (p : PieceTree) (old : Reach) (sequence left : PieceTree) (held : List Piece) → IsReached p old sequence → Contains (piece_trees held) left →
+    may_join join.Then left sequence ≡ true → (left.earliest ≡ old.earliest → ⊥) → left.earliest <ℤ old.earliest
+begins_before p old sequence left held h there may apart =
     by (int_lt left.earliest old.earliest) refl where
       order : left.earliest ≤ℤ old.earliest
-      order = le_trans left.earliest chain.earliest old.earliest (join_begins chain left (held_span held left there) may).1 h.bound
+      order = le_trans left.earliest sequence.earliest old.earliest (join_begins sequence left (held_span held left there) may).1 h.bound
 
       by : (b : Bool) → int_lt left.earliest old.earliest ≡ b → left.earliest <ℤ old.earliest
       by true is = lt_true left.earliest old.earliest is
       by false is = absurd (apart (le_both left.earliest old.earliest order (lt_false left.earliest old.earliest is)))
 
 -- by something that begins before them
-pub falls_to : (p : PieceTree) (old new : Reach) (chain left : PieceTree) (held : List Piece) → IsReached p old chain → Contains (piece_trees held) left →
-    may_join join.Then left chain ≡ true → left.earliest ≤ℤ new.earliest → new.used ≡ 1 →
+pub falls_to : (p : PieceTree) (old new : Reach) (sequence left : PieceTree) (held : List Piece) → IsReached p old sequence → Contains (piece_trees held) left →
+    may_join join.Then left sequence ≡ true → left.earliest ≤ℤ new.earliest → new.used ≡ 1 →
     ((l : PieceTree) → Contains (piece_trees held) l → may_precede l old.earliest p ≡ true → l.earliest ≡ new.earliest → (n : ℕ) → has n l.tree ≡ true → Contains new.numbers.items n) →
-    IsReached p new (joined join.Then left chain)
-falls_to p old new chain left held h there may bound one added =
-    goes_on p old new chain left h may (held_span held left there) bound (λ e.
+    IsReached p new (joined join.Then left sequence)
+falls_to p old new sequence left held h there may bound one added =
+    goes_on p old new sequence left h may (held_span held left there) bound (λ e.
     let number = held_number held left there in
-    subst (λ (k : ℕ). HasOf k new.numbers.items (joined join.Then left chain).tree) (sym one)
-    (more_of 0 [] new.numbers.items chain.tree left.tree number.0 (none_of [] chain.tree) (and_parts _ _ may).1 number.1 (λ m c. absurd (omega (arith, c.1)))
-    (added left there (join_precedes p old chain left h may) e number.0 number.1)))
+    subst (λ (k : ℕ). HasOf k new.numbers.items (joined join.Then left sequence).tree) (sym one)
+    (more_of 0 [] new.numbers.items sequence.tree left.tree number.0 (none_of [] sequence.tree) (and_parts _ _ may).1 number.1 (λ m c. absurd (omega (arith, c.1)))
+    (added left there (join_precedes p old sequence left h may) e number.0 number.1)))
 
 -- ---- what is wanted is reached
 
@@ -155,11 +155,11 @@ any_item f (x ∷ xs) h = elim (or_cases (f x) (list_any f xs) h) [
   | inr more ↦ (let found = any_item f xs more in (found.0, (suc found.1.0, omega (arith, found.1.1), found.1.2), found.2))
 ]
 
--- what is wanted of a chain that is kept nowhere goes on by something held on the left
-pub wanted_by_one : (now : ℤ) (x : Ahead) (above : List Ahead) (p chain : PieceTree) (r : Reach) → IsReached p r chain → lives x.window r.earliest now ≡ false →
-    is_wanted now (x ∷ above) chain ≡ true →
-    (left : PieceTree) × Contains x.left left × (may_join join.Then left chain ≡ true) × (is_wanted now above (joined join.Then left chain) ≡ true)
-wanted_by_one now x above p chain r h gone wants = elim (or_cases _ _ wants) [
-  | inl live ↦ absurd (let e : false ≡ true = sym gone ∙ lives_later x.window chain.earliest r.earliest now h.bound live in cc)
+-- what is wanted of a sequence that is kept nowhere goes on by something held on the left
+pub wanted_by_one : (now : ℤ) (x : Ahead) (above : List Ahead) (p sequence : PieceTree) (r : Reach) → IsReached p r sequence → lives x.window r.earliest now ≡ false →
+    is_wanted now (x ∷ above) sequence ≡ true →
+    (left : PieceTree) × Contains x.left left × (may_join join.Then left sequence ≡ true) × (is_wanted now above (joined join.Then left sequence) ≡ true)
+wanted_by_one now x above p sequence r h gone wants = elim (or_cases _ _ wants) [
+  | inl live ↦ absurd (let e : false ≡ true = sym gone ∙ lives_later x.window sequence.earliest r.earliest now h.bound live in cc)
   | inr any ↦ (let found = any_item _ x.left any in let parts = and_parts _ _ found.2 in (found.0, found.1, parts.0, parts.1))
 ]

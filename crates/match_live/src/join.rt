@@ -1,5 +1,4 @@
 ghost use Rattle.std.specs.Prelude.{◌≡◌, ◌++◌, ◌∷◌, ◌+◌, ◌<◌, ◌≤◌, [], true, length, IfOk, OnOk, Err};
-ghost use Rattle.std.specs.Box.{box_value};
 ghost use Rattle.std.specs.Int.{int_min, int_max};
 ghost use Rattle.match_bindings.specs.BindTree.{tree_of};
 ghost use Rattle.match_live.specs.inner.Pieces.{piece_tree, piece_trees};
@@ -14,7 +13,7 @@ use crate::since::Since;
 use crate::stop::Stop;
 use crate::wanted::is_wanted;
 use flow_values::NoMemory;
-use match_bindings::{Bind, are_disjoint, copy_bind, with_part};
+use match_bindings::{Bind, are_disjoint, with_part, with_sides};
 use std::alloc::Global;
 use stix_times::Instant;
 
@@ -35,11 +34,7 @@ impl Join {
         ensures { IfOk result (λ bind. tree_of bind ≡ joined_tree self (tree_of first.now) (tree_of second.now)) }
     {
         match self {
-            Join::Both | Join::Then => {
-                let left = boxed_copy(alloc, first)?;
-                let right = boxed_copy(alloc, second)?;
-                Ok(Bind::Both(left, right))
-            }
+            Join::Both | Join::Then => with_sides(alloc, first, second),
             Join::Repeats => with_part(alloc, first, second),
         }
     }
@@ -126,14 +121,6 @@ impl Join {
         }
         Ok(())
     }
-}
-
-/// A copy of a bind, in a box of its own.
-fn boxed_copy(alloc: Global, bind: &Bind) -> Result<Box<Bind>, NoMemory>
-    ensures { IfOk result (λ copy. tree_of (box_value copy) ≡ tree_of bind.now) }
-{
-    let copy = copy_bind(alloc, bind)?;
-    Ok(Box::new(alloc, copy)?)
 }
 
 /// Adds a new thing where it is wanted, unless there is no room for it.

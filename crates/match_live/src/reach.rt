@@ -1,6 +1,7 @@
-//! How far back the chains may reach that join a new thing, on the right of `FOLLOWEDBY`s, to one thing
-//! held on the left of each: judged by a look at each thing held, since to try the chains one by one can
-//! take a time that doubles with each thing.
+//! A new thing on the right of `FOLLOWEDBY`s makes sequences with what is held on their left: one thing of
+//! each left side, and the new one. Whether there may be one that is wanted is judged here at one look at
+//! each thing held, by their times and by how many observations they need at one instant. To try them one
+//! by one can take a time that doubles with each thing.
 
 ghost use Rattle.std.specs.Prelude.{◌≡◌, ◌<◌, ◌≤◌, ◌≤ℤ◌, ◌<ℤ◌, ℕ, ℤ, true, false, Some, length, IfOk, OnOk};
 ghost use Rattle.std.specs.List.{Contains};
@@ -23,12 +24,12 @@ use match_bindings::are_disjoint;
 use std::alloc::Global;
 use stix_times::Instant;
 
-/// What bounds all chains so far.
+/// What bounds all sequences so far.
 #[derive(Drop)]
 pub(crate) struct Reach {
-    /// None begins later.
+    /// None of them begins later.
     pub earliest: Instant,
-    /// Those that begin then have so many different ones of these numbers.
+    /// One that begins then has so many different ones of `numbers`.
     pub used: usize,
     pub numbers: Vec<u64>,
 }
@@ -45,16 +46,16 @@ impl Reach {
         }
     }
 
-    /// Whether a chain may go on to what is wanted above: where one does, it may. The innermost lead is
-    /// the last.
+    /// Whether a sequence may go on to what is wanted above: where one does, it may. The innermost lead is the
+    /// last.
     pub fn may_go_on(
         &mut self,
         piece: &Piece,
         now: Instant,
         leads: &[Lead],
     ) -> Result<bool, NoMemory>
-        ensures { IfOk result (λ may. (chain : PieceTree) → IsReached (piece_tree piece.now) self.old chain
-            → is_wanted now (leads_of leads.now) chain ≡ true → may ≡ true) }
+        ensures { IfOk result (λ may. (sequence : PieceTree) → IsReached (piece_tree piece.now) self.old sequence
+            → is_wanted now (leads_of leads.now) sequence ≡ true → may ≡ true) }
     {
         let Some((innermost, above)) = leads.split_last() else {
             return Ok(true);
@@ -69,11 +70,11 @@ impl Reach {
         Ok(may)
     }
 
-    /// Takes one more thing into each chain, of those held on the next left side: whether there may be one.
+    /// Takes one more thing into each sequence, of those held on the next left side: whether there may be one.
     fn take(&mut self, piece: &Piece, held: &[Piece]) -> Result<bool, NoMemory>
-        ensures { IfOk result (λ may. (chain left : PieceTree) → IsReached (piece_tree piece.now) self.old chain
-            → Contains (piece_trees held.now) left → may_join join.Then left chain ≡ true
-            → (may ≡ true) × IsReached (piece_tree piece.now) self.new (joined join.Then left chain)) }
+        ensures { IfOk result (λ may. (sequence left : PieceTree) → IsReached (piece_tree piece.now) self.old sequence
+            → Contains (piece_trees held.now) left → may_join join.Then left sequence ≡ true
+            → (may ≡ true) × IsReached (piece_tree piece.now) self.new (joined join.Then left sequence)) }
     {
         if self.stay(piece, held)? {
             return Ok(true);
@@ -87,14 +88,14 @@ impl Reach {
         }
     }
 
-    /// Takes things that lie wholly where the chains begin, unless that needs more numbers than there are.
+    /// Takes things that lie wholly where the sequences begin, unless that needs more numbers than there are.
     fn stay(&mut self, piece: &Piece, held: &[Piece]) -> Result<bool, NoMemory>
         ensures earliest { OnOk result (self.new.earliest ≡ self.old.earliest) }
-        ensures stays { IfOk result (λ stays. stays ≡ true → (chain left : PieceTree) → IsReached (piece_tree piece.now) self.old chain
-            → Contains (piece_trees held.now) left → may_join join.Then left chain ≡ true
-            → IsReached (piece_tree piece.now) self.new (joined join.Then left chain)) }
-        ensures falls { IfOk result (λ stays. stays ≡ false → (chain left : PieceTree) → IsReached (piece_tree piece.now) self.old chain
-            → Contains (piece_trees held.now) left → may_join join.Then left chain ≡ true → left.earliest <ℤ self.old.earliest) }
+        ensures stays { IfOk result (λ stays. stays ≡ true → (sequence left : PieceTree) → IsReached (piece_tree piece.now) self.old sequence
+            → Contains (piece_trees held.now) left → may_join join.Then left sequence ≡ true
+            → IsReached (piece_tree piece.now) self.new (joined join.Then left sequence)) }
+        ensures falls { IfOk result (λ stays. stays ≡ false → (sequence left : PieceTree) → IsReached (piece_tree piece.now) self.old sequence
+            → Contains (piece_trees held.now) left → may_join join.Then left sequence ≡ true → left.earliest <ℤ self.old.earliest) }
     {
         let before = self.numbers.len();
         push_beginning(self.earliest, self.earliest, piece, held, &mut self.numbers)?;
@@ -110,11 +111,11 @@ impl Reach {
         Ok(true)
     }
 
-    /// Takes things that begin at this time, the latest before the one at which the chains begin.
+    /// Takes things that begin at this time, the latest before the one at which the sequences begin.
     fn fall(&mut self, earliest: Instant, piece: &Piece, held: &[Piece]) -> Result<(), NoMemory>
-        ensures { OnOk result ((before : Reach) (chain left : PieceTree) → before.earliest ≡ self.old.earliest
-            → IsReached (piece_tree piece.now) before chain → Contains (piece_trees held.now) left → may_join join.Then left chain ≡ true
-            → left.earliest ≤ℤ earliest → IsReached (piece_tree piece.now) self.new (joined join.Then left chain)) }
+        ensures { OnOk result ((before : Reach) (sequence left : PieceTree) → before.earliest ≡ self.old.earliest
+            → IsReached (piece_tree piece.now) before sequence → Contains (piece_trees held.now) left → may_join join.Then left sequence ≡ true
+            → left.earliest ≤ℤ earliest → IsReached (piece_tree piece.now) self.new (joined join.Then left sequence)) }
     {
         self.numbers.clear();
         push_beginning(earliest, self.earliest, piece, held, &mut self.numbers)?;
@@ -124,14 +125,14 @@ impl Reach {
     }
 }
 
-/// Whether a thing may go before a chain that joins this new thing, and begins at this time at the latest.
+/// Whether a thing may go before a sequence that joins this new thing, and begins at this time at the latest.
 fn may_precede(left: &Piece, bound: Instant, piece: &Piece) -> bool
     ensures { result ≡ may_precede (piece_tree left.now) bound (piece_tree piece.now) }
 {
     left.latest <= bound && are_disjoint(&left.bind, &piece.bind)
 }
 
-/// Adds the numbers of the things that begin at this time, and may go before such a chain.
+/// Adds the numbers of the things that begin at this time, and may go before such a sequence.
 fn push_beginning(
     earliest: Instant,
     bound: Instant,
@@ -153,7 +154,7 @@ fn push_beginning(
     Ok(())
 }
 
-/// The latest time before this one at which something begins that may go before a chain, which itself
+/// The latest time before this one at which something begins that may go before a sequence, which itself
 /// begins at this time at the latest.
 fn latest_before(bound: Instant, piece: &Piece, held: &[Piece]) -> Option<Instant>
     ensures { (left : PieceTree) → Contains (piece_trees held.now) left → may_precede left bound (piece_tree piece.now) ≡ true

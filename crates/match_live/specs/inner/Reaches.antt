@@ -1,4 +1,4 @@
--- For private clauses: what bounds the chains that join a new thing to one thing held on the left of each FOLLOWEDBY.
+-- For private clauses: what bounds the sequences that join a new thing to one thing held on the left of each FOLLOWEDBY.
 use Rattle.std.specs.Prelude.{◌≡◌, ℕ, nat_eq, ℤ, int_le, ◌≤ℤ◌, Bool, true, ◌&&◌, Option, Some, None, List, length}
 use Rattle.std.specs.List.{Contains, IsDistinct}
 use Rattle.match_bindings.specs.BindTree.{BindTree, has, disjoint}
@@ -10,7 +10,7 @@ abbrev pub covers : Option ℤ → ℤ → Bool
 covers None time = true
 covers (Some start) time = int_le start time
 
--- whether a thing may go before a chain that joins a new thing and begins at a time at the latest
+-- whether a thing may go before a sequence that joins a new thing and begins at a time at the latest
 abbrev pub may_precede : PieceTree → ℤ → PieceTree → Bool
 may_precede left bound piece = int_le left.latest bound && disjoint left.tree piece.tree
 
@@ -21,8 +21,8 @@ pub record HasOf (count : ℕ) (all : List ℕ) (x : BindTree) : Type 0 where
   pub each : (n : ℕ) → Contains numbers n → Contains all n × (has n x ≡ true)
   pub counted : length numbers ≡ count
 
--- a chain has the new thing in it, begins no later than the bound, and where it begins then, has so many of the numbers
-pub record IsReached (piece : PieceTree) (reach : Reach) (chain : PieceTree) : Type 0 where
-  pub has_piece : (n : ℕ) → has n piece.tree ≡ true → has n chain.tree ≡ true
-  pub bound : chain.earliest ≤ℤ reach.earliest
-  pub used : chain.earliest ≡ reach.earliest → HasOf reach.used reach.numbers.items chain.tree
+-- a sequence has the new thing in it, begins no later than the bound, and where it begins then, has so many of the numbers
+pub record IsReached (piece : PieceTree) (reach : Reach) (sequence : PieceTree) : Type 0 where
+  pub has_piece : (n : ℕ) → has n piece.tree ≡ true → has n sequence.tree ≡ true
+  pub bound : sequence.earliest ≤ℤ reach.earliest
+  pub used : sequence.earliest ≡ reach.earliest → HasOf reach.used reach.numbers.items sequence.tree

@@ -1,4 +1,4 @@
--- By something that begins before the chains.
+-- By something that begins before the sequences.
 use Rattle.std.proofs.Common.{◌≡◌, ℤ, true, refl, subst}
 use Rattle.match_live.specs.inner.Pieces.{piece_tree}
 use Rattle.match_live.specs.inner.Reaches.{may_precede}
@@ -6,7 +6,7 @@ use Rattle.match_live.proofs.ReachLemmas.{falls_to}
 use Rattle.match_live.proofs.reach.Reach.fall.Goals as goal
 
 pub returns : goal.returns
-returns c = λ before chain left same h there may bound.
+returns c = λ before sequence left same h there may bound.
     let p = piece_tree c.args.piece.now in
-    falls_to p before _ chain left c.args.held.now h there may bound refl
+    falls_to p before _ sequence left c.args.held.now h there may bound refl
     (λ l in_held m e. (c.in_ok-push_beginning.ensures.added l in_held (subst (λ (t : ℤ). may_precede l t p ≡ true) same m) e).0)

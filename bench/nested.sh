@@ -1,0 +1,61 @@
+#!/usr/bin/env bash
+# Times `match` of FOLLOWEDBYs nested to the right, `[a] FOLLOWEDBY ([b] FOLLOWEDBY ([c] ..))`, whose brackets hold often:
+# over logs in which no chain of them is long enough, or the outermost bracket holds seldom or never.
+#
+#   bench/nested.sh [PROGRAM]
+set -eu
+top=$(cd "$(dirname "$(readlink -f "${BASH_SOURCE[0]}")")/.." && pwd)
+program=${1:-$("$top/build")}
+folder=$(mktemp -d)
+trap 'rm -rf "$folder"' EXIT
+
+# log COUNT AT_ONCE SPAN RARE: so many logins, the first AT_ONCE in one second and then one a second, each SPAN seconds long;
+# that of the user x is the one numbered RARE, the others are of u.
+log() {
+  awk -v count="$1" -v at_once="$2" -v span="$3" -v rare="$4" '
+    function time_of(s) { return sprintf("2021-06-%02dT%02d:%02d:%02dZ", 10 + int(s / 86400), int(s / 3600) % 24, int(s / 60) % 60, s % 60) }
+    BEGIN {
+      for (i = 1; i <= count; i++) {
+        second = i > at_once ? i - at_once : 0
+        printf "{\"type\":\"bundle\",\"id\":\"bundle--00000000-0000-4000-8000-000000000001\",\"objects\":[{\"type\":\"observed-data\",\"spec_version\":\"2.1\",\"id\":\"observed-data--00000000-0000-4000-8000-000000000001\",\"created\":\"2021-06-10T00:00:00.000Z\",\"modified\":\"2021-06-10T00:00:00.000Z\",\"first_observed\":\"%s\",\"last_observed\":\"%s\",\"number_observed\":1,\"object_refs\":[\"user-account--00000000-0000-4000-8000-000000000001\"]},{\"type\":\"user-account\",\"id\":\"user-account--00000000-0000-4000-8000-000000000001\",\"account_login\":\"%s\"}]}\n", time_of(second), time_of(second + span), i == rare ? "x" : "u"
+      }
+    }' > "$folder/log.jsonl"
+}
+
+# nested FIRST COUNT: the pattern whose outermost bracket asks for FIRST, and whose other COUNT brackets hold for each login.
+nested() {
+  awk -v first="$1" -v count="$2" 'BEGIN {
+    printf "[user-account:account_login = \"%s\"]", first
+    for (n = 1; n <= count; n++) printf " FOLLOWEDBY %s[user-account:account_login LIKE \"%%\"]", n < count ? "(" : ""
+    for (n = 1; n < count; n++) printf ")"
+  }' | tr '"' "'"
+}
+
+# timed NAME PATTERN
+timed() {
+  local start status=0
+  start=${EPOCHREALTIME/./}
+  timeout 600 "$program" match "$2" < "$folder/log.jsonl" > "$folder/out" 2> "$folder/faults" || status=$?
+  awk -v name="$1" -v took=$((${EPOCHREALTIME/./} - start)) -v status=$status -v lines="$(wc -l < "$folder/out")" \
+    'BEGIN { printf "%-62s %8.3f s  %d bindings, status %d\n", name, took / 1e6, lines, status }'
+}
+
+for count in 20 22 60; do
+  log $count 0 0 1
+  timed "62 brackets, $count logins, the first of x" "$(nested x 62)"
+done
+for at_once in 12 50; do
+  log 60 $at_once 0 1
+  timed "62 brackets, 60 logins, of which the first $at_once at once" "$(nested x 62)"
+done
+log 60 0 10 1
+timed "62 brackets, 60 logins of 10 seconds each" "$(nested x 62)"
+log 60 12 10 1
+timed "62 brackets, 60 logins of 10 seconds, the first 12 at once" "$(nested x 62)"
+for count in 1000 10000; do
+  log $count 0 0 0
+  timed "4 brackets, $count logins, none of x" "$(nested x 3)"
+  timed "62 brackets, $count logins, none of x" "$(nested x 62)"
+  log $count 0 0 $((count - 20))
+  timed "4 brackets, $count logins, the last but 20 of x" "$(nested x 3)"
+done
