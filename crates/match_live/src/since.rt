@@ -1,4 +1,4 @@
-ghost use Rattle.std.specs.Prelude.{◌≡◌, ◌≤ℤ◌, true, false, None};
+ghost use Rattle.std.specs.Prelude.{◌≡◌, ◌≤ℤ◌, ℤ, true, false, None};
 ghost use Rattle.std.specs.List.{Contains};
 ghost use Rattle.match_live.specs.PieceTree.{PieceTree};
 ghost use Rattle.match_live.specs.inner.Pieces.{piece_trees};
@@ -51,6 +51,9 @@ impl Since {
         ensures now { result ≤ℤ now }
         ensures held { (left : PieceTree) → Contains (piece_trees held.now) left → covers self.now.start left.earliest ≡ true → result ≤ℤ left.latest }
     {
+        if self.is_now(now) {
+            return now;
+        }
         let mut first = now;
         for left in held {
             if left.latest < first && self.covers(left.earliest) {
@@ -58,6 +61,16 @@ impl Since {
             }
         }
         first
+    }
+
+    /// Whether it is this time or later. What begins then ends no sooner, so there is nothing to look for.
+    fn is_now(&self, now: Instant) -> bool
+        ensures { result ≡ true → (time : ℤ) → covers self.now.start time ≡ true → now ≤ℤ time }
+    {
+        match self.start {
+            Some(start) => now <= start,
+            None => false,
+        }
     }
 
     /// Whether a time isn't before it.

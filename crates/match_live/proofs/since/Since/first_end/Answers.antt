@@ -10,6 +10,7 @@ use Rattle.match_live.specs.inner.Pieces.{piece_tree, piece_trees}
 use Rattle.match_live.specs.inner.Reaches.{covers}
 use Rattle.match_live.proofs.LivesLemmas.{le_self, le_trans}
 use Rattle.match_live.proofs.OldestLemmas.{next_taken}
+use Rattle.match_live.proofs.ReachLemmas.{held_span}
 use Rattle.match_live.proofs.SinceLemmas.{lt_before, not_lt_after}
 use Rattle.match_live.proofs.since.Since.first_end.Goals as goal
 use Rattle.match_live.proofs.since.Since.first_end.Goals.{then-lt+then-covers, else-lt, else-lt-via-then-lt+else-covers, else-lt-via-else-lt}
@@ -50,3 +51,7 @@ pub returns-clause-held : goal.returns-clause-held
 returns-clause-held c = λ left there.
     c.loop-left.invariant.held left (subst (λ (z : List Piece). Contains (piece_trees z) left)
     (sym (take_all c.loop-left.left-index c.args.held.now c.loop-left-test.false)) there)
+
+pub returns-then-is_now-clause-held : goal.returns-then-is_now-clause-held
+returns-then-is_now-clause-held c = λ left there since.
+    le_trans c.args.now left.earliest left.latest (c.is_now.ensures c.if-is_now.true left.earliest since) (held_span c.args.held.now left there)
