@@ -1,10 +1,10 @@
 -- What is wanted: leads one by one, and joins of which only what is wanted is made.
 use Rattle.std.proofs.Common.{◌≡◌, ℕ, ◌+◌, ◌≤◌, ◌<◌, ℤ, List, [], ◌∷◌, ◌++◌, length, get_or, take, drop, refl, sym, ◌∙◌, ap, arith, length-append, append-nil, append_assoc}
 use Rattle.std.specs.Prelude.{Bool, true, false, ◌&&◌, ◌||◌, map, filter}
-use Rattle.std.specs.List.{list_any}
+use Rattle.std.specs.List.{Contains, list_any}
 use Rattle.std.proofs.lemmas.List.{take-append-drop, length-map}
 use Rattle.std.proofs.lemmas.List.Elements.{filter-append}
-use Rattle.std.proofs.lemmas.List.Folds.{list_any-append}
+use Rattle.std.proofs.lemmas.List.Folds.{list_any-append, list_any_at}
 use Rattle.match_bindings.proofs.ListLemmas.{map_append}
 use Rattle.match_live.specs.declared.join.Join.{Join}
 use Rattle.match_live.specs.declared.join.Join.TheVariants as join
@@ -150,6 +150,13 @@ kept_more w now xs at d h live =
     omega (arith, longer, kept_part w now xs (at + 1))
 
 -- ---- a test of all that is held
+
+pub any_has : (f : PieceTree → Bool) (xs : List PieceTree) (x : PieceTree) → Contains xs x → f x ≡ true → list_any f xs ≡ true
+any_has f xs x h passes = list_any_at f xs h.0 x h.1 (ap f h.2 ∙ passes)
+
+pub or_true : (a : Bool) → (a || true) ≡ true
+or_true true = refl
+or_true false = refl
 
 pub any_of_none : (f : PieceTree → Bool) (xs : List Piece) → length xs ≡ 0 → list_any f (piece_trees xs) ≡ false
 any_of_none f [] h = refl
