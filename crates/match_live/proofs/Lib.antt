@@ -29,3 +29,4 @@ pub mod QuietLemmas
 pub mod LeavesLemmas
 pub mod ReachLemmas
 pub mod SinceLemmas
+pub mod SequenceLemmas

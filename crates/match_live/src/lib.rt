@@ -25,6 +25,7 @@ mod room;
 mod row;
 mod row_numbers;
 mod run;
+mod sequence;
 mod sides;
 mod since;
 mod stop;

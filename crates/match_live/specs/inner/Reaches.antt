@@ -3,12 +3,18 @@ use Rattle.std.specs.Prelude.{◌≡◌, ℕ, nat_eq, ℤ, int_le, ◌≤ℤ◌,
 use Rattle.std.specs.List.{Contains, IsDistinct}
 use Rattle.match_bindings.specs.BindTree.{BindTree, has, disjoint}
 use Rattle.match_live.specs.declared.reach.Reach.{Reach}
+use Rattle.match_live.specs.declared.sequence.Sequence.{Sequence}
 use Rattle.match_live.specs.PieceTree.{PieceTree}
 
 -- whether a time isn't before another one, where there is one
 abbrev pub covers : Option ℤ → ℤ → Bool
 covers None time = true
 covers (Some start) time = int_le start time
+
+-- a sequence by when it begins, and the numbers in it
+pub record IsSequence (sequence : Sequence) (piece : PieceTree) : Type 0 where
+  pub begins : piece.earliest ≡ sequence.earliest
+  pub numbers : (n : ℕ) → has n piece.tree ≡ true → Contains sequence.numbers.items n
 
 -- whether a thing may go before a sequence that joins a new thing and begins at a time at the latest
 abbrev pub may_precede : PieceTree → ℤ → PieceTree → Bool

@@ -21,7 +21,7 @@ returns-then-is_live t c =
     (sym c.is_live.ensures ∙ c.if-is_live.true))
 
 pub returns-then-branch : goal.returns-then-branch
-returns-then-branch t c = sym (c.in_ok-is_wanted_by_last.ensures c.if-branch.true)
+returns-then-branch t c = sym (c.in_ok-goes_on.ensures c.if-branch.true (piece_tree c.args.piece.now) c.in_ok-new.ensures)
 
 pub returns-then-branch-2 : goal.returns-then-branch-2
 returns-then-branch-2 t c =
