@@ -155,27 +155,31 @@ fn push_beginning(
 }
 
 /// The latest time before this one at which something begins that may go before a sequence, which itself
-/// begins at this time at the latest.
+/// begins at this time at the latest. What came last is looked at first, and whether it binds something of
+/// the new thing only where it is later than all so far.
 fn latest_before(bound: Instant, piece: &Piece, held: &[Piece]) -> Option<Instant>
     ensures { (left : PieceTree) → Contains (piece_trees held.now) left → may_precede left bound (piece_tree piece.now) ≡ true
         → left.earliest <ℤ bound → (time : ℤ) × (result ≡ Some time) × (left.earliest ≤ℤ time) }
 {
     let mut latest = None;
-    for left in held {
-        if left.earliest < bound && may_precede(left, bound, piece) {
-            latest = Some(later(latest, left.earliest));
+    let mut lefts = held;
+    while let Some((left, earlier)) = lefts.split_last() {
+        let is_later = is_between(&latest, left.earliest, bound);
+        if is_later && may_precede(left, bound, piece) {
+            latest = Some(left.earliest);
         }
+        lefts = earlier;
     }
     latest
 }
 
-/// The later of two times, of which there may be but one.
-fn later(one: Option<Instant>, other: Instant) -> Instant
-    ensures other { other ≤ℤ result }
-    ensures one { (time : ℤ) → one ≡ Some time → time ≤ℤ result }
+/// Whether a time is later than one, where there is one, and before the other.
+fn is_between(one: &Option<Instant>, time: Instant, other: Instant) -> bool
+    ensures later { result ≡ true → (start : ℤ) → one.now ≡ Some start → start ≤ℤ time }
+    ensures out { result ≡ false → time <ℤ other → (start : ℤ) × (one.now ≡ Some start) × (time ≤ℤ start) }
 {
     match one {
-        Some(time) if other < time => time,
-        _ => other,
+        Some(start) => *start < time && time < other,
+        None => time < other,
     }
 }

@@ -1,46 +1,49 @@
--- One thing more, which is later than the latest so far, or isn't.
-use Rattle.std.proofs.Common.{Less, ◌≡◌, ◌≤ℤ◌, ◌<ℤ◌, List, get_or, take, sym, ◌∙◌, ap, subst, inl, inr}
-use Rattle.std.specs.Prelude.{true, false}
-use Rattle.std.specs.Ordering.{is_lt}
-use Rattle.std.specs.Cmp.{int_cmp_is}
+-- One thing more from the end, which is later than the latest so far, or isn't.
+use Rattle.std.proofs.Common.{◌≡◌, ◌≤ℤ◌, ◌<ℤ◌, ℤ, List, [], ◌∷◌, ◌++◌, refl, sym, ◌∙◌, ap, subst, ◌⊎◌, inl, inr}
+use Rattle.std.specs.Prelude.{true, false, Some}
 use Rattle.std.specs.List.{Contains}
-use Rattle.std.proofs.lemmas.List.{take_all}
 use Rattle.std.proofs.lemmas.List.Elements.{Contains-push_cases}
+use Rattle.match_bindings.proofs.ListLemmas.{map_append}
 use Rattle.match_live.specs.declared.piece.Piece.{Piece}
 use Rattle.match_live.specs.PieceTree.{PieceTree}
 use Rattle.match_live.specs.inner.Pieces.{piece_tree, piece_trees}
 use Rattle.match_live.specs.inner.Reaches.{may_precede}
-use Rattle.match_live.proofs.LivesLemmas.{le_trans}
-use Rattle.match_live.proofs.OldestLemmas.{next_taken}
+use Rattle.match_live.proofs.LivesLemmas.{le_self, le_trans}
 use Rattle.match_live.proofs.reach.latest_before.Goals as goal
-use Rattle.match_live.proofs.reach.latest_before.Goals.{then-lt+then-may_precede, else-lt, else-lt-via-then-lt+else-may_precede, else-lt-via-else-lt}
+use Rattle.match_live.proofs.reach.latest_before.Goals.{else-is_later-via-then-is_later+else-may_precede, else-is_later-via-else-is_later}
+
+-- it is one of those before the last, or the last
+split : (lefts earlier : List Piece) (l : Piece) (left : PieceTree) → lefts ≡ earlier ++ l ∷ [] → Contains (piece_trees lefts) left →
+    Contains (piece_trees earlier) left ⊎ (piece_tree l ≡ left)
+split lefts earlier l left is there =
+    Contains-push_cases (piece_trees earlier) (piece_tree l) left
+    (subst (λ (z : List PieceTree). Contains z left) (ap piece_trees is ∙ map_append piece_tree earlier (l ∷ [])) there)
 
 pub loop-left-preserved : goal.loop-left-preserved
-loop-left-preserved c = λ left in_more may before.
-    let d = c.left-item.result in let held = c.args.held.now in let i = c.loop-left.left-index in
-    let cases = Contains-push_cases (piece_trees (take i held)) (piece_tree (get_or held i d)) left
-    (subst (λ (z : List PieceTree). Contains z left) (next_taken held i d c.loop-left-test.true) in_more) in
-    elim c.if-lt.branch [
-      | then-lt+then-may_precede w ↦ elim cases [
-        | inl old ↦ (let found = c.loop-left.invariant left old may before in
-            (w.later.result, w.latest-is, le_trans left.earliest found.0 w.later.result found.2 (w.later.ensures.one found.0 found.1)))
-        | inr is ↦ (w.later.result, w.latest-is, subst (λ (q : PieceTree). q.earliest ≤ℤ w.later.result) (ap piece_tree c.left-item.is ∙ is) w.later.ensures.other)
+loop-left-preserved c = λ left there may before.
+    let l = c.in-Some.left.now in
+    elim (c.loop-left.invariant left there may before) [
+      | inl in_lefts ↦ elim (split c.loop-left.lefts.now c.in-Some.earlier.now l left c.in-Some.ensures.cases.0 in_lefts) [
+        | inl e ↦ inl e
+        | inr is ↦ inr (elim c.else-is_later.branch [
+          | else-is_later-via-then-is_later+else-may_precede w ↦ absurd (
+              let e : false ≡ true
+              = sym w.if-may_precede.false ∙ w.may_precede.ensures ∙ ap (λ (q : PieceTree). may_precede q c.args.bound (piece_tree c.args.piece.now)) is ∙ may in cc)
+          | else-is_later-via-else-is_later w ↦
+              subst (λ (q : PieceTree). (start : ℤ) × (c.loop-left.latest ≡ Some start) × (q.earliest ≤ℤ start)) is
+              (c.is_between-is_later.ensures.out w.if-is_later.false (subst (λ (q : PieceTree). q.earliest <ℤ c.args.bound) (sym is) before))
+        ])
       ]
-      | else-lt w ↦ elim cases [
-        | inl old ↦ (let found = c.loop-left.invariant left old may before in (found.0, w.latest-is ∙ found.1, found.2))
-        | inr is ↦ absurd (
-            let same : piece_tree d ≡ left = ap piece_tree c.left-item.is ∙ is in
-            elim w.else-lt.branch [
-              | else-lt-via-then-lt+else-may_precede v ↦ (
-                  let e : false ≡ true = sym v.if-may_precede.false ∙ v.may_precede.ensures ∙ ap (λ (q : PieceTree). may_precede q c.args.bound (piece_tree c.args.piece.now)) same ∙ may in cc)
-              | else-lt-via-else-lt v ↦ (
-                  let e : false ≡ true = sym v.if-lt.false ∙ c.lt.ensures
-                  ∙ ap is_lt (sym (int_cmp_is d.earliest c.args.bound Less (subst (λ (q : PieceTree). q.earliest <ℤ c.args.bound) (sym same) before))) in cc)
-            ])
-      ]
+      | inr found ↦ inr found
     ]
 
-pub returns : goal.returns
-returns c = λ left there.
-    c.loop-left.invariant left (subst (λ (z : List Piece). Contains (piece_trees z) left)
-    (sym (take_all c.loop-left.left-index c.args.held.now c.loop-left-test.false)) there)
+pub loop-left-preserved-then-may_precede : goal.loop-left-preserved-then-may_precede
+loop-left-preserved-then-may_precede c = λ left there may before.
+    let l = c.in-Some.left.now in
+    elim (c.loop-left.invariant left there may before) [
+      | inl in_lefts ↦ elim (split c.loop-left.lefts.now c.in-Some.earlier.now l left c.in-Some.ensures.cases.0 in_lefts) [
+        | inl e ↦ inl e
+        | inr is ↦ inr (l.earliest, refl, subst (λ (q : PieceTree). q.earliest ≤ℤ l.earliest) is (le_self l.earliest))
+      ]
+      | inr found ↦ inr (l.earliest, refl, le_trans left.earliest found.0 l.earliest found.2 (c.is_between-is_later.ensures.later c.if-is_later.true found.0 found.1))
+    ]
