@@ -42,20 +42,24 @@ timed() {
 
 for count in 20 22 60; do
   log $count 0 0 1
-  timed "62 brackets, $count logins, the first of x" "$(nested x 62)"
+  timed "63 brackets, $count logins, the first of x" "$(nested x 62)"
+done
+for brackets in 9 14 20 29; do
+  log 100 0 0 1
+  timed "$((brackets + 1)) brackets, 100 logins, the first of x" "$(nested x $brackets)"
 done
 for at_once in 12 50; do
   log 60 $at_once 0 1
-  timed "62 brackets, 60 logins, of which the first $at_once at once" "$(nested x 62)"
+  timed "63 brackets, 60 logins, of which the first $at_once at once" "$(nested x 62)"
 done
 log 60 0 10 1
-timed "62 brackets, 60 logins of 10 seconds each" "$(nested x 62)"
+timed "63 brackets, 60 logins of 10 seconds each" "$(nested x 62)"
 log 60 12 10 1
-timed "62 brackets, 60 logins of 10 seconds, the first 12 at once" "$(nested x 62)"
+timed "63 brackets, 60 logins of 10 seconds, the first 12 at once" "$(nested x 62)"
 for count in 1000 10000; do
   log $count 0 0 0
   timed "4 brackets, $count logins, none of x" "$(nested x 3)"
-  timed "62 brackets, $count logins, none of x" "$(nested x 62)"
+  timed "63 brackets, $count logins, none of x" "$(nested x 62)"
   log $count 0 0 $((count - 20))
   timed "4 brackets, $count logins, the last but 20 of x" "$(nested x 3)"
 done

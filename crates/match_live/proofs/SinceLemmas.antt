@@ -1,22 +1,31 @@
 -- What begins too early isn't wanted.
-use Rattle.std.proofs.Common.{Less, Greater, ◌≡◌, ℤ, ◌≤ℤ◌, List, [], ◌∷◌, refl, sym, ◌∙◌, ap, inl, inr, arith}
-use Rattle.std.specs.Prelude.{Bool, true, false, int_le, int_lt, ◌&&◌, Option, Some, None}
+use Rattle.std.proofs.Common.{subst, ℕ, Less, Greater, ◌≡◌, ℤ, ◌≤ℤ◌, List, [], ◌∷◌, refl, sym, ◌∙◌, ap, inl, inr, arith}
+use Rattle.std.specs.Prelude.{IfSome, ◌||◌, Bool, true, false, int_le, int_lt, ◌&&◌, Option, Some, None}
 use Rattle.std.specs.Cmp.{int_cmp_is}
 use Rattle.std.specs.Int.{int_min}
 use Rattle.std.specs.List.{Contains, list_any}
 use Rattle.std.specs.Ordering.{is_lt, int_cmp}
 use Rattle.std.proofs.lemmas.Bool.{and_parts, or_cases}
 use Rattle.std.proofs.lemmas.Int.{ints, clamps}
-use Rattle.match_bindings.proofs.IsBindingLemmas.{lt_true, le_true, true_le}
+use Rattle.match_bindings.proofs.IsBindingLemmas.{apart_to, lt_true, le_true, true_le}
+use Rattle.match_bindings.specs.BindTree.{BindTree, has}
 use Rattle.match_live.specs.declared.join.Join.{Join}
 use Rattle.match_live.specs.declared.join.Join.TheVariants as join
+use Rattle.match_live.specs.declared.since.Since.{Since}
 use Rattle.match_live.specs.PieceTree.{PieceTree}
+use Rattle.match_live.specs.inner.Numbers.{numbers}
 use Rattle.match_live.specs.inner.Lives.{is_ahead, lives}
-use Rattle.match_live.specs.inner.Reaches.{covers}
+use Rattle.match_live.specs.inner.Reaches.{covers, MayBegin, MayEnd}
 use Rattle.match_live.specs.inner.Steps.{joined, may_join, join_row}
 use Rattle.match_live.specs.inner.Wanted.{Ahead, is_wanted, wanted}
-use Rattle.match_live.proofs.LivesLemmas.{le_trans, le_false, lt_false}
-use Rattle.match_live.proofs.ReachLemmas.{any_item}
+use Rattle.match_live.proofs.LivesLemmas.{le_trans, le_both, le_false, lt_false}
+use Rattle.match_live.proofs.RowNumbersLemmas.{contains_numbers}
+use Rattle.match_live.proofs.ReachLemmas.{any_item, join_begins}
+
+-- a number of what a First or a Second has under it
+pub number_of_part : (r : Option ℕ) (a b : BindTree) → numbers a ≡ numbers b → IfSome r (λ n. has n b ≡ true) → IfSome r (λ n. has n a ≡ true)
+number_of_part None a b e h = h
+number_of_part (Some n) a b e h = (contains_numbers n a).0 (subst (λ (z : List ℕ). Contains z n) (sym e) ((contains_numbers n b).1 h))
 
 -- tests of order
 pub lt_before : (a b : ℤ) → is_lt (int_cmp a b) ≡ true → a ≤ℤ b
@@ -36,25 +45,53 @@ pub since_later : (since : Option ℤ) (a b : ℤ) → a ≤ℤ b → covers sin
 since_later None a b h k = refl
 since_later (Some s) a b h k = true_le s b (le_trans s a b (le_true s a k) h)
 
+or_false_left : (a b : Bool) → (a || b) ≡ false → a ≡ false
+or_false_left false b h = refl
+or_false_left true b h = absurd (cc)
+
 min_left : (a b : ℤ) → int_min a b ≤ℤ a
 min_left a b = omega (arith, ints, clamps)
 
 -- one side more ahead
-pub since_more : (now : ℤ) (x : Ahead) (ahead : List Ahead) (above result : Option ℤ) (p : PieceTree) → (x.window.behind ≡ false → result ≡ None) →
-    (x.window.behind ≡ true → covers result now ≡ true) →
-    (x.window.behind ≡ true → (left : PieceTree) → Contains x.left left → covers above left.earliest ≡ true → covers result left.latest ≡ true) →
-    ((q : PieceTree) → is_wanted now ahead q ≡ true → covers above q.earliest ≡ true) → is_wanted now (x ∷ ahead) p ≡ true → covers result p.earliest ≡ true
-since_more now x ahead above result p any at_now held all wants = by x.window.behind refl where
-  by : (b : Bool) → x.window.behind ≡ b → covers result p.earliest ≡ true
-  by false is = ap (λ (r : Option ℤ). covers r p.earliest) (any is)
+pub since_more : (now : ℤ) (x : Ahead) (ahead : List Ahead) (above result : Since) (p : PieceTree) → (x.window.behind ≡ false → result.start ≡ None) →
+    (x.window.behind ≡ true → covers result.start now ≡ true) → (x.window.behind ≡ true → result.start ≡ Some now → result.taken ≡ None) →
+    (x.window.behind ≡ true → (left : PieceTree) → Contains x.left left → MayBegin above left → MayEnd result left) →
+    ((left : PieceTree) → Contains x.left left → left.earliest ≤ℤ left.latest) →
+    ((q : PieceTree) → is_wanted now ahead q ≡ true → MayBegin above q) → is_wanted now (x ∷ ahead) p ≡ true → MayBegin result p
+since_more now x ahead above result p any at_now free_now held span all wants = by x.window.behind refl where
+  by : (b : Bool) → x.window.behind ≡ b → MayBegin result p
+  by false is = record {
+    covered = ap (λ (r : Option ℤ). covers r p.earliest) (any is);
+    free = λ n t e. absurd (let f : None ≡ Some p.earliest = sym (any is) ∙ e in cc);
+  }
   by true is = elim (or_cases (lives x.window p.earliest now) (list_any (λ (l : PieceTree). may_join join.Then l p && is_wanted now ahead (joined join.Then l p)) x.left) wants) [
     | inl live ↦ (
         let ahead_of_now : is_ahead true p.earliest now ≡ true = ap (λ (b : Bool). is_ahead b p.earliest now) (sym is) ∙ (and_parts _ _ live).0 in
-        since_later result now p.earliest (le_true now p.earliest ahead_of_now) (at_now is))
+        let after = le_true now p.earliest ahead_of_now in
+        record {
+          covered = since_later result.start now p.earliest after (at_now is);
+          free = λ n t e.
+              let begins : p.earliest ≤ℤ now = le_true p.earliest now (ap (λ (r : Option ℤ). covers r now) (sym e) ∙ at_now is) in
+              let same : p.earliest ≡ now = le_both p.earliest now begins after in
+              absurd (let f : None ≡ Some n = sym (free_now is (e ∙ ap Some same)) ∙ t in cc);
+        })
     | inr one ↦ (
         let found = any_item _ x.left one in let l = found.0 in let parts = and_parts _ _ found.2 in
-        let begins = since_later above (joined join.Then l p).earliest l.earliest (min_left l.earliest p.earliest) (all (joined join.Then l p) parts.1) in
-        since_later result l.latest p.earliest (le_true l.latest p.earliest (and_parts _ _ parts.0).0) (held is l found.1 begins))
+        let begins = join_begins p l (span l found.1) parts.0 in
+        let joins = all (joined join.Then l p) parts.1 in
+        let may : MayBegin above l = record {
+          covered = subst (λ (t : ℤ). covers above.start t ≡ true) begins.0 joins.covered;
+          free = λ n t e. or_false_left (has n l.tree) (has n p.tree) (joins.free n t (e ∙ ap Some (sym begins.0)));
+        } in
+        let ends = held is l found.1 may in
+        let order = le_true l.latest p.earliest (and_parts _ _ parts.0).0 in
+        record {
+          covered = since_later result.start l.latest p.earliest order ends.covered;
+          free = λ n t e.
+              let first : p.earliest ≤ℤ l.latest = le_true p.earliest l.latest (ap (λ (r : Option ℤ). covers r l.latest) (sym e) ∙ ends.covered) in
+              let same : p.earliest ≡ l.latest = le_both p.earliest l.latest first order in
+              apart_to l.tree p.tree (and_parts _ _ parts.0).1 n (ends.taken n t (e ∙ ap Some same));
+        })
   ]
 
 -- nothing is wanted of what is joined with a thing that begins before

@@ -1,15 +1,26 @@
 -- For private clauses: what bounds the sequences that join a new thing to one thing held on the left of each FOLLOWEDBY.
-use Rattle.std.specs.Prelude.{◌≡◌, ℕ, nat_eq, ℤ, int_le, ◌≤ℤ◌, Bool, true, ◌&&◌, Option, Some, None, List, length}
+use Rattle.std.specs.Prelude.{◌≡◌, ℕ, nat_eq, ℤ, int_le, ◌≤ℤ◌, Bool, true, false, ◌&&◌, Option, Some, None, List, length}
 use Rattle.std.specs.List.{Contains, IsDistinct}
 use Rattle.match_bindings.specs.BindTree.{BindTree, has, disjoint}
 use Rattle.match_live.specs.declared.reach.Reach.{Reach}
 use Rattle.match_live.specs.declared.sequence.Sequence.{Sequence}
+use Rattle.match_live.specs.declared.since.Since.{Since}
 use Rattle.match_live.specs.PieceTree.{PieceTree}
 
 -- whether a time isn't before another one, where there is one
 abbrev pub covers : Option ℤ → ℤ → Bool
 covers None time = true
 covers (Some start) time = int_le start time
+
+-- a thing that is wanted may begin so: not before the start, and where it begins then, without the number that is taken
+pub record MayBegin (since : Since) (piece : PieceTree) : Type 0 where
+  pub covered : covers since.start piece.earliest ≡ true
+  pub free : (n : ℕ) → since.taken ≡ Some n → since.start ≡ Some piece.earliest → has n piece.tree ≡ false
+
+-- what it follows may end so: not before the start, and where it ends then, with the number that is taken
+pub record MayEnd (since : Since) (piece : PieceTree) : Type 0 where
+  pub covered : covers since.start piece.latest ≡ true
+  pub taken : (n : ℕ) → since.taken ≡ Some n → since.start ≡ Some piece.latest → has n piece.tree ≡ true
 
 -- a sequence by when it begins, and the numbers in it
 pub record IsSequence (sequence : Sequence) (piece : PieceTree) : Type 0 where

@@ -36,6 +36,6 @@ loop-first-preserved c =
       | else-covers w ↦
           ap (λ (v : Vec Piece Global). piece_trees v.items) w.out-is ∙ sym (append-nil (piece_trees c.loop-first.out.items))
           ∙ ap (λ z. piece_trees c.loop-first.out.items ++ z)
-          (sym (row_too_early c.args.now ahead c.new-since.result.start j (piece_tree x) ys c.new-since.ensures (sym c.covers.ensures ∙ w.if-covers.false)))
+          (sym (row_too_early c.args.now ahead c.new-since.result.start j (piece_tree x) ys (λ q wants. (c.new-since.ensures q wants).covered) (sym c.covers.ensures ∙ w.if-covers.false)))
           ∙ row ∙ grown
     ]

@@ -6,6 +6,7 @@ use Rattle.match_live.specs.declared.lead.Lead.{Lead}
 use Rattle.match_live.specs.inner.Wanted.{Ahead, is_wanted}
 use Rattle.match_live.specs.inner.Leads.{ahead_of, leads_of}
 use Rattle.match_live.proofs.WantedLemmas.{leads_more}
+use Rattle.match_live.proofs.ReachLemmas.{held_span}
 use Rattle.match_live.proofs.SinceLemmas.{since_more}
 use Rattle.match_live.proofs.since.Since.new.Goals as goal
 
@@ -16,6 +17,6 @@ loop-lead-preserved c = λ piece wants.
     = ap leads_of (take_more leads at x c.loop-lead-test.true) ∙ leads_more (take at leads) (get_or leads at x) in
     let named : leads_of (take (at + 1) leads) ≡ ahead_of x ∷ leads_of (take at leads)
     = next ∙ ap (λ (l : Lead). ahead_of l ∷ leads_of (take at leads)) (sym c.lead-item.is) in
-    since_more c.args.now (ahead_of x) (leads_of (take at leads)) c.loop-lead.since.start c.under-since.result.start piece
-    c.under-since.ensures.any c.under-since.ensures.now c.under-since.ensures.held c.loop-lead.invariant
+    since_more c.args.now (ahead_of x) (leads_of (take at leads)) c.loop-lead.since c.under-since.result piece
+    c.under-since.ensures.any c.under-since.ensures.now c.under-since.ensures.free c.under-since.ensures.held (held_span x.left.held.items) c.loop-lead.invariant
     (subst (λ (z : List Ahead). is_wanted c.args.now z piece ≡ true) named wants)
