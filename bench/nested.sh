@@ -1,6 +1,7 @@
 #!/usr/bin/env bash
 # Times `match` of FOLLOWEDBYs nested to the right, `[a] FOLLOWEDBY ([b] FOLLOWEDBY ([c] ..))`, whose brackets hold often:
-# over logs in which no chain of them is long enough, or the outermost bracket holds seldom or never.
+# over logs in which no sequence of them is long enough, or the outermost bracket holds seldom or never; and, with a stack
+# of 1 MB, what takes longest until it is crowded.
 #
 #   bench/nested.sh [PROGRAM]
 set -eu
@@ -63,3 +64,12 @@ for count in 1000 10000; do
   log $count 0 0 $((count - 20))
   timed "4 brackets, $count logins, the last but 20 of x" "$(nested x 3)"
 done
+ulimit -s 1024
+any="[user-account:account_login LIKE '%']"
+for count in 9 12; do
+  log $count $count 0 0
+  timed "pairs of which few go together, $count logins at once" \
+    "(($any FOLLOWEDBY $any) AND (($any REPEATS 2 TIMES) REPEATS 2 TIMES)) REPEATS 3 TIMES"
+done
+log 100 0 0 0
+timed "63 brackets, 100 logins, all of which meet all" "$(nested % 62 | sed 's/= /LIKE /')"
