@@ -29,4 +29,5 @@ pub mod QuietLemmas
 pub mod LeavesLemmas
 pub mod ReachLemmas
 pub mod SinceLemmas
+pub mod SieveLemmas
 pub mod SequenceLemmas

@@ -1,11 +1,11 @@
 -- What begins too early isn't wanted.
 use Rattle.std.proofs.Common.{subst, ℕ, Less, Greater, ◌≡◌, ℤ, ◌≤ℤ◌, List, [], ◌∷◌, refl, sym, ◌∙◌, ap, inl, inr, arith}
-use Rattle.std.specs.Prelude.{IfSome, ◌||◌, Bool, true, false, int_le, int_lt, ◌&&◌, Option, Some, None}
+use Rattle.std.specs.Prelude.{IfSome, Bool, true, false, int_le, int_lt, ◌&&◌, Option, Some, None}
 use Rattle.std.specs.Cmp.{int_cmp_is}
 use Rattle.std.specs.Int.{int_min}
 use Rattle.std.specs.List.{Contains, list_any}
 use Rattle.std.specs.Ordering.{is_lt, int_cmp}
-use Rattle.std.proofs.lemmas.Bool.{and_parts, or_cases}
+use Rattle.std.proofs.lemmas.Bool.{and_parts, or_cases, or_parts}
 use Rattle.std.proofs.lemmas.Int.{ints, clamps}
 use Rattle.match_bindings.proofs.IsBindingLemmas.{apart_to, lt_true, le_true, true_le}
 use Rattle.match_bindings.specs.BindTree.{BindTree, has}
@@ -45,11 +45,7 @@ pub since_later : (since : Option ℤ) (a b : ℤ) → a ≤ℤ b → covers sin
 since_later None a b h k = refl
 since_later (Some s) a b h k = true_le s b (le_trans s a b (le_true s a k) h)
 
-or_false_left : (a b : Bool) → (a || b) ≡ false → a ≡ false
-or_false_left false b h = refl
-or_false_left true b h = absurd (cc)
-
-min_left : (a b : ℤ) → int_min a b ≤ℤ a
+pub min_left : (a b : ℤ) → int_min a b ≤ℤ a
 min_left a b = omega (arith, ints, clamps)
 
 -- one side more ahead
@@ -81,7 +77,7 @@ since_more now x ahead above result p any at_now free_now held span all wants = 
         let joins = all (joined join.Then l p) parts.1 in
         let may : MayBegin above l = record {
           covered = subst (λ (t : ℤ). covers above.start t ≡ true) begins.0 joins.covered;
-          free = λ n t e. or_false_left (has n l.tree) (has n p.tree) (joins.free n t (e ∙ ap Some (sym begins.0)));
+          free = λ n t e. (or_parts (has n l.tree) (has n p.tree) (joins.free n t (e ∙ ap Some (sym begins.0)))).0;
         } in
         let ends = held is l found.1 may in
         let order = le_true l.latest p.earliest (and_parts _ _ parts.0).0 in

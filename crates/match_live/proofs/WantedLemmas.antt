@@ -1,5 +1,5 @@
 -- What is wanted: leads one by one, and joins of which only what is wanted is made.
-use Rattle.std.proofs.Common.{◌≡◌, ℕ, ◌+◌, ◌≤◌, ◌<◌, ℤ, List, [], ◌∷◌, ◌++◌, length, get_or, take, drop, refl, sym, ◌∙◌, ap, arith, length-append, append-nil, append_assoc}
+use Rattle.std.proofs.Common.{◌≡◌, ℕ, ◌+◌, ◌≤◌, ◌<◌, ℤ, List, [], ◌∷◌, ◌++◌, length, get_or, take, drop, refl, sym, ◌∙◌, ap, arith, length-append, append_assoc}
 use Rattle.std.specs.Prelude.{Bool, true, false, ◌&&◌, ◌||◌, map, filter}
 use Rattle.std.specs.List.{Contains, list_any}
 use Rattle.std.proofs.lemmas.List.{take-append-drop, length-map}
@@ -35,41 +35,6 @@ row_append now ahead j x us vs =
     ap (λ z. wanted now ahead (map (joined j x) z)) (filter-append (may_join j x) us vs)
     ∙ ap (wanted now ahead) (map_append (joined j x) (filter (may_join j x) us) (filter (may_join j x) vs))
     ∙ filter-append (is_wanted now ahead) (join_row j x us) (join_row j x vs)
-
--- one thing more, which is joined
-pub row_next : (now : ℤ) (ahead : List Ahead) (j : Join) (x : PieceTree) (ys : List Piece) (at : ℕ) (d : Piece) → at < length ys → may_join j x (piece_tree (get_or ys at d)) ≡ true →
-    wanted now ahead (join_row j x (piece_trees (take (at + 1) ys)))
-    ≡ wanted now ahead (join_row j x (piece_trees (take at ys))) ++ wanted now ahead (joined j x (piece_tree (get_or ys at d)) ∷ [])
-row_next now ahead j x ys at d h may =
-    ap (λ z. wanted now ahead (join_row j x z)) (next_taken ys at d h)
-    ∙ row_append now ahead j x (piece_trees (take at ys)) (piece_tree (get_or ys at d) ∷ [])
-    ∙ ap (λ z. wanted now ahead (join_row j x (piece_trees (take at ys))) ++ wanted now ahead z) one where
-      one : join_row j x (piece_tree (get_or ys at d) ∷ []) ≡ joined j x (piece_tree (get_or ys at d)) ∷ []
-      one = rw may refl
-
-pub row_grown : (now : ℤ) (ahead : List Ahead) (j : Join) (x : PieceTree) (ys : List Piece) (at : ℕ) (d : Piece) (old mid : List PieceTree) → at < length ys →
-    may_join j x (piece_tree (get_or ys at d)) ≡ true → mid ≡ old ++ wanted now ahead (join_row j x (piece_trees (take at ys))) →
-    (new : List PieceTree) → new ≡ wanted now ahead (joined j x (piece_tree (get_or ys at d)) ∷ []) →
-    mid ++ new ≡ old ++ wanted now ahead (join_row j x (piece_trees (take (at + 1) ys)))
-row_grown now ahead j x ys at d old mid h may is new one =
-    ap (λ z. mid ++ z) one
-    ∙ ap (λ z. z ++ wanted now ahead (joined j x (piece_tree (get_or ys at d)) ∷ [])) is
-    ∙ append_assoc old (wanted now ahead (join_row j x (piece_trees (take at ys)))) (wanted now ahead (joined j x (piece_tree (get_or ys at d)) ∷ []))
-    ∙ ap (λ z. old ++ z) (sym (row_next now ahead j x ys at d h may)) where
-      append_assoc : (a b c : List PieceTree) → (a ++ b) ++ c ≡ a ++ (b ++ c)
-      append_assoc [] b c = refl
-      append_assoc (y ∷ a) b c = ap (λ z. y ∷ z) (append_assoc a b c)
-
--- and one that isn't
-pub row_same : (now : ℤ) (ahead : List Ahead) (j : Join) (x : PieceTree) (ys : List Piece) (at : ℕ) (d : Piece) → at < length ys → may_join j x (piece_tree (get_or ys at d)) ≡ false →
-    wanted now ahead (join_row j x (piece_trees (take (at + 1) ys))) ≡ wanted now ahead (join_row j x (piece_trees (take at ys)))
-row_same now ahead j x ys at d h may =
-    ap (λ z. wanted now ahead (join_row j x z)) (next_taken ys at d h)
-    ∙ row_append now ahead j x (piece_trees (take at ys)) (piece_tree (get_or ys at d) ∷ [])
-    ∙ ap (λ z. wanted now ahead (join_row j x (piece_trees (take at ys))) ++ wanted now ahead z) none
-    ∙ append-nil (wanted now ahead (join_row j x (piece_trees (take at ys)))) where
-      none : join_row j x (piece_tree (get_or ys at d) ∷ []) ≡ []
-      none = rw may refl
 
 pub row_part : (now : ℤ) (ahead : List Ahead) (j : Join) (x : PieceTree) (ys : List Piece) (at : ℕ) →
     length (wanted now ahead (join_row j x (piece_trees (take at ys)))) ≤ length (wanted now ahead (join_row j x (piece_trees ys)))
@@ -177,17 +142,6 @@ pub wanted_by : (now : ℤ) (leads : List Lead) (above : List Lead) (x : Lead) (
 wanted_by now leads above x p is = ap (λ z. is_wanted now (leads_of z) p) is ∙ ap (λ z. is_wanted now z p) (leads_more above x)
 
 -- ---- where there is no room
-
--- one pair more passes
-pub row_full : (now : ℤ) (ahead : List Ahead) (j : Join) (x : PieceTree) (ys : List Piece) (at : ℕ) (d : Piece) (room : ℕ) (out old : List Piece) → at < length ys →
-    may_join j x (piece_tree (get_or ys at d)) ≡ true → room < length out + length (wanted now ahead (joined j x (piece_tree (get_or ys at d)) ∷ [])) →
-    piece_trees out ≡ piece_trees old ++ wanted now ahead (join_row j x (piece_trees (take at ys))) →
-    room < length old + length (wanted now ahead (join_row j x (piece_trees ys)))
-row_full now ahead j x ys at d room out old h may over is =
-    let more = ap length (row_next now ahead j x ys at d h may)
-    ∙ length-append (wanted now ahead (join_row j x (piece_trees (take at ys)))) (wanted now ahead (joined j x (piece_tree (get_or ys at d)) ∷ [])) in
-    let long = sym (length-map out piece_tree) ∙ ap length is ∙ length-append (piece_trees old) (wanted now ahead (join_row j x (piece_trees (take at ys)))) in
-    omega (arith, more, long, over, row_part now ahead j x ys (at + 1), length-map old piece_tree)
 
 -- a row passes what is left
 pub joins_full : (now : ℤ) (ahead : List Ahead) (j : Join) (xs : List Piece) (ys : List PieceTree) (at : ℕ) (d : Piece) (room : ℕ) (out old : List Piece) → at < length xs →

@@ -13,3 +13,4 @@ pub mod Numbers
 pub mod Reaches
 pub mod TreeCode
 pub mod Seen
+pub mod Sieves

@@ -1,7 +1,10 @@
-ghost use Rattle.std.specs.Prelude.{◌≡◌, ◌++◌, ◌∷◌, ◌+◌, ◌<◌, ◌≤◌, [], true, length, IfOk, OnOk, Err};
+ghost use Rattle.std.specs.Prelude.{◌≡◌, ◌++◌, ◌∷◌, ◌+◌, ◌<◌, ◌≤◌, ◌≤ℤ◌, [], true, false, length, IfOk, OnOk, Err};
 ghost use Rattle.std.specs.Int.{int_min, int_max};
 ghost use Rattle.match_bindings.specs.BindTree.{tree_of};
+ghost use Rattle.match_live.specs.PieceTree.{PieceTree};
 ghost use Rattle.match_live.specs.inner.Pieces.{piece_tree, piece_trees};
+ghost use Rattle.match_live.specs.inner.Reaches.{IsSince};
+ghost use Rattle.match_live.specs.inner.Sieves.{AreTried, IsSieveOf};
 ghost use Rattle.match_live.specs.inner.Steps.{joined_tree, joined, may_join, join_row, joins};
 ghost use Rattle.match_live.specs.inner.Wanted.{is_wanted, wanted};
 ghost use Rattle.match_live.specs.inner.Leads.{leads_of};
@@ -9,6 +12,7 @@ ghost use Rattle.match_live.specs.declared.stop.Stop.TheVariants as stop;
 
 use crate::lead::Lead;
 use crate::piece::Piece;
+use crate::sieve::Sieve;
 use crate::since::Since;
 use crate::stop::Stop;
 use crate::wanted::is_wanted;
@@ -63,6 +67,42 @@ impl Join {
         })
     }
 
+    /// Whether nothing that begins at this time or before is joined with what ends then, whatever they bind.
+    pub fn is_over(self, end: Instant, begin: Instant) -> bool
+        ensures { result ≡ true → (first second : PieceTree) → first.latest ≡ end → second.earliest ≤ℤ begin
+            → may_join self first second ≡ false }
+    {
+        match self {
+            Join::Then => begin < end,
+            Join::Both | Join::Repeats => false,
+        }
+    }
+
+    /// Adds what two things are joined to, where they are and that is wanted, unless there is no room for it.
+    fn join_pair(
+        self,
+        alloc: Global,
+        first: &Piece,
+        second: &Piece,
+        since: &Since,
+        now: Instant,
+        leads: &[Lead],
+        room: u64,
+        out: &mut Vec<Piece>,
+    ) -> Result<(), Stop>
+        requires since { IsSince since.now now (leads_of leads.now) }
+        ensures joined { OnOk result (piece_trees out.new.items ≡ piece_trees out.old.items
+            ++ wanted now (leads_of leads.now) (join_row self (piece_tree first.now) (piece_tree second.now ∷ []))) }
+        ensures crowded { result ≡ Err stop.Crowded → room < length out.old.items
+            + length (wanted now (leads_of leads.now) (join_row self (piece_tree first.now) (piece_tree second.now ∷ []))) }
+    {
+        if since.covers(second.earliest) && self.may_join(first, second) {
+            let piece = self.joined(alloc, first, second)?;
+            push_wanted(alloc, piece, now, leads, room, out)?;
+        }
+        Ok(())
+    }
+
     /// Joins a thing with each of the others that it is joined with, as far as what comes of it is wanted,
     /// up to the thing that there is no room for.
     fn join_row(
@@ -70,20 +110,76 @@ impl Join {
         alloc: Global,
         first: &Piece,
         seconds: &[Piece],
+        sieve: &Sieve,
         now: Instant,
         leads: &[Lead],
         room: u64,
         out: &mut Vec<Piece>,
     ) -> Result<(), Stop>
+        requires since { IsSince sieve.now.since now (leads_of leads.now) }
+        requires things { 0 < length sieve.now.keys.items → IsSieveOf seconds.now sieve.now }
+        ensures joined { OnOk result (piece_trees out.new.items ≡ piece_trees out.old.items
+            ++ wanted now (leads_of leads.now) (join_row self (piece_tree first.now) (piece_trees seconds.now))) }
+        ensures crowded { result ≡ Err stop.Crowded → room < length out.old.items
+            + length (wanted now (leads_of leads.now) (join_row self (piece_tree first.now) (piece_trees seconds.now))) }
+    {
+        let since = &sieve.since;
+        if sieve.keys.is_empty() {
+            return self.join_each(alloc, first, seconds, since, now, leads, room, out);
+        }
+        let places = sieve.places(alloc, self, first)?;
+        self.join_places(alloc, first, seconds, &places, since, now, leads, room, out)
+    }
+
+    /// The same, each tried alone.
+    fn join_each(
+        self,
+        alloc: Global,
+        first: &Piece,
+        seconds: &[Piece],
+        since: &Since,
+        now: Instant,
+        leads: &[Lead],
+        room: u64,
+        out: &mut Vec<Piece>,
+    ) -> Result<(), Stop>
+        requires since { IsSince since.now now (leads_of leads.now) }
         ensures joined { OnOk result (piece_trees out.new.items ≡ piece_trees out.old.items
             ++ wanted now (leads_of leads.now) (join_row self (piece_tree first.now) (piece_trees seconds.now))) }
         ensures crowded { result ≡ Err stop.Crowded → room < length out.old.items
             + length (wanted now (leads_of leads.now) (join_row self (piece_tree first.now) (piece_trees seconds.now))) }
     {
         for second in seconds {
-            if self.may_join(first, second) {
-                let held = self.joined(alloc, first, second)?;
-                push_wanted(alloc, held, now, leads, room, out)?;
+            self.join_pair(alloc, first, second, since, now, leads, room, out)?;
+        }
+        Ok(())
+    }
+
+    /// The same, where it is joined in vain with what stands at no other places than these.
+    fn join_places(
+        self,
+        alloc: Global,
+        first: &Piece,
+        seconds: &[Piece],
+        places: &[usize],
+        since: &Since,
+        now: Instant,
+        leads: &[Lead],
+        room: u64,
+        out: &mut Vec<Piece>,
+    ) -> Result<(), Stop>
+        requires since { IsSince since.now now (leads_of leads.now) }
+        requires tried { AreTried since.now.start self (piece_tree first.now) seconds.now places.now }
+        ensures joined { OnOk result (piece_trees out.new.items ≡ piece_trees out.old.items
+            ++ wanted now (leads_of leads.now) (join_row self (piece_tree first.now) (piece_trees seconds.now))) }
+        ensures crowded { result ≡ Err stop.Crowded → room < length out.old.items
+            + length (wanted now (leads_of leads.now) (join_row self (piece_tree first.now) (piece_trees seconds.now))) }
+    {
+        let mut done = 0;
+        for place in places {
+            if done <= *place {
+                self.join_pair(alloc, first, &seconds[*place], since, now, leads, room, out)?;
+                done = *place + 1;
             }
         }
         Ok(())
@@ -113,10 +209,34 @@ impl Join {
         if firsts.is_empty() {
             return Ok(());
         }
-        let since = Since::new(now, leads);
+        let sieve = Sieve::new(alloc, Since::new(now, leads), firsts.len(), seconds)?;
+        let joined = self.join_rows(alloc, firsts, seconds, &sieve, now, leads, room, out);
+        drop(sieve);
+        joined
+    }
+
+    /// The same by a sieve of the second things.
+    fn join_rows(
+        self,
+        alloc: Global,
+        firsts: &[Piece],
+        seconds: &[Piece],
+        sieve: &Sieve,
+        now: Instant,
+        leads: &[Lead],
+        room: u64,
+        out: &mut Vec<Piece>,
+    ) -> Result<(), Stop>
+        requires since { IsSince sieve.now.since now (leads_of leads.now) }
+        requires things { 0 < length sieve.now.keys.items → IsSieveOf seconds.now sieve.now }
+        ensures joined { OnOk result (piece_trees out.new.items ≡ piece_trees out.old.items
+            ++ wanted now (leads_of leads.now) (joins self (piece_trees firsts.now) (piece_trees seconds.now))) }
+        ensures crowded { result ≡ Err stop.Crowded → room < length out.old.items
+            + length (wanted now (leads_of leads.now) (joins self (piece_trees firsts.now) (piece_trees seconds.now))) }
+    {
         for first in firsts {
-            if since.covers(first.earliest) {
-                self.join_row(alloc, first, seconds, now, leads, room, out)?;
+            if sieve.since.covers(first.earliest) {
+                self.join_row(alloc, first, seconds, sieve, now, leads, room, out)?;
             }
         }
         Ok(())

@@ -8,10 +8,12 @@
 //! that the answers of the rows of a log, one after another, are the listing of `match_bindings`.
 #![tactic(auto)]
 
+mod chunk;
 mod ending;
 mod expired;
 mod heap;
 mod join;
+mod key;
 pub mod laws;
 mod lead;
 mod leaves;
@@ -20,6 +22,7 @@ mod levels;
 mod matcher;
 mod node;
 mod piece;
+mod probe;
 mod reach;
 mod room;
 mod row;
@@ -27,6 +30,7 @@ mod row_numbers;
 mod run;
 mod sequence;
 mod sides;
+mod sieve;
 mod since;
 mod stop;
 mod store;

@@ -6,6 +6,7 @@ use Rattle.match_live.specs.declared.reach.Reach.{Reach}
 use Rattle.match_live.specs.declared.sequence.Sequence.{Sequence}
 use Rattle.match_live.specs.declared.since.Since.{Since}
 use Rattle.match_live.specs.PieceTree.{PieceTree}
+use Rattle.match_live.specs.inner.Wanted.{Ahead, is_wanted}
 
 -- whether a time isn't before another one, where there is one
 abbrev pub covers : Option ℤ → ℤ → Bool
@@ -16,6 +17,10 @@ covers (Some start) time = int_le start time
 pub record MayBegin (since : Since) (piece : PieceTree) : Type 0 where
   pub covered : covers since.start piece.earliest ≡ true
   pub free : (n : ℕ) → since.taken ≡ Some n → since.start ≡ Some piece.earliest → has n piece.tree ≡ false
+
+-- whatever is wanted may begin so
+abbrev pub IsSince : Since → ℤ → List Ahead → Type 0
+IsSince since now leads = (piece : PieceTree) → is_wanted now leads piece ≡ true → MayBegin since piece
 
 -- what it follows may end so: not before the start, and where it ends then, with the number that is taken
 pub record MayEnd (since : Since) (piece : PieceTree) : Type 0 where

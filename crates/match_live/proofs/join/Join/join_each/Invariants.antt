@@ -4,7 +4,7 @@ use Rattle.match_live.specs.inner.Pieces.{piece_tree, piece_trees}
 use Rattle.match_live.specs.inner.Steps.{join_row}
 use Rattle.match_live.specs.inner.Wanted.{wanted}
 use Rattle.match_live.specs.inner.Leads.{leads_of}
-use Rattle.match_live.proofs.join.Join.join_row.Given as goal
+use Rattle.match_live.proofs.join.Join.join_each.Given as goal
 
 abbrev pub invariant-loop-second : goal.invariant-loop-second
 invariant-loop-second l = piece_trees l.out.items

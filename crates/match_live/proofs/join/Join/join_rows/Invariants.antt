@@ -4,7 +4,7 @@ use Rattle.match_live.specs.inner.Pieces.{piece_trees}
 use Rattle.match_live.specs.inner.Steps.{joins}
 use Rattle.match_live.specs.inner.Wanted.{wanted}
 use Rattle.match_live.specs.inner.Leads.{leads_of}
-use Rattle.match_live.proofs.join.Join.join.Given as goal
+use Rattle.match_live.proofs.join.Join.join_rows.Given as goal
 
 abbrev pub invariant-loop-first : goal.invariant-loop-first
 invariant-loop-first l = piece_trees l.out.items

@@ -1,0 +1,15 @@
+use Rattle.std.proofs.Common.{◌≡◌, ◌≤◌, ◌<◌, ℕ, ◌++◌, length}
+use Rattle.std.specs.Prelude.{take, slice_index_or}
+use Rattle.match_live.specs.inner.Pieces.{piece_tree, piece_trees}
+use Rattle.match_live.specs.inner.Steps.{join_row}
+use Rattle.match_live.specs.inner.Wanted.{wanted}
+use Rattle.match_live.specs.inner.Leads.{leads_of}
+use Rattle.match_live.proofs.join.Join.join_places.Given as goal
+
+abbrev pub invariant-loop-place : goal.invariant-loop-place
+invariant-loop-place l = record {
+  joined : piece_trees l.out.items
+      ≡ piece_trees l.fn.out.items ++ wanted l.now (leads_of l.leads) (join_row l.self (piece_tree l.first) (piece_trees (take l.done l.seconds)));
+  within : l.done ≤ length l.seconds;
+  passed : (k d : ℕ) → k < l.place-index → slice_index_or l.places k d < l.done;
+}
