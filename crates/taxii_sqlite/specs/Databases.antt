@@ -46,6 +46,11 @@ module _ {D : Type 0} {disk : Ghosts D} where
   Removes dates Nowhere Nowhere = ⊤
   Removes dates _ _ = ⊥
 
+  -- it is in a file
+  abbrev pub HasFile : Database D disk → Type 0
+  HasFile (Disk held) = ⊤
+  HasFile _ = ⊥
+
   -- a call can fail: not where nothing is kept
   abbrev pub CanFail : Database D disk → Type 0
   CanFail Nowhere = ⊥

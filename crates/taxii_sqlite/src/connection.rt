@@ -3,7 +3,7 @@ ghost use Rattle.sqlite_wal.specs.Files.{image_at};
 ghost use Rattle.sqlite_wal.specs.Reads.{AreClean};
 ghost use Rattle.sqlite.specs.Closing.{IsCopied};
 ghost use Rattle.taxii_rows.specs.StoreState.{RiseFrom};
-ghost use Rattle.taxii_sqlite.specs.Databases.{is_open, FindsNext, FindsMark, Appends, Removes, CanFail, StaysAs, IsOpenAt, Leaves};
+ghost use Rattle.taxii_sqlite.specs.Databases.{is_open, FindsNext, FindsMark, Appends, Removes, HasFile, CanFail, StaysAs, IsOpenAt, Leaves};
 
 use crate::change::Change;
 use crate::failure::Failure;
@@ -27,9 +27,10 @@ const CLOSED: Failure = Failure::Fault(FaultCause::Closed);
 
 impl<D: Disk + Drop> Database<D> {
     /// Ends the database. Where it is in a file, the log is copied into that, so that the file alone is the whole store, and both are
-    /// given back. Without this the two are the store together.
+    /// given back. Without this the two are the store together. Where there is no file it can't fail.
     pub(crate) fn close(self) -> Result<Option<Files<D>>, Failure>
         ensures leaves { IfOk result (Leaves self) }
+        ensures fails { OnErr result (HasFile self) }
     {
         match self {
             Database::Disk(connection) => Ok(Some(copy_log(connection)?)),

@@ -1,8 +1,8 @@
-ghost use Rattle.std.specs.Prelude.{◌≡◌, None, true, false, IfOk, OnOk, OnErr, Err};
+ghost use Rattle.std.specs.Prelude.{◌≡◌, ◌≢◌, [], None, true, false, IfOk, OnOk, OnErr, Err};
 ghost use Rattle.flow_edges.specs.Faults.{Counted};
 ghost use Rattle.sqlite_wal.specs.Files.{image_at};
 ghost use Rattle.taxii_rows.specs.StoreState.{RiseFrom};
-ghost use Rattle.taxii_sqlite.specs.Databases.{is_open, FindsNext, FindsMark, Appends, Removes, CanFail, StaysAs, IsOpenAt, Leaves};
+ghost use Rattle.taxii_sqlite.specs.Databases.{is_open, FindsNext, FindsMark, Appends, Removes, HasFile, CanFail, StaysAs, IsOpenAt, Leaves};
 ghost use Rattle.taxii_sqlite.specs.declared.connection.Database.TheVariants.{Closed};
 
 use crate::connection::{self, Database};
@@ -42,9 +42,10 @@ impl<S: Start> SqliteKeeper<FileFrom<S>, S> {
 
     /// Ends the keeper: where its rows are in a file, the log beside it is copied into it, so that the file alone is the whole
     /// store, and both are given back. A fault of that loses nothing: the two are the store together, as they are while the
-    /// keeper lives.
+    /// keeper lives. Without a file this can't fail.
     pub fn close(self) -> Result<Option<Files<FileFrom<S>>>, KeeperRefusal>
         ensures leaves { IfOk result (Leaves self.database) }
+        ensures fails { OnErr result (HasFile self.database) }
     {
         let mut faults = self.faults;
         faults.counted(self.database.close())
@@ -54,6 +55,7 @@ impl<S: Start> SqliteKeeper<FileFrom<S>, S> {
     fn open(&mut self, path: &str) -> Result<Database<FileFrom<S>>, Failure>
         ensures open { IfOk result (λ database. is_open database ≡ true) }
         ensures ready { IfOk result (IsOpenAt (image_at S.Start) path.now) }
+        ensures fails { OnErr result (path.now ≢ []) }
         ensures database { self.new.database ≡ self.old.database }
         ensures faults { self.new.faults ≡ self.old.faults }
     {
@@ -90,11 +92,12 @@ impl<S: Start> Keeper for SqliteKeeper<FileFrom<S>, S> {
     }
 
     /// Opens the file of this path, once in a keeper's life, and makes the tables where it has none; or none where the text is empty,
-    /// and then keeps nothing. A file that is no store, or a store of a later version, is a fault, and isn't written to.
+    /// which can't fail, and then keeps nothing. A file that is no store, or a store of a later version, is a fault, and isn't written to.
     fn attach(&mut self, text: &str) -> Result<(), KeeperRefusal>
         ensures ok { OnOk result (is_open self.new.database ≡ true) }
         ensures ready { OnOk result (IsOpenAt (image_at S.Start) text.now self.new.database) }
         ensures kept { OnErr result (self.new.database ≡ self.old.database) }
+        ensures fails { OnErr result (text.now ≢ []) }
         ensures causes { Counted (result ≡ Err KeeperRefusal.Fault) self.old.faults.count self.new.faults.count }
     {
         let opened = self.open(text);
