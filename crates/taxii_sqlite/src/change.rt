@@ -5,7 +5,7 @@ ghost use Rattle.sqlite.specs.Held.{state};
 ghost use Rattle.sqlite.specs.State.{HasCleanDisk};
 ghost use Rattle.taxii_sqlite.specs.Changes.{Does};
 ghost use Rattle.taxii_sqlite.specs.Statements.{Transacts};
-ghost use Rattle.taxii_sqlite.specs.Transactions.{IsUntouched, IsSettled, GoesOn, StaysUnended};
+ghost use Rattle.taxii_sqlite.specs.Transactions.{IsUntouched, IsSettled, IsStep};
 
 use crate::failure::Failure;
 use crate::{form, statements};
@@ -46,10 +46,7 @@ impl Change<'_> {
 
     /// Does the change in a transaction, which it doesn't end.
     fn perform<S: Alter>(self, transaction: &mut Transaction<'_, S>) -> Result<(), Failure>
-        ensures same_reference { transaction.new.conn.ghost_name ≡ transaction.old.conn.ghost_name }
-        ensures inside { GoesOn (state S.Store transaction.old.conn.now) (state S.Store transaction.new.conn.now) }
-        ensures unended { OnOk result (StaysUnended (state S.Store transaction.old.conn.now) (state S.Store transaction.new.conn.now)) }
-        ensures does { HasCleanDisk (state S.Store transaction.new.conn.now) → OnOk result (Does (state S.Store) self.entry transaction.old.conn.now transaction.new.conn.now) }
+        ensures { IsStep (state S.Store) (Does (state S.Store) self.entry) transaction.old.conn transaction.new.conn result }
     {
         match self {
             Change::MakeTables => form::make_tables(transaction),

@@ -4,7 +4,7 @@ ghost use Rattle.std.specs.Prelude.{◌≡◌, ◌<ℤ◌, Err, IfOk, OnOk};
 ghost use Rattle.sqlite.specs.Held.{state};
 ghost use Rattle.sqlite.specs.State.{HasCleanDisk};
 ghost use Rattle.taxii_sqlite.specs.Forms.{IsFormOf, AnswersForm, AnswersVersion, MakesRows, NamesForm, MakesTables, WritesVersion, Completes, Renews, IsTaken};
-ghost use Rattle.taxii_sqlite.specs.Transactions.{GoesOn, StaysUnended};
+ghost use Rattle.taxii_sqlite.specs.Transactions.{IsStep};
 
 use crate::change::Change;
 use crate::failure::Failure;
@@ -84,10 +84,7 @@ fn complete<S: Alter>(connection: &mut Connection<S>, form: Form) -> Result<(), 
 
 /// Makes all tables, and names the form.
 pub(crate) fn make_tables<S: Alter>(transaction: &mut Transaction<'_, S>) -> Result<(), Failure>
-    ensures same_reference { transaction.new.conn.ghost_name ≡ transaction.old.conn.ghost_name }
-    ensures inside { GoesOn (state S.Store transaction.old.conn.now) (state S.Store transaction.new.conn.now) }
-    ensures unended { OnOk result (StaysUnended (state S.Store transaction.old.conn.now) (state S.Store transaction.new.conn.now)) }
-    ensures makes { HasCleanDisk (state S.Store transaction.new.conn.now) → OnOk result (MakesTables (state S.Store) transaction.old.conn.now transaction.new.conn.now) }
+    ensures { IsStep (state S.Store) (MakesTables (state S.Store)) transaction.old.conn transaction.new.conn result }
 {
     make_rows(transaction)?;
     name(transaction)?;
@@ -95,10 +92,7 @@ pub(crate) fn make_tables<S: Alter>(transaction: &mut Transaction<'_, S>) -> Res
 }
 
 fn make_rows<S: Alter>(transaction: &mut Transaction<'_, S>) -> Result<(), Failure>
-    ensures same_reference { transaction.new.conn.ghost_name ≡ transaction.old.conn.ghost_name }
-    ensures inside { GoesOn (state S.Store transaction.old.conn.now) (state S.Store transaction.new.conn.now) }
-    ensures unended { OnOk result (StaysUnended (state S.Store transaction.old.conn.now) (state S.Store transaction.new.conn.now)) }
-    ensures makes { HasCleanDisk (state S.Store transaction.new.conn.now) → OnOk result (MakesRows (state S.Store) transaction.old.conn.now transaction.new.conn.now) }
+    ensures { IsStep (state S.Store) (MakesRows (state S.Store)) transaction.old.conn transaction.new.conn result }
 {
     execute(transaction, ROW_TABLE, &[])?;
     execute(transaction, MARK_TABLE, &[])?;
@@ -108,10 +102,7 @@ fn make_rows<S: Alter>(transaction: &mut Transaction<'_, S>) -> Result<(), Failu
 
 /// Names the form.
 pub(crate) fn name<S: Alter>(transaction: &mut Transaction<'_, S>) -> Result<(), Failure>
-    ensures same_reference { transaction.new.conn.ghost_name ≡ transaction.old.conn.ghost_name }
-    ensures inside { GoesOn (state S.Store transaction.old.conn.now) (state S.Store transaction.new.conn.now) }
-    ensures unended { OnOk result (StaysUnended (state S.Store transaction.old.conn.now) (state S.Store transaction.new.conn.now)) }
-    ensures names { HasCleanDisk (state S.Store transaction.new.conn.now) → OnOk result (NamesForm (state S.Store) transaction.old.conn.now transaction.new.conn.now) }
+    ensures { IsStep (state S.Store) (NamesForm (state S.Store)) transaction.old.conn transaction.new.conn result }
 {
     execute(transaction, FORM_TABLE, &[])?;
     execute(transaction, NAME_FORM, &[])?;
@@ -143,10 +134,7 @@ fn renew<S: Alter>(connection: &mut Connection<S>, version: i64) -> Result<(), F
 
 /// Writes this version over another one.
 pub(crate) fn write_version<S: Alter>(transaction: &mut Transaction<'_, S>) -> Result<(), Failure>
-    ensures same_reference { transaction.new.conn.ghost_name ≡ transaction.old.conn.ghost_name }
-    ensures inside { GoesOn (state S.Store transaction.old.conn.now) (state S.Store transaction.new.conn.now) }
-    ensures unended { OnOk result (StaysUnended (state S.Store transaction.old.conn.now) (state S.Store transaction.new.conn.now)) }
-    ensures writes { HasCleanDisk (state S.Store transaction.new.conn.now) → OnOk result (WritesVersion (state S.Store) transaction.old.conn.now transaction.new.conn.now) }
+    ensures { IsStep (state S.Store) (WritesVersion (state S.Store)) transaction.old.conn transaction.new.conn result }
 {
     execute(transaction, NAME_FORM, &[])
 }

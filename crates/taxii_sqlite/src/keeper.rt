@@ -1,4 +1,4 @@
-ghost use Rattle.std.specs.Prelude.{◌≡◌, ◌≢◌, [], None, true, false, IfOk, OnOk, OnErr, Err};
+ghost use Rattle.std.specs.Prelude.{◌≡◌, ◌≢◌, [], None, true, IfOk, OnOk, OnErr, Err};
 ghost use Rattle.flow_edges.specs.Faults.{Counted};
 ghost use Rattle.sqlite_wal.specs.Files.{image_at};
 ghost use Rattle.taxii_rows.specs.StoreState.{RiseFrom};

@@ -6,7 +6,7 @@ ghost use Rattle.sqlite.specs.State.{HasCleanDisk};
 ghost use Rattle.sqlite.specs.Values.{bound};
 ghost use Rattle.taxii_sqlite.specs.Forms.{IsReady};
 ghost use Rattle.taxii_sqlite.specs.Statements.{AnswersNext, AnswersMark, AnswersCount, Runs, Inserts, Deletes, WritesMark, ends_at, SetsMark, InTurn, Adds, DeletesAll};
-ghost use Rattle.taxii_sqlite.specs.Transactions.{GoesOn, StaysUnended};
+ghost use Rattle.taxii_sqlite.specs.Transactions.{IsStep};
 
 use crate::failure::Failure;
 use crate::form;
@@ -72,10 +72,7 @@ pub(crate) fn append<S: Alter>(
     rows: &[StoredRow],
     mark: u64,
 ) -> Result<(), Failure>
-    ensures same_reference { transaction.new.conn.ghost_name ≡ transaction.old.conn.ghost_name }
-    ensures inside { GoesOn (state S.Store transaction.old.conn.now) (state S.Store transaction.new.conn.now) }
-    ensures unended { OnOk result (StaysUnended (state S.Store transaction.old.conn.now) (state S.Store transaction.new.conn.now)) }
-    ensures runs { HasCleanDisk (state S.Store transaction.new.conn.now) → OnOk result (Adds (state S.Store) rows.now mark transaction.old.conn.now transaction.new.conn.now) }
+    ensures { IsStep (state S.Store) (Adds (state S.Store) rows.now mark) transaction.old.conn transaction.new.conn result }
 {
     insert_rows(transaction, rows)?;
     set_mark(transaction, rows, mark)?;
@@ -87,10 +84,7 @@ pub(crate) fn remove<S: Alter>(
     transaction: &mut Transaction<'_, S>,
     dates: &[u64],
 ) -> Result<(), Failure>
-    ensures same_reference { transaction.new.conn.ghost_name ≡ transaction.old.conn.ghost_name }
-    ensures inside { GoesOn (state S.Store transaction.old.conn.now) (state S.Store transaction.new.conn.now) }
-    ensures unended { OnOk result (StaysUnended (state S.Store transaction.old.conn.now) (state S.Store transaction.new.conn.now)) }
-    ensures runs { HasCleanDisk (state S.Store transaction.new.conn.now) → OnOk result (DeletesAll (state S.Store) dates.now transaction.old.conn.now transaction.new.conn.now) }
+    ensures { IsStep (state S.Store) (DeletesAll (state S.Store) dates.now) transaction.old.conn transaction.new.conn result }
 {
     execute(transaction, KEEP_MARK, &[])?;
     delete_rows(transaction, dates)?;
@@ -101,10 +95,7 @@ fn insert_rows<S: Alter>(
     transaction: &mut Transaction<'_, S>,
     rows: &[StoredRow],
 ) -> Result<(), Failure>
-    ensures same_reference { transaction.new.conn.ghost_name ≡ transaction.old.conn.ghost_name }
-    ensures inside { GoesOn (state S.Store transaction.old.conn.now) (state S.Store transaction.new.conn.now) }
-    ensures unended { OnOk result (StaysUnended (state S.Store transaction.old.conn.now) (state S.Store transaction.new.conn.now)) }
-    ensures runs { HasCleanDisk (state S.Store transaction.new.conn.now) → OnOk result (InTurn (Inserts (state S.Store)) rows.now transaction.old.conn.now transaction.new.conn.now) }
+    ensures { IsStep (state S.Store) (InTurn (Inserts (state S.Store)) rows.now) transaction.old.conn transaction.new.conn result }
 {
     for row in rows {
         insert_row(transaction, row)?;
@@ -116,10 +107,7 @@ fn insert_row<S: Alter>(
     transaction: &mut Transaction<'_, S>,
     row: &StoredRow,
 ) -> Result<(), Failure>
-    ensures same_reference { transaction.new.conn.ghost_name ≡ transaction.old.conn.ghost_name }
-    ensures inside { GoesOn (state S.Store transaction.old.conn.now) (state S.Store transaction.new.conn.now) }
-    ensures unended { OnOk result (StaysUnended (state S.Store transaction.old.conn.now) (state S.Store transaction.new.conn.now)) }
-    ensures runs { HasCleanDisk (state S.Store transaction.new.conn.now) → OnOk result (Inserts (state S.Store) row.now transaction.old.conn.now transaction.new.conn.now) }
+    ensures { IsStep (state S.Store) (Inserts (state S.Store) row.now) transaction.old.conn transaction.new.conn result }
 {
     let date = integer_of(row.date)?;
     let collection = bytes_of(row.collection);
@@ -129,10 +117,7 @@ fn insert_row<S: Alter>(
 }
 
 fn delete_rows<S: Alter>(transaction: &mut Transaction<'_, S>, dates: &[u64]) -> Result<(), Failure>
-    ensures same_reference { transaction.new.conn.ghost_name ≡ transaction.old.conn.ghost_name }
-    ensures inside { GoesOn (state S.Store transaction.old.conn.now) (state S.Store transaction.new.conn.now) }
-    ensures unended { OnOk result (StaysUnended (state S.Store transaction.old.conn.now) (state S.Store transaction.new.conn.now)) }
-    ensures runs { HasCleanDisk (state S.Store transaction.new.conn.now) → OnOk result (InTurn (Deletes (state S.Store)) dates.now transaction.old.conn.now transaction.new.conn.now) }
+    ensures { IsStep (state S.Store) (InTurn (Deletes (state S.Store)) dates.now) transaction.old.conn transaction.new.conn result }
 {
     for date in dates {
         delete_row(transaction, *date)?;
@@ -141,10 +126,7 @@ fn delete_rows<S: Alter>(transaction: &mut Transaction<'_, S>, dates: &[u64]) ->
 }
 
 fn delete_row<S: Alter>(transaction: &mut Transaction<'_, S>, date: u64) -> Result<(), Failure>
-    ensures same_reference { transaction.new.conn.ghost_name ≡ transaction.old.conn.ghost_name }
-    ensures inside { GoesOn (state S.Store transaction.old.conn.now) (state S.Store transaction.new.conn.now) }
-    ensures unended { OnOk result (StaysUnended (state S.Store transaction.old.conn.now) (state S.Store transaction.new.conn.now)) }
-    ensures runs { HasCleanDisk (state S.Store transaction.new.conn.now) → OnOk result (Deletes (state S.Store) date transaction.old.conn.now transaction.new.conn.now) }
+    ensures { IsStep (state S.Store) (Deletes (state S.Store) date) transaction.old.conn transaction.new.conn result }
 {
     let date = integer_of(date)?;
     execute(transaction, DELETE_ROW, params![date])
@@ -156,10 +138,7 @@ fn set_mark<S: Alter>(
     rows: &[StoredRow],
     mark: u64,
 ) -> Result<(), Failure>
-    ensures same_reference { transaction.new.conn.ghost_name ≡ transaction.old.conn.ghost_name }
-    ensures inside { GoesOn (state S.Store transaction.old.conn.now) (state S.Store transaction.new.conn.now) }
-    ensures unended { OnOk result (StaysUnended (state S.Store transaction.old.conn.now) (state S.Store transaction.new.conn.now)) }
-    ensures runs { HasCleanDisk (state S.Store transaction.new.conn.now) → OnOk result (SetsMark (state S.Store) rows.now mark transaction.old.conn.now transaction.new.conn.now) }
+    ensures { IsStep (state S.Store) (SetsMark (state S.Store) rows.now mark) transaction.old.conn transaction.new.conn result }
 {
     if end_at(rows, mark) {
         Ok(())
@@ -179,10 +158,7 @@ fn end_at(rows: &[StoredRow], date: u64) -> bool
 }
 
 fn write_mark<S: Alter>(transaction: &mut Transaction<'_, S>, mark: u64) -> Result<(), Failure>
-    ensures same_reference { transaction.new.conn.ghost_name ≡ transaction.old.conn.ghost_name }
-    ensures inside { GoesOn (state S.Store transaction.old.conn.now) (state S.Store transaction.new.conn.now) }
-    ensures unended { OnOk result (StaysUnended (state S.Store transaction.old.conn.now) (state S.Store transaction.new.conn.now)) }
-    ensures runs { HasCleanDisk (state S.Store transaction.new.conn.now) → OnOk result (WritesMark (state S.Store) mark transaction.old.conn.now transaction.new.conn.now) }
+    ensures { IsStep (state S.Store) (WritesMark (state S.Store) mark) transaction.old.conn transaction.new.conn result }
 {
     let mark = integer_of(mark)?;
     execute(transaction, WRITE_MARK, params![mark])
@@ -194,10 +170,7 @@ pub(crate) fn execute<S: Alter>(
     statement: &str,
     columns: &[ValueRef<'_>],
 ) -> Result<(), Failure>
-    ensures same_reference { transaction.new.conn.ghost_name ≡ transaction.old.conn.ghost_name }
-    ensures inside { GoesOn (state S.Store transaction.old.conn.now) (state S.Store transaction.new.conn.now) }
-    ensures unended { OnOk result (StaysUnended (state S.Store transaction.old.conn.now) (state S.Store transaction.new.conn.now)) }
-    ensures runs { HasCleanDisk (state S.Store transaction.new.conn.now) → OnOk result (Runs (state S.Store) statement.now (bound columns.now) transaction.old.conn.now transaction.new.conn.now) }
+    ensures { IsStep (state S.Store) (Runs (state S.Store) statement.now (bound columns.now)) transaction.old.conn transaction.new.conn result }
 {
     transaction.execute(statement, columns)?;
     Ok(())

@@ -1,14 +1,10 @@
 -- Each statement was run as the one before left the transaction.
+use Rattle.sqlite.specs.Held.{state}
+use Rattle.taxii_sqlite.specs.Forms.{MakesRows}
+use Rattle.taxii_sqlite.proofs.StepLemmas.{read_as, both}
 use Rattle.taxii_sqlite.proofs.form.make_rows.Goals as goal
 
-pub returns-clause-makes : goal.returns-clause-makes
-returns-clause-makes g c = λ clean.
-    let marked = (c.execute-3.ensures.inside clean).0 in
-    let made = (c.execute-2.ensures.inside marked).0 in
-    record {
-      with_rows = c.execute.new.transaction.conn.now;
-      with_mark = c.execute-2.new.transaction.conn.now;
-      rows = c.in_ok-execute.ensures.runs made;
-      mark = c.in_ok-execute-2.ensures.runs marked;
-      first = c.in_ok-execute-3.ensures.runs clean;
-    }
+pub returns : goal.returns
+returns g c = read_as (state g.S.Store) _ (MakesRows (state g.S.Store)) _ _ _
+    (both (state g.S.Store) _ _ _ _ _ (both (state g.S.Store) _ _ _ _ _ c.in_ok-execute.ensures c.in_ok-execute-2.ensures) c.in_ok-execute-3.ensures)
+    (λ ran. record { with_rows = ran.1.0; with_mark = ran.0; rows = ran.1.1; mark = ran.1.2; first = ran.2 })

@@ -9,7 +9,7 @@ pub returns-clause-does : goal.returns-clause-does
 returns-clause-does g c =
     let last = c.perform.new.transaction.conn.now in
     transacts (state g.S.Store) (Does (state g.S.Store) c.args.self) c.args.connection.now c.transaction-transaction.result.conn.now last c.commit.new.self.0 _ c.transaction-transaction.ensures.begun
-    c.in_ok-perform.ensures.does
+    c.in_ok-perform.ensures.runs
     (record {
       clean = λ kept. omega (arith, c.commit.ensures.survives.clean);
       commits = λ kept. let done = c.in_ok-commit.ensures.ok kept in (done.1, done.2, done.3);
