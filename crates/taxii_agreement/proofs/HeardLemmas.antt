@@ -22,8 +22,8 @@ use Rattle.taxii_requests.specs.declared.config.Config.{Config}
 use Rattle.taxii_resources.specs.Finding.{Names}
 use Rattle.taxii_resources.specs.Reading.{IsReading}
 use Rattle.taxii_step.specs.Step.{Does, IsDone}
-use Rattle.taxii_histories.specs.Exchanges.{Exchange, IsExchange}
-use Rattle.taxii_runs.specs.Runs.{WasDone, Round}
+use Rattle.taxii_histories.specs.Exchanges.{Exchange, IsExchange, WasDone}
+use Rattle.taxii_runs.specs.Runs.{Round}
 use Rattle.taxii_runs.specs.Following.{IsFetch}
 use Rattle.taxii_client.specs.Requests.{path_of}
 use Rattle.taxii_client.specs.declared.target.Target.{Target}

@@ -27,9 +27,10 @@ use flow_links::Dial;
 use stix_ids::laws::one_uuid;
 use stix_times::laws::one_instant;
 use taxii_bodies::laws::envelopes_are_json;
+use taxii_histories::laws::{answered_requests_were_done, gets_are_paged};
 use taxii_pages::laws::rows_of_pages;
 use taxii_routes::laws::{one_route, one_target};
-use taxii_runs::laws::{answered_requests_were_done, clients_skip_no_row, gets_are_paged};
+use taxii_runs::laws::clients_skip_no_row;
 
 /// Where bytes begin with a server's answer of 200 and with a reply to a client, the reply's body is the answer's.
 pub fn answers_are_replies()

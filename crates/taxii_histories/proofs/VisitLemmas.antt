@@ -1,17 +1,33 @@
 -- The visited exchanges of a walk are stops of a walk over the store, with what else was served between them as its history.
-use Rattle.std.proofs.Common.{◌≡◌, inl, inr, ℕ, List, [], ◌∷◌, map, All, Option, sym, ap, subst, ◌∙◌}
+use Rattle.std.proofs.Common.{◌≡◌, inl, inr, ℕ, List, [], ◌∷◌, map, All, Bool, Option, sym, ap, subst, ◌∙◌}
 use Rattle.std.proofs.lemmas.List.Elements.{All-nil, All-cons, All-head, All-tail}
+use Rattle.stix_ids.specs.declared.id.Id.{Id}
+use Rattle.http_frames.specs.declared.status.Status.TheVariants.{Okay}
 use Rattle.taxii_headers.specs.declared.answer.Answer.{Answer}
+use Rattle.taxii_routes.specs.declared.query.Query.{Query}
+use Rattle.taxii_rows.specs.declared.stored_row.StoredRow.{StoredRow}
 use Rattle.taxii_rows.specs.StoreState.{StoreState}
+use Rattle.taxii_bodies.specs.Envelope.{envelope_text}
 use Rattle.taxii_requests.specs.declared.config.Config.{Config}
+use Rattle.taxii_requests.specs.Answers.{page_answer}
+use Rattle.taxii_resources.specs.Reading.{IsPageOf, IsEnvelope}
 use Rattle.taxii_state.specs.declared.state.State.{State}
 use Rattle.taxii_walks.specs.History.{IsDated, IsHistory}
+use Rattle.taxii_walks.specs.Page.{IsPage}
 use Rattle.taxii_walks.specs.Walk.{Stop, Wanted, IsStop, GoesFrom, last_date}
 use Rattle.taxii_histories.specs.Exchanges.{Exchange, IsExchange, Follow}
-use Rattle.taxii_histories.specs.Visits.{IsVisit, VisitFrom, Among, answer_at}
+use Rattle.taxii_histories.specs.Visits.{Asks, IsVisit, VisitFrom, Among, answer_at}
 use Rattle.taxii_histories.proofs.DatedLemmas.{history_dated, no_history, history_both}
 use Rattle.taxii_histories.proofs.ServedLemmas.{first_history}
-use Rattle.taxii_histories.proofs.AnswerLemmas.{Laws, visit_answered}
+
+-- the laws of one exchange and of pages: a GET of objects that was answered with 200 has a page, and a query has one page
+pub record Laws : Type 0 where
+  pub paged : (config : Config) (e : Exchange) (collection : ℕ) (only : Option Id) (query : Query) → IsExchange config e → e.answer.status ≡ Okay
+      → Asks config e.request collection only query → IsPageOf e.before.library.rows collection only query IsEnvelope e.answer
+  pub page : (rows : List StoredRow) (collection : ℕ) (only : Option Id) (query : Query) (first second : List StoredRow) (left more : Bool)
+      → IsPage rows collection only query first left → IsPage rows collection only query second more → first ≡ second
+  pub more : (rows : List StoredRow) (collection : ℕ) (only : Option Id) (query : Query) (first second : List StoredRow) (left more : Bool)
+      → IsPage rows collection only query first left → IsPage rows collection only query second more → left ≡ more
 
 -- ---- the stops
 
@@ -77,6 +93,26 @@ reached config wanted next (first ∷ exchanges) (e ∷ some) before after stop 
     (history_dated before.library first.after.library between dated) among visits.2)
 
 -- ---- the answers
+
+-- an answer with a page of the stop's query has the stop's page
+page_answered : Laws → (rows : List StoredRow) (collection : ℕ) (only : Option Id) (query : Query) (stop : Stop) (answer : Answer)
+    → IsPage rows collection only query stop.page stop.more → IsPageOf rows collection only query IsEnvelope answer → answer ≡ answer_at stop
+page_answered laws rows collection only query stop answer page its =
+    let page_same : its.page ≡ stop.page = laws.page rows collection only query its.page stop.page its.more stop.more its.page_is page in
+    let more_same : its.more ≡ stop.more = laws.more rows collection only query its.page stop.page its.more stop.more its.page_is page in
+    its.answer_is
+    ∙ ap (page_answer its.page) its.body_is
+    ∙ ap (λ (more : Bool). page_answer its.page (envelope_text its.page more)) more_same
+    ∙ ap (λ (rows : List StoredRow). page_answer rows (envelope_text rows stop.more)) page_same
+
+-- a visited exchange was answered with the page of its stop
+visit_answered : Laws → (config : Config) (wanted : Wanted) (next : Option ℕ) (e : Exchange) (stop : Stop) → IsVisit config wanted next e stop
+    → IsExchange config e → e.answer ≡ answer_at stop
+visit_answered laws config wanted next e stop visit goes =
+    let page : IsPage e.before.library.rows wanted.collection wanted.only stop.query stop.page stop.more =
+    subst (λ (rows : List StoredRow). IsPage rows wanted.collection wanted.only stop.query stop.page stop.more) (ap (λ state. state.rows) visit.state) visit.page in
+    page_answered laws e.before.library.rows wanted.collection wanted.only stop.query stop e.answer page
+    (laws.paged config e wanted.collection wanted.only stop.query goes visit.okay visit.asks)
 
 -- what holds of each exchange holds of those that are visited
 pub among_all : (P : Exchange → Type 0) (exchanges visited : List Exchange) → Among visited exchanges → All P exchanges → All P visited

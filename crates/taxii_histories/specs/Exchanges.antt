@@ -1,11 +1,14 @@
 -- What a server did: requests at moments, in turn, each with its answer and what the server had before and after it.
-use Rattle.std.specs.Prelude.{◌≡◌, ℕ, List, [], ◌∷◌, All}
+use Rattle.std.specs.Prelude.{◌≡◌, ℕ, List, [], ◌∷◌, All, Option, unwrap_or}
 use Rattle.http_frames.specs.declared.request.Request.{Request}
 use Rattle.taxii_headers.specs.declared.answer.Answer.{Answer}
 use Rattle.taxii_headers.specs.Answers.{no_memory_answer}
+use Rattle.taxii_routes.specs.declared.route.Route.{Route}
+use Rattle.taxii_routes.specs.Route.{IsPathOf}
+use Rattle.taxii_routes.specs.Target.{IsTargetOf}
 use Rattle.taxii_requests.specs.declared.config.Config.{Config}
 use Rattle.taxii_state.specs.declared.state.State.{State}
-use Rattle.taxii_step.specs.Step.{Step, FailsToKeep}
+use Rattle.taxii_step.specs.Step.{IsDone, Step, FailsToKeep}
 
 -- what came of a request: its step, a fault of the keeper, or want of memory
 pub data Course : Type 0 where
@@ -31,6 +34,15 @@ Runs OutOfMemory config e = (e.answer ≡ no_memory_answer) × (e.after ≡ e.be
 -- the exchange went as its course says
 abbrev pub IsExchange : Config → Exchange → Type 0
 IsExchange config e = Runs e.course config e
+
+-- an exchange did what its request asks for: its target has a path and maybe a query, the path a route, and nothing stood against it
+pub record WasDone (config : Config) (e : Exchange) : Type 0 where
+  pub path : List ℕ
+  pub text : Option (List ℕ)
+  pub target_is : IsTargetOf e.request.target path text
+  pub route : Route
+  pub route_is : IsPathOf path route
+  pub done : IsDone config e.before e.moment e.request route (unwrap_or text []) e.answer e.after
 
 -- each exchange begins with what the one before it left
 abbrev pub Follow : State → List Exchange → State → Type 0

@@ -1,4 +1,3 @@
-mod PageLemmas
 mod MarkLemmas
 mod ChainLemmas
 mod NextLemmas

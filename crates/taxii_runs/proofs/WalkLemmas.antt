@@ -1,6 +1,8 @@
 -- The fetches of a client are the stops of a walk.
 use Rattle.std.proofs.Common.{◌≡◌, ◌⊎◌, inl, inr, ℕ, ◌^◌, ◌<◌, ◌≤◌, List, [], ◌∷◌, ◌++◌, map, true, false, Option, Some, None, unwrap_or, refl, sym, ap, subst, ◌∙◌, arith}
 use Rattle.std.specs.Prelude.{codes, IsSomeAnd}
+use Rattle.stix_ids.specs.declared.id.Id.{Id}
+use Rattle.http_frames.specs.declared.status.Status.TheVariants.{Okay}
 use Rattle.taxii_headers.specs.declared.answer.Answer.{Answer}
 use Rattle.taxii_routes.specs.declared.param.Param.TheVariants.{Next}
 use Rattle.taxii_routes.specs.declared.query.Query.{Query}
@@ -11,15 +13,22 @@ use Rattle.taxii_rows.specs.declared.stored_row.StoredRow.{StoredRow}
 use Rattle.taxii_rows.specs.declared.stored_row.TheConstants.{LAST_DATE}
 use Rattle.taxii_rows.specs.StoreState.{StoreState}
 use Rattle.taxii_bodies.specs.Envelope.{next_of, next_text, objects_text, envelope_text}
+use Rattle.taxii_requests.specs.declared.config.Config.{Config}
 use Rattle.taxii_requests.specs.Answers.{page_answer}
+use Rattle.taxii_resources.specs.Reading.{IsPageOf, IsEnvelope}
 use Rattle.taxii_walks.specs.History.{IsHistory}
 use Rattle.taxii_walks.specs.Walk.{Stop, Wanted, IsStop, GoesFrom, last_date}
-use Rattle.taxii_histories.specs.Visits.{AsksForAll, AsksForOne, answer_at}
+use Rattle.taxii_histories.specs.Exchanges.{Exchange, IsExchange}
+use Rattle.taxii_histories.specs.Visits.{AsksForAll, AsksForOne, Asks, answer_at}
 use Rattle.taxii_runs.specs.Runs.{Round}
 use Rattle.taxii_runs.specs.Following.{TellsNext, TellsNoMore, sent, IsFetch, FetchFrom}
-use Rattle.taxii_runs.proofs.PageLemmas.{Laws, IsPaged, paged}
 use Rattle.taxii_runs.proofs.ChainLemmas.{IsOrdered, IsReady, Chain, found}
 use Rattle.taxii_runs.proofs.NextLemmas.{told_next, told_no_more, next_is_last, last_within, no_more}
+
+-- a GET of objects that was answered with 200 has a page of the store as it was there
+abbrev pub ArePaged : Type 0
+ArePaged = (config : Config) (e : Exchange) (collection : ℕ) (only : Option Id) (query : Query) → IsExchange config e → e.answer.status ≡ Okay
+    → Asks config e.request collection only query → IsPageOf e.before.library.rows collection only query IsEnvelope e.answer
 
 -- the digits of a date are read as that date
 abbrev pub ReadBack : Type 0
@@ -72,7 +81,7 @@ pub record IsStopOf (wanted : Wanted) (date : Option ℕ) (round : Round) (stop 
   pub answer : round.exchange.answer ≡ answer_at stop
 
 stop_with : (wanted : Wanted) (date : Option ℕ) (round : Round) (next : Option (List ℕ)) (fetch : IsFetch wanted next round) → IsReady round → fetch.query.next ≡ date
-    → IsPaged wanted.collection wanted.only fetch.query round.exchange → (stop : Stop) × IsStopOf wanted date round stop
+    → IsPageOf (found round).rows wanted.collection wanted.only fetch.query IsEnvelope round.exchange.answer → (stop : Stop) × IsStopOf wanted date round stop
 stop_with wanted date round next fetch ready goes page = (
   record { state = found round; query = fetch.query; page = page.page; more = page.more },
   record {
@@ -82,11 +91,11 @@ stop_with wanted date round next fetch ready goes page = (
   },
 )
 
-stop_of : Laws → (wanted : Wanted) (next : Option (List ℕ)) (date : Option ℕ) (round : Round) (fetch : IsFetch wanted next round) → IsReady round → Means next date
+stop_of : ArePaged → (wanted : Wanted) (next : Option (List ℕ)) (date : Option ℕ) (round : Round) (fetch : IsFetch wanted next round) → IsReady round → Means next date
     → (stop : Stop) × IsStopOf wanted date round stop
-stop_of laws wanted next date round fetch ready means =
+stop_of paged wanted next date round fetch ready means =
     stop_with wanted date round next fetch ready (goes_on wanted next date round fetch means)
-    (paged laws round.config wanted.collection wanted.only fetch.query round.exchange (record { okay = fetch.okay; asks = fetch.asks }) ready.goes)
+    (paged round.config round.exchange wanted.collection wanted.only fetch.query ready.goes fetch.okay fetch.asks)
 
 -- ---- what it was told
 
@@ -176,14 +185,14 @@ walked_on wanted date round other rounds stop its more history walked = record {
   states = both (found round) stop.state (map (λ r. r.exchange.before.library) (other ∷ rounds)) (map (λ stop. stop.state) (walked.first ∷ walked.others)) its.state walked.states;
 }
 
-pub walked : Laws → ReadBack → (wanted : Wanted) (next : Option (List ℕ)) (date : Option ℕ) (store : StoreState) (round : Round) (rounds : List Round)
+pub walked : ArePaged → ReadBack → (wanted : Wanted) (next : Option (List ℕ)) (date : Option ℕ) (store : StoreState) (round : Round) (rounds : List Round)
     → Means next date → Chain store (round ∷ rounds) → FetchFrom wanted next round rounds → Walked wanted date round rounds
-walked laws read_back wanted next date store round [] means (history, ready, chain) (fetch, end) =
-    let stop = stop_of laws wanted next date round fetch ready means in
+walked paged read_back wanted next date store round [] means (history, ready, chain) (fetch, end) =
+    let stop = stop_of paged wanted next date round fetch ready means in
     walked_last wanted date round stop.0 stop.1 (is_last wanted date round stop.0 stop.1 end)
-walked laws read_back wanted next date store round (other ∷ rounds) means (history, ready, chain) (fetch, told, tells, fetches) =
-    let stop = stop_of laws wanted next date round fetch ready means in
+walked paged read_back wanted next date store round (other ∷ rounds) means (history, ready, chain) (fetch, told, tells, fetches) =
+    let stop = stop_of paged wanted next date round fetch ready means in
     let its = is_told read_back wanted date round stop.0 told stop.1 ready tells in
     walked_on wanted date round other rounds stop.0 stop.1 its.1.more chain.0
     (subst (λ (d : Option ℕ). Walked wanted d other rounds) (sym its.1.last)
-    (walked laws read_back wanted (Some told) (Some its.0) (found round) other rounds its.1.means chain fetches))
+    (walked paged read_back wanted (Some told) (Some its.0) (found round) other rounds its.1.means chain fetches))

@@ -1,12 +1,8 @@
 -- Runs of a server over one store: a server ends, and another is started on what it left, maybe with another configuration.
-use Rattle.std.specs.Prelude.{◌≡◌, ℕ, List, [], ◌∷◌, ◌++◌, map, Option, unwrap_or}
-use Rattle.taxii_routes.specs.declared.route.Route.{Route}
-use Rattle.taxii_routes.specs.Route.{IsPathOf}
-use Rattle.taxii_routes.specs.Target.{IsTargetOf}
+use Rattle.std.specs.Prelude.{◌≡◌, List, [], ◌∷◌, ◌++◌, map}
 use Rattle.taxii_rows.specs.StoreState.{StoreState}
 use Rattle.taxii_requests.specs.declared.config.Config.{Config}
 use Rattle.taxii_state.specs.declared.state.State.{State}
-use Rattle.taxii_step.specs.Step.{IsDone}
 use Rattle.taxii_histories.specs.Exchanges.{Exchange, HasServed}
 
 -- what a server was started with, what it served, and what it had before and after it
@@ -25,15 +21,6 @@ pub record IsRunFrom (store : StoreState) (run : Run) : Type 0 where
 abbrev pub GoOn : StoreState → List Run → StoreState → Type 0
 GoOn store [] after = after ≡ store
 GoOn store (run ∷ runs) after = IsRunFrom store run × GoOn run.after.library runs after
-
--- an exchange did what its request asks for: its target has a path and maybe a query, the path a route, and nothing stood against it
-pub record WasDone (config : Config) (e : Exchange) : Type 0 where
-  pub path : List ℕ
-  pub text : Option (List ℕ)
-  pub target_is : IsTargetOf e.request.target path text
-  pub route : Route
-  pub route_is : IsPathOf path route
-  pub done : IsDone config e.before e.moment e.request route (unwrap_or text []) e.answer e.after
 
 -- an exchange, with the configuration of its run
 pub record Round : Type 0 where

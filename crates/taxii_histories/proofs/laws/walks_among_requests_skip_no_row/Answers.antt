@@ -1,21 +1,12 @@
 use Rattle.std.proofs.Common.{All, None}
 use Rattle.taxii_walks.specs.Walk.{IsWalk}
 use Rattle.taxii_histories.specs.Exchanges.{IsExchange}
-use Rattle.taxii_histories.proofs.AnswerLemmas.{Laws}
-use Rattle.taxii_histories.proofs.VisitLemmas.{reached, among_all, answers_are}
+use Rattle.taxii_histories.proofs.VisitLemmas.{Laws, reached, among_all, answers_are}
 use Rattle.taxii_histories.proofs.laws.walks_among_requests_skip_no_row.Goals as goal
 
 pub returns : goal.returns
 returns c config before after exchanges dated served wanted visited first others walk =
-    let laws : Laws = record {
-      path = c.one_target.ensures.path;
-      text = c.one_target.ensures.query;
-      route = c.one_route.ensures;
-      query = c.one_query.ensures;
-      identifier = c.one_identifier.ensures;
-      page = c.one_page.ensures.page;
-      more = c.one_page.ensures.more;
-    } in
+    let laws : Laws = record { paged = c.gets_are_paged.ensures; page = c.one_page.ensures.page; more = c.one_page.ensures.more } in
     let reaches = reached config wanted None exchanges visited before after first others served.each served.follow dated walk.among walk.visits in
     let its : IsWalk wanted first others = record { start = walk.start; goes = reaches.goes } in
     let each : All (IsExchange config) visited = among_all (IsExchange config) exchanges visited walk.among served.each in

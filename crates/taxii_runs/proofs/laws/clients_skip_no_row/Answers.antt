@@ -1,7 +1,6 @@
 use Rattle.std.proofs.Common.{◌∷◌, None, refl}
 use Rattle.taxii_walks.specs.Walk.{IsWalk}
 use Rattle.taxii_runs.specs.Runs.{rounds_of}
-use Rattle.taxii_runs.proofs.PageLemmas.{Laws}
 use Rattle.taxii_runs.proofs.ChainLemmas.{Histories, among_chain, rounds_chain}
 use Rattle.taxii_runs.proofs.WalkLemmas.{walked}
 use Rattle.taxii_runs.proofs.laws.clients_skip_no_row.Goals as goal
@@ -9,16 +8,9 @@ use Rattle.taxii_runs.proofs.laws.clients_skip_no_row.Goals as goal
 pub returns : goal.returns
 returns c store after runs wanted first others dated within go_on followed =
     let histories : Histories = record { history = c.requests_make_history.ensures.history; dated = c.requests_make_history.ensures.dated } in
-    let laws : Laws = record {
-      path = c.one_target.ensures.path;
-      text = c.one_target.ensures.query;
-      route = c.one_route.ensures;
-      query = c.one_query.ensures;
-      identifier = c.one_identifier.ensures;
-    } in
     let chain = among_chain store (first ∷ others) (rounds_of runs) followed.among
     (rounds_chain histories store after runs (record { dated = dated; within = within }) go_on) in
-    let walk = walked laws c.nexts_read_back.ensures wanted None None store first others refl chain followed.fetches in
+    let walk = walked c.gets_are_paged.ensures c.nexts_read_back.ensures wanted None None store first others refl chain followed.fetches in
     let its : IsWalk wanted walk.first walk.others = record { start = followed.start; goes = walk.goes } in
     record {
       first = walk.first;

@@ -1,8 +1,8 @@
-use Rattle.taxii_runs.proofs.PageLemmas.{Laws, paged}
-use Rattle.taxii_runs.proofs.laws.gets_are_paged.Goals as goal
+use Rattle.taxii_histories.proofs.AnswerLemmas.{Laws, paged}
+use Rattle.taxii_histories.proofs.laws.gets_are_paged.Goals as goal
 
 pub returns : goal.returns
-returns c config e collection only query goes okay asks =
+returns c =
     let laws : Laws = record {
       path = c.one_target.ensures.path;
       text = c.one_target.ensures.query;
@@ -10,4 +10,4 @@ returns c config e collection only query goes okay asks =
       query = c.one_query.ensures;
       identifier = c.one_identifier.ensures;
     } in
-    paged laws config collection only query e (record { okay = okay; asks = asks }) goes
+    paged laws
