@@ -27,6 +27,7 @@ pub mod InPlaceLemmas
 pub mod UnderFirstsLemmas
 pub mod QuietLemmas
 pub mod LeavesLemmas
+pub mod PicksLemmas
 pub mod ReachLemmas
 pub mod SinceLemmas
 pub mod SieveLemmas

@@ -1,26 +1,29 @@
 -- What bounds the sequences that join a new thing to one thing held on the left of each FOLLOWEDBY.
-use Rattle.std.proofs.Common.{◌≡◌, ℕ, zero, suc, ◌+◌, ◌≤◌, ◌<◌, ℤ, ◌≤ℤ◌, ◌<ℤ◌, List, [], ◌∷◌, length, refl, sym, ◌∙◌, ap, subst, arith, ◌⊎◌, inl, inr}
-use Rattle.std.specs.Prelude.{Bool, true, false, nat_eq, int_lt}
-use Rattle.std.specs.List.{AllByRecursion, Contains, IsDistinct, list_any}
-use Rattle.std.proofs.lemmas.Bool.{and_parts, and_from, or_left, or_right, or_cases, eqb-true}
+use Rattle.std.proofs.Common.{◌≡◌, ℕ, zero, suc, ◌+◌, ◌<◌, ℤ, ◌≤ℤ◌, ◌<ℤ◌, List, [], ◌∷◌, ◌++◌, length, get_or, take, refl, sym, ◌∙◌, ap, subst, arith, ◌⊎◌, inl, inr}
+use Rattle.std.specs.Prelude.{Bool, true, false, int_lt}
+use Rattle.std.specs.List.{Contains, list_any}
+use Rattle.std.proofs.lemmas.Bool.{and_parts, and_from, or_right, or_cases}
 use Rattle.std.proofs.lemmas.Int.{ints, clamps}
-use Rattle.std.proofs.lemmas.Cmp.{nat_eq_equiv}
-use Rattle.std.proofs.lemmas.Map.Made.{length-le_from_is_member}
-use Rattle.std.proofs.lemmas.Map.Views.{list_any-from_Contains, Contains-from_any}
-use Rattle.match_bindings.specs.BindTree.{BindTree, Pair, tree_of, has, disjoint}
+use Rattle.std.proofs.lemmas.List.{take_more}
+use Rattle.std.proofs.lemmas.List.Elements.{Contains-push_cases}
+use Rattle.match_bindings.specs.BindTree.{tree_of, has}
+use Rattle.match_bindings.proofs.ListLemmas.{map_append}
 use Rattle.match_bindings.proofs.IsBindingLemmas.{apart_to, apart_from, lt_true, le_true, true_le}
+use Rattle.match_live.specs.declared.choices.Choice.{Choice}
 use Rattle.match_live.specs.declared.join.Join.TheVariants as join
 use Rattle.match_live.specs.declared.piece.Piece.{Piece}
 use Rattle.match_live.specs.declared.reach.Reach.{Reach}
 use Rattle.match_live.specs.PieceTree.{PieceTree}
-use Rattle.match_live.specs.inner.Pieces.{piece_trees}
+use Rattle.match_live.specs.inner.Pieces.{piece_tree, piece_trees}
 use Rattle.match_live.specs.inner.Steps.{joined, may_join}
 use Rattle.match_live.specs.inner.Lives.{lives}
 use Rattle.match_live.specs.inner.Numbers.{numbers}
 use Rattle.match_live.specs.inner.Wanted.{Ahead, is_wanted}
-use Rattle.match_live.specs.inner.Reaches.{may_precede, HasOf, IsReached}
+use Rattle.match_live.specs.inner.Picks.{HasPicks}
+use Rattle.match_live.specs.inner.Reaches.{may_precede, IsReached}
 use Rattle.match_live.proofs.LivesLemmas.{le_trans, le_both, lt_false}
 use Rattle.match_live.proofs.OldestLemmas.{lives_later}
+use Rattle.match_live.proofs.PicksLemmas.{none_picked, as_picked, picked_more}
 use Rattle.match_live.proofs.RowNumbersLemmas.{contains_numbers}
 
 -- what may be joined with a sequence may go before it
@@ -42,60 +45,18 @@ join_begins sequence left span may =
     let order = le_trans left.earliest left.latest sequence.earliest span before in
     (omega (arith, ints, clamps, order), order)
 
--- ---- numbers that a tree has of some
-
-contains_next : (n m : ℕ) (ns : List ℕ) → Contains (n ∷ ns) m → (n ≡ m) ⊎ Contains ns m
-contains_next n m ns (zero, l, is) = inl is
-contains_next n m ns (suc k, l, is) = inr (k, omega (arith, l), is)
-
-all_differ : (n : ℕ) (ns : List ℕ) → ((m : ℕ) → Contains ns m → nat_eq n m ≡ false) → AllByRecursion (λ m. nat_eq n m ≡ false) ns
-all_differ n [] h = tt
-all_differ n (m ∷ ns) h = (h m (zero, omega arith, refl), all_differ n ns (λ k c. h k (suc c.0, omega (arith, c.1), c.2)))
-
-other : (n m : ℕ) (x : BindTree) → has n x ≡ false → has m x ≡ true → nat_eq n m ≡ false
-other n m x out there = by (nat_eq n m) refl where
-  by : (b : Bool) → nat_eq n m ≡ b → nat_eq n m ≡ false
-  by false is = is
-  by true is = absurd (let same : n ≡ m = eqb-true n m is in let e : false ≡ true = sym out ∙ ap (λ k. has k x) same ∙ there in cc)
-
--- one number more, of what is joined on the left
-more_of : (k : ℕ) (old new : List ℕ) (sequence left : BindTree) (n : ℕ) → HasOf k old sequence → disjoint left sequence ≡ true → has n left ≡ true →
-    ((m : ℕ) → Contains old m → Contains new m) → Contains new n → HasOf (k + 1) new (Pair left sequence)
-unfolding IsDistinct
-more_of k old new sequence left n h apart here kept there = record {
-  numbers = n ∷ h.numbers;
-  differ = (all_differ n h.numbers (λ m c. other n m sequence (apart_to left sequence apart n here) (h.each m c).1), h.differ);
-  each = λ m c. elim (contains_next n m h.numbers c) [
-    | inl e ↦ (subst (λ i. Contains new i) e there, or_left (has m left) (has m sequence) (subst (λ i. has i left ≡ true) e here))
-    | inr d ↦ (kept m (h.each m d).0, or_right (has m left) (has m sequence) (h.each m d).1)
-  ];
-  counted = omega (arith, h.counted);
-}
-
--- no tree has more of some numbers than there are
-pub at_most : (k : ℕ) (all : List ℕ) (x : BindTree) → HasOf k all x → k ≤ length all
-at_most k all x h =
-    let le : length h.numbers ≤ length all
-    = length-le_from_is_member nat_eq_equiv h.numbers all h.differ
-    (λ n m. list_any-from_Contains nat_eq_equiv n all (h.each n (Contains-from_any (λ a b e. eqb-true a b e) n h.numbers m)).0) in
-    omega (arith, le, h.counted)
-
-pub none_of : (all : List ℕ) (x : BindTree) → HasOf 0 all x
-unfolding IsDistinct
-none_of all x = record { numbers = []; differ = tt; each = λ n c. absurd (omega (arith, c.1)); counted = refl }
-
 -- ---- sequences that go on
 
 -- by something, where the sequences begin no later
 pub goes_on : (p : PieceTree) (old new : Reach) (sequence left : PieceTree) → IsReached p old sequence → may_join join.Then left sequence ≡ true → left.earliest ≤ℤ left.latest →
-    left.earliest ≤ℤ new.earliest → (left.earliest ≡ new.earliest → HasOf new.used new.numbers.items (joined join.Then left sequence).tree) →
+    left.earliest ≤ℤ new.earliest → (left.earliest ≡ new.earliest → HasPicks new.choices.list.items (joined join.Then left sequence).tree) →
     IsReached p new (joined join.Then left sequence)
-goes_on p old new sequence left h may span bound used =
+goes_on p old new sequence left h may span bound picks =
     let begins = join_begins sequence left span may in
     record {
       has_piece = λ n k. or_right (has n left.tree) (has n sequence.tree) (h.has_piece n k);
       bound = subst (λ t. t ≤ℤ new.earliest) (sym begins.0) bound;
-      used = λ e. used (sym begins.0 ∙ e);
+      picks = λ e. picks (sym begins.0 ∙ e);
     }
 
 -- what is held ends no sooner than it begins, and has a number
@@ -113,14 +74,22 @@ held_number (x ∷ held) left (zero, l, is) = subst (λ (p : PieceTree). (n : �
 held_number (x ∷ held) left (suc k, l, is) = held_number held left (k, omega (arith, l), is)
 
 -- by something that lies wholly where they begin
-pub stays_with : (p : PieceTree) (old : Reach) (all : List ℕ) (sequence left : PieceTree) (held : List Piece) → IsReached p old sequence → Contains (piece_trees held) left →
-    may_join join.Then left sequence ≡ true → left.earliest ≡ old.earliest → ((m : ℕ) → Contains old.numbers.items m → Contains all m) →
-    ((n : ℕ) → has n left.tree ≡ true → Contains all n) → HasOf (old.used + 1) all (joined join.Then left sequence).tree
-stays_with p old all sequence left held h there may here kept added =
+at_same : (p : PieceTree) (old : Reach) (sequence left : PieceTree) (held : List Piece) → IsReached p old sequence → Contains (piece_trees held) left →
+    may_join join.Then left sequence ≡ true → left.earliest ≡ old.earliest → HasPicks old.choices.list.items sequence.tree
+at_same p old sequence left held h there may here =
     let begins = join_begins sequence left (held_span held left there) may in
-    let same : sequence.earliest ≡ old.earliest = le_both sequence.earliest old.earliest h.bound (subst (λ (t : ℤ). t ≤ℤ sequence.earliest) here begins.1) in
+    h.picks (le_both sequence.earliest old.earliest h.bound (subst (λ (t : ℤ). t ≤ℤ sequence.earliest) here begins.1))
+
+pub stays_as : (p : PieceTree) (old : Reach) (sequence left : PieceTree) (held : List Piece) → IsReached p old sequence → Contains (piece_trees held) left →
+    may_join join.Then left sequence ≡ true → left.earliest ≡ old.earliest → HasPicks old.choices.list.items (joined join.Then left sequence).tree
+stays_as p old sequence left held h there may here = as_picked old.choices.list.items left.tree sequence.tree (at_same p old sequence left held h there may here)
+
+pub stays_with : (p : PieceTree) (old : Reach) (choice : Choice) (sequence left : PieceTree) (held : List Piece) → IsReached p old sequence → Contains (piece_trees held) left →
+    may_join join.Then left sequence ≡ true → left.earliest ≡ old.earliest → ((n : ℕ) → has n left.tree ≡ true → Contains choice.numbers.items n) →
+    HasPicks (choice ∷ old.choices.list.items) (joined join.Then left sequence).tree
+stays_with p old choice sequence left held h there may here added =
     let number = held_number held left there in
-    more_of old.used old.numbers.items all sequence.tree left.tree number.0 (h.used same) (and_parts _ _ may).1 number.1 kept (added number.0 number.1)
+    picked_more old.choices.list.items choice left.tree sequence.tree number.0 (at_same p old sequence left held h there may here) (and_parts _ _ may).1 number.1 (added number.0 number.1)
 
 -- what begins no later than the sequences, and not with them, begins before
 pub begins_before : (p : PieceTree) (old : Reach) (sequence left : PieceTree) (held : List Piece) → IsReached p old sequence → Contains (piece_trees held) left →
@@ -135,15 +104,15 @@ begins_before p old sequence left held h there may apart =
       by false is = absurd (apart (le_both left.earliest old.earliest order (lt_false left.earliest old.earliest is)))
 
 -- by something that begins before them
-pub falls_to : (p : PieceTree) (old new : Reach) (sequence left : PieceTree) (held : List Piece) → IsReached p old sequence → Contains (piece_trees held) left →
-    may_join join.Then left sequence ≡ true → left.earliest ≤ℤ new.earliest → new.used ≡ 1 →
-    ((l : PieceTree) → Contains (piece_trees held) l → may_precede l old.earliest p ≡ true → l.earliest ≡ new.earliest → (n : ℕ) → has n l.tree ≡ true → Contains new.numbers.items n) →
+pub falls_to : (p : PieceTree) (old new : Reach) (choice : Choice) (sequence left : PieceTree) (held : List Piece) → IsReached p old sequence → Contains (piece_trees held) left →
+    may_join join.Then left sequence ≡ true → left.earliest ≤ℤ new.earliest → new.choices.list.items ≡ choice ∷ [] →
+    ((l : PieceTree) → Contains (piece_trees held) l → may_precede l old.earliest p ≡ true → l.earliest ≡ new.earliest → (n : ℕ) → has n l.tree ≡ true → Contains choice.numbers.items n) →
     IsReached p new (joined join.Then left sequence)
-falls_to p old new sequence left held h there may bound one added =
+falls_to p old new choice sequence left held h there may bound one added =
     goes_on p old new sequence left h may (held_span held left there) bound (λ e.
     let number = held_number held left there in
-    subst (λ (k : ℕ). HasOf k new.numbers.items (joined join.Then left sequence).tree) (sym one)
-    (more_of 0 [] new.numbers.items sequence.tree left.tree number.0 (none_of [] sequence.tree) (and_parts _ _ may).1 number.1 (λ m c. absurd (omega (arith, c.1)))
+    subst (λ (z : List Choice). HasPicks z (joined join.Then left sequence).tree) (sym one)
+    (picked_more [] choice left.tree sequence.tree number.0 (none_picked sequence.tree) (and_parts _ _ may).1 number.1
     (added left there (join_precedes p old sequence left h may) e number.0 number.1)))
 
 -- ---- what is wanted is reached
@@ -163,3 +132,17 @@ wanted_by_one now x above p sequence r h gone wants = elim (or_cases _ _ wants) 
   | inl live ↦ absurd (let e : false ≡ true = sym gone ∙ lives_later x.window sequence.earliest r.earliest now h.bound live in cc)
   | inr any ↦ (let found = any_item _ x.left any in let parts = and_parts _ _ found.2 in (found.0, found.1, parts.0, parts.1))
 ]
+
+-- ---- a list of things, step by step
+
+-- one of those before the last, or the last
+pub of_last : (lefts earlier : List Piece) (l : Piece) (left : PieceTree) → lefts ≡ earlier ++ l ∷ [] → Contains (piece_trees lefts) left →
+    Contains (piece_trees earlier) left ⊎ (piece_tree l ≡ left)
+of_last lefts earlier l left is there =
+    Contains-push_cases (piece_trees earlier) (piece_tree l) left
+    (subst (λ (z : List PieceTree). Contains z left) (ap piece_trees is ∙ map_append piece_tree earlier (l ∷ [])) there)
+
+-- one of the first ones, or the next
+pub of_next : (held : List Piece) (at : ℕ) (d : Piece) (left : PieceTree) → at < length held → Contains (piece_trees (take (at + 1) held)) left →
+    Contains (piece_trees (take at held)) left ⊎ (piece_tree (get_or held at d) ≡ left)
+of_next held at d left h there = of_last (take (at + 1) held) (take at held) (get_or held at d) left (take_more held at d h) there

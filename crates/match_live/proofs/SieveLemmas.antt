@@ -132,14 +132,14 @@ common_in others numbers n there =
 -- ---- places that are tried
 
 -- what lies between one place and the next isn't among them
-pub between : (places : List ℕ) (at done i d : ℕ) → IsNonDecreasing places → at < length places → ((k e : ℕ) → k < at → slice_index_or places k e < done) →
+pub between : (places : List ℕ) (at done i d : ℕ) → IsNonDecreasing places → at < length places → AllWithin (λ place. place < done) places 0 at →
     done ≤ i → i < slice_index_or places at d → ¬ (Contains places i)
 between places at done i d rise h before low high there =
     let k = there.0 in
     elim (cases_order k at) [
       | inl e ↦ (let same : slice_index_or places at d ≡ i = get_or_default places at d i h ∙ ap (λ z. slice_index_or places z i) (sym e) ∙ there.2 in omega (arith, same, high))
       | inr z ↦ elim z [
-        | inl lt ↦ (let under = before k i lt in omega (arith, under, there.2, low))
+        | inl lt ↦ (let under = before k i (omega arith) lt in omega (arith, under, there.2, low))
         | inr gt ↦ (
             let over : slice_index_or places at i ≤ slice_index_or places k i = rise at k i (omega (arith, gt)) there.1 in
             let same = get_or_default places at d i h in
@@ -148,8 +148,8 @@ between places at done i d rise h before low high there =
     ]
 
 -- nor what lies behind all
-pub behind : (places : List ℕ) (at done i : ℕ) → length places ≤ at → ((k e : ℕ) → k < at → slice_index_or places k e < done) → done ≤ i → ¬ (Contains places i)
-behind places at done i h before low there = let under = before there.0 i (omega (arith, there.1, h)) in omega (arith, under, there.2, low)
+pub behind : (places : List ℕ) (at done i : ℕ) → length places ≤ at → AllWithin (λ place. place < done) places 0 at → done ≤ i → ¬ (Contains places i)
+behind places at done i h before low there = let under = before there.0 i (omega arith) (omega (arith, there.1, h)) in omega (arith, under, there.2, low)
 
 rows_between : (now : ℤ) (ahead : List Ahead) (since : Option ℤ) (j : Join) (x : PieceTree) (ys : List Piece) (d : Piece) (at to more : ℕ) → to ≡ at + more →
     ((q : PieceTree) → is_wanted now ahead q ≡ true → covers since q.earliest ≡ true) → to ≤ length ys →
@@ -162,7 +162,7 @@ rows_between now ahead since j x ys d at to more is all h early =
 -- all up to the next place is in vain
 pub up_to_place : (now : ℤ) (ahead : List Ahead) (since : Option ℤ) (j : Join) (x : PieceTree) (ys : List Piece) (d : Piece) (places : List ℕ) (at done place : ℕ) →
     ((q : PieceTree) → is_wanted now ahead q ≡ true → covers since q.earliest ≡ true) → AreTried since j x ys places → at < length places → place ≡ slice_index_or places at place →
-    ((k e : ℕ) → k < at → slice_index_or places k e < done) → done ≤ place → place ≤ length ys →
+    AllWithin (λ place. place < done) places 0 at → done ≤ place → place ≤ length ys →
     wanted now ahead (join_row j x (piece_trees (take place ys))) ≡ wanted now ahead (join_row j x (piece_trees (take done ys)))
 up_to_place now ahead since j x ys d places at done place all tried h is before order within =
     rows_between now ahead since j x ys d done place (place - done) (omega (arith, order)) all within (λ k e low high.
@@ -174,7 +174,7 @@ up_to_place now ahead since j x ys d places at done place all tried h is before 
 -- and all behind the last one
 pub up_to_end : (now : ℤ) (ahead : List Ahead) (since : Option ℤ) (j : Join) (x : PieceTree) (ys : List Piece) (d : Piece) (places : List ℕ) (at done : ℕ) →
     ((q : PieceTree) → is_wanted now ahead q ≡ true → covers since q.earliest ≡ true) → AreTried since j x ys places → length places ≤ at →
-    ((k e : ℕ) → k < at → slice_index_or places k e < done) → done ≤ length ys →
+    AllWithin (λ place. place < done) places 0 at → done ≤ length ys →
     wanted now ahead (join_row j x (piece_trees (take (length ys) ys))) ≡ wanted now ahead (join_row j x (piece_trees (take done ys)))
 up_to_end now ahead since j x ys d places at done all tried h before order =
     rows_between now ahead since j x ys d done (length ys) (length ys - done) (omega (arith, order)) all (omega arith) (λ k e low high.

@@ -116,8 +116,8 @@ kept_more w now xs at d h live =
 
 -- ---- a test of all that is held
 
-pub any_has : (f : PieceTree → Bool) (xs : List PieceTree) (x : PieceTree) → Contains xs x → f x ≡ true → list_any f xs ≡ true
-any_has f xs x h passes = list_any_at f xs h.0 x h.1 (ap f h.2 ∙ passes)
+pub any_of : (f : PieceTree → Bool) (xs : List PieceTree) (x : PieceTree) → Contains xs x → f x ≡ true → list_any f xs ≡ true
+any_of f xs x h passes = list_any_at f xs h.0 x h.1 (ap f h.2 ∙ passes)
 
 pub or_true : (a : Bool) → (a || true) ≡ true
 or_true true = refl

@@ -14,3 +14,4 @@ pub mod Reaches
 pub mod TreeCode
 pub mod Seen
 pub mod Sieves
+pub mod Picks

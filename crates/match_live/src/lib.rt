@@ -8,6 +8,7 @@
 //! that the answers of the rows of a log, one after another, are the listing of `match_bindings`.
 #![tactic(auto)]
 
+mod choices;
 mod chunk;
 mod ending;
 mod expired;

@@ -3,7 +3,7 @@
 //! each thing held, by their times and by how many observations they need at one instant. To try them one
 //! by one can take a time that doubles with each thing.
 
-ghost use Rattle.std.specs.Prelude.{◌≡◌, ◌<◌, ◌≤◌, ◌≤ℤ◌, ◌<ℤ◌, ℕ, ℤ, true, false, Some, length, IfOk, OnOk};
+ghost use Rattle.std.specs.Prelude.{◌≡◌, ◌≤ℤ◌, ◌<ℤ◌, ℕ, ℤ, true, false, Some, IfOk, OnOk};
 ghost use Rattle.std.specs.List.{Contains};
 ghost use Rattle.match_bindings.specs.BindTree.{has};
 ghost use Rattle.match_live.specs.declared.join.Join.TheVariants as join;
@@ -15,6 +15,7 @@ ghost use Rattle.match_live.specs.inner.Wanted.{is_wanted};
 ghost use Rattle.match_live.specs.inner.Leads.{leads_of};
 ghost use Rattle.match_live.specs.inner.Reaches.{may_precede, IsReached};
 
+use crate::choices::Choices;
 use crate::lead::Lead;
 use crate::piece::Piece;
 use crate::row_numbers::push_numbers;
@@ -24,14 +25,16 @@ use match_bindings::are_disjoint;
 use std::alloc::Global;
 use stix_times::Instant;
 
+/// More leads there are not, since no more parentheses are.
+const MAX_LEADS: usize = 64;
+
 /// What bounds all sequences so far.
 #[derive(Drop)]
 pub(crate) struct Reach {
     /// None of them begins later.
     pub earliest: Instant,
-    /// One that begins then has so many different ones of `numbers`.
-    pub used: usize,
-    pub numbers: Vec<u64>,
+    /// One that begins then has a number of its own of each.
+    pub choices: Choices,
 }
 
 impl Reach {
@@ -41,8 +44,7 @@ impl Reach {
     {
         Reach {
             earliest: piece.earliest,
-            used: 0,
-            numbers: Vec::new(alloc),
+            choices: Choices::new(alloc),
         }
     }
 
@@ -50,6 +52,7 @@ impl Reach {
     /// last.
     pub fn may_go_on(
         &mut self,
+        alloc: Global,
         piece: &Piece,
         now: Instant,
         leads: &[Lead],
@@ -63,33 +66,34 @@ impl Reach {
         if is_live(&innermost.window, self.earliest, now) {
             return Ok(true);
         }
-        if !self.take(piece, &innermost.left.held)? {
+        if !self.take(alloc, piece, &innermost.left.held)? {
             return Ok(false);
         }
-        let may = self.may_go_on(piece, now, above)?;
+        let may = self.may_go_on(alloc, piece, now, above)?;
         Ok(may)
     }
 
     /// Takes one more thing into each sequence, of those held on the next left side: whether there may be one.
-    fn take(&mut self, piece: &Piece, held: &[Piece]) -> Result<bool, NoMemory>
+    fn take(&mut self, alloc: Global, piece: &Piece, held: &[Piece]) -> Result<bool, NoMemory>
         ensures { IfOk result (λ may. (sequence left : PieceTree) → IsReached (piece_tree piece.now) self.old sequence
             → Contains (piece_trees held.now) left → may_join join.Then left sequence ≡ true
             → (may ≡ true) × IsReached (piece_tree piece.now) self.new (joined join.Then left sequence)) }
     {
-        if self.stay(piece, held)? {
+        if self.stay(alloc, piece, held)? {
             return Ok(true);
         }
         match latest_before(self.earliest, piece, held) {
             Some(earliest) => {
-                self.fall(earliest, piece, held)?;
+                self.fall(alloc, earliest, piece, held)?;
                 Ok(true)
             }
             None => Ok(false),
         }
     }
 
-    /// Takes things that lie wholly where the sequences begin, unless that needs more numbers than there are.
-    fn stay(&mut self, piece: &Piece, held: &[Piece]) -> Result<bool, NoMemory>
+    /// Takes things that lie wholly where the sequences begin, unless there are too few numbers for that. Of more
+    /// numbers than there are leads one is left for each, so no choice is noted.
+    fn stay(&mut self, alloc: Global, piece: &Piece, held: &[Piece]) -> Result<bool, NoMemory>
         ensures earliest { OnOk result (self.new.earliest ≡ self.old.earliest) }
         ensures stays { IfOk result (λ stays. stays ≡ true → (sequence left : PieceTree) → IsReached (piece_tree piece.now) self.old sequence
             → Contains (piece_trees held.now) left → may_join join.Then left sequence ≡ true
@@ -97,30 +101,33 @@ impl Reach {
         ensures falls { IfOk result (λ stays. stays ≡ false → (sequence left : PieceTree) → IsReached (piece_tree piece.now) self.old sequence
             → Contains (piece_trees held.now) left → may_join join.Then left sequence ≡ true → left.earliest <ℤ self.old.earliest) }
     {
-        let before = self.numbers.len();
-        push_beginning(self.earliest, self.earliest, piece, held, &mut self.numbers)?;
-        if self.numbers.len() == before {
+        let numbers = beginning(alloc, self.earliest, self.earliest, piece, held)?;
+        if numbers.is_empty() {
             return Ok(false);
         }
-        self.numbers.sort_unstable();
-        self.numbers.dedup();
-        if self.numbers.len() <= self.used {
-            return Ok(false);
+        if numbers.len() > MAX_LEADS {
+            return Ok(true);
         }
-        self.used += 1;
-        Ok(true)
+        self.choices.add(numbers)?;
+        let short = self.choices.are_short(alloc)?;
+        Ok(!short)
     }
 
     /// Takes things that begin at this time, the latest before the one at which the sequences begin.
-    fn fall(&mut self, earliest: Instant, piece: &Piece, held: &[Piece]) -> Result<(), NoMemory>
+    fn fall(
+        &mut self,
+        alloc: Global,
+        earliest: Instant,
+        piece: &Piece,
+        held: &[Piece],
+    ) -> Result<(), NoMemory>
         ensures { OnOk result ((before : Reach) (sequence left : PieceTree) → before.earliest ≡ self.old.earliest
             → IsReached (piece_tree piece.now) before sequence → Contains (piece_trees held.now) left → may_join join.Then left sequence ≡ true
             → left.earliest ≤ℤ earliest → IsReached (piece_tree piece.now) self.new (joined join.Then left sequence)) }
     {
-        self.numbers.clear();
-        push_beginning(earliest, self.earliest, piece, held, &mut self.numbers)?;
+        let numbers = beginning(alloc, earliest, self.earliest, piece, held)?;
+        self.choices = Choices::of(alloc, numbers)?;
         self.earliest = earliest;
-        self.used = 1;
         Ok(())
     }
 }
@@ -132,26 +139,27 @@ fn may_precede(left: &Piece, bound: Instant, piece: &Piece) -> bool
     left.latest <= bound && are_disjoint(&left.bind, &piece.bind)
 }
 
-/// Adds the numbers of the things that begin at this time, and may go before such a sequence.
-fn push_beginning(
+/// The numbers, each once, of the things that begin at this time, and may go before such a sequence.
+fn beginning(
+    alloc: Global,
     earliest: Instant,
     bound: Instant,
     piece: &Piece,
     held: &[Piece],
-    numbers: &mut Vec<u64>,
-) -> Result<(), NoMemory>
-    ensures kept { OnOk result ((n : ℕ) → Contains numbers.old.items n → Contains numbers.new.items n) }
-    ensures longer { OnOk result (length numbers.old.items ≤ length numbers.new.items) }
-    ensures added { OnOk result ((left : PieceTree) → Contains (piece_trees held.now) left
+) -> Result<Vec<u64>, NoMemory>
+    ensures { IfOk result (λ numbers. (left : PieceTree) → Contains (piece_trees held.now) left
         → may_precede left bound (piece_tree piece.now) ≡ true → left.earliest ≡ earliest
-        → ((n : ℕ) → has n left.tree ≡ true → Contains numbers.new.items n) × (length numbers.old.items < length numbers.new.items)) }
+        → (n : ℕ) → has n left.tree ≡ true → Contains numbers.items n) }
 {
+    let mut numbers = Vec::new(alloc);
     for left in held {
         if left.earliest == earliest && may_precede(left, bound, piece) {
-            push_numbers(&left.bind, numbers)?;
+            push_numbers(&left.bind, &mut numbers)?;
         }
     }
-    Ok(())
+    numbers.sort_unstable();
+    numbers.dedup();
+    Ok(numbers)
 }
 
 /// The latest time before this one at which something begins that may go before a sequence, which itself

@@ -34,7 +34,7 @@ pub(crate) fn is_wanted(
         if Sequence::new(alloc, piece)?.goes_on(now, leads)? {
             return Ok(true);
         }
-        if !Reach::new(alloc, piece).may_go_on(piece, now, leads)? {
+        if !Reach::new(alloc, piece).may_go_on(alloc, piece, now, leads)? {
             return Ok(false);
         }
     }

@@ -1,11 +1,12 @@
 -- For private clauses: what bounds the sequences that join a new thing to one thing held on the left of each FOLLOWEDBY.
-use Rattle.std.specs.Prelude.{◌≡◌, ℕ, nat_eq, ℤ, int_le, ◌≤ℤ◌, Bool, true, false, ◌&&◌, Option, Some, None, List, length}
-use Rattle.std.specs.List.{Contains, IsDistinct}
-use Rattle.match_bindings.specs.BindTree.{BindTree, has, disjoint}
+use Rattle.std.specs.Prelude.{◌≡◌, ℕ, ℤ, int_le, ◌≤ℤ◌, Bool, true, false, ◌&&◌, Option, Some, None, List}
+use Rattle.std.specs.List.{Contains}
+use Rattle.match_bindings.specs.BindTree.{has, disjoint}
 use Rattle.match_live.specs.declared.reach.Reach.{Reach}
 use Rattle.match_live.specs.declared.sequence.Sequence.{Sequence}
 use Rattle.match_live.specs.declared.since.Since.{Since}
 use Rattle.match_live.specs.PieceTree.{PieceTree}
+use Rattle.match_live.specs.inner.Picks.{HasPicks}
 use Rattle.match_live.specs.inner.Wanted.{Ahead, is_wanted}
 
 -- whether a time isn't before another one, where there is one
@@ -36,15 +37,8 @@ pub record IsSequence (sequence : Sequence) (piece : PieceTree) : Type 0 where
 abbrev pub may_precede : PieceTree → ℤ → PieceTree → Bool
 may_precede left bound piece = int_le left.latest bound && disjoint left.tree piece.tree
 
--- a tree has so many different ones of some numbers
-pub record HasOf (count : ℕ) (all : List ℕ) (x : BindTree) : Type 0 where
-  pub numbers : List ℕ
-  pub differ : IsDistinct nat_eq numbers
-  pub each : (n : ℕ) → Contains numbers n → Contains all n × (has n x ≡ true)
-  pub counted : length numbers ≡ count
-
--- a sequence has the new thing in it, begins no later than the bound, and where it begins then, has so many of the numbers
+-- a sequence has the new thing in it, begins no later than the bound, and where it begins then, has a number of its own of each choice
 pub record IsReached (piece : PieceTree) (reach : Reach) (sequence : PieceTree) : Type 0 where
   pub has_piece : (n : ℕ) → has n piece.tree ≡ true → has n sequence.tree ≡ true
   pub bound : sequence.earliest ≤ℤ reach.earliest
-  pub used : sequence.earliest ≡ reach.earliest → HasOf reach.used reach.numbers.items sequence.tree
+  pub picks : sequence.earliest ≡ reach.earliest → HasPicks reach.choices.list.items sequence.tree

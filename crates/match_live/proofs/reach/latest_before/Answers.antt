@@ -1,29 +1,19 @@
 -- One thing more from the end, which is later than the latest so far, or isn't.
-use Rattle.std.proofs.Common.{◌≡◌, ◌≤ℤ◌, ◌<ℤ◌, ℤ, List, [], ◌∷◌, ◌++◌, refl, sym, ◌∙◌, ap, subst, ◌⊎◌, inl, inr}
+use Rattle.std.proofs.Common.{◌≡◌, ◌≤ℤ◌, ◌<ℤ◌, ℤ, refl, sym, ◌∙◌, ap, subst, inl, inr}
 use Rattle.std.specs.Prelude.{true, false, Some}
-use Rattle.std.specs.List.{Contains}
-use Rattle.std.proofs.lemmas.List.Elements.{Contains-push_cases}
-use Rattle.match_bindings.proofs.ListLemmas.{map_append}
-use Rattle.match_live.specs.declared.piece.Piece.{Piece}
 use Rattle.match_live.specs.PieceTree.{PieceTree}
-use Rattle.match_live.specs.inner.Pieces.{piece_tree, piece_trees}
+use Rattle.match_live.specs.inner.Pieces.{piece_tree}
 use Rattle.match_live.specs.inner.Reaches.{may_precede}
 use Rattle.match_live.proofs.LivesLemmas.{le_self, le_trans}
+use Rattle.match_live.proofs.ReachLemmas.{of_last}
 use Rattle.match_live.proofs.reach.latest_before.Goals as goal
 use Rattle.match_live.proofs.reach.latest_before.Goals.{else-is_later-via-then-is_later+else-may_precede, else-is_later-via-else-is_later}
-
--- it is one of those before the last, or the last
-split : (lefts earlier : List Piece) (l : Piece) (left : PieceTree) → lefts ≡ earlier ++ l ∷ [] → Contains (piece_trees lefts) left →
-    Contains (piece_trees earlier) left ⊎ (piece_tree l ≡ left)
-split lefts earlier l left is there =
-    Contains-push_cases (piece_trees earlier) (piece_tree l) left
-    (subst (λ (z : List PieceTree). Contains z left) (ap piece_trees is ∙ map_append piece_tree earlier (l ∷ [])) there)
 
 pub loop-left-preserved : goal.loop-left-preserved
 loop-left-preserved c = λ left there may before.
     let l = c.in-Some.left.now in
     elim (c.loop-left.invariant left there may before) [
-      | inl in_lefts ↦ elim (split c.loop-left.lefts.now c.in-Some.earlier.now l left c.in-Some.ensures.cases.0 in_lefts) [
+      | inl in_lefts ↦ elim (of_last c.loop-left.lefts.now c.in-Some.earlier.now l left c.in-Some.ensures.cases.0 in_lefts) [
         | inl e ↦ inl e
         | inr is ↦ inr (elim c.else-is_later.branch [
           | else-is_later-via-then-is_later+else-may_precede w ↦ absurd (
@@ -41,7 +31,7 @@ pub loop-left-preserved-then-may_precede : goal.loop-left-preserved-then-may_pre
 loop-left-preserved-then-may_precede c = λ left there may before.
     let l = c.in-Some.left.now in
     elim (c.loop-left.invariant left there may before) [
-      | inl in_lefts ↦ elim (split c.loop-left.lefts.now c.in-Some.earlier.now l left c.in-Some.ensures.cases.0 in_lefts) [
+      | inl in_lefts ↦ elim (of_last c.loop-left.lefts.now c.in-Some.earlier.now l left c.in-Some.ensures.cases.0 in_lefts) [
         | inl e ↦ inl e
         | inr is ↦ inr (l.earliest, refl, subst (λ (q : PieceTree). q.earliest ≤ℤ l.earliest) is (le_self l.earliest))
       ]

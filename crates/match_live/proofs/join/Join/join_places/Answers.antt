@@ -1,9 +1,8 @@
 -- A place that is tried, and what lies between it and the one before.
-use Rattle.std.proofs.Common.{◌≡◌, ◌≤◌, ◌<◌, ◌+◌, ◌∷◌, ◌++◌, [], List, Vec, Global, length, take, sym, ◌∙◌, ap, subst, rules, arith, Err, inl, inr}
+use Rattle.std.proofs.Common.{◌≡◌, ◌≤◌, ◌<◌, ◌+◌, ◌∷◌, ◌++◌, [], List, Vec, Global, length, take, sym, ◌∙◌, ap, subst, rules, arith, Err}
 use Rattle.std.specs.Prelude.{slice_index_or}
-use Rattle.std.proofs.lemmas.Bool.{cases_order}
 use Rattle.std.proofs.lemmas.List.{take_all, get_or_default}
-use Rattle.std.proofs.lemmas.List.Elements.{Contains-get_or}
+use Rattle.std.proofs.lemmas.List.Elements.{AllWithin-more, Contains-get_or}
 use Rattle.match_live.specs.declared.stop.Stop.TheVariants as stop
 use Rattle.match_live.specs.declared.piece.Piece.{Piece}
 use Rattle.match_live.specs.PieceTree.{PieceTree}
@@ -64,25 +63,17 @@ loop-place-preserved c =
                 (before.joined ∙ ap (λ (z : List PieceTree). old ++ z) (sym skipped))
                 ∙ ap (λ n. old ++ wanted c.args.now ahead (join_row j x (piece_trees (take n seconds)))) (sym w.done-is);
             within = omega (arith, w.done-is, low);
-            passed = λ k d h. elim (cases_order k at) [
-              | inl e ↦ (let same : slice_index_or places k d ≡ place = ap (λ i. slice_index_or places i d) e ∙ get_or_default places at d 0 in' in omega (arith, same, w.done-is))
-              | inr z ↦ elim z [
-                | inl lt ↦ (let under = before.passed k d lt in omega (arith, under, w.done-is, w.if-done-place.true))
-                | inr gt ↦ absurd (omega (arith, gt, h))
-              ]
-            ];
+            passed = AllWithin-more (λ p. p < c.if-done-place.done) places 0 at
+                (λ k d low high. let under = before.passed k d low high in omega (arith, under, w.done-is, w.if-done-place.true))
+                (λ d. let same = get_or_default places at d 0 in' in omega (arith, same, w.done-is));
           })
       | else-done-place w ↦ record {
         joined = ap (λ (v : Vec Piece Global). piece_trees v.items) w.out-is ∙ before.joined
             ∙ ap (λ n. old ++ wanted c.args.now ahead (join_row j x (piece_trees (take n seconds)))) (sym w.done-is);
         within = omega (arith, w.done-is, before.within);
-        passed = λ k d h. elim (cases_order k at) [
-          | inl e ↦ (let same : slice_index_or places k d ≡ place = ap (λ i. slice_index_or places i d) e ∙ get_or_default places at d 0 in' in omega (arith, same, w.done-is, w.if-done-place.false))
-          | inr z ↦ elim z [
-            | inl lt ↦ (let under = before.passed k d lt in omega (arith, under, w.done-is))
-            | inr gt ↦ absurd (omega (arith, gt, h))
-          ]
-        ];
+        passed = AllWithin-more (λ p. p < c.if-done-place.done) places 0 at
+            (λ k d low high. let under = before.passed k d low high in omega (arith, under, w.done-is))
+            (λ d. let same = get_or_default places at d 0 in' in omega (arith, same, w.done-is, w.if-done-place.false));
       }
     ]
 

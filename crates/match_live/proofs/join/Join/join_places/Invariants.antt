@@ -1,5 +1,6 @@
-use Rattle.std.proofs.Common.{◌≡◌, ◌≤◌, ◌<◌, ℕ, ◌++◌, length}
-use Rattle.std.specs.Prelude.{take, slice_index_or}
+use Rattle.std.proofs.Common.{◌≡◌, ◌≤◌, ◌<◌, ◌++◌, length}
+use Rattle.std.specs.Prelude.{take}
+use Rattle.std.specs.List.{AllWithin}
 use Rattle.match_live.specs.inner.Pieces.{piece_tree, piece_trees}
 use Rattle.match_live.specs.inner.Steps.{join_row}
 use Rattle.match_live.specs.inner.Wanted.{wanted}
@@ -11,5 +12,5 @@ invariant-loop-place l = record {
   joined : piece_trees l.out.items
       ≡ piece_trees l.fn.out.items ++ wanted l.now (leads_of l.leads) (join_row l.self (piece_tree l.first) (piece_trees (take l.done l.seconds)));
   within : l.done ≤ length l.seconds;
-  passed : (k d : ℕ) → k < l.place-index → slice_index_or l.places k d < l.done;
+  passed : AllWithin (λ place. place < l.done) l.places 0 l.place-index;
 }

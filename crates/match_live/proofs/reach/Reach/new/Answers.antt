@@ -1,12 +1,17 @@
 -- A new thing alone.
+use Rattle.std.proofs.Common.{List, sym, subst}
 use Rattle.match_bindings.specs.BindTree.{tree_of}
+use Rattle.match_live.specs.declared.choices.Choice.{Choice}
+use Rattle.match_live.specs.inner.Picks.{HasPicks}
 use Rattle.match_live.proofs.LivesLemmas.{le_self}
-use Rattle.match_live.proofs.ReachLemmas.{none_of}
+use Rattle.match_live.proofs.PicksLemmas.{none_picked}
 use Rattle.match_live.proofs.reach.Reach.new.Goals as goal
 
 pub returns : goal.returns
-returns c = record {
-  has_piece = λ n h. h;
-  bound = le_self c.args.piece.now.earliest;
-  used = λ e. none_of c.new.result.items (tree_of c.args.piece.now.bind);
-}
+returns c =
+    let x = tree_of c.args.piece.now.bind in
+    record {
+      has_piece = λ n h. h;
+      bound = le_self c.args.piece.now.earliest;
+      picks = λ e. subst (λ (z : List Choice). HasPicks z x) (sym c.new.ensures) (none_picked x);
+    }

@@ -10,7 +10,7 @@ use Rattle.match_live.specs.inner.Pieces.{piece_trees}
 use Rattle.match_live.specs.inner.Steps.{may_join, joined}
 use Rattle.match_live.specs.inner.Wanted.{is_wanted}
 use Rattle.match_live.specs.inner.Leads.{leads_of}
-use Rattle.match_live.proofs.WantedLemmas.{wanted_by, any_has, or_true}
+use Rattle.match_live.proofs.WantedLemmas.{wanted_by, any_of, or_true}
 use Rattle.match_live.proofs.sequence.Sequence.+goes_on.Goals as goal
 
 pub returns-then-is_live : goal.returns-then-is_live
@@ -28,5 +28,5 @@ returns t c = λ yes piece s.
     let wants = c.in_ok-on.ensures yes (joined join.Then found.0 piece) found.3 in
     wanted_by c.args.now c.args.leads.now above x piece c.in-Some.ensures.cases.0
     ∙ ap (λ z. lives x.window piece.earliest c.args.now || list_any f (piece_trees z)) (sym c.deref.ensures.value)
-    ∙ ap (λ z. lives x.window piece.earliest c.args.now || z) (any_has f (piece_trees c.deref.result.now) found.0 found.1 (and_from _ _ found.2 wants))
+    ∙ ap (λ z. lives x.window piece.earliest c.args.now || z) (any_of f (piece_trees c.deref.result.now) found.0 found.1 (and_from _ _ found.2 wants))
     ∙ or_true (lives x.window piece.earliest c.args.now)

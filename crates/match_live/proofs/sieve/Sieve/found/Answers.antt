@@ -1,23 +1,13 @@
 -- Keys that are passed, and one that may be told.
-use Rattle.std.proofs.Common.{◌≡◌, ◌≤◌, ◌<◌, ◌+◌, ◌⊎◌, ℕ, List, ◌∷◌, [], ◌++◌, length, subst, sym, inl, inr, rules, arith}
+use Rattle.std.proofs.Common.{◌≡◌, ◌≤◌, ◌<◌, ◌⊎◌, ℕ, List, ◌∷◌, [], ◌++◌, length, subst, sym, inl, inr, rules, arith}
 use Rattle.std.specs.Prelude.{slice_index_or, true}
-use Rattle.std.specs.List.{AllWithin, Contains}
+use Rattle.std.specs.List.{Contains}
 use Rattle.std.proofs.lemmas.Bool.{cases_order}
-use Rattle.std.proofs.lemmas.List.Elements.{at_read, Contains-append_left, Contains-push, Contains-push_cases}
+use Rattle.std.proofs.lemmas.List.Elements.{at_read, AllWithin-more, Contains-append_left, Contains-push, Contains-push_cases}
 use Rattle.match_live.specs.declared.key.Key.{Key}
 use Rattle.match_live.specs.inner.Sieves.{HasCommon, IsPassed}
 use Rattle.match_live.proofs.sieve.Sieve.found.Goals as goal
 use Rattle.match_live.proofs.sieve.Sieve.found.Goals.{then-not-passes+in_ok-push, else-not-passes}
-
--- what holds of the first keys and of the next one
-one_more : (P : Key → Type 0) (keys : List Key) (at : ℕ) (key : Key) → at < length keys → key ≡ slice_index_or keys at key → P key → AllWithin P keys 0 at → AllWithin P keys 0 (at + 1)
-one_more P keys at key here is told before k d low high = elim (cases_order k at) [
-  | inl e ↦ subst (λ i. P (slice_index_or keys i d)) (sym e) (at_read keys P at key here is told d)
-  | inr z ↦ elim z [
-    | inl lt ↦ before k d low lt
-    | inr gt ↦ absurd (omega (arith, gt, high))
-  ]
-]
 
 pub keys-preserved-then-at-passed : goal.keys-preserved-then-at-passed
 keys-preserved-then-at-passed c =
@@ -50,8 +40,8 @@ keys-preserved c =
           ] in
           let pushed : Contains c.if-not-passes.places.items key.place = subst (λ (z : List ℕ). Contains z key.place) (sym more) (Contains-push old key.place) in
           record {
-            others = one_more (λ (k : Key). Contains c.if-not-passes.places.items k.place ⊎ IsPassed probe k) keys at key here is (inl pushed)
-                (λ k d low high. kept (slice_index_or keys k d) (before.others k d low high));
+            others = AllWithin-more (λ (k : Key). Contains c.if-not-passes.places.items k.place ⊎ IsPassed probe k) keys 0 at (λ k d low high. kept (slice_index_or keys k d) (before.others k d low high))
+                (at_read keys (λ (k : Key). Contains c.if-not-passes.places.items k.place ⊎ IsPassed probe k) at key here is (inl pushed));
             from = λ place there. elim (Contains-push_cases old key.place place (subst (λ (z : List ℕ). Contains z place) more there)) [
               | inl was ↦ before.from place was
               | inr same ↦ (key, (at, here, sym is), same)
@@ -65,8 +55,8 @@ keys-preserved c =
           let kept : (k : Key) → Contains old k.place ⊎ IsPassed probe k → Contains c.if-not-passes.places.items k.place ⊎ IsPassed probe k
           = λ k. subst (λ (z : List ℕ). Contains z k.place ⊎ IsPassed probe k) (sym same) in
           record {
-            others = one_more (λ (k : Key). Contains c.if-not-passes.places.items k.place ⊎ IsPassed probe k) keys at key here is (inr passed)
-                (λ k d low high. kept (slice_index_or keys k d) (before.others k d low high));
+            others = AllWithin-more (λ (k : Key). Contains c.if-not-passes.places.items k.place ⊎ IsPassed probe k) keys 0 at (λ k d low high. kept (slice_index_or keys k d) (before.others k d low high))
+                (at_read keys (λ (k : Key). Contains c.if-not-passes.places.items k.place ⊎ IsPassed probe k) at key here is (inr passed));
             from = λ place there. before.from place (subst (λ (z : List ℕ). Contains z place) same there);
           })
     ]

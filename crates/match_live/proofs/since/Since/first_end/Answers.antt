@@ -3,7 +3,6 @@ use Rattle.std.proofs.Common.{◌≡◌, ◌+◌, ◌≤ℤ◌, ℕ, ℤ, List, 
 use Rattle.std.specs.Prelude.{true, false, Option, Some, None}
 use Rattle.std.specs.List.{Contains}
 use Rattle.std.proofs.lemmas.List.{take_all}
-use Rattle.std.proofs.lemmas.List.Elements.{Contains-push_cases}
 use Rattle.match_bindings.specs.BindTree.{has}
 use Rattle.match_live.specs.declared.piece.Piece.{Piece}
 use Rattle.match_live.specs.declared.since.End.{End}
@@ -11,8 +10,7 @@ use Rattle.match_live.specs.PieceTree.{PieceTree}
 use Rattle.match_live.specs.inner.Pieces.{piece_tree, piece_trees}
 use Rattle.match_live.specs.inner.Reaches.{MayBegin}
 use Rattle.match_live.proofs.LivesLemmas.{le_both, le_trans}
-use Rattle.match_live.proofs.OldestLemmas.{next_taken}
-use Rattle.match_live.proofs.ReachLemmas.{held_span}
+use Rattle.match_live.proofs.ReachLemmas.{held_span, of_next}
 use Rattle.match_live.proofs.since.Since.first_end.Goals as goal
 use Rattle.match_live.proofs.since.Since.first_end.Goals.{then-may_begin, else-may_begin}
 
@@ -30,8 +28,7 @@ loop-left-preserved c =
     let d = c.left-item.result in let held = c.args.held.now in let i = c.loop-left.left-index in
     let before = c.loop-left.invariant in let end = c.loop-left.end in let now = c.args.now in
     let cases : (left : PieceTree) → Contains (piece_trees (take (i + 1) held)) left → _
-    = λ left more. Contains-push_cases (piece_trees (take i held)) (piece_tree (get_or held i d)) left
-    (subst (λ (z : List PieceTree). Contains z left) (next_taken held i d c.loop-left-test.true) more) in
+    = λ left more. of_next held i d left c.loop-left-test.true more in
     elim c.if-may_begin.branch [
       | then-may_begin w ↦ (
           let new = w.with-end.result in let told = w.with-end.ensures in
