@@ -32,6 +32,15 @@ nested() {
   }' | tr '"' "'"
 }
 
+# few FEW MANY: a pattern nested so, of FEW brackets that ask for x, MANY that ask for u, and one that asks for z.
+few() {
+  awk -v few="$1" -v many="$2" 'BEGIN {
+    for (n = 1; n <= few + many; n++) printf "[user-account:account_login = \"%s\"] FOLLOWEDBY %s", n <= few ? "x" : "u", n < few + many ? "(" : ""
+    printf "[user-account:account_login = \"z\"]"
+    for (n = 1; n < few + many; n++) printf ")"
+  }' | tr '"' "'"
+}
+
 # timed NAME PATTERN
 timed() {
   local start status=0
@@ -57,6 +66,11 @@ log 60 0 10 1
 timed "63 brackets, 60 logins of 10 seconds each" "$(nested x 62)"
 log 60 12 10 1
 timed "63 brackets, 60 logins of 10 seconds, the first 12 at once" "$(nested x 62)"
+log 23 22 0 2
+sed -i '1s/"u"/"x"/; 23s/"u"/"z"/' "$folder/log.jsonl"
+for many in 5 6 15; do
+  timed "3 brackets of x, $many of u; 22 logins at once, 2 of x" "$(few 3 $many)"
+done
 for count in 1000 10000; do
   log $count 0 0 0
   timed "4 brackets, $count logins, none of x" "$(nested x 3)"
