@@ -2,7 +2,7 @@
 use Rattle.std.proofs.Common.{◌≡◌, ℕ, zero, suc, ◌+◌, ◌-◌, ◌<◌, List, ◌∷◌, ◌++◌, refl, sym, ◌∙◌, ap, arith, append_assoc, append-nil, ◌⊎◌, inl, inr}
 use Rattle.std.specs.Prelude.{replicate, codes}
 use Rattle.std.specs.List.{repeat}
-use Rattle.std.specs.Box.{box_value}
+use Rattle.std.specs.Rc.{rc_value}
 use Rattle.match_bindings.specs.declared.bind.Bind.{Bind}
 use Rattle.match_bindings.specs.declared.bind.Bind.TheVariants.{First as OfFirst, Second as OfSecond}
 use Rattle.match_bindings.specs.BindTree.{BindTree, First, Second, firsts, tree_of, has, disjoint, greatest}
@@ -45,10 +45,10 @@ greatest_firsts (suc n) x = greatest_firsts n x
 
 -- what is the same of a tree and of it under Firsts or a Second is that of the part
 pub of_part : {A : Type 0} (f : BindTree → A) → ((n : ℕ) (x : BindTree) → f (First (firsts n x)) ≡ f x) → ((x : BindTree) → f (Second x) ≡ f x) →
-    (bind : Bind) (part : _) → ((n : ℕ) × (bind ≡ OfFirst n part)) ⊎ (bind ≡ OfSecond part) → f (tree_of bind) ≡ f (tree_of (box_value part))
+    (bind : Bind) (part : _) → ((n : ℕ) × (bind ≡ OfFirst n part)) ⊎ (bind ≡ OfSecond part) → f (tree_of bind) ≡ f (tree_of (rc_value part))
 of_part f first second bind part (inl is) =
-    ap (λ b. f (tree_of b)) is.1 ∙ ap f (tree_first is.0 part) ∙ first is.0 (tree_of (box_value part))
-of_part f first second bind part (inr is) = ap (λ b. f (tree_of b)) is ∙ ap f (tree_second part) ∙ second (tree_of (box_value part))
+    ap (λ b. f (tree_of b)) is.1 ∙ ap f (tree_first is.0 part) ∙ first is.0 (tree_of (rc_value part))
+of_part f first second bind part (inr is) = ap (λ b. f (tree_of b)) is ∙ ap f (tree_second part) ∙ second (tree_of (rc_value part))
 
 -- ---- what is before a part
 
@@ -56,18 +56,18 @@ flat_firsts : (n : ℕ) (x : BindTree) → flat (firsts n x) ≡ replicate n 0 +
 flat_firsts zero x = refl
 flat_firsts (suc n) x = ap (λ z. 0 ∷ z) (flat_firsts n x)
 
-pub flat_first : (n : ℕ) (part : _) → flat (tree_of (OfFirst n part)) ≡ replicate (n + 1) 0 ++ flat (tree_of (box_value part))
+pub flat_first : (n : ℕ) (part : _) → flat (tree_of (OfFirst n part)) ≡ replicate (n + 1) 0 ++ flat (tree_of (rc_value part))
 flat_first n part =
-    ap flat (tree_first n part ∙ sym (firsts_more n (tree_of (box_value part)))) ∙ flat_firsts (n + 1) (tree_of (box_value part))
+    ap flat (tree_first n part ∙ sym (firsts_more n (tree_of (rc_value part)))) ∙ flat_firsts (n + 1) (tree_of (rc_value part))
 
 entries_firsts : (n : ℕ) (x : BindTree) → entries_text (firsts n x) ≡ repeat n (codes " L") ++ entries_text x
 entries_firsts zero x = refl
 entries_firsts (suc n) x =
     ap (λ z. codes " L" ++ z) (entries_firsts n x) ∙ sym (append_assoc (codes " L") (repeat n (codes " L")) (entries_text x))
 
-pub entries_first : (n : ℕ) (part : _) → entries_text (tree_of (OfFirst n part)) ≡ repeat (n + 1) (codes " L") ++ entries_text (tree_of (box_value part))
+pub entries_first : (n : ℕ) (part : _) → entries_text (tree_of (OfFirst n part)) ≡ repeat (n + 1) (codes " L") ++ entries_text (tree_of (rc_value part))
 entries_first n part =
-    ap entries_text (tree_first n part ∙ sym (firsts_more n (tree_of (box_value part)))) ∙ entries_firsts (n + 1) (tree_of (box_value part))
+    ap entries_text (tree_first n part ∙ sym (firsts_more n (tree_of (rc_value part)))) ∙ entries_firsts (n + 1) (tree_of (rc_value part))
 
 repeat_last : (n : ℕ) (xs : List ℕ) → repeat n xs ++ xs ≡ repeat (suc n) xs
 repeat_last zero xs = sym (append-nil xs)

@@ -1,7 +1,7 @@
 -- Trees under Firsts, of which the second has no lesser flat list.
 use Rattle.std.proofs.Common.{◌≡◌, ℕ, zero, suc, ◌<◌, refl, sym, ◌∙◌, ap, subst, arith}
 use Rattle.std.specs.Prelude.{true}
-use Rattle.std.specs.Box.{box_value}
+use Rattle.std.specs.Rc.{rc_value}
 use Rattle.match_bindings.specs.declared.bind.Bind.{Bind}
 use Rattle.match_bindings.specs.declared.bind.Bind.TheVariants.{First as OfFirst}
 use Rattle.match_bindings.specs.BindTree.{BindTree, First, Second, firsts, tree_of}
@@ -19,14 +19,14 @@ longer_rises (suc m) (suc n) x y h s = longer_rises m n x y (omega (arith, h)) s
 longer_rises (suc m) zero x y h s = absurd (cc)
 
 -- a First beside another
-pub same_runs : (m n : ℕ) (x : BindTree) (bind : Bind) (other : _) → bind ≡ OfFirst n other → m ≡ n → FlatRises x (tree_of (box_value other)) →
+pub same_runs : (m n : ℕ) (x : BindTree) (bind : Bind) (other : _) → bind ≡ OfFirst n other → m ≡ n → FlatRises x (tree_of (rc_value other)) →
     FlatRises (First (firsts m x)) (tree_of bind)
 same_runs m n x bind other is e h =
-    subst (λ y. FlatRises (First (firsts m x)) y) (ap (λ k. First (firsts k (tree_of (box_value other)))) e ∙ sym (ap tree_of is ∙ tree_first n other))
-    (runs_rise (suc m) x (tree_of (box_value other)) h)
+    subst (λ y. FlatRises (First (firsts m x)) y) (ap (λ k. First (firsts k (tree_of (rc_value other)))) e ∙ sym (ap tree_of is ∙ tree_first n other))
+    (runs_rise (suc m) x (tree_of (rc_value other)) h)
 
-pub longer_run : (m n : ℕ) (x : BindTree) (bind : Bind) (other : _) → bind ≡ OfFirst n other → n < m → is_second (tree_of (box_value other)) ≡ true →
+pub longer_run : (m n : ℕ) (x : BindTree) (bind : Bind) (other : _) → bind ≡ OfFirst n other → n < m → is_second (tree_of (rc_value other)) ≡ true →
     FlatRises (First (firsts m x)) (tree_of bind)
 longer_run m n x bind other is h s =
     subst (λ y. FlatRises (First (firsts m x)) y) (sym (ap tree_of is ∙ tree_first n other))
-    (longer_rises (suc m) (suc n) x (tree_of (box_value other)) (omega (arith, h)) s)
+    (longer_rises (suc m) (suc n) x (tree_of (rc_value other)) (omega (arith, h)) s)

@@ -38,10 +38,10 @@ firsts (suc n) x = First (firsts n x)
 -- one level of a bind, whose parts are trees already
 abbrev pub tree_level : Bind-F BindTree → BindTree
 tree_level (bind.One number) = One number
-tree_level (bind.Both left right) = Pair left.value right.value
+tree_level (bind.Both sides) = Pair sides.value.0 sides.value.1
 tree_level (bind.First more part) = First (firsts more part.value)
 tree_level (bind.Second part) = Second part.value
-tree_level (bind.Many parts) = many_of parts
+tree_level (bind.Many parts) = many_of parts.value
 
 -- the tree of a bind
 abbrev pub tree_of : Bind → BindTree

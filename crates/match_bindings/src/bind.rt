@@ -1,24 +1,26 @@
 ghost use Rattle.std.specs.Prelude.{◌≡◌, ◌<◌, false, IfOk, IfSome, IfNone, map};
-ghost use Rattle.std.specs.Box.{box_value};
-ghost use Rattle.match_bindings.specs.BindTree.{tree_of, many_of, firsts, One, Pair, First};
+ghost use Rattle.std.specs.Rc.{rc_value};
+ghost use Rattle.match_bindings.specs.BindTree.{tree_of, many_of, firsts, One, Pair, First, Second};
 ghost use Rattle.match_bindings.specs.inner.Kinds.{is_one, is_pair, is_chain};
 
 use flow_values::{Items, NoMemory};
-use std::alloc::Global;
+use std::alloc::{AllocError, Global};
+use std::rc::Rc;
 
-/// Which observations match which parts of a pattern. Observations are numbered from 1.
+/// Which observations match which parts of a pattern. Observations are numbered from 1. What a bind is made of
+/// is shared by all that are made of it: to clone one takes no memory.
 #[derive(Drop)]
 pub enum Bind {
     /// The observation that matches a leaf.
     One(u64),
     /// What matches the sides of an `AND` or a `FOLLOWEDBY`.
-    Both(Box<Bind>, Box<Bind>),
+    Both(Rc<(Bind, Bind)>),
     /// What matches the left side of an `OR`, and of so many more above it, each the left side of the next.
-    First(u32, Box<Bind>),
+    First(u32, Rc<Bind>),
     /// What matches the right side of an `OR`.
-    Second(Box<Bind>),
+    Second(Rc<Bind>),
     /// What matches each of the repeats of a `REPEATS`.
-    Many(Items<Bind>),
+    Many(Rc<Items<Bind>>),
 }
 
 impl Bind {
@@ -31,8 +33,15 @@ impl Bind {
         }
         match bind {
             Bind::First(more, part) => longer_run(alloc, count, more, part),
-            other => Ok(Bind::First(count - 1, Box::new(alloc, other)?)),
+            other => Ok(Bind::First(count - 1, Rc::new(alloc, other)?)),
         }
+    }
+
+    /// A bind under a `Second`.
+    pub fn under_second(alloc: Global, bind: Bind) -> Result<Bind, NoMemory>
+        ensures { IfOk result (λ above. tree_of above ≡ Second (tree_of bind)) }
+    {
+        Ok(Bind::Second(Rc::new(alloc, bind)?))
     }
 
     /// The number of a `One`.
@@ -42,7 +51,7 @@ impl Bind {
     {
         match self {
             Bind::One(number) => Some(*number),
-            Bind::Both(_, _) | Bind::First(_, _) | Bind::Second(_) => None,
+            Bind::Both(_) | Bind::First(_, _) | Bind::Second(_) => None,
             Bind::Many(_) => None,
         }
     }
@@ -53,7 +62,7 @@ impl Bind {
         ensures none { IfNone result (is_pair (tree_of self.now) ≡ false) }
     {
         match self {
-            Bind::Both(left, right) => Some((left, right)),
+            Bind::Both(sides) => Some((&sides.0, &sides.1)),
             Bind::One(_) | Bind::First(_, _) | Bind::Second(_) => None,
             Bind::Many(_) => None,
         }
@@ -66,19 +75,33 @@ impl Bind {
     {
         match self {
             Bind::Many(parts) => Some(parts.as_slice()),
-            Bind::One(_) | Bind::Both(_, _) | Bind::First(_, _) | Bind::Second(_) => None,
+            Bind::One(_) | Bind::Both(_) | Bind::First(_, _) | Bind::Second(_) => None,
+        }
+    }
+}
+
+impl Clone for Bind {
+    ghost is_clone = { λ bind copy. tree_of copy ≡ tree_of bind };
+
+    fn clone(&self) -> Result<Bind, AllocError> {
+        match self {
+            Bind::One(number) => Ok(Bind::One(*number)),
+            Bind::Both(sides) => Ok(Bind::Both(sides.clone()?)),
+            Bind::First(more, part) => Ok(Bind::First(*more, part.clone()?)),
+            Bind::Second(part) => Ok(Bind::Second(part.clone()?)),
+            Bind::Many(parts) => Ok(Bind::Many(parts.clone()?)),
         }
     }
 }
 
 /// A `First` under so many more: one run, or two where a count has no room for both.
-fn longer_run(alloc: Global, count: u32, more: u32, part: Box<Bind>) -> Result<Bind, NoMemory>
+fn longer_run(alloc: Global, count: u32, more: u32, part: Rc<Bind>) -> Result<Bind, NoMemory>
     requires { 0 < count }
-    ensures { IfOk result (λ above. tree_of above ≡ firsts count (First (firsts more (tree_of (box_value part))))) }
+    ensures { IfOk result (λ above. tree_of above ≡ firsts count (First (firsts more (tree_of (rc_value part))))) }
 {
     if more < u32::MAX - count {
         return Ok(Bind::First(more + count, part));
     }
-    let first = Box::new(alloc, Bind::First(more, part))?;
+    let first = Rc::new(alloc, Bind::First(more, part))?;
     Ok(Bind::First(count - 1, first))
 }

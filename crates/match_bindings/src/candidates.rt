@@ -6,11 +6,10 @@ ghost use Rattle.match_bindings.specs.Log.{observed_in};
 ghost use Rattle.match_bindings.specs.inner.Candidates.{spanned_trees, spanned_with, ones, joins, repeats_of, candidates};
 
 use crate::bounds::Bounds;
-use crate::copy::copy_bind;
-use crate::join::Join;
+use crate::join::{Join, alone};
 use crate::spanned_bind::SpannedBind;
 use crate::{Bind, Log};
-use flow_values::{Items, NoMemory};
+use flow_values::NoMemory;
 use pattern_types::{Pattern, leaf_count};
 use std::alloc::Global;
 
@@ -155,7 +154,7 @@ fn push_seconds(
 {
     for second in seconds {
         let SpannedBind { bind, span } = second;
-        let bind = Bind::Second(Box::new(alloc, bind)?);
+        let bind = Bind::under_second(alloc, bind)?;
         out.push(SpannedBind { bind, span })?;
     }
     Ok(())
@@ -187,9 +186,7 @@ fn singles(alloc: Global, parts: &[SpannedBind]) -> Result<Vec<SpannedBind>, NoM
 {
     let mut out = Vec::new(alloc);
     for part in parts {
-        let mut alone = Items::new(alloc);
-        alone.push(copy_bind(alloc, &part.bind)?)?;
-        let bind = Bind::Many(alone);
+        let bind = alone(alloc, &part.bind)?;
         let span = part.span.copied();
         out.push(SpannedBind { bind, span })?;
     }

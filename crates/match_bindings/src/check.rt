@@ -37,7 +37,7 @@ fn judge(pattern: &Pattern, leaf: u32, log: &Log, bind: &Bind) -> Option<Span>
         Pattern::Either(left, right) => match bind {
             Bind::First(more, part) => judge_left(left, leaf, log, *more, part),
             Bind::Second(part) => judge(right, leaf + leaf_count(left), log, part),
-            Bind::One(_) | Bind::Both(_, _) => None,
+            Bind::One(_) | Bind::Both(_) => None,
             Bind::Many(_) => None,
         },
         Pattern::Within(part, seconds) => within(judge(part, leaf, log, bind), *seconds),

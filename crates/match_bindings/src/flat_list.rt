@@ -23,9 +23,9 @@ pub(crate) fn push_flat(bind: &Bind, out: &mut Vec<u64>) -> Result<(), NoMemory>
 {
     match bind {
         Bind::One(number) => out.push(*number)?,
-        Bind::Both(left, right) => {
-            push_flat(left, out)?;
-            push_flat(right, out)?;
+        Bind::Both(sides) => {
+            push_flat(&sides.0, out)?;
+            push_flat(&sides.1, out)?;
         }
         Bind::First(more, part) => {
             push_zeros(*more, out)?;

@@ -1,16 +1,16 @@
 ghost use Rattle.std.specs.Prelude.{◌≡◌, ◌++◌, IfOk, OnOk, map};
-ghost use Rattle.match_bindings.specs.BindTree.{Pair, tree_of, many_of, add_part};
+ghost use Rattle.match_bindings.specs.BindTree.{Pair, Single, tree_of, many_of, add_part};
 ghost use Rattle.match_bindings.specs.inner.Candidates.{spanned_tree, spanned_trees, joined_tree, admits, may_join, join_row, joins};
 ghost use Rattle.match_bindings.specs.inner.Kinds.{chain_of};
 
 use crate::Bind;
 use crate::bounds::Bounds;
-use crate::copy::{boxed_copy, copy_bind, copy_binds};
 use crate::numbers::are_disjoint;
 use crate::span::Span;
 use crate::spanned_bind::SpannedBind;
 use flow_values::{Items, NoMemory};
 use std::alloc::Global;
+use std::rc::Rc;
 
 /// How two binds are joined.
 #[derive(Clone, Copy)]
@@ -35,7 +35,7 @@ impl Join {
         }
     }
 
-    /// The bind of copies of two binds.
+    /// The bind of two binds.
     fn bind(self, alloc: Global, first: &Bind, second: &Bind) -> Result<Bind, NoMemory>
         ensures { IfOk result (λ bind. tree_of bind ≡ joined_tree self (tree_of first.now) (tree_of second.now)) }
     {
@@ -93,35 +93,51 @@ impl Join {
     }
 }
 
-/// Copies of two binds as the sides of an `AND` or a `FOLLOWEDBY`.
+/// Two binds as the sides of an `AND` or a `FOLLOWEDBY`.
 pub fn with_sides(alloc: Global, left: &Bind, right: &Bind) -> Result<Bind, NoMemory>
     ensures { IfOk result (λ bind. tree_of bind ≡ Pair (tree_of left.now) (tree_of right.now)) }
 {
-    let left = boxed_copy(alloc, left)?;
-    let right = boxed_copy(alloc, right)?;
-    Ok(Bind::Both(left, right))
+    let left = left.clone()?;
+    let right = right.clone()?;
+    Ok(Bind::Both(Rc::new(alloc, (left, right))?))
 }
 
-/// Copies of the parts of a `Many`, and one more part at the end; that part alone for another bind.
+/// A bind as the only part of a `Many`.
+pub fn alone(alloc: Global, part: &Bind) -> Result<Bind, NoMemory>
+    ensures { IfOk result (λ bind. tree_of bind ≡ Single (tree_of part.now)) }
+{
+    let mut parts = Items::new(alloc);
+    parts.push(part.clone()?)?;
+    Ok(Bind::Many(Rc::new(alloc, parts)?))
+}
+
+/// The parts of a `Many`, and one more part at the end; that part alone for another bind.
 pub fn with_part(alloc: Global, parts: &Bind, part: &Bind) -> Result<Bind, NoMemory>
     ensures { IfOk result (λ bind. tree_of bind ≡ add_part (tree_of parts.now) (tree_of part.now)) }
 {
-    let mut parts = copy_parts(alloc, parts)?;
-    let last = copy_bind(alloc, part)?;
-    parts.push(last)?;
-    Ok(Bind::Many(parts))
+    let mut parts = parts_of(alloc, parts)?;
+    parts.push(part.clone()?)?;
+    Ok(Bind::Many(Rc::new(alloc, parts)?))
 }
 
-/// Copies of the parts of a `Many`; none of another bind.
+/// The parts of a `Many`; none of another bind.
 #[tactic(auto, using(crate::proofs::ManyLemmas::many_chain, crate::proofs::ManyLemmas::no_chain))]
-fn copy_parts(alloc: Global, bind: &Bind) -> Result<Items<Bind>, NoMemory>
+fn parts_of(alloc: Global, bind: &Bind) -> Result<Items<Bind>, NoMemory>
     ensures { IfOk result (λ parts. many_of (map tree_of parts) ≡ chain_of (tree_of bind.now)) }
 {
     match bind.parts() {
-        Some(parts) => {
-            let copies = copy_binds(alloc, parts)?;
-            Ok(copies)
-        }
+        Some(parts) => clones(alloc, parts),
         None => Ok(Items::new(alloc)),
     }
+}
+
+/// Equal binds.
+fn clones(alloc: Global, binds: &[Bind]) -> Result<Items<Bind>, NoMemory>
+    ensures { IfOk result (λ clones. map tree_of clones ≡ map tree_of binds.now) }
+{
+    let mut clones = Items::new(alloc);
+    for bind in binds {
+        clones.push(bind.clone()?)?;
+    }
+    Ok(clones)
 }

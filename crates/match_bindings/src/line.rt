@@ -39,9 +39,9 @@ fn push_entries(bind: &Bind, line: &mut String) -> Result<(), NoMemory>
             line.push_str(" ")?;
             push_number(*number, line)?;
         }
-        Bind::Both(left, right) => {
-            push_entries(left, line)?;
-            push_entries(right, line)?;
+        Bind::Both(sides) => {
+            push_entries(&sides.0, line)?;
+            push_entries(&sides.1, line)?;
         }
         Bind::First(more, part) => {
             push_letters(*more, line)?;

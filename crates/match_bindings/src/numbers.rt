@@ -10,7 +10,7 @@ pub(crate) fn has_number(number: u64, bind: &Bind) -> bool
 {
     match bind {
         Bind::One(other) => number == *other,
-        Bind::Both(left, right) => has_number(number, left) || has_number(number, right),
+        Bind::Both(sides) => has_number(number, &sides.0) || has_number(number, &sides.1),
         Bind::First(_, part) | Bind::Second(part) => has_number(number, part),
         Bind::Many(parts) => any_has_number(number, parts.as_slice()),
     }
@@ -37,7 +37,7 @@ pub fn are_disjoint(bind: &Bind, other: &Bind) -> bool
 {
     match bind {
         Bind::One(number) => !has_number(*number, other),
-        Bind::Both(left, right) => are_disjoint(left, other) && are_disjoint(right, other),
+        Bind::Both(sides) => are_disjoint(&sides.0, other) && are_disjoint(&sides.1, other),
         Bind::First(_, part) | Bind::Second(part) => are_disjoint(part, other),
         Bind::Many(parts) => all_disjoint(parts.as_slice(), other),
     }
@@ -64,7 +64,7 @@ pub(crate) fn greatest_number(bind: &Bind) -> u64
 {
     match bind {
         Bind::One(number) => *number,
-        Bind::Both(left, right) => greatest_number(left).max(greatest_number(right)),
+        Bind::Both(sides) => greatest_number(&sides.0).max(greatest_number(&sides.1)),
         Bind::First(_, part) | Bind::Second(part) => greatest_number(part),
         Bind::Many(parts) => greatest_of_all(parts.as_slice()),
     }

@@ -43,7 +43,7 @@ fn flat_rises(first: &Bind, second: &Bind) -> bool
             Some(other) => *number <= other,
             None => false,
         },
-        Bind::Both(_, _) | Bind::Many(_) => false,
+        Bind::Both(_) | Bind::Many(_) => false,
     }
 }
 
@@ -60,7 +60,7 @@ fn first_rises(more: u32, part: &Bind, second: &Bind) -> bool
             more > *others && is_second(other)
         }
         Bind::Second(_) => true,
-        Bind::One(_) | Bind::Both(_, _) | Bind::Many(_) => false,
+        Bind::One(_) | Bind::Both(_) | Bind::Many(_) => false,
     }
 }
 
@@ -71,7 +71,7 @@ fn second_rises(part: &Bind, second: &Bind) -> bool
 {
     match second {
         Bind::Second(other) => flat_rises(part, other),
-        Bind::One(_) | Bind::Both(_, _) | Bind::First(_, _) | Bind::Many(_) => false,
+        Bind::One(_) | Bind::Both(_) | Bind::First(_, _) | Bind::Many(_) => false,
     }
 }
 
@@ -81,6 +81,6 @@ fn is_second(bind: &Bind) -> bool
 {
     match bind {
         Bind::Second(_) => true,
-        Bind::One(_) | Bind::Both(_, _) | Bind::First(_, _) | Bind::Many(_) => false,
+        Bind::One(_) | Bind::Both(_) | Bind::First(_, _) | Bind::Many(_) => false,
     }
 }

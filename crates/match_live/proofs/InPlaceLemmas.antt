@@ -1,7 +1,7 @@
 -- Things gone through in place, and wrapped.
 use Rattle.std.proofs.Common.{◌≡◌, ℕ, ◌+◌, ◌<◌, List, ◌++◌, length, take, drop, get_or, slice_set, sym, ◌∙◌, ap, arith}
 use Rattle.std.specs.Prelude.{map}
-use Rattle.std.specs.Box.{box_value}
+use Rattle.std.specs.Rc.{rc_value}
 use Rattle.std.proofs.lemmas.List.{length-map, map-set, get_or-map, take-map, drop-map}
 use Rattle.std.proofs.lemmas.List.Edits.{map_over_more}
 use Rattle.match_bindings.specs.declared.bind.Bind.TheVariants.{Second as OfSecond, rolls-Second}
@@ -26,5 +26,5 @@ changed_more see f xs ys i x x' h inv is done same =
     ∙ ap (λ y. map f (map see (take (i + 1) xs)) ++ y) (drop-map see (i + 1) xs)
 
 -- the tree of a Second
-pub tree_second : (part : _) → tree_of (OfSecond part) ≡ Second (tree_of (box_value part))
+pub tree_second : (part : _) → tree_of (OfSecond part) ≡ Second (tree_of (rc_value part))
 tree_second part = ap tree_of (sym (rolls-Second part)) ∙ fold-roll-Bind BindTree tree_level (shape.Second part)

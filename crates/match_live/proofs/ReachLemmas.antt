@@ -1,12 +1,12 @@
 -- What bounds the sequences that join a new thing to one thing held on the left of each FOLLOWEDBY.
-use Rattle.std.proofs.Common.{◌≡◌, ℕ, zero, suc, ◌+◌, ◌<◌, ℤ, ◌≤ℤ◌, ◌<ℤ◌, List, [], ◌∷◌, ◌++◌, length, get_or, take, refl, sym, ◌∙◌, ap, subst, arith, ◌⊎◌, inl, inr}
-use Rattle.std.specs.Prelude.{Bool, true, false, int_lt}
+use Rattle.std.proofs.Common.{◌≡◌, ℕ, zero, suc, ◌+◌, ◌<◌, ℤ, ◌≤ℤ◌, ◌<ℤ◌, List, [], ◌∷◌, ◌++◌, Vec, Global, length, get_or, take, refl, sym, ◌∙◌, ap, subst, arith, ◌⊎◌, inl, inr}
+use Rattle.std.specs.Prelude.{Bool, true, false, int_lt, Option, Some, None, IfSome}
 use Rattle.std.specs.List.{Contains, list_any}
 use Rattle.std.proofs.lemmas.Bool.{and_parts, and_from, or_right, or_cases}
 use Rattle.std.proofs.lemmas.Int.{ints, clamps}
 use Rattle.std.proofs.lemmas.List.{take_more}
 use Rattle.std.proofs.lemmas.List.Elements.{Contains-push_cases}
-use Rattle.match_bindings.specs.BindTree.{tree_of, has}
+use Rattle.match_bindings.specs.BindTree.{BindTree, Pair, tree_of, has, disjoint}
 use Rattle.match_bindings.proofs.ListLemmas.{map_append}
 use Rattle.match_bindings.proofs.IsBindingLemmas.{apart_to, apart_from, lt_true, le_true, true_le}
 use Rattle.match_live.specs.declared.choices.Choice.{Choice}
@@ -103,17 +103,16 @@ begins_before p old sequence left held h there may apart =
       by true is = lt_true left.earliest old.earliest is
       by false is = absurd (apart (le_both left.earliest old.earliest order (lt_false left.earliest old.earliest is)))
 
--- by something that begins before them
-pub falls_to : (p : PieceTree) (old new : Reach) (choice : Choice) (sequence left : PieceTree) (held : List Piece) → IsReached p old sequence → Contains (piece_trees held) left →
-    may_join join.Then left sequence ≡ true → left.earliest ≤ℤ new.earliest → new.choices.list.items ≡ choice ∷ [] →
-    ((l : PieceTree) → Contains (piece_trees held) l → may_precede l old.earliest p ≡ true → l.earliest ≡ new.earliest → (n : ℕ) → has n l.tree ≡ true → Contains choice.numbers.items n) →
-    IsReached p new (joined join.Then left sequence)
-falls_to p old new choice sequence left held h there may bound one added =
-    goes_on p old new sequence left h may (held_span held left there) bound (λ e.
-    let number = held_number held left there in
-    subst (λ (z : List Choice). HasPicks z (joined join.Then left sequence).tree) (sym one)
-    (picked_more [] choice left.tree sequence.tree number.0 (none_picked sequence.tree) (and_parts _ _ may).1 number.1
-    (added left there (join_precedes p old sequence left h may) e number.0 number.1)))
+-- ---- a choice of few numbers, if they are few
+
+pub of_some : {X : Type 0} (P : X → Type 0) (r : Option X) (x : X) → IfSome r P → r ≡ Some x → P x
+of_some P r x h is = subst (λ o. IfSome o P) is h
+
+pub picked_of : (few : Option (Vec ℕ Global)) (choices : List Choice) (left x : BindTree) (n : ℕ) → IfSome few (λ numbers. choices ≡ record { numbers = numbers } ∷ []) →
+    (few ≡ None → choices ≡ []) → disjoint left x ≡ true → has n left ≡ true → IfSome few (λ numbers. Contains numbers.items n) → HasPicks choices (Pair left x)
+picked_of None choices left x n one none apart here there = subst (λ (z : List Choice). HasPicks z (Pair left x)) (sym (none refl)) (none_picked (Pair left x))
+picked_of (Some numbers) choices left x n one none apart here there =
+    subst (λ (z : List Choice). HasPicks z (Pair left x)) (sym one) (picked_more [] (record { numbers = numbers }) left x n (none_picked x) apart here there)
 
 -- ---- what is wanted is reached
 

@@ -2,7 +2,7 @@
 use Rattle.std.proofs.Common.{◌≡◌, ℕ, zero, suc, ◌≤◌, ◌<◌, List, [], ◌∷◌, ◌++◌, length, refl, sym, ◌∙◌, ap, arith, append_assoc, append-nil, take, ◌⊎◌, inl, inr}
 use Rattle.std.specs.Prelude.{Bool, true, false, ◌||◌, nat_eq, map, slice_index_or, ◌↔◌}
 use Rattle.std.specs.List.{flat_map, Contains}
-use Rattle.std.specs.Box.{box_value}
+use Rattle.std.specs.Rc.{rc_value}
 use Rattle.std.proofs.lemmas.Bool.{or_cases, or_left, or_right, eqb-true, eq-eqb}
 use Rattle.std.proofs.lemmas.List.{take_all}
 use Rattle.std.proofs.lemmas.List.Concat.{flat_map-append}
@@ -37,11 +37,11 @@ numbers_firsts zero x = refl
 numbers_firsts (suc n) x = numbers_firsts n x
 
 -- a First or a Second has the numbers of its part
-pub numbers_of_part : (bind : Bind) (part : _) → ((n : ℕ) × (bind ≡ OfFirst n part)) ⊎ (bind ≡ OfSecond part) → numbers (tree_of bind) ≡ numbers (tree_of (box_value part))
+pub numbers_of_part : (bind : Bind) (part : _) → ((n : ℕ) × (bind ≡ OfFirst n part)) ⊎ (bind ≡ OfSecond part) → numbers (tree_of bind) ≡ numbers (tree_of (rc_value part))
 numbers_of_part bind part (inl is) =
     ap (λ b. numbers (tree_of b)) (is.1 ∙ sym (rolls-First is.0 part))
     ∙ ap numbers (fold-roll-Bind BindTree tree_level (shape.First is.0 part))
-    ∙ numbers_firsts is.0 (tree_of (box_value part))
+    ∙ numbers_firsts is.0 (tree_of (rc_value part))
 numbers_of_part bind part (inr is) = ap (λ b. numbers (tree_of b)) is ∙ ap numbers (tree_second part)
 
 pub numbers_append : (xs ys : List (List PieceTree)) → all_numbers (xs ++ ys) ≡ all_numbers xs ++ all_numbers ys

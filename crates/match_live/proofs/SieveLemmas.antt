@@ -19,7 +19,7 @@ use Rattle.match_live.specs.declared.probe.Probe.{Probe}
 use Rattle.match_live.specs.PieceTree.{PieceTree}
 use Rattle.match_live.specs.inner.Pieces.{piece_tree, piece_trees}
 use Rattle.match_live.specs.inner.Reaches.{covers}
-use Rattle.match_live.specs.inner.Sieves.{HasCommon, IsOver, IsProbeOf, IsVain, AreTried, BeginsEarly}
+use Rattle.match_live.specs.inner.Sieves.{HasCommon, IsCommonTo, IsProbeOf, IsVain, AreTried, BeginsEarly}
 use Rattle.match_live.specs.inner.Steps.{joined, may_join, join_row}
 use Rattle.match_live.specs.inner.Wanted.{Ahead, is_wanted, wanted}
 use Rattle.match_live.proofs.LivesLemmas.{le_trans}
@@ -186,7 +186,7 @@ up_to_end now ahead since j x ys d places at done all tried h before order =
 -- ---- what is told of keys
 
 -- what has what a key tells has what its chunk does
-pub common_over : (chunk : Chunk) (key : Key) (piece : PieceTree) → IsOver chunk key → HasCommon key.numbers.items key.begin piece → HasCommon chunk.common.items chunk.begin piece
+pub common_over : (chunk : Chunk) (key : Key) (piece : PieceTree) → IsCommonTo chunk key → HasCommon key.numbers.items key.begin piece → HasCommon chunk.common.items chunk.begin piece
 common_over chunk key piece over h = record {
   binds = λ n there. h.binds n (over.numbers n there);
   begins = le_trans piece.earliest key.begin chunk.begin h.begins over.begins;

@@ -5,6 +5,7 @@ pub mod Steps
 pub mod Wanted
 pub mod Totals
 pub mod Leads
+pub mod Demands
 pub mod Shape
 pub mod Heaps
 pub mod Arranged

@@ -1,15 +1,16 @@
 //! Whether there is a number for each of some things that may take one of a few: what lies at one instant
 //! needs observations of its own.
 
-ghost use Rattle.std.specs.Prelude.{◌≡◌, ◌≤◌, ◌∷◌, [], ℕ, List, nat_eq, true, length, IfOk, OnOk};
+ghost use Rattle.std.specs.Prelude.{◌≡◌, ◌≤◌, ◌∷◌, [], ℕ, List, nat_eq, true, length, None, IfOk, IfSome, OnOk};
 ghost use Rattle.std.specs.List.{AllZip, Contains, IsDistinct};
 ghost use Rattle.match_bindings.specs.BindTree.{BindTree, has};
 ghost use Rattle.match_live.specs.inner.Picks.{HasPicks, MayPick, IsAmong};
 
+use crate::numbers::tidy;
 use flow_values::NoMemory;
 use std::alloc::Global;
 
-/// The numbers of which one is taken.
+/// The numbers of which one is picked.
 #[derive(Drop)]
 pub(crate) struct Choice {
     pub numbers: Vec<u64>,
@@ -19,8 +20,8 @@ pub(crate) struct Choice {
 #[derive(Drop)]
 pub(crate) struct Choices {
     pub list: Vec<Choice>,
-    /// The number that is taken of each, if one is.
-    pub taken: Vec<Option<u64>>,
+    /// The number that is picked of each, if one is.
+    pub picks: Vec<Option<u64>>,
 }
 
 impl Choices {
@@ -30,34 +31,38 @@ impl Choices {
     {
         Choices {
             list: Vec::new(alloc),
-            taken: Vec::new(alloc),
+            picks: Vec::new(alloc),
         }
     }
 
-    /// One choice, of which the first number is taken.
-    pub fn of(alloc: Global, numbers: Vec<u64>) -> Result<Choices, NoMemory>
-        ensures { IfOk result (λ choices. choices.list.items ≡ record { numbers = numbers } ∷ []) }
+    /// One choice of few numbers, of which the first is picked; none where they are many.
+    pub fn of(alloc: Global, few: Option<Vec<u64>>) -> Result<Choices, NoMemory>
+        ensures few { IfOk result (λ choices. IfSome few (λ numbers. choices.list.items ≡ record { numbers = numbers } ∷ [])) }
+        ensures many { IfOk result (λ choices. few ≡ None → choices.list.items ≡ []) }
     {
         let mut choices = Choices::new(alloc);
+        let Some(numbers) = few else {
+            return Ok(choices);
+        };
         match numbers.first() {
-            Some(number) => choices.taken.push(Some(*number))?,
-            None => choices.taken.push(None)?,
+            Some(number) => choices.picks.push(Some(*number))?,
+            None => choices.picks.push(None)?,
         }
         choices.list.push(Choice { numbers })?;
         Ok(choices)
     }
 
-    /// One choice more, of which nothing is taken yet.
+    /// One choice more, of which nothing is picked yet.
     pub fn add(&mut self, numbers: Vec<u64>) -> Result<(), NoMemory>
         ensures { OnOk result (self.new.list.items ≡ record { numbers = numbers } ∷ self.old.list.items) }
     {
         self.list.insert(0, Choice { numbers })?;
-        self.taken.insert(0, None)?;
+        self.picks.insert(0, None)?;
         Ok(())
     }
 
-    /// Whether it is seen that there are too few numbers for each choice to take one of its own. The last
-    /// choice, which has taken none yet, takes one, and others give way to it; where that can't be, those
+    /// Whether it is seen that there are too few numbers for each choice to have one of its own. Of the last
+    /// choice, of which none is picked yet, one is, and others give way to it; where that can't be, those
     /// that were asked to are too many.
     pub fn are_short(&mut self, alloc: Global) -> Result<bool, NoMemory>
         ensures same { self.new.list ≡ self.old.list }
@@ -67,7 +72,7 @@ impl Choices {
         for _ in 0..self.list.len() {
             tried.push(false)?;
         }
-        if settle(&self.list, &mut self.taken, &mut tried, 0, self.list.len()) {
+        if settle(&self.list, &mut self.picks, &mut tried, 0, self.list.len()) {
             return Ok(false);
         }
         let short = are_too_many(alloc, &self.list, &tried)?;
@@ -75,12 +80,12 @@ impl Choices {
     }
 }
 
-/// Takes a number of the choice at a place, where one is free or its taker, at so many removes, can take
-/// another one. Each that is asked is tried. What it finds is judged by `are_too_many`.
+/// Picks a number of the choice at a place, where one is free or the choice that has it, at so many removes,
+/// can have another one. Each that is asked is tried. What it finds is judged by `are_too_many`.
 #[cycle(settle)]
 fn settle(
     choices: &[Choice],
-    taken: &mut Vec<Option<u64>>,
+    picks: &mut Vec<Option<u64>>,
     tried: &mut Vec<bool>,
     place: usize,
     removes: usize,
@@ -93,30 +98,18 @@ fn settle(
     };
     put(tried, place, true);
     for number in &choice.numbers {
-        let is_free = match place_of(taken, *number) {
-            Some(taker) => {
-                !is_tried(tried, taker) && settle(choices, taken, tried, taker, removes - 1)
+        let is_free = match picks.iter().position(|pick| *pick == Some(*number)) {
+            Some(other) => {
+                !is_tried(tried, other) && settle(choices, picks, tried, other, removes - 1)
             }
             None => true,
         };
         if is_free {
-            put(taken, place, Some(*number));
+            put(picks, place, Some(*number));
             return true;
         }
     }
     false
-}
-
-/// Which choice has taken a number, if one has.
-fn place_of(taken: &[Option<u64>], number: u64) -> Option<usize> {
-    for place in 0..taken.len() {
-        if let Some(other) = taken[place] {
-            if other == number {
-                return Some(place);
-            }
-        }
-    }
-    None
 }
 
 /// Whether a choice was tried.
@@ -140,8 +133,7 @@ fn are_too_many(alloc: Global, choices: &[Choice], tried: &[bool]) -> Result<boo
 {
     let mut numbers = Vec::new(alloc);
     let count = push_tried(choices, tried, &mut numbers)?;
-    numbers.sort_unstable();
-    numbers.dedup();
+    tidy(&mut numbers);
     Ok(numbers.len() < count)
 }
 

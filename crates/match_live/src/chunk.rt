@@ -1,7 +1,7 @@
-ghost use Rattle.std.specs.Prelude.{◌≡◌, ◌≤◌, ◌<◌, nat_eq, length, IfOk, IfSome};
-ghost use Rattle.std.specs.List.{Contains, list_any};
+ghost use Rattle.std.specs.Prelude.{◌≡◌, ◌≤◌, ◌<◌, length, IfOk, IfSome};
+ghost use Rattle.std.specs.List.{Contains};
 ghost use Rattle.match_live.specs.declared.key.Key.{Key};
-ghost use Rattle.match_live.specs.inner.Sieves.{IsOver, IsChunkOf, AreChunksOf};
+ghost use Rattle.match_live.specs.inner.Sieves.{IsCommonTo, IsChunkOf, AreChunksOf};
 
 use crate::key::Key;
 use flow_values::NoMemory;
@@ -43,12 +43,11 @@ impl Chunk {
 
     /// The same over one key more.
     fn add(&mut self, key: &Key)
-        ensures kept { (other : Key) → IsOver self.old other → IsOver self.new other }
-        ensures added { IsOver self.new key.now }
+        ensures kept { (other : Key) → IsCommonTo self.old other → IsCommonTo self.new other }
+        ensures added { IsCommonTo self.new key.now }
         ensures places { (self.new.start ≡ self.old.start) × (self.new.end ≡ self.old.end) }
     {
-        self.common
-            .retain(|number| has_number(&key.numbers, *number));
+        self.common.retain(|number| key.numbers.contains(number));
         if self.begin < key.begin {
             self.begin = key.begin;
         }
@@ -93,11 +92,4 @@ impl Chunks {
             None
         }
     }
-}
-
-/// Whether a number is one of some.
-fn has_number(numbers: &[u64], number: u64) -> bool
-    ensures { result ≡ list_any (λ other. nat_eq number other) numbers.now }
-{
-    numbers.iter().any(|other| *other == number)
 }

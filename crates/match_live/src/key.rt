@@ -3,7 +3,7 @@ ghost use Rattle.match_live.specs.inner.Pieces.{piece_tree};
 ghost use Rattle.match_live.specs.inner.Sieves.{HasCommon};
 
 use crate::piece::Piece;
-use crate::row_numbers::push_numbers;
+use crate::numbers::numbers_of;
 use flow_values::NoMemory;
 use std::alloc::Global;
 use stix_times::Instant;
@@ -25,8 +25,7 @@ impl Key {
         ensures place { IfOk result (λ key. key.place ≡ place) }
         ensures thing { IfOk result (λ key. HasCommon key.numbers.items key.begin (piece_tree piece.now)) }
     {
-        let mut numbers = Vec::new(alloc);
-        push_numbers(&piece.bind, &mut numbers)?;
+        let mut numbers = numbers_of(alloc, &piece.bind)?;
         numbers.sort_unstable();
         Ok(Key {
             numbers,

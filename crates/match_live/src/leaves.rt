@@ -183,8 +183,8 @@ fn push_second(alloc: Global, above: u32, row: &Row, new: &mut Vec<Piece>) -> Re
     requires span { row.now.first ≤ℤ row.now.last }
     ensures { OnOk result (piece_trees new.new.items ≡ piece_trees new.old.items ++ held_with (firsts above) (held_with Second (row_alone row.now)) ∷ []) }
 {
-    let one = Box::new(alloc, Bind::One(row.number))?;
-    push_under(alloc, above, Bind::Second(one), row, new)
+    let second = Bind::under_second(alloc, Bind::One(row.number))?;
+    push_under(alloc, above, second, row, new)
 }
 
 /// Adds a bind of a row alone, under so many `First`s.

@@ -12,6 +12,7 @@ ghost use Rattle.match_live.specs.inner.Leads.{leads_of};
 ghost use Rattle.match_live.specs.inner.Totals.{AdmitLevels};
 ghost use Rattle.match_live.specs.inner.Nodes.{store_list, store_lists};
 
+use crate::demand::Demand;
 use crate::join::Join;
 use crate::lead::Lead;
 use crate::levels::Levels;
@@ -19,8 +20,8 @@ use crate::piece::Piece;
 use crate::room::Room;
 use crate::stop::Stop;
 use crate::store::Store;
-use flow_values::{Items, NoMemory};
-use match_bindings::{Bind, copy_bind};
+use flow_values::NoMemory;
+use match_bindings::alone;
 use match_windows::Window;
 use std::alloc::Global;
 use std::mem;
@@ -208,7 +209,12 @@ fn step_level(
     room.take(level.held.len())?;
     room.take_admitted(&sets, window, now)?;
     let mut above = Vec::new(alloc);
-    Join::Repeats.join(alloc, &level.held, new, now, leads, room.left, &mut above)?;
+    let demand = Demand {
+        time: now,
+        leads,
+        room: room.left,
+    };
+    Join::Repeats.join(alloc, &level.held, new, &demand, &mut above)?;
     level.admit(sets, window, now)?;
     Ok(above)
 }
@@ -229,10 +235,9 @@ fn singles(alloc: Global, new: &[Piece]) -> Result<Vec<Piece>, NoMemory>
 fn single(alloc: Global, part: &Piece) -> Result<Piece, NoMemory>
     ensures { IfOk result (λ set. piece_tree set ≡ held_with Single (piece_tree part.now)) }
 {
-    let mut parts = Items::new(alloc);
-    parts.push(copy_bind(alloc, &part.bind)?)?;
+    let bind = alone(alloc, &part.bind)?;
     Ok(Piece {
-        bind: Bind::Many(parts),
+        bind,
         earliest: part.earliest,
         latest: part.latest,
     })

@@ -10,10 +10,12 @@
 
 mod choices;
 mod chunk;
+mod demand;
 mod ending;
 mod expired;
 mod heap;
 mod join;
+mod joining;
 mod key;
 pub mod laws;
 mod lead;
@@ -22,6 +24,7 @@ mod level_step;
 mod levels;
 mod matcher;
 mod node;
+mod numbers;
 mod piece;
 mod probe;
 mod reach;

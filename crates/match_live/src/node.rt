@@ -12,6 +12,7 @@ ghost use Rattle.match_live.specs.inner.Totals.{held_after, live_at, Admits, IsO
 ghost use Rattle.match_live.specs.inner.Nodes.{side_stores, leaves_of, levels_state, state_of};
 ghost use Rattle.match_live.specs.declared.stop.Stop.TheVariants as stop;
 
+use crate::demand::Demand;
 use crate::join::Join;
 use crate::lead::Lead;
 use crate::leaves::Leaves;
@@ -274,7 +275,12 @@ fn step_sides(
     room.take_admitted(&new_left, &sides.left_window, row.last)?;
     let new_right = step_right(alloc, join, right, sides, row, truths, leads, room)?;
     room.take_admitted(&new_right, &sides.right_window, row.last)?;
-    let new = sides.join(alloc, join, row.last, new_left, new_right, leads, room.left)?;
+    let demand = Demand {
+        time: row.last,
+        leads,
+        room: room.left,
+    };
+    let new = sides.join(alloc, join, new_left, new_right, &demand)?;
     Ok(new)
 }
 
@@ -538,7 +544,8 @@ fn wrap_seconds(alloc: Global, held: &mut Vec<Piece>) -> Result<(), NoMemory>
 {
     for piece in held.iter_mut() {
         let bind = mem::replace(&mut piece.bind, Bind::One(0));
-        piece.bind = Bind::Second(Box::new(alloc, bind)?);
+        let above = Bind::under_second(alloc, bind)?;
+        piece.bind = above;
     }
     Ok(())
 }

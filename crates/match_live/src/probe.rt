@@ -1,12 +1,11 @@
-ghost use Rattle.std.specs.Prelude.{◌≡◌, ℕ, true, IfOk};
-ghost use Rattle.std.specs.List.{Contains};
+ghost use Rattle.std.specs.Prelude.{◌≡◌, true, IfOk};
 ghost use Rattle.match_live.specs.PieceTree.{PieceTree};
 ghost use Rattle.match_live.specs.inner.Pieces.{piece_tree};
 ghost use Rattle.match_live.specs.inner.Sieves.{HasCommon, IsProbeOf, IsVain};
 
 use crate::join::Join;
+use crate::numbers::{numbers_of, share_number};
 use crate::piece::Piece;
-use crate::row_numbers::push_numbers;
 use crate::since::Since;
 use flow_values::NoMemory;
 use std::alloc::Global;
@@ -29,12 +28,10 @@ impl Probe {
     pub fn new(alloc: Global, join: Join, since: &Since, first: &Piece) -> Result<Probe, NoMemory>
         ensures { IfOk result (λ probe. IsProbeOf join since.now.start (piece_tree first.now) probe) }
     {
-        let mut numbers = Vec::new(alloc);
-        push_numbers(&first.bind, &mut numbers)?;
         Ok(Probe {
             join,
             since: *since,
-            numbers,
+            numbers: numbers_of(alloc, &first.bind)?,
             end: first.latest,
         })
     }
@@ -44,19 +41,7 @@ impl Probe {
         ensures { result ≡ true → (second : PieceTree) → HasCommon common.now begin second → IsVain self.now second }
     {
         !self.since.covers(begin)
-            || self.join.is_over(self.end, begin)
+            || self.join.is_late(self.end, begin)
             || share_number(&self.numbers, common)
     }
-}
-
-/// Whether two lists of numbers have one in common.
-fn share_number(numbers: &[u64], others: &[u64]) -> bool
-    ensures { result ≡ true → (n : ℕ) × Contains numbers.now n × Contains others.now n }
-{
-    for number in others {
-        if numbers.contains(number) {
-            return true;
-        }
-    }
-    false
 }

@@ -3,7 +3,7 @@
 //! each thing held, by their times and by how many observations they need at one instant. To try them one
 //! by one can take a time that doubles with each thing.
 
-ghost use Rattle.std.specs.Prelude.{◌≡◌, ◌≤ℤ◌, ◌<ℤ◌, ℕ, ℤ, true, false, Some, IfOk, OnOk};
+ghost use Rattle.std.specs.Prelude.{◌≡◌, ◌≤ℤ◌, ◌<ℤ◌, ℕ, ℤ, true, false, Some, IfOk, IfSome, OnOk};
 ghost use Rattle.std.specs.List.{Contains};
 ghost use Rattle.match_bindings.specs.BindTree.{has};
 ghost use Rattle.match_live.specs.declared.join.Join.TheVariants as join;
@@ -17,8 +17,8 @@ ghost use Rattle.match_live.specs.inner.Reaches.{may_precede, IsReached};
 
 use crate::choices::Choices;
 use crate::lead::Lead;
+use crate::numbers::{push_numbers, tidy};
 use crate::piece::Piece;
-use crate::row_numbers::push_numbers;
 use crate::store::is_live;
 use flow_values::NoMemory;
 use match_bindings::are_disjoint;
@@ -27,6 +27,9 @@ use stix_times::Instant;
 
 /// More leads there are not, since no more parentheses are.
 const MAX_LEADS: usize = 64;
+
+/// Numbers are put in order where they are more than so many.
+const MANY: usize = 2 * MAX_LEADS;
 
 /// What bounds all sequences so far.
 #[derive(Drop)]
@@ -101,16 +104,15 @@ impl Reach {
         ensures falls { IfOk result (λ stays. stays ≡ false → (sequence left : PieceTree) → IsReached (piece_tree piece.now) self.old sequence
             → Contains (piece_trees held.now) left → may_join join.Then left sequence ≡ true → left.earliest <ℤ self.old.earliest) }
     {
-        let numbers = beginning(alloc, self.earliest, self.earliest, piece, held)?;
-        if numbers.is_empty() {
-            return Ok(false);
+        match few_beginning(alloc, self.earliest, self.earliest, piece, held)? {
+            Some(numbers) if numbers.is_empty() => Ok(false),
+            Some(numbers) => {
+                self.choices.add(numbers)?;
+                let short = self.choices.are_short(alloc)?;
+                Ok(!short)
+            }
+            None => Ok(true),
         }
-        if numbers.len() > MAX_LEADS {
-            return Ok(true);
-        }
-        self.choices.add(numbers)?;
-        let short = self.choices.are_short(alloc)?;
-        Ok(!short)
     }
 
     /// Takes things that begin at this time, the latest before the one at which the sequences begin.
@@ -125,8 +127,9 @@ impl Reach {
             → IsReached (piece_tree piece.now) before sequence → Contains (piece_trees held.now) left → may_join join.Then left sequence ≡ true
             → left.earliest ≤ℤ earliest → IsReached (piece_tree piece.now) self.new (joined join.Then left sequence)) }
     {
-        let numbers = beginning(alloc, earliest, self.earliest, piece, held)?;
-        self.choices = Choices::of(alloc, numbers)?;
+        let few = few_beginning(alloc, earliest, self.earliest, piece, held)?;
+        let choices = Choices::of(alloc, few)?;
+        self.choices = choices;
         self.earliest = earliest;
         Ok(())
     }
@@ -139,27 +142,41 @@ fn may_precede(left: &Piece, bound: Instant, piece: &Piece) -> bool
     left.latest <= bound && are_disjoint(&left.bind, &piece.bind)
 }
 
-/// The numbers, each once, of the things that begin at this time, and may go before such a sequence.
-fn beginning(
+/// The numbers, each once, of the things that begin at this time, and may go before such a sequence; `None`
+/// where they are seen to be more than leads: then it isn't looked at all things.
+fn few_beginning(
     alloc: Global,
     earliest: Instant,
     bound: Instant,
     piece: &Piece,
     held: &[Piece],
-) -> Result<Vec<u64>, NoMemory>
-    ensures { IfOk result (λ numbers. (left : PieceTree) → Contains (piece_trees held.now) left
+) -> Result<Option<Vec<u64>>, NoMemory>
+    ensures { IfOk result (λ few. IfSome few (λ numbers. (left : PieceTree) → Contains (piece_trees held.now) left
         → may_precede left bound (piece_tree piece.now) ≡ true → left.earliest ≡ earliest
-        → (n : ℕ) → has n left.tree ≡ true → Contains numbers.items n) }
+        → (n : ℕ) → has n left.tree ≡ true → Contains numbers.items n)) }
 {
     let mut numbers = Vec::new(alloc);
     for left in held {
         if left.earliest == earliest && may_precede(left, bound, piece) {
             push_numbers(&left.bind, &mut numbers)?;
+            if are_many(&mut numbers) {
+                return Ok(None);
+            }
         }
     }
-    numbers.sort_unstable();
-    numbers.dedup();
-    Ok(numbers)
+    tidy(&mut numbers);
+    Ok(Some(numbers))
+}
+
+/// Whether numbers, each taken once, are more than leads. They are put in order now and then.
+fn are_many(numbers: &mut Vec<u64>) -> bool
+    ensures { (n : ℕ) → Contains numbers.old.items n → Contains numbers.new.items n }
+{
+    if numbers.len() <= MANY {
+        return false;
+    }
+    tidy(numbers);
+    numbers.len() > MAX_LEADS
 }
 
 /// The latest time before this one at which something begins that may go before a sequence, which itself

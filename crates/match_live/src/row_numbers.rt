@@ -1,17 +1,16 @@
 //! The numbers of the rows that a matcher keeps.
 
-ghost use Rattle.std.specs.Prelude.{◌≡◌, ◌++◌, IfOk, OnOk, map};
-ghost use Rattle.match_bindings.specs.BindTree.{tree_of, many_of};
+ghost use Rattle.std.specs.Prelude.{◌≡◌, ◌++◌, IfOk, OnOk};
 ghost use Rattle.match_live.specs.RowNumbers.{AreKept};
 ghost use Rattle.match_live.specs.inner.Steps.{all_levels, contents_of};
 ghost use Rattle.match_live.specs.inner.Nodes.{store_list, store_lists, state_of};
-ghost use Rattle.match_live.specs.inner.Numbers.{numbers, store_numbers, all_numbers};
+ghost use Rattle.match_live.specs.inner.Numbers.{store_numbers, all_numbers};
 
 use crate::levels::Levels;
 use crate::node::Node;
+use crate::numbers::push_numbers;
 use crate::store::Store;
 use flow_values::NoMemory;
-use match_bindings::Bind;
 use std::alloc::Global;
 
 /// The numbers in the stores of a node, rising, each once.
@@ -76,34 +75,6 @@ fn push_store(store: &Store, out: &mut Vec<u64>) -> Result<(), NoMemory>
 {
     for held in &store.held {
         push_numbers(&held.bind, out)?;
-    }
-    Ok(())
-}
-
-/// Adds the numbers of a bind.
-#[cycle(numbers)]
-pub(crate) fn push_numbers(bind: &Bind, out: &mut Vec<u64>) -> Result<(), NoMemory>
-    ensures { OnOk result (out.new.items ≡ out.old.items ++ numbers (tree_of bind.now)) }
-{
-    match bind {
-        Bind::One(number) => out.push(*number)?,
-        Bind::Both(left, right) => {
-            push_numbers(left, out)?;
-            push_numbers(right, out)?;
-        }
-        Bind::First(_, part) | Bind::Second(part) => push_numbers(part, out)?,
-        Bind::Many(parts) => push_all_numbers(parts.as_slice(), out)?,
-    }
-    Ok(())
-}
-
-/// Adds the numbers of binds.
-#[cycle(numbers)]
-fn push_all_numbers(binds: &[Bind], out: &mut Vec<u64>) -> Result<(), NoMemory>
-    ensures { OnOk result (out.new.items ≡ out.old.items ++ numbers (many_of (map tree_of binds.now))) }
-{
-    for bind in binds {
-        push_numbers(bind, out)?;
     }
     Ok(())
 }

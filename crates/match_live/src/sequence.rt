@@ -10,8 +10,8 @@ ghost use Rattle.match_live.specs.inner.Leads.{leads_of};
 ghost use Rattle.match_live.specs.inner.Reaches.{IsSequence};
 
 use crate::lead::Lead;
+use crate::numbers::{numbers_of, push_numbers, share_number};
 use crate::piece::Piece;
-use crate::row_numbers::push_numbers;
 use crate::store::is_live;
 use flow_values::NoMemory;
 use match_bindings::Bind;
@@ -32,11 +32,9 @@ impl Sequence {
     pub fn new(alloc: Global, piece: &Piece) -> Result<Sequence, NoMemory>
         ensures { IfOk result (λ sequence. IsSequence sequence (piece_tree piece.now)) }
     {
-        let mut numbers = Vec::new(alloc);
-        push_numbers(&piece.bind, &mut numbers)?;
         Ok(Sequence {
             earliest: piece.earliest,
-            numbers,
+            numbers: numbers_of(alloc, &piece.bind)?,
         })
     }
 
@@ -100,10 +98,5 @@ fn has_again(numbers: &[u64], place: usize) -> bool
     ensures { result ≡ false → (n : ℕ) → Contains (drop place numbers.now) n → ¬ (Contains (take place numbers.now) n) }
 {
     let (before, after) = numbers.split_at(place);
-    for number in after {
-        if before.contains(number) {
-            return true;
-        }
-    }
-    false
+    share_number(before, after)
 }

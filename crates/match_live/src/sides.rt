@@ -2,14 +2,13 @@ ghost use Rattle.std.specs.Prelude.{◌≡◌, ◌+◌, ◌<◌, false, length, 
 ghost use Rattle.match_windows.specs.Stores.{window_of};
 ghost use Rattle.match_live.specs.inner.Pieces.{piece_trees};
 ghost use Rattle.match_live.specs.inner.Steps.{joins_both, sides_kept, sides_stored, sides_count, empty_sides};
-ghost use Rattle.match_live.specs.inner.Wanted.{wanted};
-ghost use Rattle.match_live.specs.inner.Leads.{leads_of};
+ghost use Rattle.match_live.specs.inner.Demands.{demanded};
 ghost use Rattle.match_live.specs.declared.stop.Stop.TheVariants as stop;
 ghost use Rattle.match_live.specs.inner.Nodes.{side_stores};
 ghost use Rattle.match_live.specs.inner.Arranged.{AreSameSides};
 
+use crate::demand::Demand;
 use crate::join::Join;
-use crate::lead::Lead;
 use crate::piece::Piece;
 use crate::room::Room;
 use crate::stop::Stop;
@@ -71,40 +70,24 @@ impl Sides {
         &mut self,
         alloc: Global,
         join: Join,
-        now: Instant,
         new_left: Vec<Piece>,
         new_right: Vec<Piece>,
-        leads: &[Lead],
-        room: u64,
+        demand: &Demand<'_>,
     ) -> Result<Vec<Piece>, Stop>
         ensures new { IfOk result (λ new. piece_trees new.items
-            ≡ wanted now (leads_of leads.now) (joins_both join (side_stores self.old) (piece_trees new_left.items) (piece_trees new_right.items))) }
+            ≡ demanded demand.now (joins_both join (side_stores self.old) (piece_trees new_left.items) (piece_trees new_right.items))) }
         ensures kept { OnOk result (side_stores self.new
-            ≡ sides_stored now (side_stores self.old) (piece_trees new_left.items) (piece_trees new_right.items)) }
-        ensures crowded { result ≡ Err stop.Crowded → room
-            < length (wanted now (leads_of leads.now) (joins_both join (side_stores self.old) (piece_trees new_left.items) (piece_trees new_right.items))) }
+            ≡ sides_stored demand.now.time (side_stores self.old) (piece_trees new_left.items) (piece_trees new_right.items)) }
+        ensures crowded { result ≡ Err stop.Crowded → demand.now.room
+            < length (demanded demand.now (joins_both join (side_stores self.old) (piece_trees new_left.items) (piece_trees new_right.items))) }
     {
         let mut new = Vec::new(alloc);
-        join.join(
-            alloc,
-            &new_left,
-            &self.right.held,
-            now,
-            leads,
-            room,
-            &mut new,
-        )?;
-        join.join(
-            alloc,
-            &self.left.held,
-            &new_right,
-            now,
-            leads,
-            room,
-            &mut new,
-        )?;
-        self.left.admit(new_left, &self.left_window, now)?;
-        self.right.admit(new_right, &self.right_window, now)?;
+        join.join(alloc, &new_left, &self.right.held, demand, &mut new)?;
+        join.join(alloc, &self.left.held, &new_right, demand, &mut new)?;
+        self.left
+            .admit(new_left, &self.left_window, demand.time)?;
+        self.right
+            .admit(new_right, &self.right_window, demand.time)?;
         Ok(new)
     }
 }

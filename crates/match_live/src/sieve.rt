@@ -27,8 +27,6 @@ const FEW: usize = 64;
 /// The things of a side by their keys, in an order in which those that bind the same follow one another.
 #[derive(Drop)]
 pub(crate) struct Sieve {
-    /// Since when what they are joined to must begin.
-    pub since: Since,
     /// None, where each is tried alone.
     pub keys: Vec<Key>,
     /// The smallest chunks first.
@@ -37,38 +35,33 @@ pub(crate) struct Sieve {
 
 impl Sieve {
     /// That of some things with which so many others are joined.
-    pub fn new(
-        alloc: Global,
-        since: Since,
-        firsts: usize,
-        things: &[Piece],
-    ) -> Result<Sieve, NoMemory>
-        ensures since { IfOk result (λ sieve. sieve.since ≡ since) }
-        ensures things { IfOk result (λ sieve. 0 < length sieve.keys.items → IsSieveOf things.now sieve) }
+    pub fn new(alloc: Global, firsts: usize, things: &[Piece]) -> Result<Sieve, NoMemory>
+        ensures { IfOk result (λ sieve. 0 < length sieve.keys.items → IsSieveOf things.now sieve) }
     {
         if firsts < FEW || things.len() < FEW {
             return Ok(Sieve {
-                since,
                 keys: Vec::new(alloc),
                 levels: Vec::new(alloc),
             });
         }
         let keys = sorted_keys(alloc, things)?;
         let levels = levels(alloc, &keys)?;
-        Ok(Sieve {
-            since,
-            keys,
-            levels,
-        })
+        Ok(Sieve { keys, levels })
     }
 
     /// The places, rising, of the things with which a first thing may be joined to one that begins in time.
-    pub fn places(&self, alloc: Global, join: Join, first: &Piece) -> Result<Vec<usize>, NoMemory>
+    pub fn places(
+        &self,
+        alloc: Global,
+        join: Join,
+        since: &Since,
+        first: &Piece,
+    ) -> Result<Vec<usize>, NoMemory>
         requires levels { AreLevelsOf self.now.keys.items self.now.levels.items }
         ensures { IfOk result (λ places. (things : List Piece) → AreKeysOf things self.now.keys.items
-            → AreTried self.now.since.start join (piece_tree first.now) things places.items) }
+            → AreTried since.now.start join (piece_tree first.now) things places.items) }
     {
-        let probe = Probe::new(alloc, join, &self.since, first)?;
+        let probe = Probe::new(alloc, join, since, first)?;
         let mut places = self.found(alloc, &probe)?;
         places.sort_unstable();
         Ok(places)

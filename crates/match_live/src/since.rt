@@ -174,7 +174,7 @@ fn a_number(bind: &Bind) -> Option<u64>
 {
     match bind {
         Bind::One(number) => Some(*number),
-        Bind::Both(left, _) => a_number(left),
+        Bind::Both(sides) => a_number(&sides.0),
         Bind::First(_, part) | Bind::Second(part) => a_number(part),
         Bind::Many(_) => None,
     }

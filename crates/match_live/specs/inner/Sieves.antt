@@ -31,13 +31,13 @@ pub record AreKeysOf (things : List Piece) (keys : List Key) : Type 0 where
   pub all : (place : ℕ) → place < length things → (key : Key) × Contains keys key × (key.place ≡ place)
 
 -- a chunk's numbers are a key's, which begins no later
-pub record IsOver (chunk : Chunk) (key : Key) : Type 0 where
+pub record IsCommonTo (chunk : Chunk) (key : Key) : Type 0 where
   pub numbers : (n : ℕ) → Contains chunk.common.items n → Contains key.numbers.items n
   pub begins : key.begin ≤ℤ chunk.begin
 
 pub record IsChunkOf (keys : List Key) (chunk : Chunk) : Type 0 where
   pub within : chunk.end ≤ length keys
-  pub over : AllWithin (IsOver chunk) keys chunk.start chunk.end
+  pub over : AllWithin (IsCommonTo chunk) keys chunk.start chunk.end
 
 abbrev pub AreChunksOf : List Key → Chunks → Type 0
 AreChunksOf keys chunks = (chunk : Chunk) → Contains chunks.chunks.items chunk → IsChunkOf keys chunk

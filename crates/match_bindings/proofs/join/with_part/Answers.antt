@@ -22,5 +22,5 @@ chain all parts last t a e f g =
 pub returns : goal.returns
 returns c =
     let is : many_of (map tree_of c.push.new.self) ≡ add_part (tree_of c.args.parts.now) (tree_of c.args.part.now)
-    = chain _ _ _ _ _ c.in_ok-push.ensures.ok c.in_ok-parts.ensures c.in_ok-last.ensures in
-    tree_many c.push.new.self ∙ is
+    = chain _ _ _ _ _ c.in_ok-push.ensures.ok c.in_ok-parts.ensures c.in_ok-clone.ensures.cases in
+    tree_many c.in_ok-new.field-0 ∙ ap (λ parts. many_of (map tree_of parts)) c.in_ok-new.ensures.ok ∙ is

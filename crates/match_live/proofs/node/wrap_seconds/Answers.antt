@@ -1,13 +1,11 @@
 use Rattle.std.proofs.Common.{rules, ◌≡◌, ◌<◌, length, slice_index_or, sym, ◌∙◌, ap, arith}
-use Rattle.std.specs.Box.{box_value}
 use Rattle.std.proofs.lemmas.List.{length-set}
 use Rattle.match_bindings.specs.BindTree.{BindTree, Second, tree_of}
-use Rattle.match_bindings.specs.declared.bind.Bind as bind
 use Rattle.match_live.specs.declared.piece.Piece.{Piece}
 use Rattle.match_live.specs.PieceTree.{PieceTree}
 use Rattle.match_live.specs.inner.Pieces.{piece_tree}
 use Rattle.match_live.specs.inner.Steps.{held_with}
-use Rattle.match_live.proofs.InPlaceLemmas.{changed_more, tree_second}
+use Rattle.match_live.proofs.InPlaceLemmas.{changed_more}
 use Rattle.match_live.proofs.node.wrap_seconds.Goals as goal
 
 pub loop-piece-preserved : goal.loop-piece-preserved
@@ -15,10 +13,9 @@ loop-piece-preserved c =
     let items = c.loop-piece.piece-items in let index = c.loop-piece.piece-index in let x : Piece = c.piece-item.result in
     let there : Piece = slice_index_or items index x in
     let within : index < length c.args.held.now.items = omega (arith, c.loop-piece-test.true, ap length c.deref_mut-piece-items.ensures.value) in
-    let held : tree_of (box_value c.in_ok-new.field-0) ≡ tree_of x.bind = search rules in
-    let same : tree_of (bind.Second c.in_ok-new.field-0) ≡ Second (tree_of x.bind) = tree_second c.in_ok-new.field-0 ∙ ap Second held in
+    let same : tree_of c.in_ok-above.above ≡ Second (tree_of x.bind) = search rules in
     let seen : BindTree → Piece → PieceTree = λ tree p. record { tree = tree; earliest = p.earliest; latest = p.latest } in
-    let wrapped : record { tree = tree_of (bind.Second c.in_ok-new.field-0); earliest = there.earliest; latest = there.latest } ≡ held_with Second (piece_tree x)
+    let wrapped : record { tree = tree_of c.in_ok-above.above; earliest = there.earliest; latest = there.latest } ≡ held_with Second (piece_tree x)
     = ap (λ tree. seen tree there) same ∙ ap (seen (Second (tree_of x.bind))) (sym c.piece-item.is) in
     record {
       wrapped = changed_more piece_tree (held_with Second) c.args.held.now.items items index x _ within c.loop-piece.invariant.wrapped c.piece-item.is wrapped c.loop-piece.invariant.length;

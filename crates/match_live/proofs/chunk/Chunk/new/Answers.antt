@@ -2,7 +2,7 @@
 use Rattle.std.proofs.Common.{◌<◌, length, ◌∙◌, rules}
 use Rattle.std.specs.Prelude.{slice_index_or}
 use Rattle.std.proofs.lemmas.List.Elements.{at_read, AllWithin-more}
-use Rattle.match_live.specs.inner.Sieves.{IsOver}
+use Rattle.match_live.specs.inner.Sieves.{IsCommonTo}
 use Rattle.match_live.proofs.chunk.Chunk.new.Goals as goal
 
 pub places-preserved : goal.places-preserved
@@ -12,6 +12,6 @@ places-preserved c =
     record {
       start = c.add.ensures.places.0 ∙ before.start;
       end = c.add.ensures.places.1 ∙ before.end;
-      over = AllWithin-more (IsOver c.add.new.self) keys c.args.start at (λ k d low high. c.add.ensures.kept (slice_index_or keys k d) (before.over k d low high))
-          (at_read keys (IsOver c.add.new.self) at c.index-keys-place.result here c.index-keys-place.is c.add.ensures.added);
+      over = AllWithin-more (IsCommonTo c.add.new.self) keys c.args.start at (λ k d low high. c.add.ensures.kept (slice_index_or keys k d) (before.over k d low high))
+          (at_read keys (IsCommonTo c.add.new.self) at c.index-keys-place.result here c.index-keys-place.is c.add.ensures.added);
     }

@@ -7,42 +7,46 @@ use Rattle.match_live.specs.inner.Picks.{HasPicks}
 use Rattle.match_live.specs.inner.Pieces.{piece_tree}
 use Rattle.match_live.specs.inner.Steps.{joined}
 use Rattle.match_live.proofs.LivesLemmas.{le_trans}
-use Rattle.match_live.proofs.ReachLemmas.{join_precedes, join_begins, held_span, held_number, goes_on, stays_as, stays_with, begins_before}
+use Rattle.match_live.proofs.ReachLemmas.{join_precedes, join_begins, held_span, held_number, goes_on, stays_as, stays_with, begins_before, of_some}
 use Rattle.match_live.proofs.reach.Reach.stay.Goals as goal
 
 -- where no number is left
-pub returns-then-is_empty-clause-falls : goal.returns-then-is_empty-clause-falls
-returns-then-is_empty-clause-falls c = λ _ sequence left h there may.
+pub returns-in-Some-clause-falls : goal.returns-in-Some-clause-falls
+returns-in-Some-clause-falls c = λ _ sequence left h there may.
     let p = piece_tree c.args.piece.now in let old = c.args.self.now in
     begins_before p old sequence left c.args.held.now h there may (λ e.
     let number = held_number c.args.held.now left there in
-    let in' = c.in_ok-numbers.ensures left there (join_precedes p old sequence left h may) e number.0 number.1 in
-    let none : length c.in_ok-numbers.numbers.items ≡ 0 = search rules in
+    let all = of_some _ c.in_ok-numbers.field-0 c.in-Some.numbers c.in_ok-numbers.ensures c.in-Some.is in
+    let in' = all left there (join_precedes p old sequence left h may) e number.0 number.1 in
+    let none : length c.in-Some.numbers.items ≡ 0 = search rules in
     omega (arith, in'.1, none))
 
-pub returns-then-len-gt-MAX_LEADS-clause-stays : goal.returns-then-len-gt-MAX_LEADS-clause-stays
-returns-then-len-gt-MAX_LEADS-clause-stays c = λ _ sequence left h there may.
+-- where there are many
+pub returns-in-None-clause-stays : goal.returns-in-None-clause-stays
+returns-in-None-clause-stays c = λ _ sequence left h there may.
     let p = piece_tree c.args.piece.now in let old = c.args.self.now in
     let begins = join_begins sequence left (held_span c.args.held.now left there) may in
     goes_on p old old sequence left h may (held_span c.args.held.now left there) (le_trans left.earliest sequence.earliest old.earliest begins.1 h.bound)
     (λ e. stays_as p old sequence left c.args.held.now h there may e)
 
 -- the choice that is noted
-pub returns-clause-stays : goal.returns-clause-stays
-returns-clause-stays c = λ _ sequence left h there may.
+pub returns-in_ok-short-in-Some-2-clause-stays : goal.returns-in_ok-short-in-Some-2-clause-stays
+returns-in_ok-short-in-Some-2-clause-stays c = λ _ sequence left h there may.
     let p = piece_tree c.args.piece.now in let old = c.args.self.now in let x = (joined join.Then left sequence).tree in
     let begins = join_begins sequence left (held_span c.args.held.now left there) may in
-    let noted = ap (λ (v : Vec Choice Global). v.items) c.are_short.ensures.same ∙ c.in_ok-add.ensures in
+    let all = of_some _ c.in_ok-numbers.field-0 c.in-Some.numbers c.in_ok-numbers.ensures c.in-Some.is in
+    let noted = ap (λ (v : Vec Choice Global). v.items) c.are_short.ensures.same ∙ c.in_ok-add-in-Some-2.ensures in
     goes_on p old _ sequence left h may (held_span c.args.held.now left there) (le_trans left.earliest sequence.earliest old.earliest begins.1 h.bound)
     (λ e. subst (λ (z : List Choice). HasPicks z x) (sym noted)
-    (stays_with p old (record { numbers = c.in_ok-numbers.numbers }) sequence left c.args.held.now h there may e
-    (c.in_ok-numbers.ensures left there (join_precedes p old sequence left h may) e)))
+    (stays_with p old (record { numbers = c.in-Some.numbers }) sequence left c.args.held.now h there may e
+    (all left there (join_precedes p old sequence left h may) e)))
 
-pub returns-clause-falls : goal.returns-clause-falls
-returns-clause-falls c = λ fell sequence left h there may.
+pub returns-in_ok-short-in-Some-2-clause-falls : goal.returns-in_ok-short-in-Some-2-clause-falls
+returns-in_ok-short-in-Some-2-clause-falls c = λ fell sequence left h there may.
     let p = piece_tree c.args.piece.now in let old = c.args.self.now in let x = (joined join.Then left sequence).tree in
-    let short : c.in_ok-short.short ≡ true = search rules in
+    let all = of_some _ c.in_ok-numbers.field-0 c.in-Some.numbers c.in_ok-numbers.ensures c.in-Some.is in
+    let short : c.in_ok-short-in-Some-2.short ≡ true = search rules in
     begins_before p old sequence left c.args.held.now h there may (λ e.
-    c.in_ok-short.ensures.short short x (subst (λ (z : List Choice). HasPicks z x) (sym c.in_ok-add.ensures)
-    (stays_with p old (record { numbers = c.in_ok-numbers.numbers }) sequence left c.args.held.now h there may e
-    (c.in_ok-numbers.ensures left there (join_precedes p old sequence left h may) e))))
+    c.in_ok-short-in-Some-2.ensures.short short x (subst (λ (z : List Choice). HasPicks z x) (sym c.in_ok-add-in-Some-2.ensures)
+    (stays_with p old (record { numbers = c.in-Some.numbers }) sequence left c.args.held.now h there may e
+    (all left there (join_precedes p old sequence left h may) e))))

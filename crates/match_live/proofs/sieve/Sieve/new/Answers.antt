@@ -3,8 +3,8 @@ use Rattle.match_live.specs.declared.key.Key.{Key}
 use Rattle.match_live.specs.inner.Sieves.{AreLevelsOf}
 use Rattle.match_live.proofs.sieve.Sieve.new.Goals as goal
 
-pub returns-clause-things : goal.returns-clause-things
-returns-clause-things c = λ _. record {
+pub returns : goal.returns
+returns c = λ _. record {
   keys = c.in_ok-keys.ensures;
   levels = subst (λ (z : List Key). AreLevelsOf z c.in_ok-levels.levels.items) c.deref.ensures.value c.in_ok-levels.ensures;
 }

@@ -25,6 +25,6 @@ returns c = λ things keys.
                 let thing = piece_tree (slice_index_or things place d) in
                 let common : HasCommon key.numbers.items key.begin thing
                 = subst (λ i. HasCommon key.numbers.items key.begin (piece_tree (slice_index_or things i d))) found.2 ((keys.each key found.1).1 d) in
-                vain_told c.args.join c.args.self.now.since.start first thing c.in_ok-probe.probe c.in_ok-probe.ensures (passed thing common))
+                vain_told c.args.join c.args.since.now.start first thing c.in_ok-probe.probe c.in_ok-probe.ensures (passed thing common))
           ];
     }

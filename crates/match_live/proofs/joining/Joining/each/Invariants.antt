@@ -4,8 +4,8 @@ use Rattle.match_live.specs.inner.Pieces.{piece_tree, piece_trees}
 use Rattle.match_live.specs.inner.Steps.{join_row}
 use Rattle.match_live.specs.inner.Wanted.{wanted}
 use Rattle.match_live.specs.inner.Leads.{leads_of}
-use Rattle.match_live.proofs.join.Join.join_each.Given as goal
+use Rattle.match_live.proofs.joining.Joining.each.Given as goal
 
 abbrev pub invariant-loop-second : goal.invariant-loop-second
 invariant-loop-second l = piece_trees l.out.items
-    ≡ piece_trees l.fn.out.items ++ wanted l.now (leads_of l.leads) (join_row l.self (piece_tree l.first) (piece_trees (take l.second-index l.seconds)))
+    ≡ piece_trees l.fn.out.items ++ wanted l.self.demand.now.time (leads_of l.self.demand.now.leads.now) (join_row l.self.how (piece_tree l.first) (piece_trees (take l.second-index l.seconds)))

@@ -1,14 +1,14 @@
 -- A First or a Second has the numbers of its part; and all binds are added.
 use Rattle.std.proofs.Common.{rules, ◌≡◌, ◌++◌, ◌∙◌, sym, ap, arith}
-use Rattle.std.specs.Box.{box_value}
+use Rattle.std.specs.Rc.{rc_value}
 use Rattle.match_bindings.specs.BindTree.{tree_of}
 use Rattle.match_live.specs.inner.Numbers.{numbers}
 use Rattle.match_live.proofs.RowNumbersLemmas.{push_all, numbers_of_part}
-use Rattle.match_live.proofs.row_numbers.+numbers.Goals as goal
+use Rattle.match_live.proofs.numbers.+numbers.Goals as goal
 
 pub push_numbers-returns-in_ok-push_numbers-in-First : goal.push_numbers-returns-in_ok-push_numbers-in-First
 push_numbers-returns-in_ok-push_numbers-in-First t c =
-    let is : c.push_numbers-in-First.new.out.items ≡ c.args.out.now.items ++ numbers (tree_of (box_value c.in-First.part)) = search rules in
+    let is : c.push_numbers-in-First.new.out.items ≡ c.args.out.now.items ++ numbers (tree_of (rc_value c.in-First.part)) = search rules in
     is ∙ ap (λ z. c.args.out.now.items ++ z) (sym (numbers_of_part c.args.bind.now c.in-First.part c.in-First.is))
 
 pub push_all_numbers-returns : goal.push_all_numbers-returns

@@ -4,8 +4,8 @@ use Rattle.match_live.specs.inner.Pieces.{piece_trees}
 use Rattle.match_live.specs.inner.Steps.{joins}
 use Rattle.match_live.specs.inner.Wanted.{wanted}
 use Rattle.match_live.specs.inner.Leads.{leads_of}
-use Rattle.match_live.proofs.join.Join.join_rows.Given as goal
+use Rattle.match_live.proofs.joining.Joining.rows.Given as goal
 
 abbrev pub invariant-loop-first : goal.invariant-loop-first
 invariant-loop-first l = piece_trees l.out.items
-    ≡ piece_trees l.fn.out.items ++ wanted l.now (leads_of l.leads) (joins l.self (piece_trees (take l.first-index l.firsts)) (piece_trees l.seconds))
+    ≡ piece_trees l.fn.out.items ++ wanted l.self.demand.now.time (leads_of l.self.demand.now.leads.now) (joins l.self.how (piece_trees (take l.first-index l.firsts)) (piece_trees l.seconds))

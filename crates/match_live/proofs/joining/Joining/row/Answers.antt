@@ -1,5 +1,5 @@
 use Rattle.std.proofs.Common.{◌<◌, length, rules}
-use Rattle.match_live.proofs.join.Join.join_row.Goals as goal
+use Rattle.match_live.proofs.joining.Joining.row.Goals as goal
 
 pub places-requires : goal.places-requires
 places-requires c =
