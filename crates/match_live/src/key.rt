@@ -2,8 +2,8 @@ ghost use Rattle.std.specs.Prelude.{◌≡◌, IfOk};
 ghost use Rattle.match_live.specs.inner.Pieces.{piece_tree};
 ghost use Rattle.match_live.specs.inner.Sieves.{HasCommon};
 
-use crate::piece::Piece;
 use crate::numbers::numbers_of;
+use crate::piece::Piece;
 use flow_values::NoMemory;
 use std::alloc::Global;
 use stix_times::Instant;

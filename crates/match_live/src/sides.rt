@@ -84,8 +84,7 @@ impl Sides {
         let mut new = Vec::new(alloc);
         join.join(alloc, &new_left, &self.right.held, demand, &mut new)?;
         join.join(alloc, &self.left.held, &new_right, demand, &mut new)?;
-        self.left
-            .admit(new_left, &self.left_window, demand.time)?;
+        self.left.admit(new_left, &self.left_window, demand.time)?;
         self.right
             .admit(new_right, &self.right_window, demand.time)?;
         Ok(new)
