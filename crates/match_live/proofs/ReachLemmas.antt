@@ -1,15 +1,14 @@
 -- What bounds the sequences that join a new thing to one thing held on the left of each FOLLOWEDBY.
-use Rattle.std.proofs.Common.{◌≡◌, ℕ, zero, suc, ◌+◌, ◌<◌, ℤ, ◌≤ℤ◌, ◌<ℤ◌, List, [], ◌∷◌, ◌++◌, Vec, Global, length, get_or, take, refl, sym, ◌∙◌, ap, subst, arith, ◌⊎◌, inl, inr}
-use Rattle.std.specs.Prelude.{Bool, true, false, int_lt, Option, Some, None, IfSome}
-use Rattle.std.specs.List.{Contains, list_any}
+use Rattle.std.proofs.Common.{◌≡◌, ℕ, zero, suc, ◌+◌, ◌<◌, ℤ, ◌≤ℤ◌, ◌<ℤ◌, List, [], ◌∷◌, ◌++◌, length, get_or, take, refl, sym, ◌∙◌, ap, subst, arith, ◌⊎◌, inl, inr}
+use Rattle.std.specs.Prelude.{Bool, true, false, int_lt, nat_eq, Option, Some, IfSome}
+use Rattle.std.specs.List.{Contains, IsDistinct, list_any}
 use Rattle.std.proofs.lemmas.Bool.{and_parts, and_from, or_right, or_cases}
 use Rattle.std.proofs.lemmas.Int.{ints, clamps}
 use Rattle.std.proofs.lemmas.List.{take_more}
 use Rattle.std.proofs.lemmas.List.Elements.{Contains-push_cases}
-use Rattle.match_bindings.specs.BindTree.{BindTree, Pair, tree_of, has, disjoint}
+use Rattle.match_bindings.specs.BindTree.{has}
 use Rattle.match_bindings.proofs.ListLemmas.{map_append}
 use Rattle.match_bindings.proofs.IsBindingLemmas.{apart_to, apart_from, lt_true, le_true, true_le}
-use Rattle.match_live.specs.declared.choices.Choice.{Choice}
 use Rattle.match_live.specs.declared.join.Join.TheVariants as join
 use Rattle.match_live.specs.declared.piece.Piece.{Piece}
 use Rattle.match_live.specs.declared.reach.Reach.{Reach}
@@ -23,8 +22,6 @@ use Rattle.match_live.specs.inner.Picks.{HasPicks}
 use Rattle.match_live.specs.inner.Reaches.{may_precede, IsReached}
 use Rattle.match_live.proofs.LivesLemmas.{le_trans, le_both, lt_false}
 use Rattle.match_live.proofs.OldestLemmas.{lives_later}
-use Rattle.match_live.proofs.PicksLemmas.{none_picked, as_picked, picked_more}
-use Rattle.match_live.proofs.RowNumbersLemmas.{contains_numbers}
 
 -- what may be joined with a sequence may go before it
 pub join_precedes : (p : PieceTree) (r : Reach) (sequence left : PieceTree) → IsReached p r sequence → may_join join.Then left sequence ≡ true → may_precede left r.earliest p ≡ true
@@ -59,37 +56,32 @@ goes_on p old new sequence left h may span bound picks =
       picks = λ e. picks (sym begins.0 ∙ e);
     }
 
--- what is held ends no sooner than it begins, and has a number
+-- what is held ends no sooner than it begins, and has each number once
 pub held_span : (held : List Piece) (left : PieceTree) → Contains (piece_trees held) left → left.earliest ≤ℤ left.latest
 held_span [] left (k, l, is) = absurd (omega (arith, l))
 held_span (x ∷ held) left (zero, l, is) = subst (λ (p : PieceTree). p.earliest ≤ℤ p.latest) is x.span
 held_span (x ∷ held) left (suc k, l, is) = held_span held left (k, omega (arith, l), is)
 
-pub held_number : (held : List Piece) (left : PieceTree) → Contains (piece_trees held) left → (n : ℕ) × (has n left.tree ≡ true)
-held_number [] left (k, l, is) = absurd (omega (arith, l))
-held_number (x ∷ held) left (zero, l, is) = subst (λ (p : PieceTree). (n : ℕ) × (has n p.tree ≡ true)) is (first (numbers (tree_of x.bind)) x.some (λ n h. (contains_numbers n (tree_of x.bind)).0 h)) where
-  first : (ns : List ℕ) → 0 < length ns → ((n : ℕ) → Contains ns n → has n (tree_of x.bind) ≡ true) → (n : ℕ) × (has n (tree_of x.bind) ≡ true)
-  first [] h all = absurd (omega (arith, h))
-  first (n ∷ ns) h all = (n, all n (zero, omega arith, refl))
-held_number (x ∷ held) left (suc k, l, is) = held_number held left (k, omega (arith, l), is)
+pub held_once : (held : List Piece) (left : PieceTree) → Contains (piece_trees held) left → IsDistinct nat_eq (numbers left.tree)
+held_once [] left (k, l, is) = absurd (omega (arith, l))
+held_once (x ∷ held) left (zero, l, is) = subst (λ (p : PieceTree). IsDistinct nat_eq (numbers p.tree)) is x.once
+held_once (x ∷ held) left (suc k, l, is) = held_once held left (k, omega (arith, l), is)
 
 -- by something that lies wholly where they begin
-at_same : (p : PieceTree) (old : Reach) (sequence left : PieceTree) (held : List Piece) → IsReached p old sequence → Contains (piece_trees held) left →
+pub at_same : (p : PieceTree) (old : Reach) (sequence left : PieceTree) (held : List Piece) → IsReached p old sequence → Contains (piece_trees held) left →
     may_join join.Then left sequence ≡ true → left.earliest ≡ old.earliest → HasPicks old.choices.list.items sequence.tree
 at_same p old sequence left held h there may here =
     let begins = join_begins sequence left (held_span held left there) may in
     h.picks (le_both sequence.earliest old.earliest h.bound (subst (λ (t : ℤ). t ≤ℤ sequence.earliest) here begins.1))
 
-pub stays_as : (p : PieceTree) (old : Reach) (sequence left : PieceTree) (held : List Piece) → IsReached p old sequence → Contains (piece_trees held) left →
-    may_join join.Then left sequence ≡ true → left.earliest ≡ old.earliest → HasPicks old.choices.list.items (joined join.Then left sequence).tree
-stays_as p old sequence left held h there may here = as_picked old.choices.list.items left.tree sequence.tree (at_same p old sequence left held h there may here)
-
-pub stays_with : (p : PieceTree) (old : Reach) (choice : Choice) (sequence left : PieceTree) (held : List Piece) → IsReached p old sequence → Contains (piece_trees held) left →
-    may_join join.Then left sequence ≡ true → left.earliest ≡ old.earliest → ((n : ℕ) → has n left.tree ≡ true → Contains choice.numbers.items n) →
-    HasPicks (choice ∷ old.choices.list.items) (joined join.Then left sequence).tree
-stays_with p old choice sequence left held h there may here added =
-    let number = held_number held left there in
-    picked_more old.choices.list.items choice left.tree sequence.tree number.0 (at_same p old sequence left held h there may here) (and_parts _ _ may).1 number.1 (added number.0 number.1)
+pub stays : (p : PieceTree) (old new : Reach) (sequence left : PieceTree) (held : List Piece) → IsReached p old sequence → Contains (piece_trees held) left →
+    may_join join.Then left sequence ≡ true → new.earliest ≡ old.earliest →
+    (left.earliest ≡ old.earliest → HasPicks old.choices.list.items sequence.tree → HasPicks new.choices.list.items (joined join.Then left sequence).tree) →
+    IsReached p new (joined join.Then left sequence)
+stays p old new sequence left held h there may same picks =
+    let span = held_span held left there in let begins = join_begins sequence left span may in
+    goes_on p old new sequence left h may span (subst (λ (t : ℤ). left.earliest ≤ℤ t) (sym same) (le_trans left.earliest sequence.earliest old.earliest begins.1 h.bound))
+    (λ e. let here = e ∙ same in picks here (at_same p old sequence left held h there may here))
 
 -- what begins no later than the sequences, and not with them, begins before
 pub begins_before : (p : PieceTree) (old : Reach) (sequence left : PieceTree) (held : List Piece) → IsReached p old sequence → Contains (piece_trees held) left →
@@ -103,16 +95,10 @@ begins_before p old sequence left held h there may apart =
       by true is = lt_true left.earliest old.earliest is
       by false is = absurd (apart (le_both left.earliest old.earliest order (lt_false left.earliest old.earliest is)))
 
--- ---- a choice of few numbers, if they are few
+-- ---- what an option holds
 
 pub of_some : {X : Type 0} (P : X → Type 0) (r : Option X) (x : X) → IfSome r P → r ≡ Some x → P x
 of_some P r x h is = subst (λ o. IfSome o P) is h
-
-pub picked_of : (few : Option (Vec ℕ Global)) (choices : List Choice) (left x : BindTree) (n : ℕ) → IfSome few (λ numbers. choices ≡ record { numbers = numbers } ∷ []) →
-    (few ≡ None → choices ≡ []) → disjoint left x ≡ true → has n left ≡ true → IfSome few (λ numbers. Contains numbers.items n) → HasPicks choices (Pair left x)
-picked_of None choices left x n one none apart here there = subst (λ (z : List Choice). HasPicks z (Pair left x)) (sym (none refl)) (none_picked (Pair left x))
-picked_of (Some numbers) choices left x n one none apart here there =
-    subst (λ (z : List Choice). HasPicks z (Pair left x)) (sym one) (picked_more [] (record { numbers = numbers }) left x n (none_picked x) apart here there)
 
 -- ---- what is wanted is reached
 

@@ -1,7 +1,7 @@
 //! Whether there is a number for each of some things that may take one of a few: what lies at one instant
 //! needs observations of its own.
 
-ghost use Rattle.std.specs.Prelude.{◌≡◌, ◌≤◌, ◌∷◌, [], ℕ, List, nat_eq, true, length, None, IfOk, IfSome, OnOk};
+ghost use Rattle.std.specs.Prelude.{◌≡◌, ◌≤◌, ◌∷◌, [], ℕ, List, nat_eq, true, false, length, IfOk, OnOk};
 ghost use Rattle.std.specs.List.{AllZip, Contains, IsDistinct};
 ghost use Rattle.match_bindings.specs.BindTree.{BindTree, has};
 ghost use Rattle.match_live.specs.inner.Picks.{HasPicks, MayPick, IsAmong};
@@ -35,25 +35,18 @@ impl Choices {
         }
     }
 
-    /// One choice of few numbers, of which the first is picked; none where they are many.
-    pub fn of(alloc: Global, few: Option<Vec<u64>>) -> Result<Choices, NoMemory>
-        ensures few { IfOk result (λ choices. IfSome few (λ numbers. choices.list.items ≡ record { numbers = numbers } ∷ [])) }
-        ensures many { IfOk result (λ choices. few ≡ None → choices.list.items ≡ []) }
+    /// Adds a choice; whether there may be numbers enough for all.
+    pub fn admit(&mut self, alloc: Global, numbers: Vec<u64>) -> Result<bool, NoMemory>
+        ensures added { OnOk result (self.new.list.items ≡ record { numbers = numbers } ∷ self.old.list.items) }
+        ensures short { IfOk result (λ may. may ≡ false → (x : BindTree) → ¬ (HasPicks self.new.list.items x)) }
     {
-        let mut choices = Choices::new(alloc);
-        let Some(numbers) = few else {
-            return Ok(choices);
-        };
-        match numbers.first() {
-            Some(number) => choices.picks.push(Some(*number))?,
-            None => choices.picks.push(None)?,
-        }
-        choices.list.push(Choice { numbers })?;
-        Ok(choices)
+        self.add(numbers)?;
+        let short = self.are_short(alloc)?;
+        Ok(!short)
     }
 
     /// One choice more, of which nothing is picked yet.
-    pub fn add(&mut self, numbers: Vec<u64>) -> Result<(), NoMemory>
+    fn add(&mut self, numbers: Vec<u64>) -> Result<(), NoMemory>
         ensures { OnOk result (self.new.list.items ≡ record { numbers = numbers } ∷ self.old.list.items) }
     {
         self.list.insert(0, Choice { numbers })?;
@@ -64,7 +57,7 @@ impl Choices {
     /// Whether it is seen that there are too few numbers for each choice to have one of its own. Of the last
     /// choice, of which none is picked yet, one is, and others give way to it; where that can't be, those
     /// that were asked to are too many.
-    pub fn are_short(&mut self, alloc: Global) -> Result<bool, NoMemory>
+    fn are_short(&mut self, alloc: Global) -> Result<bool, NoMemory>
         ensures same { self.new.list ≡ self.old.list }
         ensures short { IfOk result (λ short. short ≡ true → (x : BindTree) → ¬ (HasPicks self.old.list.items x)) }
     {

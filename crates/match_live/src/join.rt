@@ -1,6 +1,6 @@
 ghost use Rattle.std.specs.Prelude.{◌≡◌, ◌≤ℤ◌, true, false, IfOk, OnOk, Err};
 ghost use Rattle.std.specs.Int.{int_min, int_max};
-ghost use Rattle.match_bindings.specs.BindTree.{tree_of};
+ghost use Rattle.match_bindings.specs.BindTree.{tree_of, disjoint};
 ghost use Rattle.match_live.specs.PieceTree.{PieceTree};
 ghost use Rattle.match_live.specs.inner.Demands.{AreAdded, AreTooMany};
 ghost use Rattle.match_live.specs.inner.Pieces.{piece_tree, piece_trees};
@@ -51,8 +51,9 @@ impl Join {
         }
     }
 
-    /// Two things as one.
+    /// Two things as one, which share no observation.
     pub fn joined(self, alloc: Global, first: &Piece, second: &Piece) -> Result<Piece, NoMemory>
+        requires { disjoint (tree_of first.now.bind) (tree_of second.now.bind) ≡ true }
         ensures { IfOk result (λ held. piece_tree held ≡ joined self (piece_tree first.now) (piece_tree second.now)) }
     {
         let bind = self.bind(alloc, &first.bind, &second.bind)?;

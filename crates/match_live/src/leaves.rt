@@ -1,6 +1,7 @@
 //! Leaves in a chain of `OR`s, which take a row at once.
 
-ghost use Rattle.std.specs.Prelude.{◌≡◌, ◌+◌, ◌<◌, ◌≤ℤ◌, ◌≤◌, ◌^◌, ◌++◌, ◌∷◌, [], ℕ, true, false, IsTrue, IfOk, IfSome, OnOk, length};
+ghost use Rattle.std.specs.Prelude.{◌≡◌, ◌+◌, ◌<◌, ◌≤ℤ◌, ◌≤◌, ◌^◌, ◌++◌, ◌∷◌, [], ℕ, true, false, IsTrue, IfOk, IfSome, OnOk, length, nat_eq};
+ghost use Rattle.std.specs.List.{IsDistinct};
 ghost use Rattle.match_bindings.specs.BindTree.{Second, firsts, tree_of};
 ghost use Rattle.match_live.specs.inner.Pieces.{piece_tree, piece_trees};
 ghost use Rattle.match_live.specs.inner.Lives.{lives};
@@ -169,6 +170,7 @@ fn alone_is_wanted(alloc: Global, row: &Row, leads: &[Lead]) -> Result<bool, NoM
 fn piece(bind: Bind, row: &Row) -> Piece
     requires span { row.now.first ≤ℤ row.now.last }
     requires some { 0 < length (numbers (tree_of bind)) }
+    requires once { IsDistinct nat_eq (numbers (tree_of bind)) }
     ensures { piece_tree result ≡ record { tree = tree_of bind; earliest = row.now.first; latest = row.now.last } }
 {
     Piece {
@@ -197,6 +199,7 @@ fn push_under(
 ) -> Result<(), NoMemory>
     requires span { row.now.first ≤ℤ row.now.last }
     requires some { 0 < length (numbers (tree_of bind)) }
+    requires once { IsDistinct nat_eq (numbers (tree_of bind)) }
     ensures { OnOk result (piece_trees new.new.items ≡ piece_trees new.old.items
         ++ held_with (firsts above) (record { tree = tree_of bind; earliest = row.now.first; latest = row.now.last }) ∷ []) }
 {

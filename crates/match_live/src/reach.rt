@@ -5,12 +5,13 @@
 
 ghost use Rattle.std.specs.Prelude.{◌≡◌, ◌≤ℤ◌, ◌<ℤ◌, ℕ, ℤ, true, false, Some, IfOk, IfSome, OnOk};
 ghost use Rattle.std.specs.List.{Contains};
-ghost use Rattle.match_bindings.specs.BindTree.{has};
+ghost use Rattle.match_bindings.specs.BindTree.{BindTree, Pair, disjoint};
 ghost use Rattle.match_live.specs.declared.join.Join.TheVariants as join;
 ghost use Rattle.match_live.specs.declared.reach.Reach.{Reach};
 ghost use Rattle.match_live.specs.PieceTree.{PieceTree};
 ghost use Rattle.match_live.specs.inner.Pieces.{piece_tree, piece_trees};
 ghost use Rattle.match_live.specs.inner.Steps.{joined, may_join};
+ghost use Rattle.match_live.specs.inner.Picks.{HasPicks, HasAt};
 ghost use Rattle.match_live.specs.inner.Wanted.{is_wanted};
 ghost use Rattle.match_live.specs.inner.Leads.{leads_of};
 ghost use Rattle.match_live.specs.inner.Reaches.{may_precede, IsReached};
@@ -30,6 +31,12 @@ const MAX_LEADS: usize = 64;
 
 /// Numbers are put in order where they are more than so many.
 const MANY: usize = 2 * MAX_LEADS;
+
+/// So many places of a thing are looked at.
+const MAX_PLACES: usize = 8;
+
+/// So many choices are noted: two for each lead.
+const MAX_CHOICES: usize = 2 * MAX_LEADS;
 
 /// What bounds all sequences so far.
 #[derive(Drop)]
@@ -77,41 +84,22 @@ impl Reach {
     }
 
     /// Takes one more thing into each sequence, of those held on the next left side: whether there may be one.
+    /// It lies wholly where the sequences begin, unless there are too few numbers for that.
     fn take(&mut self, alloc: Global, piece: &Piece, held: &[Piece]) -> Result<bool, NoMemory>
         ensures { IfOk result (λ may. (sequence left : PieceTree) → IsReached (piece_tree piece.now) self.old sequence
             → Contains (piece_trees held.now) left → may_join join.Then left sequence ≡ true
             → (may ≡ true) × IsReached (piece_tree piece.now) self.new (joined join.Then left sequence)) }
     {
-        if self.stay(alloc, piece, held)? {
+        let bound = self.earliest;
+        if self.note(alloc, bound, piece, held)? {
             return Ok(true);
         }
-        match latest_before(self.earliest, piece, held) {
+        match latest_before(bound, piece, held) {
             Some(earliest) => {
                 self.fall(alloc, earliest, piece, held)?;
                 Ok(true)
             }
             None => Ok(false),
-        }
-    }
-
-    /// Takes things that lie wholly where the sequences begin, unless there are too few numbers for that. Of more
-    /// numbers than there are leads one is left for each, so no choice is noted.
-    fn stay(&mut self, alloc: Global, piece: &Piece, held: &[Piece]) -> Result<bool, NoMemory>
-        ensures earliest { OnOk result (self.new.earliest ≡ self.old.earliest) }
-        ensures stays { IfOk result (λ stays. stays ≡ true → (sequence left : PieceTree) → IsReached (piece_tree piece.now) self.old sequence
-            → Contains (piece_trees held.now) left → may_join join.Then left sequence ≡ true
-            → IsReached (piece_tree piece.now) self.new (joined join.Then left sequence)) }
-        ensures falls { IfOk result (λ stays. stays ≡ false → (sequence left : PieceTree) → IsReached (piece_tree piece.now) self.old sequence
-            → Contains (piece_trees held.now) left → may_join join.Then left sequence ≡ true → left.earliest <ℤ self.old.earliest) }
-    {
-        match few_beginning(alloc, self.earliest, self.earliest, piece, held)? {
-            Some(numbers) if numbers.is_empty() => Ok(false),
-            Some(numbers) => {
-                self.choices.add(numbers)?;
-                let short = self.choices.are_short(alloc)?;
-                Ok(!short)
-            }
-            None => Ok(true),
         }
     }
 
@@ -127,11 +115,38 @@ impl Reach {
             → IsReached (piece_tree piece.now) before sequence → Contains (piece_trees held.now) left → may_join join.Then left sequence ≡ true
             → left.earliest ≤ℤ earliest → IsReached (piece_tree piece.now) self.new (joined join.Then left sequence)) }
     {
-        let few = few_beginning(alloc, earliest, self.earliest, piece, held)?;
-        let choices = Choices::of(alloc, few)?;
-        self.choices = choices;
+        let bound = self.earliest;
         self.earliest = earliest;
+        self.choices = Choices::new(alloc);
+        self.note(alloc, bound, piece, held)?;
         Ok(())
+    }
+
+    /// Notes which numbers may stand at each of the first places of the things that begin where the sequences
+    /// do, and may go before one that begins at the bound at the latest: whether there may be enough of them.
+    fn note(
+        &mut self,
+        alloc: Global,
+        bound: Instant,
+        piece: &Piece,
+        held: &[Piece],
+    ) -> Result<bool, NoMemory>
+        ensures earliest { OnOk result (self.new.earliest ≡ self.old.earliest) }
+        ensures noted { IfOk result (λ may. (left : PieceTree) (x : BindTree) → Contains (piece_trees held.now) left
+            → may_precede left bound (piece_tree piece.now) ≡ true → left.earliest ≡ self.old.earliest → disjoint left.tree x ≡ true
+            → HasPicks self.old.choices.list.items x → (may ≡ true) × HasPicks self.new.choices.list.items (Pair left.tree x)) }
+    {
+        for place in 0..MAX_PLACES {
+            if self.choices.list.len() >= MAX_CHOICES {
+                return Ok(true);
+            }
+            if let Some(numbers) = column(alloc, place, self.earliest, bound, piece, held)? {
+                if !self.choices.admit(alloc, numbers)? {
+                    return Ok(false);
+                }
+            }
+        }
+        Ok(true)
     }
 }
 
@@ -142,30 +157,36 @@ fn may_precede(left: &Piece, bound: Instant, piece: &Piece) -> bool
     left.latest <= bound && are_disjoint(&left.bind, &piece.bind)
 }
 
-/// The numbers, each once, of the things that begin at this time, and may go before such a sequence; `None`
-/// where they are seen to be more than leads: then it isn't looked at all things.
-fn few_beginning(
+/// The numbers, each once, at a place of the things that begin at this time, and may go before such a sequence;
+/// `None` where one of them has no such place, or they are seen to be more than leads.
+fn column(
     alloc: Global,
+    place: usize,
     earliest: Instant,
     bound: Instant,
     piece: &Piece,
     held: &[Piece],
 ) -> Result<Option<Vec<u64>>, NoMemory>
-    ensures { IfOk result (λ few. IfSome few (λ numbers. (left : PieceTree) → Contains (piece_trees held.now) left
-        → may_precede left bound (piece_tree piece.now) ≡ true → left.earliest ≡ earliest
-        → (n : ℕ) → has n left.tree ≡ true → Contains numbers.items n)) }
+    ensures { IfOk result (λ column. IfSome column (λ found. (left : PieceTree) → Contains (piece_trees held.now) left
+        → may_precede left bound (piece_tree piece.now) ≡ true → left.earliest ≡ earliest → HasAt found.items place left.tree)) }
 {
+    let mut found = Vec::new(alloc);
     let mut numbers = Vec::new(alloc);
     for left in held {
         if left.earliest == earliest && may_precede(left, bound, piece) {
+            numbers.clear();
             push_numbers(&left.bind, &mut numbers)?;
-            if are_many(&mut numbers) {
+            let Some(number) = numbers.get(place) else {
+                return Ok(None);
+            };
+            found.push(*number)?;
+            if are_many(&mut found) {
                 return Ok(None);
             }
         }
     }
-    tidy(&mut numbers);
-    Ok(Some(numbers))
+    tidy(&mut found);
+    Ok(Some(found))
 }
 
 /// Whether numbers, each taken once, are more than leads. They are put in order now and then.

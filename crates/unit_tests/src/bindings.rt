@@ -4,7 +4,7 @@ ghost use Rattle.std.specs.Prelude.{◌≡◌, IfOk};
 ghost use Rattle.pattern_types.specs.Leaves.{leaves};
 
 use flow_values::{Items, NoMemory};
-use match_bindings::{Bind, Log, check_binding, copy_bind, flat, listing};
+use match_bindings::{Bind, Log, check_binding, flat, listing};
 use match_windows::windows;
 use pattern_types::{Leaf, Pattern};
 use std::alloc::Global;
@@ -53,14 +53,14 @@ fn window_count(alloc: Global) -> Result<usize, NoMemory> {
     Ok(windows?.len())
 }
 
-/// Whether a copy of a bind binds the pattern, and how many numbers it has.
+/// Whether a clone of a bind binds the pattern, and how many numbers it has.
 fn numbers(alloc: Global, log: &Log, bind: &Bind) -> Result<usize, NoMemory> {
-    let copy = copy_bind(alloc, bind)?;
+    let clone = bind.clone()?;
     let pattern = both(alloc)?;
-    let is_binding = check_binding(&pattern, log, &copy);
+    let is_binding = check_binding(&pattern, log, &clone);
     drop(pattern);
     if is_binding {
-        Ok(flat(alloc, &copy)?.len())
+        Ok(flat(alloc, &clone)?.len())
     } else {
         Ok(0)
     }

@@ -1,8 +1,9 @@
 -- For private clauses: numbers that are taken of choices, each of one.
-use Rattle.std.specs.Prelude.{◌≡◌, ℕ, nat_eq, true, List, length}
+use Rattle.std.specs.Prelude.{◌≡◌, ℕ, nat_eq, true, Some, List, length, slice_get}
 use Rattle.std.specs.List.{AllZip, Contains, IsDistinct}
 use Rattle.match_bindings.specs.BindTree.{BindTree, has}
 use Rattle.match_live.specs.declared.choices.Choice.{Choice}
+use Rattle.match_live.specs.inner.Numbers.{numbers}
 
 -- a tree has a number, which is one of a choice
 abbrev pub MayPick : BindTree → Choice → ℕ → Type 0
@@ -13,6 +14,12 @@ pub record HasPicks (choices : List Choice) (x : BindTree) : Type 0 where
   pub picks : List ℕ
   pub differ : IsDistinct nat_eq picks
   pub each : AllZip (MayPick x) choices picks
+
+-- the number at a place of a tree, counted from the left, is one of some
+pub record HasAt (found : List ℕ) (place : ℕ) (x : BindTree) : Type 0 where
+  pub number : ℕ
+  pub there : slice_get (numbers x) place ≡ Some number
+  pub among : Contains found number
 
 -- so many of some picks are different ones of some numbers
 pub record IsAmong (count : ℕ) (numbers picks : List ℕ) : Type 0 where

@@ -1,12 +1,17 @@
 use Rattle.std.proofs.Common.{rules, ◌≡◌, ◌<◌, ℕ, List, length, slice_index_or, subst, sym, ◌∙◌, ap, arith}
+use Rattle.std.specs.Prelude.{nat_eq}
+use Rattle.std.specs.List.{IsDistinct}
 use Rattle.std.proofs.lemmas.List.{length-set}
 use Rattle.match_bindings.specs.BindTree.{BindTree, firsts, tree_of}
+use Rattle.match_bindings.specs.declared.bind.Bind.{Bind}
+use Rattle.match_bindings.specs.declared.bind.Bind.TheVariants.{One as Only}
 use Rattle.match_live.specs.declared.piece.Piece.{Piece}
 use Rattle.match_live.specs.PieceTree.{PieceTree}
 use Rattle.match_live.specs.inner.Pieces.{piece_tree}
 use Rattle.match_live.specs.inner.Steps.{held_with}
 use Rattle.match_live.specs.inner.Numbers.{numbers}
 use Rattle.match_live.proofs.RowNumbersLemmas.{numbers_firsts}
+use Rattle.match_live.proofs.PicksLemmas.{once_one, some_one}
 use Rattle.match_live.proofs.InPlaceLemmas.{changed_more}
 use Rattle.match_live.proofs.node.wrap_firsts.Goals as goal
 
@@ -30,5 +35,16 @@ invariant_of-piece-in-loop-piece c =
     let same : tree_of c.in_ok-above.above ≡ firsts c.args.count (tree_of x.bind) = search rules in
     record {
       some = subst (λ (z : List ℕ). 0 < length z) (sym (ap numbers same ∙ numbers_firsts c.args.count (tree_of x.bind))) x.some;
+      once = subst (λ (z : List ℕ). IsDistinct nat_eq z) (sym (ap numbers same ∙ numbers_firsts c.args.count (tree_of x.bind))) x.once;
+      span = there.span;
+    }
+
+pub invariant_of-piece : goal.invariant_of-piece
+invariant_of-piece c =
+    let x : Piece = c.piece-item.result in let there : Piece = slice_index_or c.loop-piece.piece-items c.loop-piece.piece-index x in
+    let is : c.replace-bind.new.dest ≡ Only 0 = search rules in
+    record {
+      some = subst (λ (b : Bind). 0 < length (numbers (tree_of b))) (sym is) (some_one 0);
+      once = subst (λ (b : Bind). IsDistinct nat_eq (numbers (tree_of b))) (sym is) (once_one 0);
       span = there.span;
     }
