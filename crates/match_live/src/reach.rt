@@ -11,10 +11,10 @@ ghost use Rattle.match_live.specs.declared.reach.Reach.{Reach};
 ghost use Rattle.match_live.specs.PieceTree.{PieceTree};
 ghost use Rattle.match_live.specs.inner.Pieces.{piece_tree, piece_trees};
 ghost use Rattle.match_live.specs.inner.Steps.{joined, may_join};
-ghost use Rattle.match_live.specs.inner.Picks.{HasPicks, HasAt};
+ghost use Rattle.match_live.specs.inner.Picks.{HasPicks};
 ghost use Rattle.match_live.specs.inner.Wanted.{is_wanted};
 ghost use Rattle.match_live.specs.inner.Leads.{leads_of};
-ghost use Rattle.match_live.specs.inner.Reaches.{may_precede, IsReached};
+ghost use Rattle.match_live.specs.inner.Reaches.{may_precede, IsInColumn, IsReached};
 
 use crate::choices::Choices;
 use crate::lead::Lead;
@@ -37,6 +37,17 @@ const MAX_PLACES: usize = 8;
 
 /// So many choices are noted: two for each lead.
 const MAX_CHOICES: usize = 2 * MAX_LEADS;
+
+/// The numbers at one place of some things, where each thing's stand from left to right.
+#[derive(Drop)]
+pub(crate) enum Column {
+    /// These, each once.
+    Few(Vec<u64>),
+    /// More than there are leads.
+    Many,
+    /// One of the things has no such place.
+    Short,
+}
 
 /// What bounds all sequences so far.
 #[derive(Drop)]
@@ -140,10 +151,14 @@ impl Reach {
             if self.choices.list.len() >= MAX_CHOICES {
                 return Ok(true);
             }
-            if let Some(numbers) = column(alloc, place, self.earliest, bound, piece, held)? {
-                if !self.choices.admit(alloc, numbers)? {
-                    return Ok(false);
+            match column_at(alloc, place, self.earliest, bound, piece, held)? {
+                Column::Few(numbers) => {
+                    if !self.choices.admit(alloc, numbers)? {
+                        return Ok(false);
+                    }
                 }
+                Column::Many => {}
+                Column::Short => return Ok(true),
             }
         }
         Ok(true)
@@ -157,18 +172,17 @@ fn may_precede(left: &Piece, bound: Instant, piece: &Piece) -> bool
     left.latest <= bound && are_disjoint(&left.bind, &piece.bind)
 }
 
-/// The numbers, each once, at a place of the things that begin at this time, and may go before such a sequence;
-/// `None` where one of them has no such place, or they are seen to be more than leads.
-fn column(
+/// The column at a place of the things that begin at this time, and may go before such a sequence.
+fn column_at(
     alloc: Global,
     place: usize,
     earliest: Instant,
     bound: Instant,
     piece: &Piece,
     held: &[Piece],
-) -> Result<Option<Vec<u64>>, NoMemory>
-    ensures { IfOk result (λ column. IfSome column (λ found. (left : PieceTree) → Contains (piece_trees held.now) left
-        → may_precede left bound (piece_tree piece.now) ≡ true → left.earliest ≡ earliest → HasAt found.items place left.tree)) }
+) -> Result<Column, NoMemory>
+    ensures { IfOk result (λ column. (left : PieceTree) → Contains (piece_trees held.now) left → may_precede left bound (piece_tree piece.now) ≡ true
+        → left.earliest ≡ earliest → IsInColumn column place left.tree) }
 {
     let mut found = Vec::new(alloc);
     let mut numbers = Vec::new(alloc);
@@ -177,16 +191,16 @@ fn column(
             numbers.clear();
             push_numbers(&left.bind, &mut numbers)?;
             let Some(number) = numbers.get(place) else {
-                return Ok(None);
+                return Ok(Column::Short);
             };
             found.push(*number)?;
             if are_many(&mut found) {
-                return Ok(None);
+                return Ok(Column::Many);
             }
         }
     }
     tidy(&mut found);
-    Ok(Some(found))
+    Ok(Column::Few(found))
 }
 
 /// Whether numbers, each taken once, are more than leads. They are put in order now and then.

@@ -1,12 +1,14 @@
 -- For private clauses: what bounds the sequences that join a new thing to one thing held on the left of each FOLLOWEDBY.
-use Rattle.std.specs.Prelude.{◌≡◌, ℕ, ℤ, int_le, ◌≤ℤ◌, Bool, true, false, ◌&&◌, Option, Some, None, List}
+use Rattle.std.specs.Prelude.{◌≡◌, ℕ, ℤ, int_le, ◌≤ℤ◌, ⊤, Bool, true, false, ◌&&◌, Option, Some, None, List}
 use Rattle.std.specs.List.{Contains}
-use Rattle.match_bindings.specs.BindTree.{has, disjoint}
+use Rattle.match_bindings.specs.BindTree.{BindTree, has, disjoint}
+use Rattle.match_live.specs.declared.reach.Column.{Column}
+use Rattle.match_live.specs.declared.reach.Column.TheVariants as column
 use Rattle.match_live.specs.declared.reach.Reach.{Reach}
 use Rattle.match_live.specs.declared.sequence.Sequence.{Sequence}
 use Rattle.match_live.specs.declared.since.Since.{Since}
 use Rattle.match_live.specs.PieceTree.{PieceTree}
-use Rattle.match_live.specs.inner.Picks.{HasPicks}
+use Rattle.match_live.specs.inner.Picks.{HasAt, HasPicks}
 use Rattle.match_live.specs.inner.Wanted.{Ahead, is_wanted}
 
 -- whether a time isn't before another one, where there is one
@@ -36,6 +38,12 @@ pub record IsSequence (sequence : Sequence) (piece : PieceTree) : Type 0 where
 -- whether a thing may go before a sequence that joins a new thing and begins at a time at the latest
 abbrev pub may_precede : PieceTree → ℤ → PieceTree → Bool
 may_precede left bound piece = int_le left.latest bound && disjoint left.tree piece.tree
+
+-- where a column is of few numbers, a tree's at the place is one of them
+abbrev pub IsInColumn : Column → ℕ → BindTree → Type 0
+IsInColumn (column.Few found) place x = HasAt found.items place x
+IsInColumn column.Many place x = ⊤
+IsInColumn column.Short place x = ⊤
 
 -- a sequence has the new thing in it, begins no later than the bound, and where it begins then, has a number of its own of each choice
 pub record IsReached (piece : PieceTree) (reach : Reach) (sequence : PieceTree) : Type 0 where

@@ -5,7 +5,7 @@ use Rattle.match_live.specs.PieceTree.{PieceTree}
 use Rattle.match_live.specs.inner.Picks.{HasAt}
 use Rattle.match_live.specs.inner.Pieces.{piece_tree, piece_trees}
 use Rattle.match_live.specs.inner.Reaches.{may_precede}
-use Rattle.match_live.proofs.reach.column.Given as goal
+use Rattle.match_live.proofs.reach.column_at.Given as goal
 
 abbrev pub invariant-loop-left : goal.invariant-loop-left
 invariant-loop-left l = (left : PieceTree) → Contains (piece_trees (take l.left-index l.held)) left → may_precede left l.bound (piece_tree l.piece) ≡ true →

@@ -16,8 +16,8 @@ use Rattle.match_live.specs.inner.Picks.{HasAt}
 use Rattle.match_live.specs.inner.Pieces.{piece_tree, piece_trees}
 use Rattle.match_live.specs.inner.Reaches.{may_precede}
 use Rattle.match_live.proofs.ReachLemmas.{of_next, of_some}
-use Rattle.match_live.proofs.reach.column.Goals as goal
-use Rattle.match_live.proofs.reach.column.Goals.{then-eq+then-may_precede+in_ok-push_numbers+in-Some+in_ok-push+else-are_many, else-eq, else-eq-via-then-eq+else-may_precede, else-eq-via-else-eq}
+use Rattle.match_live.proofs.reach.column_at.Goals as goal
+use Rattle.match_live.proofs.reach.column_at.Goals.{then-eq+then-may_precede+in_ok-push_numbers+in-Some+in_ok-push+else-are_many, else-eq, else-eq-via-then-eq+else-may_precede, else-eq-via-else-eq}
 
 -- what was found is found among more
 more_found : (old new : List ℕ) (place : ℕ) (left : PieceTree) → HasAt old place left.tree → ((n : ℕ) → Contains old n → Contains new n) → HasAt new place left.tree
