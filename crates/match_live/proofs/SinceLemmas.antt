@@ -1,6 +1,6 @@
 -- What begins too early isn't wanted.
-use Rattle.std.proofs.Common.{subst, ℕ, Less, Greater, ◌≡◌, ℤ, ◌≤ℤ◌, List, [], ◌∷◌, refl, sym, ◌∙◌, ap, inl, inr, arith}
-use Rattle.std.specs.Prelude.{IfSome, Bool, true, false, int_le, int_lt, ◌&&◌, Option, Some, None}
+use Rattle.std.proofs.Common.{subst, Less, Greater, ◌≡◌, ℤ, ◌≤ℤ◌, List, [], ◌∷◌, refl, sym, ◌∙◌, ap, inl, inr, arith}
+use Rattle.std.specs.Prelude.{Bool, true, false, int_le, int_lt, ◌&&◌, Option, Some, None}
 use Rattle.std.specs.Cmp.{int_cmp_is}
 use Rattle.std.specs.Int.{int_min}
 use Rattle.std.specs.List.{Contains, list_any}
@@ -8,24 +8,17 @@ use Rattle.std.specs.Ordering.{is_lt, int_cmp}
 use Rattle.std.proofs.lemmas.Bool.{and_parts, or_cases, or_parts}
 use Rattle.std.proofs.lemmas.Int.{ints, clamps}
 use Rattle.match_bindings.proofs.IsBindingLemmas.{apart_to, lt_true, le_true, true_le}
-use Rattle.match_bindings.specs.BindTree.{BindTree, has}
+use Rattle.match_bindings.specs.BindTree.{has}
 use Rattle.match_live.specs.declared.join.Join.{Join}
 use Rattle.match_live.specs.declared.join.Join.TheVariants as join
 use Rattle.match_live.specs.declared.since.Since.{Since}
 use Rattle.match_live.specs.PieceTree.{PieceTree}
-use Rattle.match_live.specs.inner.Numbers.{numbers}
 use Rattle.match_live.specs.inner.Lives.{is_ahead, lives}
 use Rattle.match_live.specs.inner.Reaches.{covers, MayBegin, MayEnd}
 use Rattle.match_live.specs.inner.Steps.{joined, may_join, join_row}
 use Rattle.match_live.specs.inner.Wanted.{Ahead, is_wanted, wanted}
 use Rattle.match_live.proofs.LivesLemmas.{le_trans, le_both, le_false, lt_false}
-use Rattle.match_live.proofs.RowNumbersLemmas.{contains_numbers}
 use Rattle.match_live.proofs.ReachLemmas.{any_item, join_begins}
-
--- a number of what a First or a Second has under it
-pub number_of_part : (r : Option ℕ) (a b : BindTree) → numbers a ≡ numbers b → IfSome r (λ n. has n b ≡ true) → IfSome r (λ n. has n a ≡ true)
-number_of_part None a b e h = h
-number_of_part (Some n) a b e h = (contains_numbers n a).0 (subst (λ (z : List ℕ). Contains z n) (sym e) ((contains_numbers n b).1 h))
 
 -- tests of order
 pub lt_before : (a b : ℤ) → is_lt (int_cmp a b) ≡ true → a ≤ℤ b

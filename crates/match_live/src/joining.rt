@@ -170,6 +170,9 @@ impl<'a> Joining<'a> {
         ensures crowded { result ≡ Err stop.Crowded
             → (is_wanted self.now.demand.now.time (leads_of self.now.demand.now.leads.now) (piece_tree piece.now) ≡ true) × (self.now.demand.now.room ≤ length others.now) }
     {
+        if !self.since.may_begin(piece) {
+            return Ok(false);
+        }
         let is = is_wanted(alloc, piece, self.demand.time, self.demand.leads)?;
         if is && others.len() as u64 >= self.demand.room {
             return Err(Stop::Crowded);

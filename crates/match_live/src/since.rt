@@ -84,7 +84,7 @@ impl Since {
     }
 
     /// Whether a thing may begin so.
-    fn may_begin(&self, piece: &Piece) -> bool
+    pub fn may_begin(&self, piece: &Piece) -> bool
         ensures { MayBegin self.now (piece_tree piece.now) → result ≡ true }
     {
         let Some(taken) = self.taken else {
@@ -168,14 +168,28 @@ fn binds(bind: &Bind, number: u64) -> bool
     !are_disjoint(&Bind::One(number), bind)
 }
 
-/// One of the numbers that a bind binds; of a `Many` none is given.
+/// One of the numbers that a bind binds: that of the observation that came last, so that what can't begin when
+/// the bind ends is seen.
 fn a_number(bind: &Bind) -> Option<u64>
     ensures { IfSome result (λ number. has number (tree_of bind.now) ≡ true) }
 {
+    let number = last_number(bind);
+    if binds(bind, number) {
+        Some(number)
+    } else {
+        None
+    }
+}
+
+/// The greatest number that a bind binds, which `a_number` looks up.
+fn last_number(bind: &Bind) -> u64 {
     match bind {
-        Bind::One(number) => Some(*number),
-        Bind::Both(sides) => a_number(&sides.0),
-        Bind::First(_, part) | Bind::Second(part) => a_number(part),
-        Bind::Many(_) => None,
+        Bind::One(number) => *number,
+        Bind::Both(sides) => last_number(&sides.0).max(last_number(&sides.1)),
+        Bind::First(_, part) | Bind::Second(part) => last_number(part),
+        Bind::Many(parts) => match parts.as_slice().last() {
+            Some(part) => last_number(part),
+            None => 0,
+        },
     }
 }
