@@ -41,6 +41,20 @@ few() {
   }' | tr '"' "'"
 }
 
+# pairs COUNT: a pattern nested so, of COUNT pairs of brackets by AND that ask for u, and one that asks for z.
+pairs() {
+  awk -v count="$1" 'BEGIN {
+    for (n = 1; n <= count; n++) printf "([user-account:account_login = \"u\"] AND [user-account:account_login = \"u\"]) FOLLOWEDBY %s", n < count ? "(" : ""
+    printf "[user-account:account_login = \"z\"]"
+    for (n = 1; n < count; n++) printf ")"
+  }' | tr '"' "'"
+}
+
+# spelt TEXT: the pattern of a text in which each u stands for a bracket that asks for u.
+spelt() {
+  sed "s/u/[user-account:account_login = 'u']/g" <<< "$1"
+}
+
 # timed NAME PATTERN
 timed() {
   local start status=0
@@ -70,6 +84,18 @@ log 23 22 0 2
 sed -i '1s/"u"/"x"/; 23s/"u"/"z"/' "$folder/log.jsonl"
 for many in 5 6 15; do
   timed "3 brackets of x, $many of u; 22 logins at once, 2 of x" "$(few 3 $many)"
+done
+log 23 22 0 0
+sed -i '23s/"u"/"z"/' "$folder/log.jsonl"
+for count in 5 12 13; do
+  timed "$count pairs of u; 22 logins at once, and one of z" "$(pairs $count)"
+done
+log 20 0 0 0
+timed "17 brackets nested on both sides, 20 logins" "$(spelt '(u FOLLOWEDBY ((u FOLLOWEDBY (u FOLLOWEDBY ((u FOLLOWEDBY u) REPEATS 2 TIMES))) FOLLOWEDBY ((u FOLLOWEDBY u) FOLLOWEDBY (((u AND u) FOLLOWEDBY (u AND u)) FOLLOWEDBY (((u FOLLOWEDBY u) FOLLOWEDBY u) FOLLOWEDBY u)))))')"
+for at_once in 100 1000 3000; do
+  log $((at_once + 3)) $((at_once + 2)) 0 2
+  sed -i "1s/\"u\"/\"x\"/; $((at_once + 3))s/\"u\"/\"z\"/" "$folder/log.jsonl"
+  timed "3 brackets of x, 59 of u; 2 logins of x and $at_once of u at once" "$(few 3 59)"
 done
 for count in 1000 10000; do
   log $count 0 0 0
