@@ -8,34 +8,24 @@ use crate::chunk::Chunk;
 use flow_edges::Source;
 use flow_values::{Items, NoMemory};
 use std::alloc::Global;
-use std::error::Error;
-use std::fmt;
+use thiserror::Error;
 
 /// The most bytes that an input may have that is read whole.
 pub const MAX_WHOLE_INPUT: usize = 67_108_864;
 
 /// Why an input was not read whole.
-#[derive(Clone, Copy, Debug, PartialEq, Eq)]
+#[derive(Clone, Copy, Debug, PartialEq, Eq, Error)]
 pub enum InputRefusal {
     /// The input failed, and counted it.
+    #[error("the input failed")]
     Fault,
     /// There are more than `MAX_WHOLE_INPUT` bytes.
+    #[error("the input has more than 67,108,864 bytes")]
     TooLong,
     /// Memory ran out.
+    #[error("out of memory")]
     NoMemory,
 }
-
-impl fmt::Display for InputRefusal {
-    fn fmt<W: fmt::Write>(&self, f: &mut fmt::Formatter<W>) -> fmt::Result {
-        match self {
-            InputRefusal::Fault => write!(f, "the input failed"),
-            InputRefusal::TooLong => write!(f, "the input has more than 67,108,864 bytes"),
-            InputRefusal::NoMemory => write!(f, "out of memory"),
-        }
-    }
-}
-
-impl Error for InputRefusal {}
 
 impl From<NoMemory> for InputRefusal {
     ghost use Rattle.flow_lines.specs.declared.whole_input.InputRefusal.TheVariants as InputRefusal;

@@ -1,14 +1,6 @@
-use std::error::Error;
-use std::fmt;
+use thiserror::Error;
 
 /// A read or a write of the outside failed. The object that failed has counted it.
-#[derive(Clone, Copy, Debug, PartialEq, Eq, Hash)]
+#[derive(Clone, Copy, Debug, PartialEq, Eq, Hash, Error)]
+#[error("the outside failed")]
 pub struct Fault;
-
-impl fmt::Display for Fault {
-    fn fmt<W: fmt::Write>(&self, f: &mut fmt::Formatter<W>) -> fmt::Result {
-        write!(f, "the outside failed")
-    }
-}
-
-impl Error for Fault {}

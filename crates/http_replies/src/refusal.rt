@@ -1,34 +1,24 @@
-use std::error::Error;
-use std::fmt;
-
 /// The most bytes that the body of a reply may have.
+use thiserror::Error;
+
 pub const MAX_REPLY: u64 = 67_108_864;
 
 /// Why the head of a response is refused.
-#[derive(Clone, Copy, Debug, PartialEq, Eq, Hash)]
+#[derive(Clone, Copy, Debug, PartialEq, Eq, Hash, Error)]
 pub enum HeadRefusal {
     /// It is none by the grammar, or doesn't end within `MAX_HEAD` bytes.
+    #[error("bad head")]
     BadHead,
     /// Its status isn't 200.
+    #[error("status {code}")]
     Status { code: u16 },
     /// The body has a transfer coding.
+    #[error("transfer coding")]
     Coding,
     /// It doesn't state one length.
+    #[error("no length")]
     NoLength,
     /// The body has more than `MAX_REPLY` bytes.
+    #[error("body too large")]
     TooLarge,
 }
-
-impl fmt::Display for HeadRefusal {
-    fn fmt<W: fmt::Write>(&self, f: &mut fmt::Formatter<W>) -> fmt::Result {
-        match self {
-            HeadRefusal::BadHead => write!(f, "bad head"),
-            HeadRefusal::Status { code } => write!(f, "status {code}"),
-            HeadRefusal::Coding => write!(f, "transfer coding"),
-            HeadRefusal::NoLength => write!(f, "no length"),
-            HeadRefusal::TooLarge => write!(f, "body too large"),
-        }
-    }
-}
-
-impl Error for HeadRefusal {}

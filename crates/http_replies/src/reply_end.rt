@@ -1,18 +1,21 @@
 use crate::HeadRefusal;
 use flow_values::{Fault, NoMemory};
-use std::error::Error;
-use std::fmt;
+use thiserror::Error;
 
 /// Why no reply was read.
-#[derive(Clone, Copy, Debug, PartialEq, Eq, Hash)]
+#[derive(Clone, Copy, Debug, PartialEq, Eq, Hash, Error)]
 pub enum ReplyEnd {
     /// A read failed, and was counted by the link.
+    #[error("the link failed")]
     Fault,
     /// The bytes end before they are a reply or refused.
+    #[error("the reply is cut")]
     Cut,
     /// The response is refused for its head.
+    #[error("the response is refused: {0}")]
     Refused(HeadRefusal),
     /// Memory ran out.
+    #[error("out of memory")]
     NoMemory,
 }
 
@@ -37,16 +40,3 @@ impl From<NoMemory> for ReplyEnd {
         ReplyEnd::NoMemory
     }
 }
-
-impl fmt::Display for ReplyEnd {
-    fn fmt<W: fmt::Write>(&self, f: &mut fmt::Formatter<W>) -> fmt::Result {
-        match self {
-            ReplyEnd::Fault => write!(f, "the link failed"),
-            ReplyEnd::Cut => write!(f, "the reply is cut"),
-            ReplyEnd::Refused(refusal) => write!(f, "the response is refused: {refusal}"),
-            ReplyEnd::NoMemory => write!(f, "out of memory"),
-        }
-    }
-}
-
-impl Error for ReplyEnd {}

@@ -3,18 +3,20 @@ ghost use Rattle.stix_json.specs.Entries.{HasNoEntriesAs};
 ghost use Rattle.taxii_changes.specs.Posted.{IsUnreadable};
 
 use flow_values::NoMemory;
-use std::error::Error;
-use std::fmt;
 use stix_json::JsonRefusal;
+use thiserror::Error;
 
 /// Why a body has no list of objects.
-#[derive(Clone, Copy, Debug, PartialEq, Eq)]
+#[derive(Clone, Copy, Debug, PartialEq, Eq, Error)]
 pub enum PostRefusal {
     /// The body isn't UTF-8, isn't JSON, or nests more than 127 levels.
+    #[error("the body is not JSON")]
     NotJson,
     /// It is no object, or has another value than a list under `objects`.
+    #[error("the body has no list of objects")]
     NotList,
     /// Memory ran out.
+    #[error("out of memory")]
     NoMemory,
 }
 
@@ -35,18 +37,6 @@ impl PostRefusal {
         }
     }
 }
-
-impl fmt::Display for PostRefusal {
-    fn fmt<W: fmt::Write>(&self, f: &mut fmt::Formatter<W>) -> fmt::Result {
-        match self {
-            PostRefusal::NotJson => write!(f, "the body is not JSON"),
-            PostRefusal::NotList => write!(f, "the body has no list of objects"),
-            PostRefusal::NoMemory => write!(f, "out of memory"),
-        }
-    }
-}
-
-impl Error for PostRefusal {}
 
 impl From<NoMemory> for PostRefusal {
     ghost use Rattle.std.specs.Prelude.{◌≡◌};

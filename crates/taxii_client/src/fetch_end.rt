@@ -1,17 +1,20 @@
 use crate::ReplyRefusal;
 use flow_values::{Fault, NoMemory};
 use http_replies::ReplyEnd;
-use std::error::Error;
-use std::fmt;
+use thiserror::Error;
 
 /// Why a page wasn't fetched over a link.
-#[derive(Clone, Copy, Debug, PartialEq, Eq, Hash)]
+#[derive(Clone, Copy, Debug, PartialEq, Eq, Hash, Error)]
 pub enum FetchEnd {
     /// A read or a write failed, and was counted by the link.
+    #[error("the link failed")]
     Fault,
     /// The link's bytes end inside the reply.
+    #[error("the reply is cut")]
     Cut,
+    #[error("the reply is refused: {0}")]
     Refused(ReplyRefusal),
+    #[error("out of memory")]
     NoMemory,
 }
 
@@ -52,16 +55,3 @@ impl From<ReplyEnd> for FetchEnd {
         }
     }
 }
-
-impl fmt::Display for FetchEnd {
-    fn fmt<W: fmt::Write>(&self, f: &mut fmt::Formatter<W>) -> fmt::Result {
-        match self {
-            FetchEnd::Fault => write!(f, "the link failed"),
-            FetchEnd::Cut => write!(f, "the reply is cut"),
-            FetchEnd::Refused(refusal) => write!(f, "the reply is refused: {refusal}"),
-            FetchEnd::NoMemory => write!(f, "out of memory"),
-        }
-    }
-}
-
-impl Error for FetchEnd {}

@@ -1,18 +1,22 @@
 use crate::{FetchEnd, ReplyRefusal};
-use std::error::Error;
-use std::fmt;
+use thiserror::Error;
 
 /// Why the next page of a walk didn't come.
-#[derive(Clone, Copy, Debug, PartialEq, Eq, Hash)]
+#[derive(Clone, Copy, Debug, PartialEq, Eq, Hash, Error)]
 pub enum PageEnd {
     /// The dial failed, and counted it, or a read or a write of the link that it gave, which the link
     /// counted.
+    #[error("the link failed")]
     Fault,
     /// The link's bytes end inside the reply.
+    #[error("the reply is cut")]
     Cut,
+    #[error("the reply is refused: {0}")]
     Refused(ReplyRefusal),
     /// As many pages came as a walk may have, and there are more.
+    #[error("too many pages")]
     TooManyPages,
+    #[error("out of memory")]
     NoMemory,
 }
 
@@ -31,17 +35,3 @@ impl From<FetchEnd> for PageEnd {
         }
     }
 }
-
-impl fmt::Display for PageEnd {
-    fn fmt<W: fmt::Write>(&self, f: &mut fmt::Formatter<W>) -> fmt::Result {
-        match self {
-            PageEnd::Fault => write!(f, "the link failed"),
-            PageEnd::Cut => write!(f, "the reply is cut"),
-            PageEnd::Refused(refusal) => write!(f, "the reply is refused: {refusal}"),
-            PageEnd::TooManyPages => write!(f, "too many pages"),
-            PageEnd::NoMemory => write!(f, "out of memory"),
-        }
-    }
-}
-
-impl Error for PageEnd {}

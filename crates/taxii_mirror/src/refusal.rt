@@ -1,31 +1,21 @@
 use flow_values::NoMemory;
-use std::error::Error;
-use std::fmt;
 use taxii_rows::KeeperRefusal;
 use taxii_store::PlanRefusal;
+use thiserror::Error;
 
 /// Why a page isn't absorbed. Nothing has changed.
-#[derive(Clone, Copy, Debug, PartialEq, Eq)]
+#[derive(Clone, Copy, Debug, PartialEq, Eq, Error)]
 pub enum StoreRefusal {
     /// There are fewer dates left than new rows.
+    #[error("the dates of rows are used up")]
     DatesUsedUp,
     /// The keeper failed, and has counted it.
+    #[error("the keeper of the rows failed")]
     Fault,
     /// Memory ran out.
+    #[error("out of memory")]
     NoMemory,
 }
-
-impl fmt::Display for StoreRefusal {
-    fn fmt<W: fmt::Write>(&self, f: &mut fmt::Formatter<W>) -> fmt::Result {
-        match self {
-            StoreRefusal::DatesUsedUp => write!(f, "the dates of rows are used up"),
-            StoreRefusal::Fault => write!(f, "the keeper of the rows failed"),
-            StoreRefusal::NoMemory => write!(f, "out of memory"),
-        }
-    }
-}
-
-impl Error for StoreRefusal {}
 
 impl From<NoMemory> for StoreRefusal {
     ghost use Rattle.std.specs.Prelude.{◌≡◌};

@@ -50,30 +50,36 @@ impl<'a> Asked<'a> {
 
     /// Whether a row of the library, at that place among its rows, meets the query, where it can by when
     /// it was added. What costs no look-up is asked first.
-    pub(crate) fn meets(&self, library: &Library, place: usize, row: &'a StoredRow) -> bool
+    pub(crate) fn meets(&mut self, library: &Library, place: usize, row: &'a StoredRow) -> bool
         requires there { Contains library.now.rows row.now }
-        ensures { (collection : ℕ) (only : Option Identifier) (query : Wanted) → Asks collection only query self.now
+        ensures meets { (collection : ℕ) (only : Option Identifier) (query : Wanted) → Asks collection only query self.old
             → CanMeet query row.now → IsTrue result ↔ Meets library.now.rows collection only query row.now }
+        ensures same { (collection : ℕ) (only : Option Identifier) (query : Wanted) → Asks collection only query self.old
+            → Asks collection only query self.new }
     {
         self.picks.may_select(library, place, row) && self.is_met(library, row)
     }
 
-    fn is_met(&self, library: &Library, row: &'a StoredRow) -> bool
+    fn is_met(&mut self, library: &Library, row: &'a StoredRow) -> bool
         requires there { Contains library.now.rows row.now }
-        ensures { (collection : ℕ) (only : Option Identifier) (query : Wanted) → Asks collection only query self.now
+        ensures meets { (collection : ℕ) (only : Option Identifier) (query : Wanted) → Asks collection only query self.old
             → CanMeet query row.now → IsTrue result ↔ Meets library.now.rows collection only query row.now }
+        ensures same { (collection : ℕ) (only : Option Identifier) (query : Wanted) → Asks collection only query self.old
+            → Asks collection only query self.new }
     {
         self.asks_for(row) && self.picks.selects(library, row)
     }
 
     /// Whether the row by itself is what is asked for, where it can be by when it was added.
-    fn asks_for(&self, row: &'a StoredRow) -> bool
-        ensures { (collection : ℕ) (only : Option Identifier) (query : Wanted) → Asks collection only query self.now
+    fn asks_for(&mut self, row: &'a StoredRow) -> bool
+        ensures asked { (collection : ℕ) (only : Option Identifier) (query : Wanted) → Asks collection only query self.old
             → CanMeet query row.now → IsTrue result ↔ IsAskedFor collection only query row.now }
+        ensures same { (collection : ℕ) (only : Option Identifier) (query : Wanted) → Asks collection only query self.old
+            → Asks collection only query self.new }
     {
         row.collection == self.collection
             && is_object(self.only, &row.id)
-            && has_kind(&self.kinds, row.id.kind.as_str())
+            && has_kind(&mut self.kinds, row.id.kind.as_str())
             && has_id(&self.ids, &row.id)
     }
 }
@@ -122,8 +128,9 @@ fn is_object(only: Option<&Id>, id: &Id) -> bool
 }
 
 /// Whether the kind is one of those that are named, where some are.
-fn has_kind(kinds: &Option<TextSet<'_>>, kind: &str) -> bool
-    ensures { (texts : Option (List (List ℕ))) → HasTextsWhere texts kinds.now → IsTrue result ↔ IfSome texts (λ texts. Contains texts kind.now) }
+fn has_kind<'a>(kinds: &mut Option<TextSet<'a>>, kind: &'a str) -> bool
+    ensures has { (texts : Option (List (List ℕ))) → HasTextsWhere texts kinds.old → IsTrue result ↔ IfSome texts (λ texts. Contains texts kind.now) }
+    ensures same { (texts : Option (List (List ℕ))) → HasTextsWhere texts kinds.old → HasTextsWhere texts kinds.new }
 {
     match kinds {
         Some(kinds) => kinds.has(kind),

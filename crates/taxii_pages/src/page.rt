@@ -34,7 +34,7 @@ pub fn page_of<'a>(
     ensures { IfOk result (λ page. IsPage library.now.rows collection (option_map (λ id. id.now) only.entry) query.now (map (λ row. row.now) page.rows.items) page.more) }
 {
     let size = page_size(query);
-    let asked = Asked::of(alloc, collection, only, query)?;
+    let mut asked = Asked::of(alloc, collection, only, query)?;
     let later = candidates(library, query);
     let mut place = library.rows().len().saturating_sub(later.len());
     let mut rows = Vec::new(alloc);

@@ -1,31 +1,21 @@
 use crate::Param;
 use flow_values::NoMemory;
 use std::alloc::AllocError;
-use std::error::Error;
-use std::fmt;
+use thiserror::Error;
 
 /// Why a query was not read: what is wrong with its first bad pair.
-#[derive(Clone, Copy, Debug, PartialEq, Eq)]
+#[derive(Clone, Copy, Debug, PartialEq, Eq, Error)]
 pub enum QueryRefusal {
     /// The value isn't of the parameter's form.
+    #[error("bad value of {}", .name.name())]
     BadValue { name: Param },
     /// The parameter stood before.
+    #[error("repeated {}", .name.name())]
     Repeated { name: Param },
     /// Memory ran out.
+    #[error("out of memory")]
     NoMemory,
 }
-
-impl fmt::Display for QueryRefusal {
-    fn fmt<W: fmt::Write>(&self, f: &mut fmt::Formatter<W>) -> fmt::Result {
-        match self {
-            QueryRefusal::BadValue { name } => write!(f, "bad value of {}", name.name()),
-            QueryRefusal::Repeated { name } => write!(f, "repeated {}", name.name()),
-            QueryRefusal::NoMemory => write!(f, "out of memory"),
-        }
-    }
-}
-
-impl Error for QueryRefusal {}
 
 impl From<NoMemory> for QueryRefusal {
     ghost use Rattle.std.specs.Prelude.{◌≡◌};

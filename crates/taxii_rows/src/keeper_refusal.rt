@@ -1,26 +1,16 @@
 use flow_values::{Fault, NoMemory};
-use std::error::Error;
-use std::fmt;
+use thiserror::Error;
 
 /// Why a keeper didn't do what it was called for.
-#[derive(Clone, Copy, Debug, PartialEq, Eq)]
+#[derive(Clone, Copy, Debug, PartialEq, Eq, Error)]
 pub enum KeeperRefusal {
     /// The outside failed, and the keeper has counted it.
+    #[error("the keeper of the rows failed")]
     Fault,
     /// Memory ran out.
+    #[error("out of memory")]
     NoMemory,
 }
-
-impl fmt::Display for KeeperRefusal {
-    fn fmt<W: fmt::Write>(&self, f: &mut fmt::Formatter<W>) -> fmt::Result {
-        match self {
-            KeeperRefusal::Fault => write!(f, "the keeper of the rows failed"),
-            KeeperRefusal::NoMemory => write!(f, "out of memory"),
-        }
-    }
-}
-
-impl Error for KeeperRefusal {}
 
 impl From<Fault> for KeeperRefusal {
     ghost use Rattle.std.specs.Prelude.{◌≡◌};

@@ -1,34 +1,24 @@
 use flow_values::NoMemory;
-use std::error::Error;
-use std::fmt;
 use taxii_rows::KeeperRefusal;
+use thiserror::Error;
 
 /// Why the rows of a keeper aren't loaded. The keeper's rows and its mark are as they were.
-#[derive(Clone, Copy, Debug, PartialEq, Eq)]
+#[derive(Clone, Copy, Debug, PartialEq, Eq, Error)]
 pub enum LoadRefusal {
     /// A call of the keeper failed, and it has counted it.
+    #[error("the keeper of the rows failed")]
     KeeperFault,
     /// The row behind this date isn't what its body gives, or its date is past the mark; or no row is behind
     /// it, and the mark is past the last date there is.
+    #[error("bad row after {after}")]
     BadRow {
         /// In microseconds since 1970; 0 where it is the first row.
         after: u64,
     },
     /// Memory ran out.
+    #[error("out of memory")]
     NoMemory,
 }
-
-impl fmt::Display for LoadRefusal {
-    fn fmt<W: fmt::Write>(&self, f: &mut fmt::Formatter<W>) -> fmt::Result {
-        match self {
-            LoadRefusal::KeeperFault => write!(f, "the keeper of the rows failed"),
-            LoadRefusal::BadRow { after } => write!(f, "bad row after {after}"),
-            LoadRefusal::NoMemory => write!(f, "out of memory"),
-        }
-    }
-}
-
-impl Error for LoadRefusal {}
 
 impl From<NoMemory> for LoadRefusal {
     ghost use Rattle.std.specs.Prelude.{◌≡◌};

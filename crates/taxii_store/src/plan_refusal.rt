@@ -1,26 +1,16 @@
 use flow_values::NoMemory;
-use std::error::Error;
-use std::fmt;
+use thiserror::Error;
 
 /// Why an addition isn't planned. Nothing has changed.
-#[derive(Clone, Copy, Debug, PartialEq, Eq)]
+#[derive(Clone, Copy, Debug, PartialEq, Eq, Error)]
 pub enum PlanRefusal {
     /// There are fewer dates left than new rows.
+    #[error("the dates of rows are used up")]
     DatesUsedUp,
     /// Memory ran out.
+    #[error("out of memory")]
     NoMemory,
 }
-
-impl fmt::Display for PlanRefusal {
-    fn fmt<W: fmt::Write>(&self, f: &mut fmt::Formatter<W>) -> fmt::Result {
-        match self {
-            PlanRefusal::DatesUsedUp => write!(f, "the dates of rows are used up"),
-            PlanRefusal::NoMemory => write!(f, "out of memory"),
-        }
-    }
-}
-
-impl Error for PlanRefusal {}
 
 impl From<NoMemory> for PlanRefusal {
     ghost use Rattle.std.specs.Prelude.{◌≡◌};

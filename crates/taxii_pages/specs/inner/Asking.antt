@@ -1,5 +1,6 @@
 -- What a query asks of a row, prepared: of each parameter a set of what it names.
-use Rattle.std.specs.Prelude.{◌≡◌, ⊤, ℕ, List, Option, Some, None, option_map}
+use Rattle.std.specs.Prelude.{◌≡◌, ⊤, ℕ, List, Option, Some, None, IfSome, option_map}
+use Rattle.std.specs.List.{Contains}
 use Rattle.stix_ids.specs.declared.id.Id.{Id}
 use Rattle.taxii_routes.specs.declared.query.Query.{Query}
 use Rattle.taxii_store.specs.Picks.{HasPicks}
@@ -9,12 +10,17 @@ use Rattle.taxii_pages.specs.declared.id_set.IdSet.{IdSet}
 use Rattle.taxii_pages.specs.declared.asked.Asked.{Asked}
 use Rattle.taxii_pages.specs.inner.Sets.{HasTexts, HasIds}
 
+-- the set is of these texts, and what it missed is none of them
+pub record IsSetOf (texts : List (List ℕ)) (set : TextSet) : Type 0 where
+  pub has : HasTexts texts set.texts.items
+  pub missed : IfSome set.missed (λ text. ¬ (Contains texts text.now))
+
 -- where texts are named, a set of them, and else none
 abbrev pub HasTextsWhere : Option (List (List ℕ)) → Option TextSet → Type 0
 HasTextsWhere None None = ⊤
 HasTextsWhere None (Some set) = ⊥
 HasTextsWhere (Some texts) None = ⊥
-HasTextsWhere (Some texts) (Some set) = HasTexts texts set.texts.items
+HasTextsWhere (Some texts) (Some set) = IsSetOf texts set
 
 -- where identifiers are named, a set of them, and else none
 abbrev pub HasIdsWhere : Option (List Id) → Option IdSet → Type 0
