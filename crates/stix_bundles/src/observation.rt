@@ -1,6 +1,7 @@
 use flow_values::{Items, NoMemory};
 use stix_ids::Id;
 use stix_times::Instant;
+use thiserror::Error;
 
 /// An observed-data object as an observation.
 #[derive(Debug, Drop)]
@@ -18,11 +19,13 @@ pub struct Observation {
 }
 
 /// Why a bundle has no observations.
-#[derive(Clone, Copy, Debug, PartialEq, Eq)]
+#[derive(Clone, Copy, Debug, PartialEq, Eq, Error)]
 pub enum ObservationRefusal {
     /// An observed-data object holds its objects itself, in the property `objects`: the first such.
+    #[error("object {object} holds its objects itself")]
     EmbeddedObjects { object: u32 },
     /// Memory ran out.
+    #[error("out of memory")]
     NoMemory,
 }
 

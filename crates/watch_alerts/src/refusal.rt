@@ -3,13 +3,16 @@ ghost use Rattle.watch_alerts.specs.declared.refusal.WatchRefusal.TheVariants as
 
 use flow_values::NoMemory;
 use stix_times::Instant;
+use thiserror::Error;
 
 /// Why a watch doesn't take a row.
-#[derive(Clone, Copy, Debug)]
+#[derive(Clone, Copy, Debug, Error)]
 pub enum WatchRefusal {
     /// Its last time is earlier than that of the row before.
+    #[error("the row ends earlier than the one before")]
     OutOfOrder { last: Instant, now: Instant },
     /// There was no memory.
+    #[error("out of memory")]
     NoMemory,
 }
 

@@ -1,14 +1,18 @@
 use flow_values::NoMemory;
+use thiserror::Error;
 
 /// Why a row has no answer. The engine has then ended.
-#[derive(Clone, Copy, Debug, PartialEq, Eq)]
+#[derive(Clone, Copy, Debug, PartialEq, Eq, Error)]
 pub enum EngineRefusal {
     /// More of a pattern is live after the row of this number than the cap allows: the first such pattern,
     /// by its place in the hunted list.
+    #[error("more than {cap} are live of pattern {hunted} after row {number}")]
     Crowded { hunted: u32, number: u64, cap: u64 },
     /// The engine had ended before.
+    #[error("the engine has ended")]
     Ended,
     /// There was no memory.
+    #[error("out of memory")]
     NoMemory,
 }
 
