@@ -30,5 +30,5 @@ pub use flat_list::flat;
 pub use join::{alone, with_part, with_sides};
 pub use line::line_of;
 pub use log::Log;
-pub use numbers::are_disjoint;
+pub use numbers::{are_disjoint, greatest_number};
 pub use order::in_order;

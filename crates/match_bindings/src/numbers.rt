@@ -57,9 +57,9 @@ pub(crate) fn all_disjoint(binds: &[Bind], other: &Bind) -> bool
     true
 }
 
-/// The greatest number of a bind, or 0.
+/// The greatest number of a bind, or 0. Takes no memory.
 #[cycle(greatest)]
-pub(crate) fn greatest_number(bind: &Bind) -> u64
+pub fn greatest_number(bind: &Bind) -> u64
     ensures { result ≡ greatest (tree_of bind.now) }
 {
     match bind {

@@ -1,13 +1,18 @@
 -- Things gone through in place, and wrapped.
-use Rattle.std.proofs.Common.{◌≡◌, ℕ, ◌+◌, ◌<◌, List, ◌++◌, length, take, drop, get_or, slice_set, sym, ◌∙◌, ap, arith}
-use Rattle.std.specs.Prelude.{map}
-use Rattle.std.specs.Rc.{rc_value}
+use Rattle.std.proofs.Common.{◌≡◌, ℕ, ◌+◌, ◌<◌, List, ◌++◌, length, take, drop, get_or, slice_set, sym, ◌∙◌, ap, subst, arith}
+use Rattle.std.specs.Prelude.{map, nat_eq}
+use Rattle.std.specs.List.{IsDistinct}
 use Rattle.std.proofs.lemmas.List.{length-map, map-set, get_or-map, take-map, drop-map}
 use Rattle.std.proofs.lemmas.List.Edits.{map_over_more}
-use Rattle.match_bindings.specs.declared.bind.Bind.TheVariants.{Second as OfSecond, rolls-Second}
-use Rattle.match_bindings.specs.declared.bind.Bind.TheOpen as shape
-use Rattle.match_bindings.specs.declared.bind.Bind.TheFolds.{fold-roll-Bind}
-use Rattle.match_bindings.specs.BindTree.{BindTree, Second, tree_level, tree_of}
+use Rattle.match_bindings.specs.declared.bind.Bind.{Bind}
+use Rattle.match_bindings.specs.declared.bind.Bind.TheVariants.{One as Only}
+use Rattle.match_bindings.specs.BindTree.{BindTree, tree_of}
+use Rattle.match_live.specs.declared.piece.Piece.{Piece}
+use Rattle.match_live.specs.PieceTree.{PieceTree}
+use Rattle.match_live.specs.inner.Pieces.{piece_tree}
+use Rattle.match_live.specs.inner.Steps.{held_with}
+use Rattle.match_live.specs.inner.Numbers.{numbers}
+use Rattle.match_live.proofs.PicksLemmas.{once_one}
 
 -- where the items before i are changed, as they are seen, then with the i-th those before i + 1
 pub changed_more : {X W : Type 0} (see : X → W) (f : W → W) (xs ys : List X) (i : ℕ) (x x' : X) → i < length xs →
@@ -25,6 +30,13 @@ changed_more see f xs ys i x x' h inv is done same =
     ∙ ap (λ y. map f y ++ drop (i + 1) (map see xs)) (take-map see (i + 1) xs)
     ∙ ap (λ y. map f (map see (take (i + 1) xs)) ++ y) (drop-map see (i + 1) xs)
 
--- the tree of a Second
-pub tree_second : (part : _) → tree_of (OfSecond part) ≡ Second (tree_of (rc_value part))
-tree_second part = ap tree_of (sym (rolls-Second part)) ∙ fold-roll-Bind BindTree tree_level (shape.Second part)
+-- what lies there for a while has its number once
+pub once_only : (bind : Bind) → bind ≡ Only 0 → IsDistinct nat_eq (numbers (tree_of bind))
+once_only bind is = subst (λ (b : Bind). IsDistinct nat_eq (numbers (tree_of b))) (sym is) (once_one 0)
+
+-- a thing, wrapped
+pub wrapped_there : (wrap : BindTree → BindTree) (tree : BindTree) (x there : Piece) → tree ≡ wrap (tree_of x.bind) → x ≡ there →
+    record { tree = tree; earliest = there.earliest; latest = there.latest } ≡ held_with wrap (piece_tree x)
+wrapped_there wrap tree x there same is =
+    let seen : BindTree → Piece → PieceTree = λ t p. record { tree = t; earliest = p.earliest; latest = p.latest } in
+    ap (λ t. seen t there) same ∙ ap (seen (wrap (tree_of x.bind))) (sym is)

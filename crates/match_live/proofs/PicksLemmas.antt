@@ -1,5 +1,5 @@
 -- Numbers that are taken of choices, each of one.
-use Rattle.std.proofs.Common.{◌≡◌, ℕ, zero, suc, ◌+◌, ◌≤◌, ◌<◌, List, [], ◌∷◌, ◌++◌, take, length, refl, sym, ◌∙◌, ap, subst, arith, ◌⊎◌, inl, inr}
+use Rattle.std.proofs.Common.{◌≡◌, ℕ, zero, suc, ◌+◌, ◌≤◌, List, [], ◌∷◌, ◌++◌, take, length, refl, sym, ◌∙◌, ap, subst, arith, ◌⊎◌, inl, inr}
 use Rattle.std.specs.Prelude.{Bool, true, false, nat_eq, Some, slice_get}
 use Rattle.std.specs.List.{AllByRecursion, AllZip, Contains, IsDistinct}
 use Rattle.std.proofs.lemmas.Bool.{or_left, or_right, eqb-true}
@@ -7,7 +7,7 @@ use Rattle.std.proofs.lemmas.Cmp.{nat_eq_equiv}
 use Rattle.std.proofs.lemmas.List.Elements.{All-contains, All-from_recursion, Contains-append_cases}
 use Rattle.std.proofs.lemmas.Map.Made.{length-le_from_is_member}
 use Rattle.std.proofs.lemmas.Map.Views.{list_any-from_Contains, Contains-from_any}
-use Rattle.match_bindings.specs.BindTree.{BindTree, One, Pair, First, Second, Empty, Single, More, tree_of, has, disjoint}
+use Rattle.match_bindings.specs.BindTree.{BindTree, One, Pair, First, Second, Empty, Single, More, firsts, tree_of, has, disjoint}
 use Rattle.match_bindings.specs.declared.bind.Bind.TheVariants.{One as Only}
 use Rattle.match_bindings.proofs.BindTreeLemmas.{tree_one}
 use Rattle.match_bindings.proofs.IsBindingLemmas.{apart_to}
@@ -17,7 +17,7 @@ use Rattle.match_live.specs.declared.join.Join.TheVariants as join
 use Rattle.match_live.specs.inner.Numbers.{numbers}
 use Rattle.match_live.specs.inner.Picks.{MayPick, HasPicks, HasAt, IsAmong}
 use Rattle.match_live.specs.inner.Steps.{joined_tree}
-use Rattle.match_live.proofs.RowNumbersLemmas.{contains_numbers}
+use Rattle.match_live.proofs.RowNumbersLemmas.{contains_numbers, numbers_firsts}
 
 -- ---- of a tree
 
@@ -96,8 +96,12 @@ once_number n = (tt, tt)
 pub once_one : (n : ℕ) → IsDistinct nat_eq (numbers (tree_of (Only n)))
 once_one n = subst (λ t. IsDistinct nat_eq (numbers t)) (sym (tree_one n)) (once_number n)
 
-pub some_one : (n : ℕ) → 0 < length (numbers (tree_of (Only n)))
-some_one n = subst (λ t. 0 < length (numbers t)) (sym (tree_one n)) (omega arith)
+-- a tree under so many Firsts, or under a Second, has each number once where it has alone
+pub once_firsts : (count : ℕ) (tree part : BindTree) → tree ≡ firsts count part → IsDistinct nat_eq (numbers part) → IsDistinct nat_eq (numbers tree)
+once_firsts count tree part is once = subst (λ (z : List ℕ). IsDistinct nat_eq z) (sym (ap numbers is ∙ numbers_firsts count part)) once
+
+pub once_second : (tree part : BindTree) → tree ≡ Second part → IsDistinct nat_eq (numbers part) → IsDistinct nat_eq (numbers tree)
+once_second tree part is once = subst (λ (t : BindTree). IsDistinct nat_eq (numbers t)) (sym is) once
 
 distinct_both : (ms ns : List ℕ) → IsDistinct nat_eq ms → IsDistinct nat_eq ns → ((n : ℕ) → Contains ms n → Contains ns n → ⊥) → IsDistinct nat_eq (ms ++ ns)
 unfolding IsDistinct

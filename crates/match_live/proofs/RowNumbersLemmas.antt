@@ -7,12 +7,11 @@ use Rattle.std.proofs.lemmas.Bool.{or_cases, or_left, or_right, eqb-true, eq-eqb
 use Rattle.std.proofs.lemmas.List.{take_all}
 use Rattle.std.proofs.lemmas.List.Concat.{flat_map-append}
 use Rattle.match_bindings.specs.declared.bind.Bind.{Bind}
-use Rattle.match_bindings.specs.declared.bind.Bind.TheVariants.{First as OfFirst, rolls-First, Second as OfSecond}
+use Rattle.match_bindings.specs.declared.bind.Bind.TheVariants.{First as OfFirst, rolls-First, Second as OfSecond, rolls-Second}
 use Rattle.match_bindings.specs.declared.bind.Bind.TheOpen as shape
 use Rattle.match_bindings.specs.declared.bind.Bind.TheFolds.{fold-roll-Bind}
 use Rattle.match_bindings.specs.BindTree.{BindTree, One, Pair, First, Second, Empty, Single, More, firsts, more_of, many_of, tree_level, tree_of, has}
 use Rattle.match_live.specs.PieceTree.{PieceTree}
-use Rattle.match_live.proofs.InPlaceLemmas.{tree_second}
 use Rattle.match_live.specs.RowNumbers.{any_has, is_kept}
 use Rattle.match_live.specs.inner.Steps.{no_levels, levels_above, all_levels}
 use Rattle.match_live.specs.inner.Numbers.{numbers, store_numbers, all_numbers}
@@ -35,6 +34,10 @@ push_all old out binds i h e =
 pub numbers_firsts : (n : ℕ) (x : BindTree) → numbers (firsts n x) ≡ numbers x
 numbers_firsts zero x = refl
 numbers_firsts (suc n) x = numbers_firsts n x
+
+-- the tree of a Second
+tree_second : (part : _) → tree_of (OfSecond part) ≡ Second (tree_of (rc_value part))
+tree_second part = ap tree_of (sym (rolls-Second part)) ∙ fold-roll-Bind BindTree tree_level (shape.Second part)
 
 -- a First or a Second has the numbers of its part
 pub numbers_of_part : (bind : Bind) (part : _) → ((n : ℕ) × (bind ≡ OfFirst n part)) ⊎ (bind ≡ OfSecond part) → numbers (tree_of bind) ≡ numbers (tree_of (rc_value part))

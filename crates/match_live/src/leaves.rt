@@ -1,6 +1,6 @@
 //! Leaves in a chain of `OR`s, which take a row at once.
 
-ghost use Rattle.std.specs.Prelude.{◌≡◌, ◌+◌, ◌<◌, ◌≤ℤ◌, ◌≤◌, ◌^◌, ◌++◌, ◌∷◌, [], ℕ, true, false, IsTrue, IfOk, IfSome, OnOk, length, nat_eq};
+ghost use Rattle.std.specs.Prelude.{◌≡◌, ◌+◌, ◌<◌, ◌≤ℤ◌, ◌≤◌, ◌^◌, ◌++◌, ◌∷◌, [], ℕ, true, false, IsTrue, IfOk, IfSome, OnOk, nat_eq};
 ghost use Rattle.std.specs.List.{IsDistinct};
 ghost use Rattle.match_bindings.specs.BindTree.{Second, firsts, tree_of};
 ghost use Rattle.match_live.specs.inner.Pieces.{piece_tree, piece_trees};
@@ -122,6 +122,7 @@ impl Leaves {
     }
 
     /// What is new at one of them.
+    #[tactic(auto, using(crate::proofs::PicksLemmas::once_one))]
     fn all_new(&self, alloc: Global, row: &Row, truths: &[bool]) -> Result<Vec<Piece>, NoMemory>
         requires span { row.now.first ≤ℤ row.now.last }
         requires live { lives self.now.window row.now.first row.now.last ≡ true }
@@ -148,6 +149,7 @@ fn holds(truths: &[bool], leaf: u32) -> bool
 }
 
 /// A row alone.
+#[tactic(auto, using(crate::proofs::PicksLemmas::once_one))]
 fn alone(row: &Row) -> Piece
     requires span { row.now.first ≤ℤ row.now.last }
     ensures { piece_tree result ≡ row_alone row.now }
@@ -169,7 +171,6 @@ fn alone_is_wanted(alloc: Global, row: &Row, leads: &[Lead]) -> Result<bool, NoM
 /// A bind of a row alone.
 fn piece(bind: Bind, row: &Row) -> Piece
     requires span { row.now.first ≤ℤ row.now.last }
-    requires some { 0 < length (numbers (tree_of bind)) }
     requires once { IsDistinct nat_eq (numbers (tree_of bind)) }
     ensures { piece_tree result ≡ record { tree = tree_of bind; earliest = row.now.first; latest = row.now.last } }
 {
@@ -181,6 +182,7 @@ fn piece(bind: Bind, row: &Row) -> Piece
 }
 
 /// Adds a row alone, under a `Second` and so many `First`s.
+#[tactic(auto, using(crate::proofs::PicksLemmas::once_second, crate::proofs::PicksLemmas::once_one))]
 fn push_second(alloc: Global, above: u32, row: &Row, new: &mut Vec<Piece>) -> Result<(), NoMemory>
     requires span { row.now.first ≤ℤ row.now.last }
     ensures { OnOk result (piece_trees new.new.items ≡ piece_trees new.old.items ++ held_with (firsts above) (held_with Second (row_alone row.now)) ∷ []) }
@@ -190,6 +192,7 @@ fn push_second(alloc: Global, above: u32, row: &Row, new: &mut Vec<Piece>) -> Re
 }
 
 /// Adds a bind of a row alone, under so many `First`s.
+#[tactic(auto, using(crate::proofs::PicksLemmas::once_firsts))]
 fn push_under(
     alloc: Global,
     above: u32,
@@ -198,7 +201,6 @@ fn push_under(
     new: &mut Vec<Piece>,
 ) -> Result<(), NoMemory>
     requires span { row.now.first ≤ℤ row.now.last }
-    requires some { 0 < length (numbers (tree_of bind)) }
     requires once { IsDistinct nat_eq (numbers (tree_of bind)) }
     ensures { OnOk result (piece_trees new.new.items ≡ piece_trees new.old.items
         ++ held_with (firsts above) (record { tree = tree_of bind; earliest = row.now.first; latest = row.now.last }) ∷ []) }

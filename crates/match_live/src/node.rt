@@ -527,6 +527,7 @@ fn add_seconds(
 }
 
 /// Makes things those of the left sides of so many `OR`s, one above another.
+#[tactic(auto, using(crate::proofs::InPlaceLemmas::once_only, crate::proofs::PicksLemmas::once_firsts))]
 fn wrap_firsts(alloc: Global, count: u32, held: &mut Vec<Piece>) -> Result<(), NoMemory>
     ensures { OnOk result (piece_trees held.new.items ≡ map (held_with (firsts count)) (piece_trees held.old.items)) }
 {
@@ -539,6 +540,7 @@ fn wrap_firsts(alloc: Global, count: u32, held: &mut Vec<Piece>) -> Result<(), N
 }
 
 /// Makes things those of the right side of an `OR`.
+#[tactic(auto, using(crate::proofs::InPlaceLemmas::once_only, crate::proofs::PicksLemmas::once_second))]
 fn wrap_seconds(alloc: Global, held: &mut Vec<Piece>) -> Result<(), NoMemory>
     ensures { OnOk result (piece_trees held.new.items ≡ map (held_with Second) (piece_trees held.old.items)) }
 {

@@ -1,4 +1,4 @@
-ghost use Rattle.std.specs.Prelude.{◌≤ℤ◌, ◌<◌, length, nat_eq};
+ghost use Rattle.std.specs.Prelude.{◌≤ℤ◌, nat_eq};
 ghost use Rattle.std.specs.List.{IsDistinct};
 ghost use Rattle.std.proofs.lemmas.Map.Keys.{IsDistinct-prop};
 ghost use Rattle.match_bindings.specs.BindTree.{tree_of};
@@ -7,13 +7,12 @@ ghost use Rattle.match_live.specs.inner.Numbers.{numbers};
 use match_bindings::Bind;
 use stix_times::Instant;
 
-/// A bind of one observation or more, each once, with its earliest and latest time.
+/// A bind of observations, each once, with its earliest and latest time.
 #[derive(Drop)]
 pub(crate) struct Piece {
     pub bind: Bind,
     pub earliest: Instant,
     pub latest: Instant,
-    ghost some: { 0 < length (numbers (tree_of bind)) },
     ghost once: { IsDistinct nat_eq (numbers (tree_of bind)) } by { IsDistinct-prop nat_eq (numbers (tree_of bind)) },
     ghost span: { earliest ≤ℤ latest },
 }

@@ -3,7 +3,7 @@
 //! each thing held, by their times and by how many observations they need at one instant. To try them one
 //! by one can take a time that doubles with each thing.
 
-ghost use Rattle.std.specs.Prelude.{◌≡◌, ◌≤ℤ◌, ◌<ℤ◌, ℕ, ℤ, true, false, Some, IfOk, IfSome, OnOk};
+ghost use Rattle.std.specs.Prelude.{◌≡◌, ◌≤ℤ◌, ◌<ℤ◌, ℕ, ℤ, true, false, Some, IfOk, OnOk};
 ghost use Rattle.std.specs.List.{Contains};
 ghost use Rattle.match_bindings.specs.BindTree.{BindTree, Pair, disjoint};
 ghost use Rattle.match_live.specs.declared.join.Join.TheVariants as join;
@@ -151,14 +151,13 @@ impl Reach {
             if self.choices.list.len() >= MAX_CHOICES {
                 return Ok(true);
             }
-            match column_at(alloc, place, self.earliest, bound, piece, held)? {
-                Column::Few(numbers) => {
-                    if !self.choices.admit(alloc, numbers)? {
-                        return Ok(false);
-                    }
-                }
-                Column::Many => {}
+            let numbers = match column_at(alloc, place, self.earliest, bound, piece, held)? {
+                Column::Few(numbers) => numbers,
+                Column::Many => continue,
                 Column::Short => return Ok(true),
+            };
+            if !self.choices.admit(alloc, numbers)? {
+                return Ok(false);
             }
         }
         Ok(true)

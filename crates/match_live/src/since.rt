@@ -9,7 +9,7 @@ ghost use Rattle.match_live.specs.inner.Leads.{leads_of};
 
 use crate::lead::Lead;
 use crate::piece::Piece;
-use match_bindings::{Bind, are_disjoint};
+use match_bindings::{Bind, are_disjoint, greatest_number};
 use stix_times::Instant;
 
 /// Since when a new thing must begin to be wanted, by what is held on the left sides ahead of it: found at
@@ -169,27 +169,14 @@ fn binds(bind: &Bind, number: u64) -> bool
 }
 
 /// One of the numbers that a bind binds: that of the observation that came last, so that what can't begin when
-/// the bind ends is seen.
+/// the bind ends is seen. It is looked up, since nothing says that a bind has any.
 fn a_number(bind: &Bind) -> Option<u64>
     ensures { IfSome result (λ number. has number (tree_of bind.now) ≡ true) }
 {
-    let number = last_number(bind);
+    let number = greatest_number(bind);
     if binds(bind, number) {
         Some(number)
     } else {
         None
-    }
-}
-
-/// The greatest number that a bind binds, which `a_number` looks up.
-fn last_number(bind: &Bind) -> u64 {
-    match bind {
-        Bind::One(number) => *number,
-        Bind::Both(sides) => last_number(&sides.0).max(last_number(&sides.1)),
-        Bind::First(_, part) | Bind::Second(part) => last_number(part),
-        Bind::Many(parts) => match parts.as_slice().last() {
-            Some(part) => last_number(part),
-            None => 0,
-        },
     }
 }

@@ -5,7 +5,6 @@ use Rattle.match_bindings.specs.BindTree.{firsts}
 use Rattle.match_live.specs.inner.Pieces.{piece_trees}
 use Rattle.match_live.specs.inner.Steps.{held_with, row_alone, leaves_state, step_new}
 use Rattle.match_live.proofs.LeavesLemmas.{leaf_holds, leaf_off, made_more, made_all}
-use Rattle.match_live.proofs.PicksLemmas.{once_one}
 use Rattle.match_live.proofs.leaves.Leaves.all_new.Goals as goal
 use Rattle.match_live.proofs.leaves.Leaves.all_new.Goals.{then-holds-2+in_ok-push_second, else-holds-2}
 
@@ -32,6 +31,3 @@ returns c =
     let s = c.args.self.now in
     let all : c.loop-at.at ≡ s.more = omega (arith, c.loop-at-test.false, c.loop-at.invariant.0) in
     made_all c.args.row.now c.args.truths.now s.first c.loop-at.at s.more s.window (piece_trees c.loop-at.new.items) all c.loop-at.invariant.1
-
-pub push_under-requires-clause-once : goal.push_under-requires-clause-once
-push_under-requires-clause-once c = once_one c.args.row.now.number
