@@ -12,6 +12,7 @@ loop-row-init c = (
   ap (map (λ (row : Bor StoredRow). row.now)) c.new-rows.ensures.items
       ∙ meeting_none c.args.library.now.rows c.args.collection (option_map (λ (id : Bor Id). id.now) c.args.only) c.args.query.now,
   omega (arith, c.new-rows.ensures.len),
+  c.in_ok-asked.ensures,
 )
 
 pub meets-requires : goal.meets-requires
@@ -23,7 +24,7 @@ pub returns-then-len-size : goal.returns-then-len-size
 returns-then-len-size c =
     page_full c.args.library.now.rows c.args.collection (option_map (λ (id : Bor Id). id.now) c.args.only) c.args.query.now c.candidates-later.result.now
     (map (λ (row : Bor StoredRow). row.now) c.loop-row.rows.items) c.loop-row.row-index c.row-item.result
-    c.candidates-later.ensures.rise c.candidates-later.ensures.candidates c.loop-row-test.true c.row-item.is ((c.meets.ensures c.args.collection (option_map (λ (id : Bor Id). id.now) c.args.only) c.args.query.now c.in_ok-asked.ensures (candidate_can c.args.library.now.rows c.args.query.now c.candidates-later.result.now c.loop-row.row-index c.row-item.result c.candidates-later.ensures.candidates c.loop-row-test.true c.row-item.is)).0 c.if-meets.true) c.loop-row.invariant.0
+    c.candidates-later.ensures.rise c.candidates-later.ensures.candidates c.loop-row-test.true c.row-item.is ((c.meets.ensures.meets c.args.collection (option_map (λ (id : Bor Id). id.now) c.args.only) c.args.query.now c.loop-row.invariant.2 (candidate_can c.args.library.now.rows c.args.query.now c.candidates-later.result.now c.loop-row.row-index c.row-item.result c.candidates-later.ensures.candidates c.loop-row-test.true c.row-item.is)).0 c.if-meets.true) c.loop-row.invariant.0
     (length-map c.loop-row.rows.items (λ (row : Bor StoredRow). row.now) ∙ sym c.loop-row.rows.ok.0 ∙ sym c.len.ensures ∙ c.if-len-size.true ∙ c.page_size-size.ensures)
 
 pub loop-row-preserved : goal.loop-row-preserved
@@ -34,7 +35,8 @@ loop-row-preserved c =
     let later = c.candidates-later.result.now in
     let i = c.loop-row.row-index in
     let row = c.row-item.result in
-    let tells = c.meets.ensures c.args.collection only query c.in_ok-asked.ensures (candidate_can rows query later i row c.candidates-later.ensures.candidates c.loop-row-test.true c.row-item.is) in
+    let asks = c.meets.ensures.same c.args.collection only query c.loop-row.invariant.2 in
+    let tells = c.meets.ensures.meets c.args.collection only query c.loop-row.invariant.2 (candidate_can rows query later i row c.candidates-later.ensures.candidates c.loop-row-test.true c.row-item.is) in
     let now = λ (row : Bor StoredRow). row.now in
     elim c.if-meets.branch [
       | then-meets+else-len-size+in_ok-push w ↦
@@ -43,6 +45,7 @@ loop-row-preserved c =
             ap (map now) pushed ∙ map-append now c.loop-row.rows.items (_ ∷ []) ∙ ap (λ (xs : List StoredRow). xs ++ row ∷ []) c.loop-row.invariant.0
                 ∙ sym (meeting_more rows c.args.collection only query later i row c.loop-row-test.true c.row-item.is (tells.0 w.if-meets.true)),
             fits _ _ _ c.loop-row.invariant.1 (λ same. w.if-len-size.false (w.len.ensures ∙ c.loop-row.rows.ok.0 ∙ same)) grown,
+            asks,
           )
       | else-meets w ↦
           let kept = ap (λ (v : Vec (Bor StoredRow) Global). v.items) w.rows-is in (
@@ -50,6 +53,7 @@ loop-row-preserved c =
                 ∙ sym (meeting_same rows c.args.collection only query later i row c.loop-row-test.true c.row-item.is
                 (λ meets. let wrong = subst IsTrue w.if-meets.false (tells.1 meets) in absurd (cc wrong))),
             omega (arith, ap length kept, c.loop-row.invariant.1),
+            asks,
           )
     ]
 

@@ -2,15 +2,15 @@ use Rattle.std.proofs.Common.{IsTrue, subst}
 use Rattle.taxii_walks.specs.Meeting.{picks_of}
 use Rattle.taxii_pages.proofs.asked.Asked.is_met.Goals as goal
 
-pub returns-then-asks_for : goal.returns-then-asks_for
-returns-then-asks_for c = λ collection only query asks can.
-    let picks = c.selects.ensures (picks_of query) asks.picks_are in (
-      λ holds. record { asked = (c.asks_for.ensures collection only query asks can).0 c.if-asks_for.true; picked = picks.0 holds },
+pub returns-then-asks_for-clause-meets : goal.returns-then-asks_for-clause-meets
+returns-then-asks_for-clause-meets c = λ collection only query asks can.
+    let picks = c.selects.ensures (picks_of query) (c.asks_for.ensures.same collection only query asks).picks_are in (
+      λ holds. record { asked = (c.asks_for.ensures.asked collection only query asks can).0 c.if-asks_for.true; picked = picks.0 holds },
       λ meets. picks.1 meets.picked,
     )
 
-pub returns-else-asks_for : goal.returns-else-asks_for
-returns-else-asks_for c = λ collection only query asks can. (
+pub returns-else-asks_for-clause-meets : goal.returns-else-asks_for-clause-meets
+returns-else-asks_for-clause-meets c = λ collection only query asks can. (
   λ holds. let wrong = subst IsTrue c.if-asks_for.false holds in absurd (cc wrong),
-  λ meets. (c.asks_for.ensures collection only query asks can).1 meets.asked,
+  λ meets. (c.asks_for.ensures.asked collection only query asks can).1 meets.asked,
 )

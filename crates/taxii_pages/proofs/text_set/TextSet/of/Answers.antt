@@ -8,4 +8,4 @@ returns c =
     let texts = c.args.texts.now in
     let all = sorted_texts texts c.loop-text.row.items c.sort.new.self.items
     (c.loop-text.invariant ∙ take_all c.loop-text.text-index texts c.loop-text-test.false) c.sort.ensures.permutation c.in_ok-sort.ensures.sorted in
-    texts_once texts c.sort.new.self.items c.dedup.new.self.items all c.dedup.ensures.filtered
+    record { has = texts_once texts c.sort.new.self.items c.dedup.new.self.items all c.dedup.ensures.filtered; missed = tt }
