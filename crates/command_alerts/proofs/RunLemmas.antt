@@ -4,13 +4,12 @@ use Rattle.flow_edges.specs.Streams.{Streams}
 use Rattle.pattern_types.specs.declared.pattern.Pattern.{Pattern}
 use Rattle.pattern_types.specs.PlainPattern.{plain_pattern}
 use Rattle.pattern_reader.specs.Read.{IsReadAs}
-use Rattle.match_input.specs.Reading.{Whole, Refused}
 use Rattle.watch_log.specs.declared.end.WatchEnd.TheVariants as end
 use Rattle.command_alerts.specs.declared.ending.AlertEnding.{AlertEnding}
 use Rattle.command_alerts.specs.declared.ending.AlertEnding.TheVariants.{Usage, PatternRefused, NotLeaf, Ended, NoMemory}
 use Rattle.command_alerts.specs.Tasks.{AlertTask, AskFor, IsReadAsNoLeaf}
 use Rattle.command_alerts.specs.Endings.{EndsTask, EndsAlerts, alert_status}
-use Rattle.command_alerts.specs.Runs.{TellsRefusals, TellsInput}
+use Rattle.command_alerts.specs.Runs.{TellsRefusals}
 
 -- the law that a text is read as one pattern
 abbrev pub OnePattern : Type 0
@@ -58,45 +57,6 @@ module _ (words : List (List ℕ)) (before after : Streams) where
   no_leaf-task task (Ended ended) ends none = absurd (none ends.pattern ends.read)
   no_leaf-task task NoMemory ends none = inr refl
 
-  told-task : (task : AlertTask) → AskFor words task → (ending : AlertEnding) → EndsTask before after ending task
-      → (alert_status ending ≡ 0) ⊎ (alert_status ending ≡ 4) → TellsInput words before after (alert_status ending)
-  told-task task asked Usage ends is = absurd ends
-  told-task task asked (PatternRefused refusal) ends (inl is) = absurd (omega arith)
-  told-task task asked (PatternRefused refusal) ends (inr is) = absurd (omega arith)
-  told-task task asked NotLeaf ends (inl is) = absurd (omega arith)
-  told-task task asked NotLeaf ends (inr is) = absurd (omega arith)
-  told-task task asked (Ended end.Done) ends is = record {
-    task = task;
-    asked = asked;
-    pattern = ends.pattern;
-    read = ends.read;
-    bundles = ends.answers.bundles;
-    end = Whole;
-    reading = ends.answers.reading;
-    end_is = refl;
-    tells = ends.answers.tells;
-  }
-  told-task task asked (Ended (end.Input line why)) ends is = record {
-    task = task;
-    asked = asked;
-    pattern = ends.pattern;
-    read = ends.read;
-    bundles = ends.answers.bundles;
-    end = Refused line why;
-    reading = ends.answers.reading;
-    end_is = refl;
-    tells = ends.answers.tells;
-  }
-  told-task task asked (Ended end.ReadFault) ends (inl is) = absurd (omega arith)
-  told-task task asked (Ended end.ReadFault) ends (inr is) = absurd (omega arith)
-  told-task task asked (Ended end.WriteFault) ends (inl is) = absurd (omega arith)
-  told-task task asked (Ended end.WriteFault) ends (inr is) = absurd (omega arith)
-  told-task task asked (Ended (end.Stopped never)) ends is = absurd ends.answers
-  told-task task asked (Ended end.NoMemory) ends (inl is) = absurd (omega arith)
-  told-task task asked (Ended end.NoMemory) ends (inr is) = absurd (omega arith)
-  told-task task asked NoMemory ends (inl is) = absurd (omega arith)
-  told-task task asked NoMemory ends (inr is) = absurd (omega arith)
-
   -- and of the words
   module _ (ending : AlertEnding) where
     pub refusals-run : OnePattern → EndsAlerts words before after ending → TellsRefusals words (alert_status ending)
@@ -111,12 +71,3 @@ module _ (words : List (List ℕ)) (before after : Streams) where
       refused = λ refuses. no_leaf-task asks.task ending asks.holds
           (subst IsReadAsNoLeaf (one-text words refuses.task asks.task refuses.asked asks.asked) refuses.holds);
     }
-
-    pub told-run : EndsAlerts words before after ending → (alert_status ending ≡ 0) ⊎ (alert_status ending ≡ 4)
-        → TellsInput words before after (alert_status ending)
-    told-run (inl (nothing, usage, untouched)) is = let two = ap alert_status usage in absurd (none is)
-      where
-        none : ¬ ((alert_status ending ≡ 0) ⊎ (alert_status ending ≡ 4))
-        none (inl zero) = let two = ap alert_status usage in omega arith
-        none (inr four) = let two = ap alert_status usage in omega arith
-    told-run (inr asks) is = told-task asks.task asks.asked ending asks.holds is

@@ -1,6 +1,5 @@
 -- What the status of a run says of its words, its file and its streams, and whose count of faults rose.
 use Rattle.std.proofs.Common.{◌≡◌, ◌≢◌, ◌⊎◌, ◌↔◌, inl, inr, ℕ, List, Option, refl, ap, arith}
-use Rattle.flow_edges.specs.Faults.{Counted}
 use Rattle.flow_edges.specs.Streams.{Streams}
 use Rattle.match_input.specs.Reading.{Whole, Refused}
 use Rattle.watch_log.specs.declared.end.WatchEnd.TheVariants as end
@@ -8,9 +7,8 @@ use Rattle.watch_feed.specs.declared.end.FeedEnd.TheVariants as feed
 use Rattle.command_hunt.specs.declared.ending.HuntEnding.{HuntEnding}
 use Rattle.command_hunt.specs.declared.ending.HuntEnding.TheVariants.{Usage, Unfed, Ended}
 use Rattle.command_hunt.specs.Tasks.{HuntTask, AskForNothing}
-use Rattle.command_hunt.specs.Feeding.{CountedByOne}
 use Rattle.command_hunt.specs.Endings.{AskSo, EndsTask, EndsHunt, hunt_status}
-use Rattle.command_hunt.specs.Runs.{HuntsOrRefuses, HuntsToCrowd}
+use Rattle.command_hunt.specs.Runs.{HuntsOrRefuses}
 
 module _ (words : List (List ℕ)) (contents : List ℕ → Option (List ℕ)) (before after : Streams) where
   -- of what is asked for
@@ -72,18 +70,6 @@ module _ (words : List (List ℕ)) (contents : List ℕ → Option (List ℕ)) (
     told-task (Ended end.NoMemory) ends (inl is) = absurd (omega arith)
     told-task (Ended end.NoMemory) ends (inr is) = absurd (omega arith)
 
-    crowded-task : (ending : HuntEnding) → EndsTask contents before after ending task → hunt_status ending ≡ 7 → HuntsToCrowd contents before after task
-    crowded-task Usage ends is = absurd ends
-    crowded-task (Unfed (feed.Refused line why)) ends is = absurd (omega arith)
-    crowded-task (Unfed feed.Fault) ends is = absurd (omega arith)
-    crowded-task (Unfed feed.NoMemory) ends is = absurd (omega arith)
-    crowded-task (Ended end.Done) ends is = absurd (omega arith)
-    crowded-task (Ended (end.Input line why)) ends is = absurd (omega arith)
-    crowded-task (Ended end.ReadFault) ends is = absurd (omega arith)
-    crowded-task (Ended end.WriteFault) ends is = absurd (omega arith)
-    crowded-task (Ended (end.Stopped why)) (file, fed, ends) is = (why, file, fed, ends)
-    crowded-task (Ended end.NoMemory) ends is = absurd (omega arith)
-
   -- and of the words
   module _ (ending : HuntEnding) where
     pub refusals-run : EndsHunt words contents before after ending → (hunt_status ending ≡ 2) ↔ AskForNothing words
@@ -98,41 +84,3 @@ module _ (words : List (List ℕ)) (contents : List ℕ → Option (List ℕ)) (
         none (inl zero) = let two = ap hunt_status usage in omega arith
         none (inr four) = let two = ap hunt_status usage in omega arith
     told-run (inr asks) is = record { task = asks.task; asked = asks.asked; holds = told-task asks.task ending asks.holds is }
-
-    pub crowded-run : EndsHunt words contents before after ending → hunt_status ending ≡ 7 → AskSo words (HuntsToCrowd contents before after)
-    crowded-run (inl (nothing, usage, untouched)) is = let two = ap hunt_status usage in absurd (omega arith)
-    crowded-run (inr asks) is = record { task = asks.task; asked = asks.asked; holds = crowded-task asks.task ending asks.holds is }
-
--- ---- whose count of faults rose
-
--- of two counts, by the fault of each
-module _ (Named : Type 0) (one one_now other other_now : ℕ) where
-  abbrev RoseSo : HuntEnding → Type 0
-  RoseSo ending = Counted (ending ≡ Ended end.ReadFault) one one_now → Counted (ending ≡ Unfed feed.Fault) other other_now
-      → CountedByOne Named (hunt_status ending ≡ 5) one one_now other other_now
-
-  -- no read failed
-  none-rose : (ending : HuntEnding) → ending ≢ Ended end.ReadFault → ending ≢ Unfed feed.Fault → hunt_status ending ≢ 5 → RoseSo ending
-  none-rose ending not_one not_other not input files = inl (
-    record { later = input.later; failed = λ is. absurd (not is); quiet = λ _. input.quiet not_one },
-    files.quiet not_other,
-  )
-
-  pub one-rose : Named → (ending : HuntEnding) → RoseSo ending
-  one-rose named Usage input files = none-rose Usage (λ is. cc) (λ is. cc) (λ is. omega arith) input files
-  one-rose named (Unfed (feed.Refused line why)) input files = none-rose (Unfed (feed.Refused line why)) (λ is. cc) (λ is. cc) (λ is. omega arith) input files
-  one-rose named (Unfed feed.Fault) input files = inr (
-    named,
-    input.quiet (λ is. cc),
-    record { later = files.later; failed = λ is. files.failed refl; quiet = λ not. absurd (not refl) },
-  )
-  one-rose named (Unfed feed.NoMemory) input files = none-rose (Unfed feed.NoMemory) (λ is. cc) (λ is. cc) (λ is. omega arith) input files
-  one-rose named (Ended end.Done) input files = none-rose (Ended end.Done) (λ is. cc) (λ is. cc) (λ is. omega arith) input files
-  one-rose named (Ended (end.Input line why)) input files = none-rose (Ended (end.Input line why)) (λ is. cc) (λ is. cc) (λ is. omega arith) input files
-  one-rose named (Ended end.ReadFault) input files = inl (
-    record { later = input.later; failed = λ is. input.failed refl; quiet = λ not. absurd (not refl) },
-    files.quiet (λ is. cc),
-  )
-  one-rose named (Ended end.WriteFault) input files = none-rose (Ended end.WriteFault) (λ is. cc) (λ is. cc) (λ is. omega arith) input files
-  one-rose named (Ended (end.Stopped why)) input files = none-rose (Ended (end.Stopped why)) (λ is. cc) (λ is. cc) (λ is. omega arith) input files
-  one-rose named (Ended end.NoMemory) input files = none-rose (Ended end.NoMemory) (λ is. cc) (λ is. cc) (λ is. omega arith) input files

@@ -22,15 +22,6 @@ same_text a b h = (bytes_eq-Decides a b).0 h
 pub eq_self : (a : Text) → bytes_eq a a ≡ true
 eq_self a = (bytes_eq-Decides a a).1 refl
 
-pub eq_swap : (a b : Text) → bytes_eq a b ≡ bytes_eq b a
-eq_swap a b = go (bytes_eq a b) (bytes_eq b a) refl refl
-  where
-    go : (s t : Bool) → bytes_eq a b ≡ s → bytes_eq b a ≡ t → bytes_eq a b ≡ bytes_eq b a
-    go true true p q = p ∙ sym q
-    go false false p q = p ∙ sym q
-    go true false p q = absurd (false≢true (sym q ∙ (bytes_eq-Decides b a).1 (sym (same_text a b p))))
-    go false true p q = absurd (false≢true (sym p ∙ (bytes_eq-Decides a b).1 (sym (same_text b a q))))
-
 pub differ : {A : Type 0} (a b : Text) → bytes_eq a b ≡ false → a ≡ b → A
 differ a b h e = absurd (false≢true (sym h ∙ (bytes_eq-Decides a b).1 e))
 
@@ -41,10 +32,6 @@ or_false false = refl
 pub and_false : (b : Bool) → (b && false) ≡ false
 and_false true = refl
 and_false false = refl
-
-pub and_true : (b : Bool) → (b && true) ≡ b
-and_true true = refl
-and_true false = refl
 
 pub and_left : (a b : Bool) → (a && b) ≡ true → a ≡ true
 and_left true b h = refl
@@ -61,9 +48,6 @@ or_right false b h = h
 pub not_true : (a : Bool) → not a ≡ true → a ≡ false
 not_true true h = sym h
 not_true false h = refl
-
-pub clash : {A : Type 0} {a : Bool} → a ≡ true → a ≡ false → A
-clash h g = absurd (false≢true (sym g ∙ h))
 
 -- what passes for all passes for one that stands there
 pub all_has : (p : Text → Bool) (names : List Text) (name : Text) → list_all p names ≡ true → has name names ≡ true → p name ≡ true

@@ -1,5 +1,5 @@
 -- Pages that came and were written so far, one more of them, and what each ending says.
-use Rattle.std.proofs.Common.{◌≡◌, inl, inr, ℕ, ◌+◌, ◌≤◌, ◌<◌, List, [], ◌∷◌, ◌++◌, length, Option, None, Ok, Err, refl, sym, ap, subst, ◌∙◌, append_assoc, length-append, arith}
+use Rattle.std.proofs.Common.{◌≡◌, inl, inr, ℕ, ◌+◌, ◌≤◌, ◌<◌, List, [], ◌∷◌, ◌++◌, length, Option, Ok, Err, refl, sym, ap, subst, ◌∙◌, append_assoc, length-append, arith}
 use Rattle.std.proofs.lemmas.List.{append-nil}
 use Rattle.std.specs.Prelude.{All, fold}
 use Rattle.command_reasons.proofs.WritesWholeLemmas.{after_part}
@@ -18,10 +18,10 @@ use Rattle.taxii_client.specs.declared.pull.TheConstants.{MAX_PAGES}
 use Rattle.taxii_client.specs.declared.target.Target.{Target}
 use Rattle.taxii_client.specs.declared.turn.Turn.{Turn}
 use Rattle.taxii_client.specs.declared.turn.Turn.TheVariants.{First}
-use Rattle.command_pull.specs.declared.ending.PullEnding.TheVariants.{Lost, Done}
+use Rattle.command_pull.specs.declared.ending.PullEnding.TheVariants.{Lost}
 use Rattle.taxii_client.specs.Telling.{told_of, told_of_pages, bad_in, bad_in_pages, IsWritable}
 use Rattle.command_pull.specs.Pulling.{Outside, links_of, Pulls, WritesPages, DialIsQuiet, StopsAsking, StopsBehind, StopsWriting}
-use Rattle.command_pull.specs.Endings.{EndsPull, AreAll, AreTooFew}
+use Rattle.command_pull.specs.Endings.{EndsPull, AreTooFew}
 use Rattle.command_pull.proofs.WritingLemmas.{all-writable, written-none, written-more}
 
 -- these pages came, all were written, and the walk stands behind them
@@ -168,11 +168,6 @@ module _ (L : Type 0) (view : L → LinkView) (target : Target) (before : Outsid
           quiet = runs.quiet;
           writes = runs.writes;
         })
-
-    -- no page was left
-    pub run-done : (after : PullState) (dial : DialView L) → Answers view state after now.dial dial (Ok None)
-        → EndsPull view target before (record { dial = dial; written = now.written }) skipped Done
-    run-done after dial (over, (same, rests)) = run-rests AreAll dial over rests
 
     -- the next page didn't come
     run-lost : (end : FetchEnd) (dial : DialView L) → AsksFor view state now.dial dial (Err end)

@@ -71,13 +71,6 @@ pattern_in (asked.Show pattern) = pattern
 pattern_in (asked.Make seed count) = []
 pattern_in (asked.Serve service) = []
 
-abbrev service_or : PlainService → PlainRequest → PlainService
-service_or other (asked.Match whole cap pattern) = other
-service_or other asked.Check = other
-service_or other (asked.Show pattern) = other
-service_or other (asked.Make seed count) = other
-service_or other (asked.Serve service) = service
-
 module _ (one : OneRequest) (words : List (List ℕ)) where
   other_kind : (first second : PlainRequest) → IsCommandLine words first → IsCommandLine words second → kind first ≡ kind second
   other_kind first second is also = ap kind (one words first second is also)
@@ -114,9 +107,6 @@ module _ (one : OneRequest) (words : List (List ℕ)) where
 
   pub make_isn't_serve : (seed count : ℕ) (service : PlainService) → IsMakeLine words seed count → ¬ IsServeLine words service
   make_isn't_serve seed count service making served = absurd (omega (arith, other_kind (asked.Make seed count) (asked.Serve service) making served))
-
-  pub one_served : (a b : PlainService) → IsServeLine words a → IsServeLine words b → a ≡ b
-  one_served a b first second = ap (service_or a) (one words (asked.Serve a) (asked.Serve b) first second)
 
   one_shown : (a b : List ℕ) → IsShowLine words a → IsShowLine words b → a ≡ b
   one_shown a b first second = ap pattern_in (one words (asked.Show a) (asked.Show b) first second)

@@ -1,16 +1,12 @@
 -- What stands around a server when it ends, from what its parts say.
 use Rattle.std.proofs.Common.{◌≡◌, ◌≤◌, ℕ, List, [], length, Option, Some, None, option_map, IfSome, refl, sym, ap, subst, ◌∙◌}
 use Rattle.flow_edges.specs.Flow.{written_with}
-use Rattle.taxii_rows.specs.declared.fault_cause.FaultCause.{FaultCause}
 use Rattle.taxii_rows.specs.StoreState.{StoreState}
 use Rattle.taxii_rows.specs.Keeper.{Kept}
 use Rattle.taxii_rows.specs.SoundRow.{IsSoundState}
 use Rattle.taxii_statuses.specs.Statuses.{StatusesState}
 use Rattle.taxii_state.specs.declared.state.State.{State}
 use Rattle.taxii_store.specs.Agreement.{without_rows}
-use Rattle.taxii_store.specs.Loading.{IsBadAfter}
-use Rattle.taxii_store.specs.declared.load_refusal.LoadRefusal.{LoadRefusal}
-use Rattle.taxii_store.specs.declared.load_refusal.LoadRefusal.TheVariants as refused
 use Rattle.taxii_walks.specs.History.{IsDated}
 use Rattle.taxii_histories.specs.Visits.{WalksSkipNoRow}
 use Rattle.taxii_server.specs.Outside.{LinkView}
@@ -22,7 +18,7 @@ use Rattle.command_line.specs.CommandLines.{PlainService}
 use Rattle.command_serve.specs.declared.ending.ServeEnding.{ServeEnding}
 use Rattle.command_serve.specs.declared.ending.ServeEnding.TheVariants.{Done, NoMemory, WriteFault, DoorFault, StoreFault, BadRow}
 use Rattle.command_serve.specs.Services.{store_name, Begins, Places, Serves}
-use Rattle.command_serve.specs.ServeEndings.{summary_text, ServesAll, IsUnserved, EndsServe, Concludes, load_ending}
+use Rattle.command_serve.specs.ServeEndings.{summary_text, ServesAll, EndsServe, Concludes}
 
 some_same : {A : Type 0} (told : Option A) (one : A) → IfSome told (λ kept. kept ≡ one) → IfSome told (λ kept. one ≡ kept)
 some_same None one is = tt
@@ -44,12 +40,6 @@ dated : (store : StoreState) → IsSoundState store → IsDated store
 dated store sound = record { rise = sound.rise; marked = sound.marked }
 
 module _ {L : Type 0} (view : L → LinkView) (service : PlainService) (before after : Places L) where
-  pub refused-ends : (refusal : LoadRefusal) → IsUnserved before after → ((date : ℕ) → refusal ≡ refused.BadRow date → IfSome before.kept.told (λ state. IsBadAfter state date))
-      → (cause : FaultCause) → EndsServe view service before after (load_ending cause refusal)
-  refused-ends refused.KeeperFault same bad cause = same
-  refused-ends (refused.BadRow date) same bad cause = (same, bad date refl)
-  refused-ends refused.NoMemory same bad cause = same
-
   pub concluded-ends : (served : Served) (ending : ServeEnding) → ServesAll view service before after served → Concludes served before.written after.written ending
       → EndsServe view service before after ending
   concluded-ends served (Done told) all ends = (subst (λ (it : Served). ServesAll view service before after it) (sym ends.0) all, subst (λ (it : Served). after.written ≡ written_with (summary_text it) before.written) (sym ends.0) ends.1)

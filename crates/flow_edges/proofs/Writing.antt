@@ -10,10 +10,6 @@ pub written_with-written_with : (a b : List ℕ) (w : Option (List ℕ)) → wri
 written_with-written_with a b None = refl
 written_with-written_with a b (Some bytes) = ap Some (append_assoc bytes a b)
 
-pub written_with-nil : (w : Option (List ℕ)) → w ≡ written_with [] w
-written_with-nil None = refl
-written_with-nil (Some bytes) = ap Some (sym (append-nil bytes))
-
 -- `&s[n..]` as a list
 pub tail_slice : (n : ℕ) (s : List ℕ) → take (length s - n) (drop n s) ≡ drop n s
 tail_slice n s = ap (λ k. take k (drop n s)) (sym (length-drop n s)) ∙ take-length (drop n s)
@@ -23,9 +19,6 @@ pub record IsPartWay (all rest : List ℕ) (before now : Option (List ℕ)) : Ty
   pub done : List ℕ
   pub cut : all ≡ done ++ rest
   pub written : now ≡ written_with done before
-
-pub part_way-start : (all : List ℕ) (before : Option (List ℕ)) → IsPartWay all all before before
-part_way-start all before = record { done = []; cut = refl; written = written_with-nil before }
 
 pub part_way-step : (all rest : List ℕ) (before now later : Option (List ℕ)) (n : ℕ) → IsPartWay all rest before now → later ≡ written_with (take n rest) now → IsPartWay all (drop n rest) before later
 part_way-step all rest before now later n way more = record {
@@ -38,9 +31,6 @@ part_way-step all rest before now later n way more = record {
 pub part_way-slice : (all rest : List ℕ) (before now later : Option (List ℕ)) (n : ℕ) → IsPartWay all rest before now → later ≡ written_with (take n rest) now → IsPartWay all (take (length rest - n) (drop n rest)) before later
 part_way-slice all rest before now later n way more =
     rw (tail_slice n rest) (part_way-step all rest before now later n way more)
-
-pub part_way-whole : (all : List ℕ) (before now : Option (List ℕ)) → IsPartWay all [] before now → now ≡ written_with all before
-part_way-whole all before now way = way.written ∙ ap (λ done. written_with done before) (sym (way.cut ∙ append-nil way.done))
 
 pub part_way-prefix : (all rest : List ℕ) (before now later : Option (List ℕ)) → IsPartWay all rest before now → later ≡ now → WritesPrefix all before later
 part_way-prefix all rest before now later way same = (

@@ -150,10 +150,6 @@ pub passed_on : {T E : Type 0} (P : Result T E → Type 0) (answer : Result T E)
 passed_on P (Ok value) refusal passed fact = absurd passed
 passed_on P (Err e) refusal passed fact = subst (λ e. P (Err e)) (sym passed) fact
 
-pub one_error : {T E : Type 0} (answer : Result T E) (a b : E) → IsErrAnd answer (λ e. e ≡ a) → answer ≡ Err b → a ≡ b
-one_error (Ok value) a b passed is = absurd passed
-one_error (Err e) a b passed is = sym passed ∙ cc
-
 pub loses-passed_on : (before later after : LinesState) (left left_later left_after : Option (List ℕ)) (refusal : LineRefusal) (answer : Result (Option Line) LineRefusal)
     → IsErrAnd answer (λ e. e ≡ refusal) → AccountsFor before later left left_later → (refusal ≡ Fault → AccountsFor later after left_later left_after)
     → LosesNone before after left left_after answer

@@ -7,7 +7,7 @@ use Rattle.flow_lines.specs.declared.refusal.TheConstants.{MAX_INPUT}
 use Rattle.flow_lines.specs.declared.refusal.LineRefusal.{LineRefusal}
 use Rattle.flow_lines.specs.declared.refusal.LineRefusal.TheVariants.{Fault, LineTooLong, InputTooLong, NoMemory}
 use Rattle.flow_edges.specs.Flow.{IsAtEnd}
-use Rattle.flow_lines.specs.Lines.{RawLine, raw_lines, length_refusal, refusal_of, width, content, is_blank, Lined, ended, refused, line_then, unless_refused, unless_blank, lines_from, lines_ahead, GivesEnd, RefusesLine, KeepsLines, NoLineFeed}
+use Rattle.flow_lines.specs.Lines.{RawLine, raw_lines, length_refusal, refusal_of, width, content, Lined, ended, refused, unless_refused, unless_blank, lines_from, lines_ahead, GivesEnd, RefusesLine, KeepsLines, NoLineFeed}
 use Rattle.flow_lines.specs.inner.Reading.{bytes_ahead, ReadsToLineFeed, ReadsLast, ReadsPart, IsFirstRefused, ReadsNext, IsBetweenLines, BreaksOffLine, lines_state}
 use Rattle.flow_lines.proofs.RawLinesLemmas.{raw_lines-fed, raw_lines-last}
 
@@ -100,15 +100,6 @@ ahead-read chunk line_new chunk_new count given left left_new false reads some =
     subst (λ chunk_new. lines_ahead (lines_state [] chunk count given) left ≡ option_map (λ later. unless_blank (count + 1) line_new later) (lines_ahead (lines_state [] chunk_new (count + 1) (given + (length line_new + 0))) left_new)) (sym none)
     (ahead-last chunk line_new count given left left_new (some refl) (subst (λ chunk_new. ReadsLast (count + 1) given (bytes_ahead [] chunk left) left_new line_new chunk_new) none reads))
 
--- a line that isn't blank is given
-pub option_map-given : (number : ℕ) (bytes : List ℕ) (ahead : Option Lined) → is_blank bytes ≡ false → option_map (λ later. unless_blank number bytes later) ahead ≡ option_map (λ later. line_then number bytes later) ahead
-option_map-given number bytes ahead full = ap (λ b. option_map (λ later. if b then later else line_then number bytes later) ahead) full
-
--- a blank line is passed over
-pub option_map-blank : (number : ℕ) (bytes : List ℕ) (ahead : Option Lined) → is_blank bytes ≡ true → option_map (λ later. unless_blank number bytes later) ahead ≡ ahead
-option_map-blank number bytes None blank = refl
-option_map-blank number bytes (Some later) blank = ap (λ b. Some (if b then later else line_then number bytes later)) blank
-
 -- the next line was read
 pub ahead-next : (chunk line_new chunk_new bytes : List ℕ) (count given given_new : ℕ) (left left_new : Option (List ℕ)) (closed : Bool)
     → MatchBool closed (ReadsToLineFeed (count + 1) given (bytes_ahead [] chunk left) left_new line_new chunk_new) (ReadsLast (count + 1) given (bytes_ahead [] chunk left) left_new line_new chunk_new)
@@ -120,32 +111,6 @@ ahead-next chunk line_new chunk_new bytes count given given_new left left_new cl
     ahead-read chunk line_new chunk_new count given left left_new closed reads (λ unclosed. omega (arith, subst (λ c. 0 < length line_new + (if c then 1 else 0)) unclosed some))
     ∙ ap (λ bytes. option_map (λ later. unless_blank (count + 1) bytes later) (lines_ahead (lines_state [] chunk_new (count + 1) (given + width (record { bytes = line_new; closed = closed }))) left_new)) (sym is)
     ∙ ap (λ given_new. option_map (λ later. unless_blank (count + 1) bytes later) (lines_ahead (lines_state [] chunk_new (count + 1) given_new) left_new)) (sym taken)
-
-pub ahead-emptied : (line chunk : List ℕ) (count given : ℕ) (left : Option (List ℕ)) → line ≡ [] → lines_ahead (lines_state [] chunk count given) left ≡ lines_ahead (lines_state line chunk count given) left
-ahead-emptied line chunk count given left empty = ap (λ line. lines_ahead (lines_state line chunk count given) left) (sym empty)
-
--- a line that isn't blank is given, and the state behind it has no line
-pub ahead-given : (before : Option Lined) (line chunk bytes bytes_given line_new chunk_new : List ℕ) (count count_new given given_new : ℕ) (left left_new : Option (List ℕ))
-    → before ≡ lines_ahead (lines_state line chunk count given) left → line ≡ []
-    → ReadsNext chunk chunk_new count count_new given given_new bytes left left_new
-    → is_blank bytes ≡ false → bytes_given ≡ bytes → line_new ≡ []
-    → before ≡ option_map (λ later. line_then count_new bytes_given later) (lines_ahead (lines_state line_new chunk_new count_new given_new) left_new)
-ahead-given before line chunk bytes bytes_given line_new chunk_new count count_new given given_new left left_new ahead empty reads full same emptied =
-    ahead ∙ sym (ahead-emptied line chunk count given left empty) ∙ reads.ahead
-    ∙ option_map-given count_new bytes (lines_ahead (lines_state [] chunk_new count_new given_new) left_new) full
-    ∙ ap (λ bytes. option_map (λ later. line_then count_new bytes later) (lines_ahead (lines_state [] chunk_new count_new given_new) left_new)) (sym same)
-    ∙ ap (λ ahead. option_map (λ later. line_then count_new bytes_given later) ahead) (ahead-emptied line_new chunk_new count_new given_new left_new emptied)
-
--- a blank line is passed over
-pub ahead-blank : (before : Option Lined) (line chunk bytes line_new chunk_new : List ℕ) (count count_new given given_new : ℕ) (left left_new : Option (List ℕ))
-    → before ≡ lines_ahead (lines_state line chunk count given) left → line ≡ []
-    → ReadsNext chunk chunk_new count count_new given given_new bytes left left_new
-    → is_blank bytes ≡ true → line_new ≡ []
-    → before ≡ lines_ahead (lines_state line_new chunk_new count_new given_new) left_new
-ahead-blank before line chunk bytes line_new chunk_new count count_new given given_new left left_new ahead empty reads blank emptied =
-    ahead ∙ sym (ahead-emptied line chunk count given left empty) ∙ reads.ahead
-    ∙ option_map-blank count_new bytes (lines_ahead (lines_state [] chunk_new count_new given_new) left_new) blank
-    ∙ ahead-emptied line_new chunk_new count_new given_new left_new emptied
 
 -- a line that isn't refused lies within the input's limit
 pub refusal_of-fits : (number place size : ℕ) (closed : Bool) → length_refusal number place size closed ≡ None → place + size + (if closed then 1 else 0) ≤ MAX_INPUT

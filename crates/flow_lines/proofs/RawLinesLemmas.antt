@@ -1,5 +1,5 @@
 -- How the bytes of an input are cut into lines, from what a reader has of them.
-use Rattle.std.proofs.Common.{◌≡◌, ℕ, ◌<◌, ◌≤◌, Bool, true, false, List, [], ◌∷◌, ◌++◌, length, drop, Option, Some, None, option_map, IfSome, MatchBool, MatchOption, is_some, not, refl, sym, ap, ◌∙◌, arith, append_assoc, length-append, cond, eqb, ◌⊎◌, inl, inr, Result, Ok, Err, OnErr, IfErr, IsErrAnd, subst}
+use Rattle.std.proofs.Common.{◌≡◌, ℕ, ◌<◌, ◌≤◌, Bool, true, false, List, [], ◌∷◌, ◌++◌, length, drop, Option, Some, None, option_map, IfSome, MatchBool, MatchOption, is_some, not, refl, sym, ap, ◌∙◌, arith, append_assoc, length-append, cond, eqb, ◌⊎◌, inl, inr, Result, Ok, Err, IfErr, IsErrAnd, subst}
 use Rattle.std.proofs.lemmas.List.{take-append-drop}
 use Rattle.std.proofs.lemmas.List.Elements.{All-append, All-cons, All-nil}
 use Rattle.std.proofs.lemmas.List.Splits.{slice_split_at, slice_split_none}
@@ -147,11 +147,6 @@ refused-step number place all left line chunk line_new chunk_new true refusal wi
     rw (bytes_ahead-to_feed all left line chunk line_new chunk_new is takes) (IfSome-map _ _ left (λ bytes. first_refused-fed number place line_new (chunk_new ++ bytes) refusal (plain-to_feed line chunk line_new chunk_new plain takes) refused))
 refused-step number place all left line chunk line_new chunk_new false refusal within plain is takes refused =
     rw (bytes_ahead-all all left line chunk line_new chunk_new is takes) (IfSome-map _ _ left (λ bytes. first_refused number place line_new bytes refusal within (plain-all line chunk line_new chunk_new plain takes) refused))
-
--- a fact that stands whatever the answer is
-pub on_err : {T E P : Type 0} (answer : Result T E) → P → OnErr answer P
-on_err (Ok value) fact = tt
-on_err (Err refusal) fact = fact
 
 -- what a line and one read have taken where the reader stops
 pub takes-part : (all left left_new : Option (List ℕ)) (line chunk : List ℕ) → all ≡ bytes_ahead line chunk left → left_new ≡ left → length line ≤ MAX_LINE → length chunk ≤ MAX_READ

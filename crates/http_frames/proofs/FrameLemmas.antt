@@ -1,5 +1,5 @@
 -- What bytes begin with: one thing at most, and the same whatever follows.
-use Rattle.std.proofs.Common.{◌≡◌, ◌≢◌, ℕ, ◌+◌, ◌-◌, ◌<◌, ◌≤◌, inl, inr, ◌==◌, List, ◌++◌, length, get_or, take, drop, slice_range, Some, None, refl, sym, ap, subst, ◌∙◌, arith, length-append, length-drop, append_assoc}
+use Rattle.std.proofs.Common.{◌≡◌, ◌≢◌, ℕ, ◌+◌, ◌-◌, ◌<◌, ◌≤◌, inl, inr, ◌==◌, List, ◌++◌, length, get_or, take, drop, slice_range, Some, None, refl, sym, ap, subst, ◌∙◌, arith, length-append, length-drop}
 use Rattle.std.proofs.lemmas.List.{take-append-le, drop-append-le}
 use Rattle.httparse.proofs.GrammarLemmas.{request_unique}
 use Rattle.http_frames.specs.declared.frame.TheConstants.{MAX_HEAD}
@@ -49,10 +49,6 @@ wants_body greatest bytes start end parts accepts more short = inr (record {
 
 pub wants_nothing : (greatest : ℕ) (bytes : List ℕ) → Wants greatest bytes 0
 wants_nothing greatest bytes more short = absurd (omega arith)
-
-pub wants_later : (greatest : ℕ) (bytes piece : List ℕ) (wanted : ℕ) → Wants greatest bytes wanted → Wants greatest (bytes ++ piece) wanted
-wants_later greatest bytes piece wanted wants more short =
-    subst (IsMore greatest) (sym (append_assoc bytes piece more)) (wants (piece ++ more) (omega (arith, ap length (append_assoc bytes piece more))))
 
 -- ---- of two of the cases one is none
 
@@ -221,11 +217,3 @@ takes_byte greatest bytes request rest gives =
 
 pub none_in : (bytes : List ℕ) (n : ℕ) → HasNoHead bytes → HasNoHeadIn n bytes
 none_in bytes n none s e head = absurd (none s e head)
-
--- bytes whose head ends too late
-pub late_head : (bytes : List ℕ) (s e : ℕ) → IsHeadAt bytes s e → MAX_HEAD < e → HasLongHead bytes
-late_head bytes s e head late =
-    let within = head.within in record {
-      full = omega arith;
-      none = λ t f other. let same = one_head bytes s e t f head other in let end = same.same_end in omega arith;
-    }

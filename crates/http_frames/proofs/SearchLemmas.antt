@@ -1,12 +1,11 @@
 -- What a search for the end of a head finds, and what it has passed.
-use Rattle.std.proofs.Common.{◌≡◌, ℕ, ◌+◌, ◌-◌, ◌<◌, ◌≤◌, ◌⊎◌, inl, inr, Bool, true, false, ◌&&◌, ◌||◌, ◌==◌, List, ◌++◌, length, get_or, refl, arith, length-append, max, Option, Some, None, MatchOption}
+use Rattle.std.proofs.Common.{◌≡◌, ℕ, ◌+◌, ◌<◌, ◌≤◌, ◌⊎◌, inl, inr, Bool, true, false, ◌&&◌, ◌||◌, ◌==◌, List, length, get_or, refl, arith, max, Option, Some, None, MatchOption}
 use Rattle.std.proofs.Math.ListN.{get_or-eq_default}
 use Rattle.std.proofs.lemmas.Bool.{cases_lt}
 use Rattle.std.proofs.lemmas.Bool.Decides.{Decides-eqb}
 use Rattle.http_frames.specs.declared.search.HeadSearch.{HeadSearch}
 use Rattle.http_frames.specs.Heads.{is_line_byte, is_last_line_end, after_empty_line, HasNoEnd, IsFirstEnd, IsHeadAt}
-use Rattle.http_frames.specs.inner.Searching.{IsSearched, SkipsTo, HasNoHead}
-use Rattle.http_frames.proofs.HeadLemmas.{same_before}
+use Rattle.http_frames.specs.inner.Searching.{IsSearched, SkipsTo}
 
 -- a byte that isn't 0 stands in the list
 inside : (xs : List ℕ) (k b : ℕ) → 0 < b → (get_or xs k 0 == b) ≡ true → k < length xs
@@ -91,16 +90,6 @@ finds_head bytes search start from place searched skips is first =
       within = end_inside bytes place first.here;
     }
 
-pub finds_none : (bytes : List ℕ) (search : HeadSearch) (start from : ℕ) → IsSearched bytes search → SkipsTo bytes search.start start → from ≡ max search.next start
-    → HasNoEnd bytes from (length bytes) → HasNoHead bytes
-finds_none bytes search start from searched skips is none s e head =
-    let within = place_inside bytes head.last head.empty in
-    let after = head.after in
-    let not_before : s < start → ⊥ = λ lt. let dropped = dropped_to bytes search start s searched skips lt in let begins = head.begins in cc in
-    let here = none_to bytes search start from (length bytes) searched skips is none head.last (omega arith) (omega arith) in
-    let empty = head.empty in
-    cc
-
 pub searched_to : (bytes : List ℕ) (search now : HeadSearch) (from place : ℕ) → IsSearched bytes search → SkipsTo bytes search.start now.start → from ≡ max search.next now.start
     → IsFirstEnd bytes from place → now.next ≡ place → IsSearched bytes now
 searched_to bytes search now from place searched skips is first next =
@@ -112,45 +101,6 @@ searched_to bytes search now from place searched skips is first next =
       settled = λ _. omega arith;
       begins = λ lt. skips.other (omega arith);
       none = λ k low lt. none_to bytes search now.start from place searched skips is first.first k low (omega arith);
-    }
-
-pub searched_all : (bytes : List ℕ) (search now : HeadSearch) (from : ℕ) → IsSearched bytes search → SkipsTo bytes search.start now.start → from ≡ max search.next now.start
-    → HasNoEnd bytes from (length bytes) → now.next ≡ max from (length bytes - 2) → IsSearched bytes now
-searched_all bytes search now from searched skips is none next =
-    let inside_old = searched.within in
-    let settled = searched.settled in
-    let skipped = skips.within in
-    let order = skips.order in
-    let within : now.next ≤ length bytes = omega arith in record {
-      dropped = λ k lt. dropped_to bytes search now.start k searched skips lt;
-      order = omega arith;
-      within = within;
-      settled = λ lt. by_next lt (cases_lt now.start search.next);
-      begins = λ lt. skips.other (omega arith);
-      none = λ k low lt. none_to bytes search now.start from (length bytes) searched skips is none k low (omega arith);
-    }
-  where
-    by_next : now.start < now.next → (now.start < search.next) ⊎ (search.next ≤ now.start) → now.next + 1 < length bytes
-    by_next lt (inl old) =
-        let order = skips.order in
-        let settled = searched.settled (omega arith) in
-        omega arith
-    by_next lt (inr new) = omega arith
-
--- what was passed stays passed when bytes are added
-pub searched_later : (bytes more : List ℕ) (search : HeadSearch) → IsSearched bytes search → IsSearched (bytes ++ more) search
-searched_later bytes more search searched =
-    let within = searched.within in
-    let order = searched.order in
-    let longer = length-append bytes more in record {
-      dropped = λ k lt. rw (same_before bytes more k (omega arith)) (searched.dropped k lt);
-      order = order;
-      within = omega arith;
-      settled = λ lt. let settled = searched.settled lt in omega arith;
-      begins = λ lt. rw (same_before bytes more search.start (omega arith)) (searched.begins lt);
-      none = λ k low lt.
-          let settled = searched.settled (omega arith) in
-          rw (same_before bytes more k (omega arith), same_before bytes more (k + 1) (omega arith), same_before bytes more (k + 2) (omega arith)) (searched.none k low lt);
     }
 
 -- where the search goes on, where it found an end

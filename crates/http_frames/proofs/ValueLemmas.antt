@@ -1,12 +1,11 @@
 -- Values of fields: those of a name, and tests of each.
-use Rattle.std.proofs.Common.{◌≡◌, ℕ, ◌+◌, ◌<◌, ◌≤◌, Bool, true, false, ◌&&◌, ◌||◌, if◌then◌else◌, List, [], ◌∷◌, ◌++◌, length, get_or, take, map, refl, sym, ap, ◌∙◌, Bor, Some, codes, reverse, Result, Ok, Err, MatchResult, is_ok}
-use Rattle.std.specs.List.{list_all, list_any, filter, flat_map}
+use Rattle.std.proofs.Common.{◌≡◌, ℕ, ◌≤◌, Bool, true, false, ◌&&◌, ◌||◌, List, [], ◌∷◌, ◌++◌, length, take, map, refl, sym, ap, ◌∙◌, Bor, Some, codes, reverse, Result, Ok, Err, MatchResult, is_ok}
+use Rattle.std.specs.List.{list_all, list_any, flat_map}
 use Rattle.std.specs.Str.{IsUtf8, is_utf8, str_eq_ignore_ascii_case}
-use Rattle.std.proofs.lemmas.List.{take_more, take_all, map-append, reverse-reverse}
-use Rattle.std.proofs.lemmas.List.Elements.{filter-append}
+use Rattle.std.proofs.lemmas.List.{take_all, reverse-reverse}
 use Rattle.std.proofs.lemmas.Str.{IsUtf8-from_is_utf8, is_utf8-from_IsUtf8}
 use Rattle.httparse.specs.Grammar.{skip_ows, trim_ows}
-use Rattle.http_frames.specs.Fields.{values_among, joined, is_close}
+use Rattle.http_frames.specs.Fields.{joined, is_close}
 
 -- a test of what references point to
 pub all_of : {A : Type 0} (p : A → Bool) (xs : List (Bor A)) (ys : List A) → map (λ (x : Bor A). x.now) xs ≡ ys → list_all (λ (x : Bor A). p x.now) xs ≡ list_all p ys
@@ -16,22 +15,6 @@ all_of {A} p (x ∷ xs) ys same = ap (λ (t : Bool). p x.now && t) (all_of p xs 
 pub any_of : {A : Type 0} (p : A → Bool) (xs : List (Bor A)) (ys : List A) → map (λ (x : Bor A). x.now) xs ≡ ys → list_any (λ (x : Bor A). p x.now) xs ≡ list_any p ys
 any_of p [] ys same = ap (list_any p) same
 any_of {A} p (x ∷ xs) ys same = ap (λ (t : Bool). p x.now || t) (any_of p xs (map (λ (x : Bor A). x.now) xs) refl) ∙ ap (list_any p) same
-
-one_field : (name : List ℕ) (field : List ℕ × List ℕ) (t : Bool) → str_eq_ignore_ascii_case field.0 name ≡ t
-    → values_among name (field ∷ []) ≡ (if t then field.1 ∷ [] else [])
-one_field name field true is = rw is refl
-one_field name field false is = rw is refl
-
-pub values_more : {S : Type 0} (name : List ℕ) (f : S → List ℕ × List ℕ) (spans : List S) (i : ℕ) (d : S) (t : Bool) → i < length spans
-    → str_eq_ignore_ascii_case (f (get_or spans i d)).0 name ≡ t
-    → values_among name (map f (take (i + 1) spans)) ≡ values_among name (map f (take i spans)) ++ (if t then (f (get_or spans i d)).1 ∷ [] else [])
-values_more {S} name f spans i d t within is =
-    let named = λ (field : List ℕ × List ℕ). str_eq_ignore_ascii_case field.0 name in
-    ap (λ (some : List S). values_among name (map f some)) (take_more spans i d within)
-    ∙ ap (values_among name) (map-append f (take i spans) (get_or spans i d ∷ []))
-    ∙ ap (map (λ (field : List ℕ × List ℕ). field.1)) (filter-append named (map f (take i spans)) (f (get_or spans i d) ∷ []))
-    ∙ map-append (λ (field : List ℕ × List ℕ). field.1) (filter named (map f (take i spans))) (filter named (f (get_or spans i d) ∷ []))
-    ∙ ap (λ (last : List (List ℕ)). values_among name (map f (take i spans)) ++ last) (one_field name (f (get_or spans i d)) t is)
 
 -- what from_utf8 answers is the test
 pub utf8_test : {B E : Type 0} (now : B → List ℕ) (bytes : List ℕ) (P : E → Type 0) (r : Result B E)

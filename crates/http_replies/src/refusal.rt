@@ -1,6 +1,6 @@
-/// The most bytes that the body of a reply may have.
 use thiserror::Error;
 
+/// The most bytes that the body of a reply may have.
 pub const MAX_REPLY: u64 = 67_108_864;
 
 /// Why the head of a response is refused.

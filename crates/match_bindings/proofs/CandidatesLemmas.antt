@@ -78,14 +78,6 @@ above o w k (suc n) i h =
     let rest : count (One i) (one_trees o w k n) ≡ 0 = above o w k n i (omega arith) in
     rw (other, none) (omega (arith, rest)))
 
-below : (o : Observed) (w : Bounds) (k i : ℕ) → count (One 0) (one_trees o w k i) ≡ 0
-below o w k zero = refl
-below o w k (suc n) =
-    count_more o w k n (One 0)
-    ∙ (let other : nat_eq 0 (suc n) ≡ false = ne_eqb 0 (suc n) (λ e. omega arith) in
-    let none = and_no (here o w k (suc n)) in
-    rw (other, none) (omega (arith, below o w k n)))
-
 inside : (o : Observed) (w : Bounds) (k n i : ℕ) → 0 < i → i ≤ n → count (One i) (one_trees o w k n) ≡ bit (here o w k i)
 inside o w k zero i a b = absurd (omega arith)
 inside o w k (suc n) i a b = count_more o w k n (One i) ∙ by_test (λ b. inside o w k n i a b) (nat_eq i (suc n)) refl where

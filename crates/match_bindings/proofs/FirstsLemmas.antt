@@ -1,5 +1,5 @@
 -- What is true of a tree under some Firsts, by that tree.
-use Rattle.std.proofs.Common.{◌≡◌, ℕ, zero, suc, ◌+◌, ◌-◌, ◌<◌, List, ◌∷◌, ◌++◌, refl, sym, ◌∙◌, ap, arith, append_assoc, append-nil, ◌⊎◌, inl, inr}
+use Rattle.std.proofs.Common.{◌≡◌, ℕ, zero, suc, ◌+◌, List, ◌∷◌, ◌++◌, refl, sym, ◌∙◌, ap, arith, append_assoc, append-nil, ◌⊎◌, inl, inr}
 use Rattle.std.specs.Prelude.{replicate, codes}
 use Rattle.std.specs.List.{repeat}
 use Rattle.std.specs.Rc.{rc_value}
@@ -26,10 +26,6 @@ pub run_longer : (count more : ℕ) (x : BindTree) → First (firsts (more + cou
 run_longer count more x =
     ap First ((let e : more + count ≡ count + more = omega arith in ap (λ k. firsts k x) e) ∙ firsts_add count more x)
     ∙ sym (firsts_first count (firsts more x))
-
-pub firsts_less : (n : ℕ) (x : BindTree) → 0 < n → First (firsts (n - 1) x) ≡ firsts n x
-firsts_less zero x h = absurd (omega arith)
-firsts_less (suc n) x h = let e : suc n - 1 ≡ n = omega arith in ap (λ k. First (firsts k x)) e
 
 pub has_firsts : (m n : ℕ) (x : BindTree) → has m (firsts n x) ≡ has m x
 has_firsts m zero x = refl

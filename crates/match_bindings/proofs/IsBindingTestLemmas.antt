@@ -1,5 +1,5 @@
 -- The test of a bind, step by step.
-use Rattle.std.proofs.Common.{◌≡◌, ℕ, zero, suc, ◌+◌, ◌<◌, ◌≤◌, ℤ, List, [], ◌∷◌, ◌++◌, length, take, drop, get_or, drop-cons, refl, sym, ◌∙◌, ap, subst, arith}
+use Rattle.std.proofs.Common.{◌≡◌, ℕ, zero, suc, ◌+◌, ◌<◌, ◌≤◌, List, [], ◌∷◌, ◌++◌, length, take, drop, get_or, drop-cons, refl, sym, ◌∙◌, ap, arith}
 use Rattle.std.specs.Prelude.{Bool, true, false, ◌&&◌, nat_lt, map, Some, None, slice_get}
 use Rattle.std.proofs.lemmas.Bool.{and_parts}
 use Rattle.std.proofs.lemmas.Option.{cond_some, none-some, same_Some}
@@ -9,12 +9,12 @@ use Rattle.match_bindings.specs.declared.span.Span.{Span}
 use Rattle.match_bindings.specs.declared.bind.Bind.{Bind}
 use Rattle.match_bindings.specs.declared.join.Join.TheVariants as join
 use Rattle.match_bindings.specs.NumberedPattern.{NumberedPattern, Leaf, Both, Then, Either, Within, Between, Repeats}
-use Rattle.match_bindings.specs.BindTree.{tree_of, BindTree, One, Pair, Single, More, disjoint, greatest, more_of, many_of}
+use Rattle.match_bindings.specs.BindTree.{tree_of, BindTree, Pair, Single, More, disjoint, greatest, more_of, many_of}
 use Rattle.match_bindings.specs.Log.{Observed}
 use Rattle.match_bindings.specs.Test.{is_binding, are_repeats}
-use Rattle.match_bindings.specs.inner.Kinds.{is_one, is_pair}
+use Rattle.match_bindings.specs.inner.Kinds.{is_pair}
 use Rattle.match_bindings.proofs.PartsLemmas.{go_on}
-use Rattle.match_bindings.specs.inner.Candidates.{span_of, span_if, joined_span, admits, judged, lies_between}
+use Rattle.match_bindings.specs.inner.Candidates.{span_of, span_if, joined_span, admits, judged}
 use Rattle.match_bindings.proofs.ManyLemmas.{of_many, many_last}
 use Rattle.match_bindings.proofs.ListLemmas.{map_append}
 
@@ -27,10 +27,6 @@ size (Either p q) = size p + size q + 1
 size (Within p x) = size p + 1
 size (Between p x y) = size p + 1
 size (Repeats p n) = size p + 1
-
-pub no_one : (o : Observed) (k : ℕ) (x : BindTree) → is_one x ≡ false → is_binding o (Leaf k) x ≡ false
-no_one o k (One n) h = absurd (cc)
-no_one o k x h = refl
 
 pub no_pair : (o : Observed) (p q : NumberedPattern) (x : BindTree) → is_pair x ≡ false → is_binding o (Both p q) x ≡ false
 no_pair o p q (Pair a b) h = absurd (cc)
@@ -79,13 +75,6 @@ sides_pass o p q a b x s t d e h k apart =
     let yes_right = right.0 in
     rw (apart, ← left.1, ← right.1, e, yes_left, yes_right) (refl, refl)
 
-pub judged_between : (o : Observed) (p : NumberedPattern) (x : BindTree) (start stop : ℤ) (s : Span) → judged o p x ≡ Some s →
-    span_if (lies_between start stop s) s ≡ judged o (Between p start stop) x
-judged_between o p x start stop s h =
-    let parts = passed (is_binding o p x) (span_of o x) s h in
-    let yes_it_is = parts.0 in
-    subst (λ (s : Span). span_if (lies_between start stop s) s ≡ judged o (Between p start stop) x) parts.1 (rw yes_it_is refl)
-
 -- how many parts a chain has
 abbrev parts_in : BindTree → ℕ
 parts_in (Single a) = 1
@@ -113,10 +102,6 @@ wrong_count f n xs h = by_test (are_repeats f n (many_of xs)) refl where
   by_test : (b : Bool) → are_repeats f n (many_of xs) ≡ b → are_repeats f n (many_of xs) ≡ false
   by_test true e = absurd (h (sym (many_parts xs) ∙ counted f n (many_of xs) e))
   by_test false e = e
-
-and_and : (p q r : Bool) → ((p && q) && r) ≡ (p && (q && r))
-and_and true q r = refl
-and_and false q r = refl
 
 and_one : (p : Bool) → p ≡ (p && true)
 and_one true = refl

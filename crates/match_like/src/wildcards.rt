@@ -6,9 +6,6 @@ ghost use Rattle.match_like.specs.inner.Pieces.{Lacks, StandsBehind};
 
 use memchr::memchr;
 
-/// Any run of characters, also an empty one.
-pub(crate) const ANY_RUN: char = '%';
-
 /// Any one character.
 pub(crate) const ANY_ONE: char = '_';
 

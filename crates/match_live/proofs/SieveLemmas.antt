@@ -1,13 +1,11 @@
 -- What is joined in vain adds nothing that is wanted.
-use Rattle.std.proofs.Common.{◌≡◌, ℕ, zero, suc, ◌+◌, ◌-◌, ◌≤◌, ◌<◌, ℤ, ◌≤ℤ◌, List, [], ◌∷◌, ◌++◌, length, get_or, take, refl, sym, ◌∙◌, ap, subst, arith, append-nil, length-append, inl, inr}
+use Rattle.std.proofs.Common.{◌≡◌, ℕ, zero, suc, ◌+◌, ◌-◌, ◌≤◌, ◌<◌, ℤ, List, [], ◌∷◌, ◌++◌, length, get_or, take, refl, sym, ◌∙◌, ap, subst, arith, append-nil, length-append, inl, inr}
 use Rattle.std.specs.Prelude.{Bool, true, false, Option, nat_eq, filter, slice_index_or}
-use Rattle.std.specs.Int.{int_min}
 use Rattle.std.specs.List.{AllWithin, Contains, list_any}
 use Rattle.std.specs.List.Sorted.{IsNonDecreasing}
 use Rattle.std.proofs.lemmas.Bool.{and_parts, cases_order, eqb-true}
 use Rattle.std.proofs.lemmas.List.Elements.{All-contains, All-contains_itself, All-filter, filter_passes}
 use Rattle.std.proofs.lemmas.Map.Views.{Contains-from_any}
-use Rattle.std.proofs.lemmas.Int.{ints, clamps}
 use Rattle.std.proofs.lemmas.List.{length-map, get_or_default}
 use Rattle.match_bindings.specs.BindTree.{has, disjoint}
 use Rattle.match_live.specs.declared.join.Join.{Join}
@@ -25,23 +23,9 @@ use Rattle.match_live.specs.inner.Wanted.{Ahead, is_wanted, wanted}
 use Rattle.match_live.proofs.LivesLemmas.{le_trans}
 use Rattle.match_live.proofs.NumberLemmas.{apart}
 use Rattle.match_live.proofs.OldestLemmas.{next_taken}
-use Rattle.match_live.proofs.SinceLemmas.{since_later}
 use Rattle.match_live.proofs.WantedLemmas.{row_append, row_part}
 
 -- ---- pairs in vain
-
-min_right : (a b : ℤ) → int_min a b ≤ℤ b
-min_right a b = omega (arith, ints, clamps)
-
-not_covered : (since : Option ℤ) (a b : ℤ) (c : Bool) → covers since b ≡ c → a ≤ℤ b → covers since b ≡ false → covers since a ≡ false
-not_covered since a b c is h early = by (covers since a) refl where
-  by : (d : Bool) → covers since a ≡ d → covers since a ≡ false
-  by false e = e
-  by true e = absurd (let f : false ≡ true = sym early ∙ since_later since a b h e in cc)
-
--- where the second thing begins before
-pub second_early : (since : Option ℤ) (j : Join) (x y : PieceTree) → covers since y.earliest ≡ false → BeginsEarly since j x y
-second_early since j x y early = λ may. not_covered since (int_min x.earliest y.earliest) y.earliest false early (min_right x.earliest y.earliest) early
 
 -- where the two share a number
 may_be_apart : (j : Join) (x y : PieceTree) → may_join j x y ≡ true → disjoint x.tree y.tree ≡ true
@@ -65,10 +49,6 @@ pair_vain now ahead since j x y all early = by (may_join j x y) refl where
   by : (b : Bool) → may_join j x y ≡ b → wanted now ahead (join_row j x (y ∷ [])) ≡ []
   by false is = rw is refl
   by true is = rw is (let out : is_wanted now ahead (joined j x y) ≡ false = not_wanted (is_wanted now ahead (joined j x y)) refl is in rw out refl)
-
--- a pair that is joined
-pub pair_joined : (j : Join) (x y : PieceTree) → may_join j x y ≡ true → join_row j x (y ∷ []) ≡ joined j x y ∷ []
-pair_joined j x y may = rw may refl
 
 -- ---- a row of a join, a pair at a time
 

@@ -271,20 +271,6 @@ module _ (bundle : BundleOf) (run after : Progress) (pending : List ℕ) (first 
       let end = ends log answers b in (end.0, end.1, way-written end.0 pending first written written_after end.2 is)
   batch-end NoMemory written_after ends uncut is log answers b = absurd (uncut (inl refl))
 
-  -- and where nothing more is
-  pub batch-stopped : (end : MatchEnd) → StopsAtOne bundle.objects bundle.observations run after.matcher pending first written end → HasCutLines (Err end)
-      → StopsInBundle bundle run after.matcher first written end
-  batch-stopped (Done seen bindings last) ends cut log answers b = absurd (ends log answers b)
-  batch-stopped (Input line why) ends cut log answers b = absurd (ends log answers b)
-  batch-stopped ReadFault ends cut log answers b = absurd (ends log answers b)
-  batch-stopped WriteFault ends cut log answers b = ends log answers b
-  batch-stopped (Crowded number named) ends cut log answers b = absurd (none cut)
-    where
-      none : ¬ HasCutLines (Err (Crowded number named))
-      none (inl is) = cc
-      none (inr is) = cc
-  batch-stopped NoMemory ends cut log answers b = ends log answers b
-
   -- the same of an answer
   pub batch-ends : (answer : Result (Unit {0}) MatchEnd) (written_after : Option (List ℕ))
       → IfErr answer (StopsAtOne bundle.objects bundle.observations run after.matcher pending first written) → ¬ HasCutLines answer

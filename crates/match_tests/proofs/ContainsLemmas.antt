@@ -58,9 +58,3 @@ module _ {A : Type 0} (xs : List A) (i : ℕ) where
 
   pub drop_whole : length xs ≤ i → drop i xs ≡ []
   drop_whole end = drop_of_length-le xs end
-
--- the element at a place within a list
-pub item_at : {A : Type 0} (xs : List A) (i : ℕ) → i < length xs → (x : A) × (x ≡ get_or xs i x)
-item_at [] i below = absurd (omega (arith, below))
-item_at (x ∷ xs) zero below = (x, refl)
-item_at (x ∷ xs) (suc i) below = item_at xs i (omega (arith, below))

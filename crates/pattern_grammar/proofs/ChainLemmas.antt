@@ -4,8 +4,8 @@ use Rattle.pattern_tokens.specs.declared.token.Token.{Token}
 use Rattle.pattern_grammar.specs.declared.class.TokenClass.{TokenClass}
 use Rattle.pattern_grammar.specs.TokenClass.{IsA}
 use Rattle.pattern_grammar.specs.inner.Machine.{Want, WantedLine, line, Tail, tail, opening, next}
-use Rattle.pattern_grammar.specs.inner.Machine.{BeginsLine, Lacks, Leads, Found, Stuck, done, open_for}
-use Rattle.pattern_grammar.proofs.LeadsLemmas.{leads_then, halts_then, leads_before, halts_before, leads_token, leads_past}
+use Rattle.pattern_grammar.specs.inner.Machine.{BeginsLine, Leads, Found, Stuck, done, open_for}
+use Rattle.pattern_grammar.proofs.LeadsLemmas.{leads_then, halts_then, leads_before, halts_before, leads_token}
 use Rattle.pattern_grammar.proofs.CompletionLemmas.{front_behind}
 
 pub joined : {ts rest r1 : List Token} (read more r2 : List Token) (o : Token) → ts ≡ read ++ rest → rest ≡ o ∷ r1 → r1 ≡ more ++ r2 → ts ≡ (read ++ o ∷ more) ++ r2
@@ -17,10 +17,6 @@ joined_to read more r2 a c = a ∙ ap (λ r. read ++ r) c ∙ sym (append_assoc 
 -- where the rest is put otherwise
 pub leads_at : {f g : List Want → List Want} {x r : List Token} (q : List Token) → r ≡ q → Leads f g x r → Leads f g x q
 leads_at {f} {g} {x} q e a = subst (λ (u : List Token). Leads f g x u) e a
-
--- no further turn follows
-pub found_last : {V : Type 0} {Spells : List Token → V → Type 0} {before : List Want → List Want} (t : Tail) {ts rest : List Token} {v : V} → Found Spells before (open_for t) ts v rest → Lacks (opening t) rest → Found Spells before done ts v rest
-found_last t {rest = rest} f h = record { read = f.read; all_are = f.all_are; spells = f.spells; leads = record { go_on = λ k. f.leads.go_on k ∙ (leads_past t rest h).go_on k } }
 
 -- a chain of links: its relation and its link's, the link's first want, the tail, and how values are joined
 pub record Chain {V : Type 0} (IsChain IsLink : List Token → V → Type 0) (link : List Want → List Want) (t : Tail) (join : V → V → V) : Type 0 where

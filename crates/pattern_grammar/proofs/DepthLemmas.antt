@@ -45,9 +45,6 @@ none_more ts last none few before token after e h = nowhere (standing ts last be
 pub none_nothing : NoneTooMany []
 none_nothing before token after e h = let n = ap length e in absurd (omega (arith, n, length-append before (token ∷ after)))
 
-pub none_shallow : (ts : List Token) → NoneTooMany ts → IsShallow ts
-none_shallow ts none before token after e h = absurd (none before token after e h)
-
 -- the tokens through the first that is one too many
 pub through_shallow : {ts : List Token} (first : FirstTooMany ts) → IsShallow (first.before ++ first.token ∷ [])
 through_shallow first before token after e h = last (standing first.before first.token before token after e)

@@ -1,9 +1,8 @@
 -- The steps of reading a test.
-use Rattle.std.proofs.Common.{◌≡◌, Bool, true, false, ◌+◌, List, [], ◌∷◌, ◌++◌, Some, refl, ap, ◌∙◌, append_assoc, ◌≤◌, length, length-append, arith}
+use Rattle.std.proofs.Common.{◌≡◌, Bool, true, false, List, [], ◌∷◌, ◌++◌, Some, refl, ap, ◌∙◌, append_assoc}
 use Rattle.pattern_tokens.specs.declared.token.Token.{Token}
 use Rattle.pattern_tokens.specs.declared.token.TokenKind.{TokenKind}
 use Rattle.pattern_tokens.specs.declared.token.TokenKind.TheVariants as kind
-use Rattle.pattern_grammar.specs.declared.class.TokenClass.{TokenClass}
 use Rattle.pattern_grammar.specs.declared.class.TokenClass.TheVariants.{Only}
 use Rattle.pattern_grammar.specs.declared.comparison.CheckTree.{CheckTree}
 use Rattle.pattern_grammar.specs.declared.comparison.CheckTree.TheVariants as check_tree
@@ -165,10 +164,3 @@ cand_chain = record { one = λ ts v x. cand_one x; more = λ a b o v w x h y. ca
 
 pub cor_chain : Chain IsCor IsCand (λ k. line test ∷ tail cands ∷ k) cors any
 cor_chain = record { one = λ ts v x. cor_one x; more = λ a b o v w x h y. cor_more o x h y; again = λ o k h. rw h refl }
-
--- what was read is gone
-pub found_no_longer : {V : Type 0} {Spells : List Token → V → Type 0} {before after : List Want → List Want} {ts rest : List Token} {v : V} → Found Spells before after ts v rest → length rest ≤ length ts
-found_no_longer {rest = rest} f = omega (arith, ap length f.all_are, length-append f.read rest)
-
-pub begins_shorter : {class : TokenClass} {token : Token} {ts rest : List Token} → BeginsLine class token ts rest → length rest + 1 ≡ length ts
-begins_shorter b = omega (arith, ap length b.all_are)

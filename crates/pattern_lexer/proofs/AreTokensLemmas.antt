@@ -1,6 +1,6 @@
 -- Tokens that stand one after another in a text, up to a place.
-use Rattle.std.proofs.Common.{◌≡◌, ◌↔◌, ℕ, Bool, false, IsTrue, ◌+◌, ◌-◌, ◌<◌, ◌≤◌, inl, inr, List, [], ◌∷◌, ◌++◌, length, take, drop, All, IsUtf8, slice_range, refl, sym, ap, ◌∙◌, subst, arith, append_assoc, length-append, length-drop, length-take-le, take-append-drop, append-nil}
-use Rattle.std.proofs.lemmas.List.{drop-drop, drop_at, drop_all, take_at}
+use Rattle.std.proofs.Common.{◌≡◌, ◌↔◌, ℕ, Bool, false, IsTrue, ◌+◌, ◌-◌, ◌<◌, ◌≤◌, inl, inr, List, [], ◌∷◌, ◌++◌, length, take, drop, All, IsUtf8, slice_range, refl, sym, ap, ◌∙◌, subst, arith, append_assoc, length-append, length-drop, length-take-le, take-append-drop}
+use Rattle.std.proofs.lemmas.List.{drop-drop, drop_at, take_at}
 use Rattle.std.proofs.lemmas.Bool.{false≢true}
 use Rattle.std.proofs.lemmas.Slice.{between_to_end}
 use Rattle.pattern_tokens.specs.declared.token.Token.{Token}
@@ -11,7 +11,7 @@ use Rattle.pattern_tokens.specs.declared.refusal.TokenRefusal.{TokenRefusal}
 use Rattle.pattern_tokens.specs.Word.{HasAt}
 use Rattle.pattern_tokens.specs.Spans.{IsCut, text_at}
 use Rattle.pattern_tokens.specs.Values.{HasValue}
-use Rattle.pattern_lexer.specs.Reading.{IsBlank, IsFirst, RunsOn, IsLeftOut, IsUsable, IsNext, AreTokens, TokensOf, IsRefusalAt, HasRefusal}
+use Rattle.pattern_lexer.specs.Reading.{IsBlank, IsFirst, RunsOn, IsLeftOut, IsUsable, IsNext, AreTokens, IsRefusalAt, HasRefusal}
 use Rattle.pattern_lexer.specs.inner.Steps.{IsRun, BeginsToken, ArePassed, StandsAt, ReadUpTo, worthless_refusal}
 use Rattle.pattern_lexer.proofs.TokenEdgeLemmas.{cuts, token_edges}
 
@@ -172,15 +172,6 @@ read_one text tokens at next token read stands p = record {
   blank = p.blank;
   ends = p.ends;
 }
-
-pub read_all : (text : List ℕ) (tokens : List Token) (at : ℕ) → length text ≤ at → ReadUpTo text tokens at → TokensOf text tokens
-read_all text tokens at over read =
-    let left : read.blanks ++ drop at text ≡ read.blanks = ap (λ (xs : List ℕ). read.blanks ++ xs) (drop_all at text over) ∙ append-nil read.blanks in
-    record {
-      rest = read.blanks ++ drop at text;
-      stand = read.stand;
-      blank = subst (λ (xs : List ℕ). All IsBlank xs) (sym left) read.blank;
-    }
 
 not_blank : (rest : List ℕ) → 0 < length rest → ¬ HasAt 0 IsBlank rest → HasAt 0 (λ c. ¬ IsBlank c) rest
 not_blank [] l none = absurd (omega arith)

@@ -62,9 +62,6 @@ pub record ReadInside (inside rest : List ℕ) : Type 0 where
   pub words : List ℕ
   pub is : inside ≡ flat_map escaped words ++ rest
 
-pub nothing_read : (inside : List ℕ) → ReadInside inside inside
-nothing_read inside = record { words = []; is = refl }
-
 push : (inside words rest more : List ℕ) (c : ℕ) → inside ≡ flat_map escaped words ++ rest → rest ≡ escaped c ++ more → ReadInside inside more
 push inside words rest more c e f = record {
   words = words ++ c ∷ [];
@@ -91,10 +88,6 @@ pub special_read : (inside rest after more : List ℕ) (c d : ℕ) → ReadInsid
 special_read inside rest after more c d read e p f s =
     let g : rest ≡ 92 ∷ c ∷ more = cc in
     push inside read.words rest more c read.is (g ∙ behind (special c) c more (special_is c s))
-
--- the end
-pub end_read : (inside rest after : List ℕ) (d : ℕ) → ReadInside inside rest → rest ≡ d ∷ after → d ≡ 39 → (words : List ℕ) × (inside ≡ flat_map escaped words ++ 39 ∷ after)
-end_read inside rest after d read e p = (read.words, read.is ∙ ap (λ (l : List ℕ). flat_map escaped read.words ++ l) (let g : rest ≡ 39 ∷ after = cc in g))
 
 empty_by : (b : Bool) (c : ℕ) (cs : List ℕ) → [] ≡ spelled b c cs → ⊥
 empty_by true c cs e = absurd (cc)

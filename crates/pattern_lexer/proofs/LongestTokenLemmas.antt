@@ -248,14 +248,6 @@ no_mark_by whole more text after c w start single none e (of_words words h) = le
 pub no_mark : (whole more : List ℕ) (c : ℕ) → whole ≡ c ∷ more → StartsAsMark whole → single_kind c ≡ None → ((after : List ℕ) → IsSome (double_kind c) → more ≢ 61 ∷ after) → HasNoToken whole
 no_mark whole more c w start single none kind text after e token = no_mark_by whole more text after c w (mark_start whole c more w start) single none e (shape kind text token)
 
-nothing_by : (text : List ℕ) → Shape text → text ≡ [] → ⊥
-nothing_by text s e = let P : List ℕ → Type 0 = λ l. HasAt 0 (Starts (lead_of s)) l in subst P e (lead_there text s)
-
--- nothing has no token
-pub nothing_first : (whole : List ℕ) → whole ≡ [] → HasNoToken whole
-nothing_first whole w kind [] after e token = nothing_by [] (shape kind [] token) refl
-nothing_first whole w kind (c ∷ text) after e token = let h : [] ≡ c ∷ (text ++ after) = sym w ∙ e in absurd (cc)
-
 -- texts in quotes
 words_spelled : (words more : List ℕ) → (39 ∷ (flat_map escaped words ++ 39 ∷ [])) ++ more ≡ 39 ∷ (flat_map escaped words ++ 39 ∷ more)
 words_spelled words more = append_assoc (39 ∷ flat_map escaped words) (39 ∷ []) more

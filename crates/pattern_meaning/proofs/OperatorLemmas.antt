@@ -1,10 +1,9 @@
 -- Chains of an operator on observations.
 use Rattle.std.proofs.Common.{◌≡◌, ℕ, ◌+◌, List, [], ◌∷◌, ◌++◌, map, take, rules, Result, Ok, Err, IfOk, Option, Box, Global}
-use Rattle.pattern_grammar.specs.declared.comparison.ComparisonTree.{ComparisonTree}
 use Rattle.pattern_grammar.specs.declared.qualifier.Qualifier.{Qualifier}
 use Rattle.pattern_grammar.specs.declared.pattern.PatternTree.{PatternTree, the_lemmas}
 use Rattle.pattern_grammar.specs.declared.pattern.PatternTree.TheVariants as tree
-use Rattle.pattern_grammar.specs.Tree.{Tree, joined, shape, compared, leaf, both, either, followed, qualified}
+use Rattle.pattern_grammar.specs.Tree.{Tree, joined, shape, both, either, followed, qualified}
 use Rattle.pattern_meaning.specs.declared.narrow_pattern.Operator.{Operator}
 use Rattle.pattern_meaning.specs.declared.narrow_pattern.NarrowPattern.{NarrowPattern}
 use Rattle.pattern_meaning.specs.declared.refusal.ValueRefusal.{ValueRefusal}
@@ -26,9 +25,6 @@ applied o text p t xs a (Ok found) e x h = rw e (h p x)
 applied o text p t xs a (Err f) e x h = tt
 
 -- the tree of a node from those of its parts
-pub shape_leaf : (c : ComparisonTree) → shape (tree.Leaf c) ≡ leaf (compared c)
-shape_leaf c = search (rules, the_lemmas)
-
 pub shape_both : (b : Box PatternTree Global) (xs : List PatternTree) → shape (tree.Both b xs) ≡ joined both (shape b.value) (map shape xs)
 shape_both b xs = search (rules, the_lemmas)
 

@@ -1,4 +1,4 @@
--- The observations of a bundle: its observed-data objects (STIX 2.1, section 4.13) in the order in which they were last
+-- The observations of a bundle: its observed-data objects (STIX 2.1, section 4.14) in the order in which they were last
 -- observed, numbered one after another.
 use Rattle.std.specs.Prelude.{◌≡◌, ◌⊎◌, ℕ, ◌+◌, ◌<◌, ◌<ℤ◌, List, [], ◌∷◌, ◌++◌, map, filter_map, count_by, Bool, false, Option, Some, IsSome, slice_get, option_and_then, option_to_list, bytes_eq, codes}
 use Rattle.std.specs.Option.{option_map_or}

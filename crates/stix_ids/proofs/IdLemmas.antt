@@ -1,7 +1,6 @@
 -- A text is cut in one way, so it names one identifier or has one refusal.
-use Rattle.std.proofs.Common.{◌≡◌, ◌≢◌, ℕ, ◌+◌, ◌-◌, List, ◌∷◌, length, take, drop, refl, sym, ap, ◌∙◌, subst, arith, length-append}
+use Rattle.std.proofs.Common.{◌≡◌, ◌≢◌, ℕ, ◌+◌, List, ◌∷◌, length, take, drop, refl, sym, ap, ◌∙◌, subst, arith, length-append}
 use Rattle.std.proofs.lemmas.List.{take_at, drop_at}
-use Rattle.std.specs.List.{slice_range}
 use Rattle.stix_ids.specs.declared.id.Id.{Id}
 use Rattle.stix_ids.specs.declared.refusal.IdRefusal.{IdRefusal}
 use Rattle.stix_ids.specs.declared.refusal.IdRefusal.TheVariants.{NoMark, BadUuid, BadKind, NoMemory}
@@ -25,12 +24,6 @@ same_last : (s f l g m : List ℕ) → IsCut s f l → IsCut s g m → l ≡ m
 same_last s f l g m c d =
     let same : length g ≡ length f = omega (arith, cut_place s f l c, cut_place s g m d) in
     ap (drop 2) (sym (drop_at f (45 ∷ 45 ∷ l) (length f) refl) ∙ ap (drop (length f)) (sym c.parts ∙ d.parts) ∙ drop_at g (45 ∷ 45 ∷ m) (length f) same)
-
--- the part of a text that is its front
-pub front_of_cut : (s f l : List ℕ) → IsCut s f l → slice_range s 0 (length f) ≡ f
-front_of_cut s f l c =
-    let whole : length f - 0 ≡ length f = omega arith in
-    ap (λ n. take n s) whole ∙ ap (take (length f)) c.parts ∙ take_at f (45 ∷ 45 ∷ l) (length f) refl
 
 -- a text is that of one identifier
 id_with : List ℕ → ℕ → Id

@@ -33,7 +33,7 @@ pub(crate) fn read_number(bytes: &[u8]) -> Option<u128>
 }
 
 /// Writes the number as a UUID in hyphenated form, in lower-case digits.
-pub(crate) fn write_number<'b>(number: u128, buffer: &'b mut [u8; 36]) -> &'b str
+pub fn write_uuid<'b>(number: u128, buffer: &'b mut [u8; 36]) -> &'b str
     ensures { result.now ≡ uuid_text number }
 {
     Uuid::from_u128(number)

@@ -2,7 +2,6 @@
 
 ghost use Rattle.std.specs.Prelude.{◌≡◌, ℕ, List};
 ghost use Rattle.stix_ids.specs.declared.id.Id.{Id};
-ghost use Rattle.stix_ids.specs.Kind.{IsLongestKindPrefix};
 ghost use Rattle.stix_ids.specs.Identifier.{IsTextOf, IsCanonicalTextOf};
 ghost use Rattle.stix_ids.specs.Uuid.{IsUuidOf};
 
@@ -27,16 +26,4 @@ pub fn one_canonical_text()
 /// The canonical text of an identifier reads as that identifier.
 pub fn written_reads_back()
     ensures { (id : Id) (text : List ℕ) → IsCanonicalTextOf text id → IsTextOf text id }
-{}
-
-/// The canonical texts of two identifiers differ: one text is that of one identifier.
-pub fn different_texts()
-    ensures { (text : List ℕ) (first second : Id) → IsCanonicalTextOf text first
-        → IsCanonicalTextOf text second → first ≡ second }
-{}
-
-/// A text has one longest prefix that begins a kind.
-pub fn one_place()
-    ensures { (text : List ℕ) (first second : ℕ) → IsLongestKindPrefix text first
-        → IsLongestKindPrefix text second → first ≡ second }
 {}

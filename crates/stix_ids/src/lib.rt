@@ -13,7 +13,7 @@ mod reading;
 mod refusal;
 mod writing;
 
-pub use hyphenated::read_uuid;
+pub use hyphenated::{read_uuid, write_uuid};
 pub use id::Id;
 pub use kind::read_kind;
 pub use parts::Parts;

@@ -3,7 +3,7 @@ ghost use Rattle.stix_ids.specs.Kind.{IsKind};
 ghost use Rattle.stix_ids.specs.Identifier.{IsCanonicalTextOf};
 
 use crate::Id;
-use crate::hyphenated::write_number;
+use crate::hyphenated::write_uuid;
 use crate::parts::MARKED_LENGTH;
 use flow_values::{NoMemory, Text};
 use std::alloc::Global;
@@ -15,7 +15,7 @@ pub fn write_id(alloc: Global, id: &Id) -> Result<Text, NoMemory>
 {
     let kind = id.kind.as_str();
     let mut buffer = [0; 36];
-    let uuid = write_number(id.number, &mut buffer);
+    let uuid = write_uuid(id.number, &mut buffer);
     let mut text = String::with_capacity(alloc, kind.len() + MARKED_LENGTH)?;
     text.push_str(kind)?;
     text.push_str("--")?;

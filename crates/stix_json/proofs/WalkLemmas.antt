@@ -38,10 +38,6 @@ or_again : (a b c : Option JsonRefusal) → option_or a (option_or b c) ≡ opti
 or_again None b c = refl
 or_again (Some x) b c = refl
 
-or_none : (a : Option JsonRefusal) → option_or a None ≡ a
-or_none None = refl
-or_none (Some x) = refl
-
 first_told_append : (tell : Visit → Option JsonRefusal) (xs ys : List Visit) → first_told tell (xs ++ ys) ≡ option_or (first_told tell xs) (first_told tell ys)
 first_told_append tell [] ys = refl
 first_told_append tell (x ∷ xs) ys = ap (option_or (tell x)) (first_told_append tell xs ys) ∙ or_again (tell x) (first_told tell xs) (first_told tell ys)
@@ -153,10 +149,6 @@ some_path (Some place) later path is = let e : path_of place ≡ path = cc in ap
 
 pub deep_refused : (d : Data) (path : List ℕ) → Some path ≡ option_map path_of (too_deep MAX_LEVELS d) → refusal_of d ≡ Some (TooDeep path)
 deep_refused d path is = refusal_found d ∙ some_path (too_deep MAX_LEVELS d) (option_map (flaw_placed []) (first_flaw d)) path is
-
-pub not_deep : (found : Option Place) → None ≡ option_map path_of found → found ≡ None
-not_deep None is = refl
-not_deep (Some place) is = absurd (cc)
 
 pub nothing_refused : (d : Data) → too_deep MAX_LEVELS d ≡ None → first_flaw d ≡ None → refusal_of d ≡ None
 nothing_refused d shallow good = refusal_found d ∙ rw (shallow, good) refl

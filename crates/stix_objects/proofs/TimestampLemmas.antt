@@ -54,13 +54,6 @@ names_none s e answer only is other i h =
 pub never_there : (i : ℤ) → None ≡ Some i → ⊥
 never_there i is = cc
 
--- the order of the instants that are there is that of those that are named
-pub earlier_of : (from begins to ends : ℤ) → Some begins ≡ Some from → Some ends ≡ Some to → to <ℤ from → ends <ℤ begins
-earlier_of from begins to ends first second earlier =
-    let same : begins ≡ from = cc in
-    let same_end : ends ≡ to = cc in
-    rw (same, same_end) earlier
-
 pub not_before : (from to : ℤ) (b : Bool) → (IsTrue b ↔ (from <ℤ to)) → not b ≡ true → to ≤ℤ from
 not_before from to b tells other = by_lt_z from to (λ earlier. let is : b ≡ true = tells.1 earlier in absurd (both other is)) (λ later. later)
   where

@@ -3,7 +3,7 @@ use Rattle.std.proofs.Common.{◌≡◌, ◌≢◌, ℕ, zero, suc, ◌/◌, ◌
 use Rattle.std.specs.Char.{IsAsciiDigit, digit_value}
 use Rattle.std.specs.Str.Parse.{digits_value, digits_value_after}
 use Rattle.stix_times.proofs.ShapeLemmas.{all_cons}
-use Rattle.stix_times.specs.Timestamp.{fraction_text, fraction_nanos}
+use Rattle.stix_times.specs.Timestamp.{fraction_nanos}
 use Rattle.stix_times.specs.Digits.{digits_text, EndsInZero}
 use Rattle.std.proofs.lemmas.Int.Digits.{digits_value_more, digits_value_push}
 use Rattle.std.proofs.lemmas.Bool.Decides.{nat_tests}
@@ -70,15 +70,6 @@ next_rest n place scale rest l e = mod-lt rest (scale_positive n place scale l e
 pub length-digits_text : (n value : ℕ) → length (digits_text n value) ≡ n
 length-digits_text zero value = refl
 length-digits_text (suc n) value = ap suc (length-digits_text n (value % 10 ^ n))
-
--- a dot stands before one digit or more
-pub fraction_text-some : (n value : ℕ) → 0 < n → fraction_text (digits_text n value) ≡ 46 ∷ digits_text n value
-fraction_text-some zero value l = absurd (omega arith)
-fraction_text-some (suc n) value l = refl
-
-pub fraction_text-none : (n value : ℕ) → n ≡ 0 → fraction_text (digits_text n value) ≡ []
-fraction_text-none zero value e = refl
-fraction_text-none (suc n) value e = absurd (omega arith)
 
 one_digit_more : (before shown digit rest scale next value : ℕ) → shown ≡ digit → scale * digit + rest ≡ value → next ≡ scale * 10 → (before * 10 + shown) * scale + rest ≡ before * next + value
 one_digit_more before shown digit rest scale next value e f g = rw (e, g) (omega arith)

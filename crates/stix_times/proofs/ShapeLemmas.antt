@@ -5,7 +5,7 @@ use Rattle.std.specs.Char.{IsAsciiDigit}
 use Rattle.std.specs.Int.{IsInRange}
 use Rattle.std.proofs.lemmas.Bool.Decides.{nat_tests}
 use Rattle.std.proofs.lemmas.List.{take_at}
-use Rattle.stix_times.specs.Timestamp.{Timestamp, IsShaped, Spells, text_of, two_digits, fraction_text}
+use Rattle.stix_times.specs.Timestamp.{Timestamp, IsShaped, Spells, text_of, fraction_text}
 use Rattle.stix_times.specs.Places.{fits, bounds_at, fits_fraction, parts_at, AreDigits}
 use Rattle.stix_times.proofs.PlaceLemmas.{AllFit, last_or}
 
@@ -72,12 +72,6 @@ record ArePair (a b low high : ℕ) : Type 0 where
   first : IsAsciiDigit a
   second : IsAsciiDigit b
   range : IsInRange low high (10 * (a - 48) + (b - 48))
-
-two_digits-pair : (a b : ℕ) → IsAsciiDigit a → IsAsciiDigit b → two_digits (10 * (a - 48) + (b - 48)) ≡ a ∷ b ∷ []
-two_digits-pair a b p q =
-    let first : 48 + (10 * (a - 48) + (b - 48)) / 10 ≡ a = omega arith in
-    let second : 48 + (10 * (a - 48) + (b - 48)) % 10 ≡ b = omega arith in
-    cc
 
 century_pair : (p a b : ℕ) → fits 0 p a ≡ true → fits 1 a b ≡ true → ArePair a b 0 99
 unfolding fits bounds_at

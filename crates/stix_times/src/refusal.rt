@@ -1,6 +1,6 @@
-/// Why a text names no instant.
 use thiserror::Error;
 
+/// Why a text names no instant.
 #[derive(Clone, Copy, Debug, PartialEq, Eq, Error)]
 pub enum TimeRefusal {
     /// The text isn't of the shape `YYYY-MM-DDTHH:mm:ssZ`, with `.` and digits before the `Z` or

@@ -53,10 +53,6 @@ pub revoked_unversioned : (objects : List Data) (at : ℕ) (found : Option Versi
 revoked_unversioned objects at None none = λ id m was. none id was.created m was.object was.version
 revoked_unversioned objects at (Some seen) none = none
 
-pub revoked_none : (objects : List Data) (kept : Revoked) → ((q : ℕ) → get nat_cmp kept.groups q ≡ None) → AreRevokedBefore objects 0 kept
-revoked_none objects kept none = λ id group latest.
-    subst (λ (o : Option ℤ). IsRevokedBefore objects 0 id o) (sym (none group)) (λ place m less was. absurd (omega arith))
-
 not_before_itself : (a b : ℤ) → a ≡ b → ¬ (a <ℤ b)
 not_before_itself a b same less = omega (arith, ints, same, less)
 

@@ -1,7 +1,6 @@
 -- When lists, and the values that are made of them, are the same.
-use Rattle.std.proofs.Common.{rules, Bool, IsTrue, ◌↔◌, ◌≡◌, ◌+◌, ◌<◌, ◌≤◌, ◌++◌, ℕ, List, [], ◌∷◌, length, map, take, slice_get, slice_index_or, Option, Some, option_map, sym, ap, refl, ◌∙◌}
-use Rattle.std.proofs.lemmas.Option.{slice_get-map, slice_get_read, get_or_from_slice_get}
-use Rattle.std.proofs.lemmas.List.{take_more, take_all, map-append}
+use Rattle.std.proofs.Common.{rules, Bool, IsTrue, ◌↔◌, ◌≡◌, ◌<◌, ℕ, List, [], ◌∷◌, length, map, slice_get, slice_index_or, Option, Some, option_map, sym, ap, refl, ◌∙◌}
+use Rattle.std.proofs.lemmas.Option.{slice_get-map, slice_get_read}
 use Rattle.serde_json.specs.Data.{Data, array, object}
 use Rattle.serde_json.specs.View.{items_of}
 use Rattle.stix_json.specs.declared.value.Json.{Json, the_lemmas}
@@ -14,18 +13,6 @@ use Rattle.stix_versions.proofs.ItemsLemmas.{data_of-Array}
 read_at : {A : Type 0} (xs : List A) (at : ℕ) (x : A) → at < length xs → x ≡ slice_index_or xs at x → slice_get xs at ≡ Some x
 read_at xs at x inside is = slice_get_read xs (length xs) at x refl inside is
 
-mapped_more : {A B : Type 0} (f : A → B) (xs : List A) (at : ℕ) (x : A) → at < length xs → x ≡ slice_index_or xs at x
-    → map f (take (at + 1) xs) ≡ map f (take at xs) ++ f x ∷ []
-mapped_more f xs at x inside is =
-    ap (map f) (take_more xs at x inside ∙ ap (λ y. take at xs ++ y ∷ []) (get_or_from_slice_get xs at x x (read_at xs at x inside is)))
-    ∙ map-append f (take at xs) (x ∷ [])
-
--- lists whose first items are the same, one item more
-pub same_more : {A B : Type 0} (f : A → B) (xs ys : List A) (at : ℕ) (x y : A) → at < length xs → at < length ys → x ≡ slice_index_or xs at x
-    → y ≡ slice_index_or ys at y → map f (take at xs) ≡ map f (take at ys) → f x ≡ f y → map f (take (at + 1) xs) ≡ map f (take (at + 1) ys)
-same_more f xs ys at x y inside within is also before here =
-    mapped_more f xs at x inside is ∙ ap (λ zs. zs ++ f x ∷ []) before ∙ ap (λ z. map f (take at ys) ++ z ∷ []) here ∙ sym (mapped_more f ys at y within also)
-
 -- the same lists have the same items
 pub same_item : {A B : Type 0} (f : A → B) (xs ys : List A) (at : ℕ) (x y : A) → at < length xs → at < length ys → x ≡ slice_index_or xs at x
     → y ≡ slice_index_or ys at y → map f xs ≡ map f ys → f x ≡ f y
@@ -34,10 +21,6 @@ same_item {A} {B} f xs ys at x y inside within is also same =
     (sym (slice_get-map f xs at ∙ ap (λ (o : Option A). option_map f o) (read_at xs at x inside is))
     ∙ ap (λ (zs : List B). slice_get zs at) same
     ∙ (slice_get-map f ys at ∙ ap (λ (o : Option A). option_map f o) (read_at ys at y within also)))
-
-pub same_all : {A B : Type 0} (f : A → B) (xs ys : List A) (at : ℕ) → length xs ≤ at → length ys ≤ at → map f (take at xs) ≡ map f (take at ys)
-    → map f xs ≡ map f ys
-same_all f xs ys at past beyond same = sym (ap (map f) (take_all at xs past)) ∙ same ∙ ap (map f) (take_all at ys beyond)
 
 one_items : (xs ys : List Data) → items_of xs ≡ items_of ys → xs ≡ ys
 one_items [] [] is = refl

@@ -28,16 +28,6 @@ pub version_of : (objects : List Data) (at : ℕ) (d : Data) → slice_get objec
 version_of objects at d there id created modified other is =
     subst (λ (x : Data). IsVersion objects at id created modified x) (one_some other d (sym is.there ∙ there)) is
 
-pub observable_is_none : (objects : List Data) (at : ℕ) (d : Data) → slice_get objects at ≡ Some d → IsObservable d → IsNoVersion objects at
-observable_is_none objects at d there observable = λ id created modified other is.
-    (version_of objects at d there id created modified other is).versioned observable
-
-pub nameless_is_none : (objects : List Data) (at : ℕ) (d : Data) → slice_get objects at ≡ Some d → text_at (codes "id") d ≡ None → IsNoVersion objects at
-nameless_is_none objects at d there none = λ id created modified other is.
-    let has = (version_of objects at d there id created modified other is).has in
-    let same : Some has.text ≡ None = sym has.there ∙ none in
-    cc
-
 pub uncreated_is_none : (objects : List Data) (at : ℕ) (d : Data) → slice_get objects at ≡ Some d → ((i : ℤ) → ¬ IsTimestampAt Millis (codes "created") d i)
     → IsNoVersion objects at
 uncreated_is_none objects at d there none = λ id created modified other is.

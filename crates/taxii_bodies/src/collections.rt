@@ -4,9 +4,9 @@ ghost use Rattle.stix_json.specs.DataOf.{data_of};
 ghost use Rattle.taxii_bodies.specs.Collections.{collection_data, collections_data, has_name};
 
 use crate::fields::Fields;
-use crate::uuids::write_uuid;
 use flow_values::{Items, NoMemory, Text};
 use std::alloc::Global;
+use stix_ids::write_uuid;
 use stix_json::{Json, write_json};
 
 /// The media type of the objects in a collection.

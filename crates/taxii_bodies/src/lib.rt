@@ -14,7 +14,6 @@ mod problem;
 mod status;
 mod times;
 mod title;
-mod uuids;
 mod versions;
 
 pub use collections::{CollectionInfo, collection_body, collections_body};

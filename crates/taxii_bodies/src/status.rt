@@ -7,9 +7,9 @@ ghost use Rattle.taxii_bodies.specs.inner.Members.{members_in, list_member, midd
 use crate::Detail;
 use crate::details::moment_text;
 use crate::fields::Fields;
-use crate::uuids::write_uuid;
 use flow_values::{Items, NoMemory, Text};
 use std::alloc::Global;
+use stix_ids::write_uuid;
 use stix_json::Json;
 
 /// The UUID `00000000-0000-4000-8000-000000000000`, of version 4, which the numbers are added to.

@@ -1,7 +1,6 @@
 ghost use Rattle.std.specs.Prelude.{◌≡◌, ◌++◌, codes, decimal, option_map, IfOk, OnOk};
 ghost use Rattle.form_urlencoded.specs.Form.{byte_serialize};
 ghost use Rattle.http_frames.specs.Lines.{field_line};
-ghost use Rattle.stix_ids.specs.Uuid.{uuid_text};
 ghost use Rattle.taxii_client.specs.Requests.{request_of, request_line, path_of, query_of, behind, since_pair, next_pair, host_of};
 
 use crate::Target;
@@ -9,7 +8,7 @@ use flow_values::{NoMemory, Text};
 use form_urlencoded::byte_serialize;
 use itoa::Buffer;
 use std::alloc::Global;
-use uuid::Uuid;
+use stix_ids::write_uuid;
 
 /// The request for the first page of the target, or for the one that `next` asks for.
 pub fn request_text(alloc: Global, target: &Target, next: Option<&str>) -> Result<Text, NoMemory>
@@ -119,13 +118,4 @@ fn push_field(text: &mut Text, name: &str, value: &str) -> Result<(), NoMemory>
     text.push(": ")?;
     text.push(value)?;
     text.push("\r\n")
-}
-
-/// Writes the number as a UUID in hyphenated form, in lower-case digits.
-fn write_uuid<'b>(number: u128, buffer: &'b mut [u8; 36]) -> &'b str
-    ensures { result.now ≡ uuid_text number }
-{
-    Uuid::from_u128(number)
-        .hyphenated()
-        .encode_lower(buffer.as_mut_slice())
 }

@@ -6,9 +6,9 @@ use Rattle.std.proofs.lemmas.List.Elements.{All-cons, All-nil, All-head, All-tai
 use Rattle.std.proofs.lemmas.List.Sums.{sum_by-cons}
 use Rattle.stix_json.specs.declared.envelope.Envelope.{Envelope}
 use Rattle.flow_edges.specs.Faults.{Rose}
-use Rattle.taxii_client.specs.Outside.{LinkView, DialView}
+use Rattle.taxii_client.specs.Outside.{LinkView}
 use Rattle.taxii_client.specs.Fetches.{Fetched}
-use Rattle.taxii_client.specs.Pulls.{Asks, Lent, Page, InTurn as PagesInTurn, FetchesOver}
+use Rattle.taxii_client.specs.Pulls.{Lent, Page, InTurn as PagesInTurn}
 use Rattle.taxii_client.specs.declared.fetch_end.FetchEnd.{FetchEnd}
 use Rattle.taxii_client.specs.declared.fetch_end.FetchEnd.TheVariants as Fetch
 use Rattle.taxii_client.specs.declared.target.Target.{Target}
@@ -94,14 +94,6 @@ module _ {L : Type 0} where
         go None (Err end) fault behind = behind
         go (Some link) (Ok envelope) fetched behind = (record { next = turns.0.next; asks = turns.0.asks; fetched = fetched }, behind)
         go (Some link) (Err end) fetched behind = behind
-
-    -- a page that was asked for over a link, or for which the dial gave none, is an attempt
-    pub attempt_over : (turn : Turn) (next : Option (List ℕ)) (dial now : DialView L) (answer : Result Envelope FetchEnd) (fetches : FetchesOver view target next dial now answer)
-        → Asks turn next → IsAttemptAt view target turn (over fetches.link answer)
-    attempt_over turn next dial now answer fetches asks = record { next = next; asks = asks; fetched = fetches.fetched }
-
-    pub attempt_without : (turn : Turn) (next : Option (List ℕ)) → Asks turn next → IsAttemptAt view target turn without
-    attempt_without turn next asks = record { next = next; asks = asks; fetched = refl }
 
     -- ---- why attempts are lost
 

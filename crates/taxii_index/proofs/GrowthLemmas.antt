@@ -1,7 +1,7 @@
 -- Rows to which later ones are added: the ones in front, and the date of the last.
-use Rattle.std.proofs.Common.{◌≡◌, ℕ, ◌+◌, ◌<◌, List, [], ◌∷◌, ◌++◌, length, take, inl, inr, refl, sym, ap, ◌∙◌, subst, arith}
+use Rattle.std.proofs.Common.{◌≡◌, ℕ, ◌+◌, ◌<◌, List, [], ◌∷◌, ◌++◌, inl, inr, sym, ap, ◌∙◌, subst, arith}
 use Rattle.std.specs.List.{Contains}
-use Rattle.std.proofs.lemmas.List.{append_assoc, take_at}
+use Rattle.std.proofs.lemmas.List.{append_assoc}
 use Rattle.std.proofs.lemmas.List.Elements.{All-weaker, All-contains_itself, Contains-push}
 use Rattle.taxii_rows.specs.declared.stored_row.StoredRow.{StoredRow}
 use Rattle.taxii_rows.specs.StoreState.{dates_of, RiseFrom}
@@ -34,7 +34,3 @@ next_later rows more rest row all now rise is so_far =
     ap (λ (xs : List StoredRow). rows ++ xs) is ∙ sym (append_assoc rows more (row ∷ rest)) ∙ ap (λ (xs : List StoredRow). xs ++ (row ∷ rest)) (sym so_far)
     ∙ sym (append_assoc now (row ∷ []) rest) in
     rise_front 1 (now ++ row ∷ []) rest (subst (λ (xs : List StoredRow). RiseFrom 1 (dates_of xs)) whole rise)
-
--- the rows in front of those that were added
-pub front_of : (rows more now : List StoredRow) → now ≡ rows ++ more → take (length rows) now ≡ rows
-front_of rows more now is = ap (take (length rows)) is ∙ take_at rows more (length rows) refl

@@ -1,8 +1,8 @@
 -- Hints: what they tell stays so where rows come, and of the rows that stay where others go.
-use Rattle.std.proofs.Common.{◌≡◌, ◌≢◌, ℕ, zero, suc, ◌+◌, ◌<◌, List, [], ◌∷◌, ◌++◌, Bool, true, false, cond, not, All, filter, take, length, get_or, set, leb, inl, inr, refl, sym, ap, ◌∙◌, subst, arith}
+use Rattle.std.proofs.Common.{◌≡◌, ◌≢◌, ℕ, zero, suc, ◌+◌, ◌<◌, List, [], ◌∷◌, ◌++◌, Bool, true, false, cond, not, All, filter, take, length, get_or, leb, inl, inr, refl, sym, ap, ◌∙◌, subst, arith}
 use Rattle.std.specs.List.{Contains}
 use Rattle.std.proofs.lemmas.Bool.{cases_Bool, leb-false, not-true, not_from_false}
-use Rattle.std.proofs.lemmas.List.Elements.{All-weaker, All-contains, All-contains_itself, All-map, All-set, Contains-append_left}
+use Rattle.std.proofs.lemmas.List.Elements.{All-weaker, All-contains, All-contains_itself, All-map, Contains-append_left}
 use Rattle.stix_ids.specs.declared.id.Id.{Id}
 use Rattle.stix_ids.specs.declared.pick.Pick.TheVariants.{Last, First}
 use Rattle.taxii_rows.specs.declared.stored_row.StoredRow.{StoredRow}
@@ -82,26 +82,6 @@ true_of_kept gone rows kept hints stays are =
     All-map (IsTrueOf kept) (forgotten gone) left (all_of (λ hint. IsTrueOf kept (forgotten gone hint)) left (λ hint here.
     let found = Contains-from_filter (λ (m : Hint). not (gone m.date)) hints hint here in
     forgotten_true gone rows kept hint stays (not-true (gone hint.date) found.1) (All-contains (IsTrueOf rows) hints hint are found.0)))
-
--- ---- one hint
-
-pub later_noted : (rows : List StoredRow) (hints : List Hint) (at date later : ℕ) (hint : Hint) → ComesBefore rows date later → Contains hints hint → hint.date ≡ date
-    → AreTrueOf rows hints → AreTrueOf rows (set hints at (record { date = date; later = later; earlier = hint.earlier }))
-later_noted rows hints at date later hint before here own are =
-    let is = All-contains (IsTrueOf rows) hints hint are here in
-    All-set (IsTrueOf rows) hints at (record { date = date; later = later; earlier = hint.earlier }) (record {
-      later = λ _. before;
-      earlier = λ some. subst (ComesBefore rows hint.earlier) own (is.earlier some);
-    }) are
-
-pub earlier_noted : (rows : List StoredRow) (hints : List Hint) (at date earlier : ℕ) (hint : Hint) → ComesBefore rows earlier date → Contains hints hint → hint.date ≡ date
-    → AreTrueOf rows hints → AreTrueOf rows (set hints at (record { date = date; later = hint.later; earlier = earlier }))
-earlier_noted rows hints at date earlier hint before here own are =
-    let is = All-contains (IsTrueOf rows) hints hint are here in
-    All-set (IsTrueOf rows) hints at (record { date = date; later = hint.later; earlier = earlier }) (record {
-      later = λ some. subst (λ (d : ℕ). ComesBefore rows d hint.later) own (is.later some);
-      earlier = λ _. before;
-    }) are
 
 -- ---- what they tell of the row of a date
 

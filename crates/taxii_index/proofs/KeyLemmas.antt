@@ -108,13 +108,6 @@ keys_made keys set is key = (
       ∙ list_any_at (λ (other : Key). is_eq (key_cmp key other)) keys here.0 key here.1 (ap (λ (other : Key). is_eq (key_cmp key other)) here.2 ∙ key_itself key),
 )
 
--- a set that was not changed
-pub keys_unchanged : (keys : List Key) (old new : BTreeSet Key) → HasKeys keys old → new.keys ≡ old.keys → HasKeys keys new
-keys_unchanged keys old new has same other = (
-  λ holds. (has other).0 (contains_listed old other (subst (λ (ks : List Key). Contains ks other) same (contained new other holds))),
-  λ here. contains_listed new other (subst (λ (ks : List Key). Contains ks other) (sym same) (contained old other ((has other).1 here))),
-)
-
 -- ---- without the keys of some dates
 
 pub all_yet : (keys : List Key) (set : BTreeSet Key) → HasKeys keys set → HasKeysBut [] keys set

@@ -1,9 +1,9 @@
 -- Lists read a member at a time.
-use Rattle.std.proofs.Common.{◌≡◌, ◌≢◌, ℕ, zero, suc, ◌+◌, ◌<◌, ◌≤◌, List, [], ◌∷◌, ◌++◌, length, take, get_or, map, Bool, true, false, ◌==◌, refl, sym, ap, subst, ◌∙◌, arith}
+use Rattle.std.proofs.Common.{◌≡◌, ◌≢◌, ℕ, zero, suc, ◌+◌, ◌<◌, List, [], ◌∷◌, ◌++◌, length, take, get_or, map, Bool, true, false, ◌==◌, refl, sym, ap, subst, ◌∙◌, arith}
 use Rattle.std.specs.Prelude.{All}
 use Rattle.std.specs.List.{AllZip}
 use Rattle.std.proofs.lemmas.Bool.{eqb-true, eq-eqb, false≢true}
-use Rattle.std.proofs.lemmas.List.{take_all, take_more}
+use Rattle.std.proofs.lemmas.List.{take_more}
 use Rattle.std.proofs.lemmas.List.Elements.{All-push}
 use Rattle.taxii_routes.specs.Value.{AreTexts, members}
 use denote.Ref.{Bor}
@@ -55,16 +55,10 @@ at_place (x ∷ items) (suc i) inside = at_place items i (omega arith)
 within : (items : List (Bor (List ℕ))) (i : ℕ) → i < length items → i < length (texts_of items)
 within items i inside = let count = length-texts_of items in omega arith
 
-whole : (items : List (Bor (List ℕ))) (i : ℕ) → length items ≤ i → take i (texts_of items) ≡ texts_of items
-whole items i past = take_all i (texts_of items) (let count = length-texts_of items in omega arith)
-
 -- the invariant of a loop over members
 pub record ReadsEach {B : Type 0} (R : List ℕ → B → Type 0) (value : List ℕ) (items : List (Bor (List ℕ))) (i : ℕ) (ys : List B) : Type 0 where
   pub same : texts_of items ≡ members value
   pub each : AllZip R (take i (texts_of items)) ys
-
-pub each_start : {B : Type 0} (R : List ℕ → B → Type 0) (value : List ℕ) (items : List (Bor (List ℕ))) → texts_of items ≡ members value → ReadsEach R value items 0 []
-each_start R value items same = record { same = same; each = tt }
 
 pub each_next : {B : Type 0} (R : List ℕ → B → Type 0) (value : List ℕ) (items : List (Bor (List ℕ))) (old new : List B) (i : ℕ) (y : B) → ReadsEach R value items i old → i < length items
     → R (text_at items i) y → new ≡ old ++ y ∷ [] → ReadsEach R value items (i + 1) new
@@ -77,9 +71,6 @@ pub each_stops : {B : Type 0} (R : List ℕ → B → Type 0) (value : List ℕ)
     → ((y : B) → ¬ R (text_at items i) y) → (ys : List B) → ¬ AllZip R (members value) ys
 each_stops R value items old i reads inside none ys each =
     zip_stops R (texts_of items) ys i (text_at items i) (within items i inside) (at_place items i inside) none (subst (λ xs. AllZip R xs ys) (sym reads.same) each)
-
-pub each_whole : {B : Type 0} (R : List ℕ → B → Type 0) (value : List ℕ) (items : List (Bor (List ℕ))) (ys : List B) (i : ℕ) → ReadsEach R value items i ys → length items ≤ i → AllZip R (members value) ys
-each_whole R value items ys i reads past = subst (λ xs. AllZip R xs ys) (whole items i past ∙ reads.same) reads.each
 
 -- ---- members as they are
 
@@ -105,9 +96,6 @@ texts_stop value items old i reads inside empty texts are =
     let all : texts ≡ texts_of items = are.all ∙ sym reads.same in
     let there : get_or texts i (text_at items i) ≡ [] = ap (λ ts. get_or ts i (text_at items i)) all ∙ sym (at_place items i inside) ∙ empty in
     are.some i (text_at items i) (subst (λ ts. i < length ts) (sym all) (within items i inside)) there
-
-pub texts_whole : (value : List ℕ) (items : List (Bor (List ℕ))) (texts : List (List ℕ)) (i : ℕ) → ReadsTexts value items i texts → length items ≤ i → AreTexts value texts
-texts_whole value items texts i reads past = record { some = reads.some; all = reads.front ∙ whole items i past ∙ reads.same }
 
 -- what the test for no bytes says
 pub none_if_empty : (text : List ℕ) (b : Bool) → b ≡ (length text == 0) → b ≡ true → text ≡ []

@@ -1,13 +1,12 @@
 -- A query read up to some pair.
-use Rattle.std.proofs.Common.{◌≡◌, ◌⊎◌, inl, inr, ℕ, List, [], ◌∷◌, ◌++◌, map, None, Result, Ok, Err, refl, sym, subst, ◌∙◌, append-nil, append_assoc}
+use Rattle.std.proofs.Common.{◌≡◌, ◌⊎◌, inl, inr, ℕ, List, [], ◌∷◌, ◌++◌, map, Result, Ok, Err, sym, subst, ◌∙◌, append_assoc}
 use Rattle.std.specs.Prelude.{OnOk, IfErr}
-use Rattle.form_urlencoded.specs.Form.{raw_pairs}
 use Rattle.taxii_routes.specs.declared.param.Param.{Param}
 use Rattle.taxii_routes.specs.declared.query.Query.{Query}
 use Rattle.taxii_routes.specs.declared.refusal.QueryRefusal.{QueryRefusal}
 use Rattle.taxii_routes.specs.declared.refusal.QueryRefusal.TheVariants.{NoMemory}
 use Rattle.taxii_routes.specs.Param.{name_of}
-use Rattle.taxii_routes.specs.Query.{Pair, text_of, pairs_of, asked, IsQueryOf, IsBadAfter, IsRefusedAs}
+use Rattle.taxii_routes.specs.Query.{Pair, text_of, pairs_of, IsQueryOf, IsBadAfter, IsRefusedAs}
 use Rattle.taxii_routes.specs.inner.Step.{Adds, CannotAdd, Steps, Stops}
 use Rattle.taxii_routes.proofs.FieldLemmas.{AddAnswers}
 use Rattle.taxii_routes.proofs.QueryLemmas.{query_passes, query_grows, query_stops}
@@ -20,9 +19,6 @@ pub record Reads (text : List ℕ) (left : List Pair) (query : Query) : Type 0 w
   pub done : List Pair
   pub all : pairs_of text ≡ done ++ map decoded left
   pub asks : IsQueryOf done query
-
-pub reads_start : (text : List ℕ) (query : Query) → ((param : Param) → asked param query ≡ None) → Reads text (raw_pairs text) query
-reads_start text query nothing = record { done = []; all = refl; asks = nothing }
 
 moves : (text : List ℕ) (raw : Pair) (left : List Pair) (query : Query) (reads : Reads text (raw ∷ left) query) → pairs_of text ≡ (reads.done ++ decoded raw ∷ []) ++ map decoded left
 moves text raw left query reads = reads.all ∙ sym (append_assoc reads.done (decoded raw ∷ []) (map decoded left))
@@ -47,9 +43,6 @@ reads_stop text raw left old refusal reads (inr (param, named, cannot)) = go (qu
     go : (refusal ≡ NoMemory) ⊎ IsBadAfter reads.done (decoded raw) refusal → (refusal ≡ NoMemory) ⊎ IsRefusedAs (pairs_of text) refusal
     go (inl none) = inl none
     go (inr bad) = inr (record { before = reads.done; pair = decoded raw; after = map decoded left; spelling = reads.all; fine = (old, reads.asks); bad = bad })
-
-pub reads_end : (text : List ℕ) (query : Query) → Reads text [] query → IsQueryOf (pairs_of text) query
-reads_end text query reads = subst (λ pairs. IsQueryOf pairs query) (sym (reads.all ∙ append-nil reads.done)) reads.asks
 
 -- what adding a value says of the encoded pair
 pub pair_answers : (name value : List ℕ) (param : Param) (shown worth : List ℕ) (old new : Query) (answer : Result (Unit {0}) QueryRefusal)

@@ -40,11 +40,6 @@ segment-none [] plain = refl
 segment-none (b ∷ p) plain =
     cond-false _ _ _ (ne_eqb b 47 (All-head (λ byte. byte ≢ 47) b p plain)) ∙ ap (λ x. b ∷ x) (segment-none p (All-tail (λ byte. byte ≢ 47) b p plain))
 
-pub has_slash-at : (front back : List ℕ) → NoSlash front → has_slash (front ++ 47 ∷ back) ≡ true
-has_slash-at [] back plain = refl
-has_slash-at (b ∷ front) back plain =
-    cond-false _ _ _ (ne_eqb b 47 (All-head (λ byte. byte ≢ 47) b front plain)) ∙ has_slash-at front back (All-tail (λ byte. byte ≢ 47) b front plain)
-
 pub has_slash-none : (path : List ℕ) → NoSlash path → has_slash path ≡ false
 has_slash-none [] plain = refl
 has_slash-none (b ∷ p) plain =

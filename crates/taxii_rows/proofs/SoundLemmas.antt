@@ -1,5 +1,5 @@
 -- Rows and the objects that make them: of one body there is one object, and of one object a row's version is told once.
-use Rattle.std.proofs.Common.{◌≡◌, ◌≢◌, ◌↔◌, ℕ, ℤ, pos, inr, List, Option, Some, None, Result, Ok, Err, IfOk, Bool, true, false, IsTrue, MatchBool, nat_eq, is_some, unwrap_or, refl, sym, ap, ◌∙◌, subst}
+use Rattle.std.proofs.Common.{◌≡◌, ◌↔◌, ℕ, ℤ, pos, inr, List, Option, Some, None, Result, Ok, Err, IfOk, Bool, true, false, IsTrue, MatchBool, nat_eq, is_some, unwrap_or, refl, sym, ap, ◌∙◌, subst}
 use Rattle.std.proofs.lemmas.Bool.{false≢true, eqb-true, eq-eqb, MatchBool-at_true, MatchBool-at_false}
 use Rattle.std.proofs.lemmas.Int.{to_z-of_z}
 use mir.Syntax.{Width, w64, w128}
@@ -10,11 +10,8 @@ use Rattle.serde_json.specs.Data.{Data}
 use Rattle.serde_json.specs.Written.{compact_text}
 use Rattle.stix_ids.specs.declared.id.Id.{Id}
 use Rattle.stix_json.specs.declared.value.Json.{Json}
-use Rattle.stix_json.specs.declared.refusal.JsonRefusal.{JsonRefusal}
-use Rattle.stix_json.specs.declared.refusal.JsonRefusal.TheVariants.{NotJson, TooDeep, NotWhole, Null, OutOfRange, NotList, NoMemory}
 use Rattle.stix_json.specs.DataOf.{data_of}
-use Rattle.stix_json.specs.Reading.{IsValueOf, IsJsonOf, IsJsonRefusedAs}
-use Rattle.stix_json.specs.Refusal.{refusal_of}
+use Rattle.stix_json.specs.Reading.{IsValueOf, IsJsonOf}
 use Rattle.stix_objects.specs.Properties.{HasId}
 use Rattle.taxii_rows.specs.declared.stored_row.StoredRow.{StoredRow}
 use Rattle.taxii_rows.specs.declared.described.Described.{Described}
@@ -29,22 +26,6 @@ use Rattle.taxii_rows.proofs.VersionLemmas.{OneVersion, undated, never_dated}
 
 one_value : (bytes : List ℕ) (first second : Data) → IsValueOf bytes first → IsValueOf bytes second → first ≡ second
 one_value bytes first second is also = let same : Some first ≡ Some second = sym is.value ∙ also.value in cc
-
-good_not_refused : (bytes : List ℕ) (json : Json) (d : Data) (refusal : JsonRefusal) → IsJsonOf bytes json → IsValueOf bytes d → refusal_of d ≡ Some refusal → ⊥
-good_not_refused bytes json d refusal is value refused =
-    let same : data_of json ≡ d = one_value bytes (data_of json) d is.value value in
-    let both : None ≡ Some refusal = sym is.good ∙ ap refusal_of same ∙ refused in
-    absurd (cc)
-
--- what is refused, for another cause than memory, is no value
-pub refused_is_none : (bytes : List ℕ) (refusal : JsonRefusal) → refusal ≢ NoMemory → IsJsonRefusedAs bytes refusal → (json : Json) → ¬ IsJsonOf bytes json
-refused_is_none bytes NotJson other refused json is = refused (data_of json) is.value
-refused_is_none bytes (TooDeep path) other refused json is = good_not_refused bytes json refused.0 (TooDeep path) is refused.1 refused.2
-refused_is_none bytes (NotWhole path) other refused json is = good_not_refused bytes json refused.0 (NotWhole path) is refused.1 refused.2
-refused_is_none bytes (Null path) other refused json is = good_not_refused bytes json refused.0 (Null path) is refused.1 refused.2
-refused_is_none bytes (OutOfRange path) other refused json is = good_not_refused bytes json refused.0 (OutOfRange path) is refused.1 refused.2
-refused_is_none bytes NotList other refused json is = refused
-refused_is_none bytes NoMemory other refused json is = other refl
 
 -- a row is sound exactly where the object that its body is makes it
 pub sound_by_object : (row : StoredRow) (object : Json) → IsJsonOf row.body object → IsRowOf row (data_of object) ↔ IsSoundRow row

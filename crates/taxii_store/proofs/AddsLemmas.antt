@@ -52,12 +52,6 @@ GoesOn state collection objects outcomes new rest = (others : List AddOutcome) (
     → Adds collection (next_date state.mark new) (state.rows ++ new) rest others more
     → Adds collection (state.mark + 1) state.rows objects (outcomes ++ others) (new ++ more)
 
-pub goes_on_first : (state : StoreState) (collection : ℕ) (objects : List Described) → GoesOn state collection objects [] [] objects
-goes_on_first state collection objects others more adds =
-    let first : next_date state.mark [] ≡ state.mark + 1 = omega arith in
-    subst (λ (rows : List StoredRow). Adds collection (state.mark + 1) rows objects others more) (append-nil state.rows)
-    (subst (λ (date : ℕ). Adds collection date (state.rows ++ []) objects others more) first adds)
-
 pub goes_on_last : (state : StoreState) (collection : ℕ) (objects : List Described) (outcomes : List AddOutcome) (new : List StoredRow)
     → GoesOn state collection objects outcomes new [] → Adds collection (state.mark + 1) state.rows objects outcomes new
 goes_on_last state collection objects outcomes new goes =

@@ -54,13 +54,6 @@ dates_pushed n date (first ∷ dates) rise from before =
 all_from : (P : ℕ → Type 0) (dates : List ℕ) → ((date : ℕ) → Contains dates date → P date) → All P dates
 all_from P dates each = All-weaker (Contains dates) P each dates (All-contains_itself dates)
 
-pub taken_none : (rows : List StoredRow) (collection : ℕ) (id : Id) (picks : List Pick) → AreTakenFrom rows collection id picks [] []
-taken_none rows collection id picks = record {
-  rise = tt;
-  before = λ date there. absurd (omega (arith, there.1));
-  all = λ row there taken. absurd (omega (arith, there.1));
-}
-
 pub taken_more : (rows : List StoredRow) (collection : ℕ) (id : Id) (picks : List Pick) (i : ℕ) (row : StoredRow) (dates : List ℕ)
     → RiseFrom 1 (dates_of rows) → i < length rows → row ≡ get_or rows i row → AreTakenFrom rows collection id picks (take i rows) dates
     → IsTaken rows collection id picks row → AreTakenFrom rows collection id picks (take (suc i) rows) (dates ++ row.date ∷ [])

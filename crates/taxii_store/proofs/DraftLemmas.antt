@@ -38,14 +38,6 @@ outcome_pushed mark outcomes new outcome draft known =
       known = All-append Known outcomes (outcome ∷ []) draft.known (All-cons Known outcome [] known (All-nil Known));
     }
 
-pub draft_empty : (mark : ℕ) → mark ≤ LAST_DATE → IsDraft mark [] []
-draft_empty mark within = record {
-  dates = tt;
-  room = omega (arith, within);
-  sound = All-nil IsSoundRow;
-  known = All-nil (λ (one : AddOutcome). date_in one ≤ LAST_DATE);
-}
-
 -- the rows of a draft begin behind the mark, and may be moved to the first date of so many
 pub ahead_is : (mark moment : ℕ) (new : List StoredRow) → mark + length new ≤ LAST_DATE
     → (mark + 1 + ahead_at mark moment new ≡ first_date mark moment (length new)) × (mark + length new + ahead_at mark moment new ≤ LAST_DATE)

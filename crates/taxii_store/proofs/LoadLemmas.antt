@@ -30,18 +30,6 @@ pub record IsReadTo (state : StoreState) (rows : List StoredRow) (after : ℕ) :
   pub split : state.rows ≡ rows ++ rest
   pub behind : RiseFrom (after + 1) (dates_of rest)
 
-pub good_none : (mark : ℕ) → AreGood mark 0 []
-good_none mark = record {
-  rise = tt;
-  upto = All-nil (λ (row : StoredRow). row.date ≤ 0);
-  fit = All-nil (IsFit mark);
-  last = omega arith;
-  ends = inl refl;
-}
-
-pub read_none : (state : StoreState) → RiseFrom 1 (dates_of state.rows) → IsReadTo state [] 0
-read_none state rise = record { rest = state.rows; split = refl; behind = rise }
-
 rise_pushed : (least after : ℕ) (rows : List StoredRow) (row : StoredRow) → least ≤ after + 1 → RiseFrom least (dates_of rows) → All (λ one. one.date ≤ after) rows
     → after < row.date → RiseFrom least (dates_of (rows ++ row ∷ []))
 rise_pushed least after [] row from rise upto later = (omega (arith, later), tt)

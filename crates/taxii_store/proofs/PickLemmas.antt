@@ -1,5 +1,5 @@
 -- Sets of picks: what they have after one more, and which rows they select.
-use Rattle.std.proofs.Common.{◌≡◌, inl, inr, ℤ, List, [], ◌∷◌, ◌++◌, Bool, true, false, cond, IsTrue, ◌↔◌, refl, sym, ap, subst, ◌∙◌, arith}
+use Rattle.std.proofs.Common.{◌≡◌, inl, inr, ℤ, List, [], ◌∷◌, ◌++◌, Bool, true, false, cond, IsTrue, ◌↔◌, refl, sym, ap, subst, ◌∙◌}
 use Rattle.std.specs.List.{Contains}
 use Rattle.std.specs.Ordering.{int_cmp, is_eq}
 use Rattle.std.specs.declared.cmp.Ordering.{Ordering}
@@ -43,12 +43,6 @@ module _ {K V : Type 0} (cmp : K → K → Ordering) (view : K → V) (exact : (
     ],
   )
 
-  none_yet : (set : BTreeSet K) → set.keys ≡ [] → (k : K) → IsTrue (contains cmp set k) ↔ Contains [] (view k)
-  none_yet set empty k = (
-    λ holds. absurd (false≢true (sym (ap (λ (keys : List K). contains cmp (record { keys = keys }) k) empty) ∙ holds)),
-    λ here. absurd (omega (arith, here.1)),
-  )
-
 -- ---- picks
 
 version_exact : (x y : ℤ) → is_eq (int_cmp x y) ≡ true → At x ≡ At y
@@ -62,9 +56,6 @@ version_of All other = other
 
 version_tied : (x y : ℤ) → At x ≡ At y → is_eq (int_cmp x y) ≡ true
 version_tied x y same = subst (λ (v : ℤ). is_eq (int_cmp x v) ≡ true) (ap (λ (p : Pick). version_of p x) same) (ap is_eq (tied_itself int_cmp_total x))
-
-pub versions_none : (set : BTreeSet ℤ) → set.keys ≡ [] → (version : ℤ) → IsTrue (contains int_cmp set version) ↔ Contains [] (At version)
-versions_none = none_yet int_cmp At version_exact version_tied
 
 -- a pick that is another stays in or out
 stays : (picks : List Pick) (pick other : Pick) (has : Bool) → ¬ (pick ≡ other) → IsTrue has ↔ Contains picks other → IsTrue has ↔ Contains (picks ++ pick ∷ []) other
@@ -111,13 +102,6 @@ with_version picks version set versions has updates = record {
 
 pub by_pick : (picks : List Pick) (pick : Pick) (rows : List StoredRow) (row : StoredRow) → Contains picks pick → IsPickedBy pick rows row → IsPicked picks rows row
 by_pick picks pick rows row here picked = (here.0, pick, here.1, here.2, picked)
-
--- one pick alone
-pub by_one : (pick : Pick) (rows : List StoredRow) (row : StoredRow) → IsPicked (pick ∷ []) rows row → IsPickedBy pick rows row
-by_one pick rows row picked = elim (Contains-push_cases [] pick picked.1 (picked.0, picked.2, picked.3)) [
-  | inl none ↦ absurd (omega (arith, none.1))
-  | inr same ↦ subst (λ (p : Pick). IsPickedBy p rows row) (sym same) picked.4
-]
 
 case_of : (picks : List Pick) (set : PickSet) (rows : List StoredRow) (row : StoredRow) (pick : Pick) → HasPicks picks set → Contains picks pick → IsPickedBy pick rows row → Selects set rows row
 case_of picks set rows row All has here picked = inl (has.all.1 here)

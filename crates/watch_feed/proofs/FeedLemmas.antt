@@ -1,50 +1,15 @@
 -- How far a feed is read, behind each of its objects.
-use Rattle.std.proofs.Common.{◌≡◌, ℕ, zero, suc, List, [], ◌∷◌, ◌++◌, Option, None, Some, option_map, IfSome, Err, refl, sym, subst, append_assoc, arith}
+use Rattle.std.proofs.Common.{◌≡◌, ℕ, zero, suc, List, [], ◌∷◌, ◌++◌, Option, None, Some, option_map, IfSome, sym, subst, append_assoc, arith}
 use Rattle.std.proofs.lemmas.List.{append-nil}
 use Rattle.serde_json.specs.Data.{Data}
-use Rattle.flow_lines.specs.Lines.{Lined, ended, refused, line_then, LinesState, lines_start, lines_ahead, RefusesLine}
-use Rattle.flow_lines.specs.declared.refusal.LineRefusal.{LineRefusal}
-use Rattle.flow_lines.specs.declared.refusal.LineRefusal.TheVariants as refusal
+use Rattle.flow_lines.specs.Lines.{Lined, ended, line_then, lines_start, lines_ahead}
 use Rattle.stix_objects.specs.Breaks.{AreBreaksOf}
 use Rattle.watch_indicators.specs.Gathering.{Gathered, GathersFor}
 use Rattle.watch_feed.specs.declared.rule.FeedRule.{FeedRule}
-use Rattle.watch_feed.specs.declared.rule.FeedRule.TheVariants as rule
-use Rattle.watch_feed.specs.Line.{IsRefusedFor}
 use Rattle.watch_feed.specs.Feeds.{FeedClose, Whole, Refused, Reads, at_end, at_refusal, one_object, IsRefusedAt, ReadsFeed, AreUnbroken, GathersFeed}
-use Rattle.watch_feed.specs.inner.Ends.{end_of_line, GivesObject, AnswersObject, ReadsBehind, GathersSo}
-
--- ---- the first of the lines that come
-
--- it is refused for its length
-pub too_long : (before after : LinesState) (left left_after : Option (List ℕ)) (r : LineRefusal) → RefusesLine before after left left_after r
-    → AnswersObject (lines_ahead before left) (lines_ahead after left_after) (Err (end_of_line r))
-too_long before after left left_after refusal.Fault answers = tt
-too_long before after left left_after (refusal.LineTooLong n) answers = first (lines_ahead before left) n answers
-  where
-    first : (ahead : Option Lined) (n : ℕ) → IfSome ahead (λ a. a ≡ refused (refusal.LineTooLong n)) → IfSome ahead (λ lines. IsRefusedAt lines n rule.LineTooLong)
-    first None n is = tt
-    first (Some lines) n is = subst (λ (ls : Lined). IsRefusedAt ls n rule.LineTooLong) (sym is) (refl, refl)
-too_long before after left left_after (refusal.InputTooLong n) answers = first (lines_ahead before left) n answers
-  where
-    first : (ahead : Option Lined) (n : ℕ) → IfSome ahead (λ a. a ≡ refused (refusal.InputTooLong n)) → IfSome ahead (λ lines. IsRefusedAt lines n rule.InputTooLong)
-    first None n is = tt
-    first (Some lines) n is = subst (λ (ls : Lined). IsRefusedAt ls n rule.InputTooLong) (sym is) (refl, refl)
-too_long before after left left_after refusal.NoMemory answers = tt
-
--- it is refused for what it says
-pub refused_for : (before after : Option Lined) (number : ℕ) (bytes : List ℕ) (why : FeedRule) → before ≡ option_map (λ later. line_then number bytes later) after
-    → IsRefusedFor bytes why → IfSome before (λ lines. IsRefusedAt lines number why)
-refused_for None after number bytes why is for = tt
-refused_for (Some lines) None number bytes why is for = absurd (cc)
-refused_for (Some lines) (Some later) number bytes why is for =
-    let same : lines ≡ line_then number bytes later = cc in
-    subst (λ (ls : Lined). IsRefusedAt ls number why) (sym same) (refl, for)
+use Rattle.watch_feed.specs.inner.Ends.{GivesObject, ReadsBehind, GathersSo}
 
 -- ---- the objects of a feed
-
--- at the start
-pub behind_none : (all : Option Lined) → ReadsBehind all all []
-behind_none all more close reads = reads
 
 -- one object more
 module _ (all before after : Option Lined) (object : Data) (gives : GivesObject before after object) where
@@ -72,14 +37,6 @@ gathers_one all before after old new added gives so gathers = record {
   unbroken = unbroken_one so.objects added so.unbroken gives.is.unbroken;
   gathers = gathers;
   behind = behind_one all before after added gives so.objects so.behind;
-}
-
-pub gathers_none : (all : Option Lined) (gathered : Gathered) → GathersFor gathered [] → GathersSo all all gathered
-gathers_none all gathered gathers = record {
-  objects = [];
-  unbroken = λ k d less. absurd (omega arith);
-  gathers = gathers;
-  behind = behind_none all;
 }
 
 -- ---- how a feed ends

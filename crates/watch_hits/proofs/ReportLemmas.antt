@@ -14,8 +14,7 @@ use Rattle.watch_sightings.specs.Envelope.{opened}
 use Rattle.watch_hits.specs.declared.sight.Sight.{Sight}
 use Rattle.watch_hits.specs.Sights.{IsSightOf, IsSight, IsSighting, AreSightings, report_of, IsReport, begun_by, TellsReport}
 use Rattle.watch_hits.specs.Hunting.{HunterState, HuntsOver}
-use Rattle.watch_hits.specs.inner.Noting.{AreInOrder}
-use Rattle.watch_hits.specs.inner.Reporting.{IsTextOf, IsSightInOrder, TellsSight, TellsSights, is_begun, mark_of, end_of, TellsSoFar, TellsPart, AddsSight, BreaksAtSight}
+use Rattle.watch_hits.specs.inner.Reporting.{IsTextOf, TellsSight, TellsSights, is_begun, mark_of, end_of, TellsSoFar, TellsPart, AddsSight, BreaksAtSight}
 
 -- ---- one indicator more
 
@@ -68,13 +67,6 @@ begun_is-more (before ∷ texts) text = refl
 pub report-whole : (texts : List (List ℕ)) → begun_by texts ++ end_of (is_begun texts) ≡ report_of texts
 report-whole [] = refl
 report-whole (text ∷ texts) = sym (append_assoc (opened (text ∷ texts)) (codes "]}") (codes "\n"))
-
--- ---- where a sighting is added
-
-pub sight_at : (sights : List (Option Sight)) (at : ℕ) (sight : Option Sight) → AreInOrder sights → at < length sights → slice_get sights at ≡ Some sight
-    → IsSightInOrder sight
-sight_at sights at None order within there = tt
-sight_at sights at (Some sight) order within there = order at sight there
 
 -- ---- what is kept is what was seen
 
@@ -217,14 +209,3 @@ module _ (first_text : FirstText) (other_text : OtherText) (moment : ℤ) (indic
     prefix = subst (λ (t : List ℕ). WritesPrefix t first now) (begun-more first_text other_text texts text)
         (subst (λ (b : Bool). WritesPrefix (begun_by texts ++ (mark_of b ++ text)) first now) same prefix);
   })
-
--- none is added
-pub adds-none : (moment : ℤ) (indicator : Hunted) (texts : List (List ℕ)) (begun : Bool) (pending : List ℕ) (first now : Option (List ℕ))
-    → begun ≡ is_begun texts → IsOnItsWay (begun_by texts) pending first now → AddsSight moment indicator None texts begun pending first now
-adds-none moment indicator texts begun pending first now same way =
-    let none = sym (append-nil texts) in record {
-      more = [];
-      tells = refl;
-      begun_is = same ∙ ap is_begun none;
-      way = subst (λ (l : List (List ℕ)). IsOnItsWay (begun_by l) pending first now) none way;
-    }

@@ -162,18 +162,6 @@ module _ (last : ℤ) (hit : Found) (sights : List (Option Sight)) (inside : hit
     | inr old ↦ before place sight old
   ]
 
-  pub noted_in_order : AreInOrder sights → AreInOrder (noted last hit sights)
-  noted_in_order order place sight at = elim (noted_at last hit sights place (Some sight) inside at) [
-    | inl new ↦
-        let is : sight ≡ sight_after last (get_or sights hit.hunted None) = cc in
-        subst (λ (s : Sight). s.first ≤ℤ s.last) (sym is) (last_of_new (get_or sights hit.hunted None) new_first)
-    | inr old ↦ order place sight old
-  ]
-    where
-      last_of_new : (was : Option Sight) → (sight_after last was).first ≤ℤ last → (sight_after last was).first ≤ℤ (sight_after last was).last
-      last_of_new None first = first
-      last_of_new (Some sight) first = first
-
 -- ---- before anything was seen
 
 nothing_in : (n place : ℕ) (sight : Option Sight) → slice_get (replicate n None) place ≡ Some sight → sight ≡ None

@@ -54,12 +54,6 @@ ends-cut objects observations before pending first now (Err end) cut.NoMemory is
 
 -- ---- a bundle
 
--- the lines were cut: nothing else was
-pub cut-only : (P : Type 0) (told : Result (Unit {0}) (SeeEnd Crowded)) → HasCutLines told → OnOk told P
-cut-only P (Ok value) (inl is) = absurd (cc)
-cut-only P (Ok value) (inr is) = absurd (cc)
-cut-only P (Err end) is = tt
-
 module _ (before : HunterState) (bundle : BundleOf) (pending : List ℕ) (first now : Option (List ℕ)) where
   abbrev pub Ends : SeeEnd Crowded → Type 0
   Ends end = EndsAmong bundle.objects bundle.observations before pending first now end

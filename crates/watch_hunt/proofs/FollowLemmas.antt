@@ -118,9 +118,6 @@ up_to_date p cap log follower matcher is follows h = record {
       (saw_all log follower.seen matcher (subst (λ (m : Option MatcherState). MatchesFor p cap log follower.seen m) is follows.matcher).2 h);
 }
 
-pub no_matcher : (p : Pattern) (cap : ℕ) (log : List LogEntry) (follower : FollowerState) → follower.matcher ≡ None → Follows p cap log follower → CatchesUp p cap log follower
-no_matcher p cap log follower is follows = record { follows = follows; caught_up = subst (λ (m : Option MatcherState). IsCaughtUp log follower m) (sym is) tt }
-
 -- what was missed was passed
 pub passed : (p : Pattern) (cap : ℕ) (log : List LogEntry) (before : FollowerState) (old new : MatcherState) (rows : ℕ) → Follows p cap log before → before.matcher ≡ Some old →
     (new.pattern ≡ old.pattern) × (new.cap ≡ old.cap) → StandsFor new log → rows ≡ length log → CatchesUp p cap log (record { matcher = Some new; seen = rows })
@@ -191,9 +188,6 @@ crowds_alone p cap log row truths follower number follows is ends e over =
 -- before any row
 pub follows_first : Rule → (p : Pattern) (cap : ℕ) (matcher : Option MatcherState) → MatchesFor p cap [] 0 matcher → Follows p cap [] (record { matcher = matcher; seen = 0 })
 follows_first rule p cap matcher matches = record { order = tt; roomy = roomy_at_first rule (numbered_pattern p) cap; matcher = matches }
-
-pub matches_first : (p : Pattern) (cap : ℕ) (matcher : MatcherState) → StandsFor matcher [] → matcher.pattern ≡ p → matcher.cap ≡ cap → MatchesFor p cap [] 0 (Some matcher)
-matches_first p cap matcher stands e f = (e, f, stands_lags [] 0 matcher stands refl)
 
 -- the law of a pass, at whatever rows were missed
 pub pass_law : (p : Pattern) (cap : ℕ) (log : List LogEntry) (before : FollowerState) (old new : MatcherState) (rows : ℕ) (last : ℤ) → Follows p cap log before → before.matcher ≡ Some old →

@@ -1,9 +1,8 @@
 -- One candidate more is judged; and what is judged once all are.
-use Rattle.std.proofs.Common.{◌≡◌, ℕ, zero, suc, ◌+◌, ◌-◌, ◌≤◌, ◌<◌, List, [], ◌∷◌, ◌++◌, length, set, replicate, get_or, refl, sym, ◌∙◌, ap, subst, arith, inl, inr}
+use Rattle.std.proofs.Common.{◌≡◌, ℕ, zero, suc, ◌+◌, ◌-◌, ◌≤◌, ◌<◌, List, length, set, replicate, get_or, refl, sym, ◌∙◌, ap, subst, arith, inl, inr}
 use Rattle.std.specs.Prelude.{◌⊎◌, Bool, true, false, Some, Contains, slice_get}
 use Rattle.std.proofs.lemmas.List.{length-set}
 use Rattle.std.proofs.lemmas.Option.{slice_get_within, get_or_from_slice_get}
-use Rattle.std.proofs.lemmas.List.Elements.{Contains-append_left, Contains-push}
 use Rattle.serde_json.specs.Data.{Data}
 use Rattle.pattern_types.specs.PlainLeaf.{PlainLeaf}
 use Rattle.match_tests.specs.Tests.{LeafHolds}
@@ -11,7 +10,7 @@ use Rattle.std.specs.List.Sorted.{IsStrictlyIncreasing}
 use Rattle.watch_index.specs.Candidates.{AreCandidates}
 use Rattle.watch_hunt.specs.EngineAnswer.{NeverFalls}
 use Rattle.watch_hunt.specs.inner.Judging.{IsRising, AreClear, Judged, JudgedSoFar, AddsPlace}
-use Rattle.watch_hunt.proofs.PlaceLemmas.{same_or_other, got, contained, seam, get_one, get_set, get_set_other}
+use Rattle.watch_hunt.proofs.PlaceLemmas.{same_or_other, got, get_set, get_set_other}
 
 -- a number below the next one is below this one or is it
 pub below_or_at : (j i : ℕ) → j < i + 1 → (j < i) ⊎ (j ≡ i)
@@ -41,40 +40,6 @@ rising_from xs h j k m n less at_j at_k =
     let e : j + suc (k - suc j) ≡ k = omega (arith, less) in
     let between = subst (λ (i : ℕ). get_or xs j 0 < get_or xs i 0) e (rise_by xs h (k - suc j) j (omega (arith, e, inside))) in
     omega (arith, a, b, between)
-
--- ---- the places
-
-pub none_added : IsRising []
-none_added j k m n h a b = absurd (cc)
-
-pub is_there : (before : List ℕ) (k place : ℕ) → IsRising before → slice_get before k ≡ Some place → AddsPlace before place before
-is_there before k place rise at = record {
-  rise = rise;
-  there = contained before k place at;
-  stays = λ other c. c;
-  no_other = λ i other h. inl h;
-}
-
--- behind places that are less
-rises_with : (before : List ℕ) (place : ℕ) → IsRising before → ((k other : ℕ) → slice_get before k ≡ Some other → other < place) → IsRising (before ++ place ∷ [])
-rises_with before place rise less j k m n h at_j at_k = by (seam before (place ∷ []) j m at_j) (seam before (place ∷ []) k n at_k) where
-  by : ((j < length before) × (slice_get before j ≡ Some m)) ⊎ ((i : ℕ) × (j ≡ length before + i) × (slice_get (place ∷ []) i ≡ Some m)) →
-      ((k < length before) × (slice_get before k ≡ Some n)) ⊎ ((i : ℕ) × (k ≡ length before + i) × (slice_get (place ∷ []) i ≡ Some n)) → m < n
-  by (inl a) (inl b) = rise j k m n h a.1 b.1
-  by (inl a) (inr (i, e, b)) = let same = (get_one place n i b).1 in let below = less j m a.1 in omega (arith, same, below)
-  by (inr (i, e, a)) (inl b) = let f = b.0 in absurd (omega (arith, h, e, f))
-  by (inr (i, e, a)) (inr (l, f, b)) = let x = (get_one place m i a).0 in let y = (get_one place n l b).0 in absurd (omega (arith, h, e, f, x, y))
-
-pub is_added : (before : List ℕ) (place : ℕ) → IsRising before → ((k other : ℕ) → slice_get before k ≡ Some other → other < place) → AddsPlace before place (before ++ place ∷ [])
-is_added before place rise less = record {
-  rise = rises_with before place rise less;
-  there = Contains-push before place;
-  stays = λ other c. Contains-append_left before (place ∷ []) other c;
-  no_other = λ k other h. by k other (seam before (place ∷ []) k other h);
-} where
-  by : (k other : ℕ) → ((k < length before) × (slice_get before k ≡ Some other)) ⊎ ((i : ℕ) × (k ≡ length before + i) × (slice_get (place ∷ []) i ≡ Some other)) → (slice_get before k ≡ Some other) ⊎ (other ≡ place)
-  by k other (inl a) = inl a.1
-  by k other (inr (i, e, a)) = inr (get_one place other i a).1
 
 -- ---- the marks
 
@@ -138,18 +103,6 @@ module _ (objects : List Data) (roots : List ℕ) (leaves : List PlainLeaf) (own
     owned : (k other : ℕ) → (slice_get touched k ≡ Some other) ⊎ (other ≡ place) → (j b : ℕ) × (j < i + 1) × (slice_get candidates j ≡ Some b) × (slice_get owners b ≡ Some other)
     owned k other (inl h) = let o = far.owned k other h in let less = o.2 in (o.0, o.1, omega (arith, less), o.3, o.4)
     owned k other (inr e) = (i, at, omega arith, at_is, place_is ∙ ap Some (sym e))
-
--- before the first one
-pub judged_none : (objects : List Data) (roots : List ℕ) (leaves : List PlainLeaf) (owners candidates : List ℕ) (marks : List Bool) → length marks ≡ length leaves → AreClear marks →
-    JudgedSoFar objects roots leaves owners candidates 0 marks []
-judged_none objects roots leaves owners candidates marks count clear = record {
-  count = count;
-  marked = λ at leaf mark of_at. absurd (clear at mark);
-  all = λ j at leaf h of_j of_at holds. absurd (omega (arith, h));
-  rise = none_added;
-  there = λ at place mark own. absurd (clear at mark);
-  owned = λ k place h. absurd (cc);
-}
 
 -- after the last one: the index left out none that holds
 pub judged_all : (objects : List Data) (roots : List ℕ) (leaves : List PlainLeaf) (owners candidates : List ℕ) (marks : List Bool) (touched : List ℕ) →

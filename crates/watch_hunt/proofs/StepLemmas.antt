@@ -12,7 +12,7 @@ use Rattle.watch_hunt.specs.declared.found.Found.{Found}
 use Rattle.watch_hunt.specs.declared.next_row.NextRow.{NextRow}
 use Rattle.watch_hunt.specs.declared.brackets.Stretch.{Stretch}
 use Rattle.watch_hunt.specs.FollowerState.{FollowerState, Follows}
-use Rattle.watch_hunt.specs.EngineAnswer.{binds_at, NeverFalls}
+use Rattle.watch_hunt.specs.EngineAnswer.{binds_at}
 use Rattle.watch_hunt.specs.inner.Table.{part_of}
 use Rattle.watch_hunt.specs.inner.Judging.{IsRising}
 use Rattle.watch_hunt.specs.inner.Following.{EndsAt}
@@ -42,18 +42,6 @@ own_place : (place : ℕ) (binds : List Bind) (k n : ℕ) → slice_get (map (λ
 own_place place [] k n h = absurd (cc)
 own_place place (b ∷ binds) zero n h = cc
 own_place place (b ∷ binds) (suc k) n h = own_place place binds k n h
-
-pub none_found : NeverFalls []
-none_found j k m n h a b = absurd (cc)
-
-pub took_none : (row : NextRow) (cap : ℕ) (stretches : List Stretch) (marks : List Bool) (touched : List ℕ) (old : List FollowerState) → TookSome row cap stretches marks touched 0 old old []
-took_none row cap stretches marks touched old = record {
-  count = refl;
-  took = λ k place stretch before after h a b c d. absurd (omega (arith, h));
-  others = λ place none. (refl, refl);
-  rise = none_found;
-  early = λ k place h. absurd (cc);
-}
 
 module _ (row : NextRow) (cap : ℕ) (stretches : List Stretch) (marks : List Bool) (touched : List ℕ) (i : ℕ) (old now : List FollowerState) (found : List Found)
     (took : TookSome row cap stretches marks touched i old now found) (rise : IsRising touched) (place : ℕ) (place_is : slice_get touched i ≡ Some place)
@@ -135,12 +123,6 @@ untouched row cap stretches marks touched i old now found took rise place at = (
 
 -- ---- a follower caught up
 
-pub still_same : (cap rows : ℕ) (last : Option ℤ) (xs : List FollowerState) → StillFollow cap rows last xs xs
-still_same cap rows last xs = record {
-  count = refl;
-  follow = λ place before after p log a b follows ends. subst (λ (f : FollowerState). Follows p cap log f) (let e : Some before ≡ Some after = sym a ∙ b in cc) follows;
-}
-
 pub still_set : (cap rows : ℕ) (last : Option ℤ) (xs : List FollowerState) (i : ℕ) (old new : FollowerState) → slice_get xs i ≡ Some old →
     ((p : Pattern) (log : List LogEntry) → Follows p cap log old → EndsAt log rows last → Follows p cap log new) → StillFollow cap rows last xs (set xs i new)
 still_set cap rows last xs i old new at law = record {
@@ -177,22 +159,3 @@ pub record ClearSoFar (candidates : List ℕ) (i : ℕ) (old now : List Bool) : 
   pub count : length now ≡ length old
   pub marked : (at : ℕ) → slice_get now at ≡ Some true → slice_get old at ≡ Some true
   pub off : (j at : ℕ) → j < i → slice_get candidates j ≡ Some at → slice_get now at ≡ Some true → ⊥
-
-pub clear_none : (candidates : List ℕ) (old : List Bool) → ClearSoFar candidates 0 old old
-clear_none candidates old = record { count = refl; marked = λ at h. h; off = λ j at h of_j m. omega (arith, h) }
-
-pub clear_more : (candidates : List ℕ) (i : ℕ) (old now : List Bool) (at : ℕ) → ClearSoFar candidates i old now → slice_get candidates i ≡ Some at → at < length now → ClearSoFar candidates (i + 1) old (set now at false)
-clear_more candidates i old now at far at_is inside = record {
-  count = length-set now at false ∙ far.count;
-  marked = λ b h. far.marked b (was b h (same_or_other at b));
-  off = λ j b h of_j m. off j b of_j m (below_or_at j i h);
-} where
-  was : (b : ℕ) → slice_get (set now at false) b ≡ Some true → (at ≡ b) ⊎ (at ≡ b → ⊥) → slice_get now b ≡ Some true
-  was b h (inl e) = absurd (let f : Some false ≡ Some true = sym (get_set now at false inside) ∙ ap (slice_get (set now at false)) e ∙ h in cc)
-  was b h (inr e) = sym (get_set_other now at b false e) ∙ h
-
-  off : (j b : ℕ) → slice_get candidates j ≡ Some b → slice_get (set now at false) b ≡ Some true → (j < i) ⊎ (j ≡ i) → ⊥
-  off j b of_j m (inl h) = far.off j b h of_j (was b m (same_or_other at b))
-  off j b of_j m (inr e) =
-      let same : at ≡ b = cc in
-      let f : Some false ≡ Some true = sym (get_set now at false inside) ∙ ap (slice_get (set now at false)) same ∙ m in cc

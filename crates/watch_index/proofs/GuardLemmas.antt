@@ -6,7 +6,7 @@ use Rattle.match_tests.proofs.ContainsLemmas.{in_more, take_next}
 use Rattle.std.proofs.lemmas.Bool.{false≢true}
 use Rattle.std.proofs.lemmas.List.{length-append, append-nil, nil_from_length}
 use Rattle.std.specs.Prelude.{Contains}
-use Rattle.std.proofs.lemmas.List.Elements.{All-nil, All-contains, Contains-append_left, Contains-push, Contains-get_or}
+use Rattle.std.proofs.lemmas.List.Elements.{All-contains, Contains-append_left, Contains-push, Contains-get_or}
 use Rattle.std.proofs.lemmas.Cmp.{tied_itself, int_cmp_total, nat_list_cmp_total}
 use Rattle.std.specs.Ordering.{nat_cmp}
 use Rattle.std.specs.Cmp.Lexicographic.{slice_cmp}
@@ -65,13 +65,6 @@ weaker kind steps Fact More guards follows has = record {
 
 any_fits : (value : Data) (own : Key) → own ≡ key.Any → Fits own value
 any_fits value own is = subst (λ (k : Key). Fits k value) (sym is) tt
-
--- a test needs a root of its path's type
-pub kind_guards : (test : Test) (steps : List Step) (guards : List Guard) → steps ≡ [] → HasGuard test.path.kind steps (λ own. own ≡ key.Any) guards
-    → AreGuards (λ objects root. TestHolds objects root test) guards
-kind_guards test steps guards none has objects root holds =
-    guard_met objects root test.path.kind steps guards holds.object holds.object (subst ArePlain (sym none) (All-nil IsPlain)) holds.is_root
-    (subst (λ (s : List Step). Reaches objects None s holds.object holds.object) (sym none) refl) (weaker test.path.kind steps (λ own. own ≡ key.Any) (λ own. Fits own holds.object) guards (any_fits holds.object) has)
 
 module _ (test : Test) (plain_test : test.negated ≡ false) where
   met_value : (objects : List Data) (root : ℕ) (holds : TestHolds objects root test)

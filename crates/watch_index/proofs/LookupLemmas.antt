@@ -11,7 +11,7 @@ use Rattle.stix_json.specs.Properties.{text_at}
 use Rattle.match_tests.proofs.ContainsLemmas.{in_more}
 use Rattle.watch_index.specs.declared.finder.Finder.{Finder}
 use Rattle.std.proofs.lemmas.List.Elements.{All-contains, Contains-append_left}
-use Rattle.std.proofs.lemmas.Option.{same_Some, none-some}
+use Rattle.std.proofs.lemmas.Option.{same_Some}
 use Rattle.serde_json.specs.Data.{Data, number as number_of}
 use Rattle.serde_json.specs.Find.{of_integer}
 use Rattle.match_paths.specs.Selection.{Reaches}
@@ -23,17 +23,6 @@ use Rattle.watch_index.specs.inner.Keys.{Fits, AreSame, IsAsked}
 use Rattle.watch_index.specs.Exact.{ArePlain}
 use Rattle.watch_index.specs.inner.Indexed.{IsReachedFrom, IsSeenFrom, IsSeen, IsOfKind}
 use Rattle.watch_index.specs.inner.Finding.{AreAlike, Keeps, AsksByPath, AskByPaths, AsksFor, AreAsked, AddsOnly, IsSeenBy, AreSeen}
-
-same_back : (one other : Key) → AreSame one other → AreSame other one
-same_back Any Any same = tt
-same_back (Integer whole) (Integer other) same = sym same
-same_back (Text text) (Text other) same = sym same
-same_back Any (Integer other) same = absurd same
-same_back Any (Text other) same = absurd same
-same_back (Integer whole) Any same = absurd same
-same_back (Integer whole) (Text other) same = absurd same
-same_back (Text text) Any same = absurd same
-same_back (Text text) (Integer other) same = absurd same
 
 pub same_through : (one other third : Key) → AreSame one other → AreSame other third → AreSame one third
 same_through Any Any third same also = also
@@ -50,16 +39,8 @@ same_through (Integer whole) (Text other) third same also = absurd same
 same_through (Text text) Any third same also = absurd same
 same_through (Text text) (Integer other) third same also = absurd same
 
-pub same_itself : (own : Key) → AreSame own own
-same_itself Any = tt
-same_itself (Integer whole) = refl
-same_itself (Text text) = refl
-
 pub alike_through : (one other third : Lookup) → AreAlike one other → AreAlike other third → AreAlike one third
 alike_through one other third first second = record { path = first.path ∙ second.path; key = same_through one.key other.key third.key first.key second.key }
-
-pub alike_itself : (lookup : Lookup) → AreAlike lookup lookup
-alike_itself lookup = record { path = refl; key = same_itself lookup.key }
 
 -- more at the end takes nothing away
 pub keeps_more : (old new : List Lookup) (more : List Lookup) → new ≡ old ++ more → Keeps old new
@@ -68,9 +49,6 @@ keeps_more old new more is lookup looked = record {
   among = subst (λ (ls : List Lookup). Contains ls looked.found) (sym is) (Contains-append_left old more looked.found looked.among);
   alike = looked.alike;
 }
-
-pub keeps_itself : (lookups : List Lookup) → Keeps lookups lookups
-keeps_itself lookups lookup looked = looked
 
 pub keeps_through : (old mid new : List Lookup) → Keeps old mid → Keeps mid new → Keeps old new
 keeps_through old mid new first second lookup looked = second lookup (first lookup looked)
@@ -84,21 +62,9 @@ asked_cases (Some other) (Integer whole) asked = inr (other, refl, asked)
 asked_cases (Some other) (Text text) asked = inr (other, refl, asked)
 
 module _ (paths : List Guard) (objects : List Data) (from : Data) (number : ℕ) where
-  -- there is no such path
-  pub asks_no_path : (lookups : List Lookup) → None ≡ slice_get paths number → AsksByPath paths objects from number lookups
-  asks_no_path lookups none lookup is reached = absurd (none-some reached.path (none ∙ ap (slice_get paths) (sym is) ∙ reached.there))
-
   module _ (guard : Guard) (there : Some guard ≡ slice_get paths number) where
     the_path : (lookup : Lookup) → lookup.path ≡ number → (reached : IsReachedFrom paths objects from lookup) → reached.path ≡ guard
     the_path lookup is reached = sym (same_Some guard reached.path (there ∙ ap (slice_get paths) (sym is) ∙ reached.there))
-
-    -- it leads to no value
-    pub asks_no_value : (lookups : List Lookup) → ((value : Data) → ArePlain guard.steps.now → Reaches objects None guard.steps.now from value → ◌≡◌ {A = Option Data} None (Some value))
-        → AsksByPath paths objects from number lookups
-    asks_no_value lookups never lookup is reached =
-        let same = the_path lookup is reached in
-        absurd (none-some reached.value (never reached.value (subst (λ (g : Guard). ArePlain g.steps.now) same reached.plain)
-        (subst (λ (g : Guard). Reaches objects None g.steps.now from reached.value) same reached.reached)))
 
     -- it leads to a value, which is looked up
     pub asks_value : (lookups : List Lookup) (value_there : Data) (found : Option Key)
@@ -151,9 +117,6 @@ asks_root finder objects root from kind entries lookups there typed all asks loo
     (subst (λ (d : Data). IsReachedFrom finder.paths.items objects d lookup) (sym same) leads.reached)
 
 -- ---- nothing else is looked up
-
-pub only_itself : (Own : Lookup → Type 0) (lookups : List Lookup) → AddsOnly Own lookups lookups
-only_itself Own lookups lookup has = inl has
 
 pub only_more : (Own : Lookup → Type 0) (old new : List Lookup) (lookup : Lookup) → new ≡ old ++ lookup ∷ [] → Own lookup → AddsOnly Own old new
 only_more Own old new lookup is own other has = elim ((in_more old lookup other).0 (subst (λ (l : List Lookup). Contains l other) is has)) [

@@ -1,8 +1,8 @@
 -- The rows of many brackets, one bracket more.
-use Rattle.std.proofs.Common.{arith, ◌≡◌, ◌⊎◌, inl, inr, ℕ, ◌+◌, ◌<◌, List, [], ◌∷◌, ◌++◌, map, get_or, Some, slice_get, refl, sym, ap, subst, ◌∙◌}
+use Rattle.std.proofs.Common.{arith, ◌≡◌, ◌⊎◌, inl, inr, ℕ, ◌+◌, ◌<◌, List, [], ◌++◌, map, get_or, Some, slice_get, refl, sym, ap, subst, ◌∙◌}
 use Rattle.std.specs.Prelude.{All, Contains}
 use Rattle.std.proofs.lemmas.List.{append-nil}
-use Rattle.std.proofs.lemmas.List.Elements.{All-nil, All-cons, All-map, All-append, All-weaker, Contains-append_left, Contains-append_right, Contains-push, Contains-get_or}
+use Rattle.std.proofs.lemmas.List.Elements.{All-nil, All-map, All-append, All-weaker, Contains-append_left, Contains-append_right, Contains-get_or}
 use Rattle.std.proofs.lemmas.Option.{same_Some}
 use Rattle.pattern_types.specs.declared.leaf.Leaf.{Leaf}
 use Rattle.pattern_types.specs.PlainLeaf.{plain_leaf}
@@ -21,9 +21,6 @@ row_of place guard = record { guard = guard; place = place }
 
 pub adds_none : {A : Type 0} (Own : A → Type 0) (old new : List A) → new ≡ old → Adds Own old new
 adds_none Own old new is = record { more = []; is = is ∙ sym (append-nil old); own = All-nil Own }
-
-pub adds_one : {A : Type 0} (Own : A → Type 0) (old new : List A) (x : A) → new ≡ old ++ x ∷ [] → Own x → Adds Own old new
-adds_one Own old new x is own = record { more = x ∷ []; is = is; own = All-cons Own x [] own (All-nil Own) }
 
 contains_row : (place : ℕ) (guards : List Guard) → AreAmong (map (row_of place) guards) place guards
 contains_row place guards guard has = in_map (row_of place) guards guard has
@@ -45,15 +42,6 @@ adds_guards leaf place guards old new own enough is same = record {
   });
   guarded = record { more = map (row_of place) guards; is = is; own = rows_of_bracket leaf place guards enough };
   always = adds_none (IsOpen leaf place) old.always.items new.always.items same;
-}
-
--- and one without
-pub adds_place : (leaf : Leaf) (place : ℕ) (old new : Rows) → new.guarded.items ≡ old.guarded.items → new.always.items ≡ old.always.items ++ place ∷ []
-    → ¬ IsExact (plain_leaf leaf) → AddsBracket leaf place old new
-adds_place leaf place old new same is inexact = record {
-  covered = inl (subst (λ (l : List ℕ). Contains l place) (sym is) (Contains-push old.always.items place));
-  guarded = adds_none (IsRowOf leaf place) old.guarded.items new.guarded.items same;
-  always = adds_one (IsOpen leaf place) old.always.items new.always.items place is (record { placed = refl; inexact = inexact });
 }
 
 still_there : {A : Type 0} (Own : A → Type 0) (old new : List A) → Adds Own old new → (x : A) → Contains old x → Contains new x

@@ -1,6 +1,5 @@
 -- The objects of a bundle, one after another.
-use Rattle.std.proofs.Common.{arith, ◌≡◌, ℕ, zero, suc, ◌+◌, ◌<◌, ◌≤◌, ◌^◌, List, [], ◌∷◌, ◌++◌, length, map, take, slice_get, slice_index_or, option_map, Option, Some, refl, sym, ap, subst, ◌∙◌}
-use Rattle.std.proofs.lemmas.List.{length-map, length-take-le, take_more, map-append}
+use Rattle.std.proofs.Common.{◌≡◌, ℕ, zero, suc, ◌+◌, ◌<◌, List, [], ◌∷◌, ◌++◌, length, map, slice_get, slice_index_or, option_map, Option, Some, refl, sym, ap, subst, ◌∙◌}
 use Rattle.std.proofs.lemmas.Option.{slice_get-map, slice_get_read}
 use Rattle.serde_json.specs.Data.{Data}
 use Rattle.stix_json.specs.declared.value.Json.{Json}
@@ -10,7 +9,6 @@ use Rattle.stix_objects.specs.Breaks.{AreBreaksOf}
 use Rattle.stix_bundles.specs.declared.object_break.ObjectBreak.{ObjectBreak}
 use Rattle.stix_bundles.specs.Bundle.{AreAllBreaks, break_of_object}
 use Rattle.stix_bundles.specs.Objects.{data_in}
-use Rattle.watch_indicators.specs.Gathering.{Gathered, GathersFor}
 use Rattle.watch_indicators.proofs.GrowingLemmas.{same_some}
 
 none_own : (at : ℕ) (own : List Break) (rest : List ObjectBreak) → [] ≡ map (break_of_object at) own ++ rest → own ≡ []
@@ -34,20 +32,3 @@ pub unbroken_object : (values : List Json) (at : ℕ) (value : Json) → AreAllB
 unbroken_object values at value all inside is =
     unbroken_at 0 (data_in values) all at (data_of value)
     (slice_get-map data_of values at ∙ ap (λ (x : Option Json). option_map data_of x) (slice_get_read values (length values) at value refl inside is))
-
--- how many were added
-pub few_added : (gathered : Gathered) (values : List Json) (at most : ℕ) → at < length values → length values ≤ most → most < 2 ^ 32
-    → GathersFor gathered (data_in (take at values)) → gathered.count < 2 ^ 32
-few_added gathered values at most inside few small gathers =
-    let counted = gathers.counted in
-    let mapped = length-map (take at values) data_of in
-    let taken = length-take-le at values (omega arith) in
-    omega arith
-
--- the objects before a place, and the one there
-pub one_more : (gathered : Gathered) (values : List Json) (at : ℕ) (value : Json) → at < length values → value ≡ slice_index_or values at value
-    → GathersFor gathered (data_in (take at values) ++ data_of value ∷ []) → GathersFor gathered (data_in (take (at + 1) values))
-one_more gathered values at value inside is gathers =
-    let more : take (at + 1) values ≡ take at values ++ value ∷ [] =
-    take_more values at value inside ∙ ap (λ (v : Json). take at values ++ v ∷ []) (sym is) in
-    subst (GathersFor gathered) (sym (ap data_in more ∙ map-append data_of (take at values) (value ∷ []))) gathers

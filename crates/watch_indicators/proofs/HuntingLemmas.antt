@@ -1,5 +1,5 @@
 -- The hunt among the kept indicators, one after another.
-use Rattle.std.proofs.Common.{arith, ◌≡◌, ◌⊎◌, inl, inr, ℕ, ◌<◌, ℤ, ◌<ℤ◌, ◌≤ℤ◌, List, [], ◌∷◌, ◌++◌, length, map, slice_get, slice_index_or, All, Option, Some, None, codes, refl, sym, ap, subst, ◌∙◌}
+use Rattle.std.proofs.Common.{◌≡◌, ◌⊎◌, inl, inr, ℕ, ◌<◌, ℤ, ◌<ℤ◌, ◌≤ℤ◌, List, [], ◌∷◌, ◌++◌, length, map, slice_get, slice_index_or, All, Option, Some, None, codes, refl, sym, ap, subst, ◌∙◌}
 use Rattle.std.specs.Prelude.{Contains, IfSome}
 use Rattle.std.proofs.lemmas.List.{map-append}
 use Rattle.std.proofs.lemmas.List.Elements.{All-push, Contains-append_left, Contains-push, Contains-push_cases}
@@ -29,17 +29,6 @@ pub record Laws : Type 0 where
   pub one_meaning : OneMeaning
   pub one_timestamp : (precision : Precision) (name : List ℕ) (value : Data) (first second : ℤ) → IsTimestampAt precision name value first
       → IsTimestampAt precision name value second → first ≡ second
-
-pub no_hunt : (objects : List Data) (moment : ℤ) → IsHuntAmong objects moment [] (record { hunted = []; skipped = [] })
-no_hunt objects moment = record {
-  hunted = λ k x inside. absurd (omega arith);
-  skipped = λ k x inside. absurd (omega arith);
-  all = λ at id value candidate has. absurd (let e = has.1 in omega arith);
-  hunted_rise = λ j k m n less first second. absurd cc;
-  skipped_rise = λ j k m n less first second. absurd cc;
-  hunted_seen = λ k x inside. absurd (omega arith);
-  skipped_seen = λ k x inside. absurd (omega arith);
-}
 
 pub whole_hunt : (gathered : Gathered) (objects : List Data) (moment : ℤ) (hunt : Hunt) → GathersFor gathered objects
     → IsHuntAmong objects moment gathered.kept hunt → IsHuntOf objects moment hunt

@@ -1,4 +1,4 @@
--- Which indicators of some objects are hunted at a moment (STIX 2.1, section 4.6; versions and `revoked`: section 3.6).
+-- Which indicators of some objects are hunted at a moment (STIX 2.1, section 4.7; versions and `revoked`: section 3.6).
 -- The objects break no rule.
 use Rattle.std.specs.Prelude.{◌≡◌, ◌⊎◌, ℕ, ◌<◌, ℤ, ◌<ℤ◌, ◌≤ℤ◌, List, map, All, Contains, slice_get, Some, true, codes}
 use Rattle.serde_json.specs.Data.{Data, boolean}

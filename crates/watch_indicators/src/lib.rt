@@ -1,4 +1,4 @@
-//! Which indicators of a feed are hunted at a moment (STIX 2.1, section 4.6): the latest versions that
+//! Which indicators of a feed are hunted at a moment (STIX 2.1, section 4.7): the latest versions that
 //! are valid then, not revoked, and have a pattern of STIX that is read.
 //!
 //! `hunt` tells them of a bundle. A `Gathering` takes the objects of a feed one by one, however many,

@@ -12,7 +12,6 @@ use Rattle.match_input.specs.declared.read_end.ReadEnd.TheVariants as read
 use Rattle.match_input.specs.Line.{last_after}
 use Rattle.match_input.specs.Reading.{BundleOf}
 use Rattle.match_input.specs.Ahead.{ReaderState}
-use Rattle.match_log.specs.Matching.{BeginsSo}
 use Rattle.match_log.proofs.ReadLemmas.{begins_so}
 use Rattle.match_log.proofs.PendingLemmas.{written_with-nil, written_with-both}
 use Rattle.watch_log.specs.declared.see_end.SeeEnd.{SeeEnd}
@@ -20,7 +19,7 @@ use Rattle.watch_log.specs.declared.see_end.SeeEnd.TheVariants as see
 use Rattle.watch_log.specs.declared.end.WatchEnd.{WatchEnd}
 use Rattle.watch_log.specs.declared.end.WatchEnd.TheVariants.{ReadFault}
 use Rattle.watch_log.specs.Reading.{bundle_of, HasRead, GivesNext, NextAnswers}
-use Rattle.watch_log.specs.Watching.{Says, EndsSeeing, SeesAll, WatchesWhole, StopsBetween, StopsWithin, AnswersWatch}
+use Rattle.watch_log.specs.Watching.{Says, EndsSeeing, SeesAll, WatchesWhole, StopsWithin, AnswersWatch}
 use Rattle.watch_log.specs.inner.Ends.{end_of_read, end_of_see}
 use Rattle.watch_log.specs.inner.Runs.{RunsSo}
 use Rattle.watch_log.proofs.ReadingLemmas.{read_so}
@@ -54,15 +53,6 @@ says-more sees start now next bundles bundle written written_now written_after a
   sees-more sees start now next bundles bundle all.0 one.0 all.1 one.1,
   one.2 ∙ ap (written_with one.0) all.2 ∙ written_with-both all.0 one.0 written,
 )
-
--- nothing was seen yet, and nothing said
-pub stops-at-once : {W : Type 0} (sees : W → BundleOf → W → List ℕ → Type 0) (first : Option (List ℕ)) (earlier : List BundleOf) (watcher : W)
-    (left began written : Option (List ℕ)) → BeginsSo Lines first earlier → StopsBetween sees first earlier watcher watcher written (streams left began written)
-stops-at-once sees first earlier watcher left began written begins = record {
-  bundles = [];
-  begins = subst (λ (bs : List BundleOf). BeginsSo Lines first bs) (sym (append-nil earlier)) begins;
-  says = ([], (refl, refl), written_with-nil written);
-}
 
 -- ---- the watcher and the reader count alike
 

@@ -19,13 +19,6 @@ way-more text pending more before now way = record {
   now_is = way.now_is;
 }
 
--- what is pending is written
-pub way-written : (text pending : List ℕ) (before now after : Option (List ℕ)) → IsOnItsWay text pending before now
-    → after ≡ written_with pending now → after ≡ written_with text before
-way-written text pending before now after way is =
-    is ∙ ap (written_with pending) way.now_is ∙ written_with-both way.sent pending before
-    ∙ ap (λ (t : List ℕ). written_with t before) (sym way.text_is)
-
 -- all is written
 pub way-all : (text : List ℕ) (before after : Option (List ℕ)) → after ≡ written_with text before → IsOnItsWay text [] before after
 way-all text before after is = record { sent = text; text_is = sym (append-nil text); now_is = is }

@@ -1,13 +1,10 @@
 -- An object that meets each row of its type breaks no rule, and how properties meet their rows.
-use Rattle.std.proofs.Common.{◌≡◌, ℕ, List, [], ◌∷◌, Option, Some, None, option_map, refl}
+use Rattle.std.proofs.Common.{◌≡◌, List, [], ◌∷◌, Option, None, option_map, refl}
 use Rattle.std.specs.Prelude.{filter_map}
 use Rattle.serde_json.specs.Data.{Data}
 use Rattle.stix_objects.specs.declared.rule_break.Break.{Break}
 use Rattle.stix_objects.specs.BreakAt.{BreakAt, break_of}
 use Rattle.stix_objects.specs.Row.{Row}
-use Rattle.stix_objects.specs.Form.{Single, one}
-use Rattle.stix_objects.specs.Singles.{JudgesSingle}
-use Rattle.stix_objects.specs.Forms.{JudgesValue, JudgesForm}
 use Rattle.stix_objects.specs.Breaks.{JudgesRows, AreBreaksBy}
 use Rattle.stix_objects.specs.Sound.{MeetsAll}
 
@@ -25,7 +22,3 @@ told (row ∷ rows) = told rows
 
 pub no_breaks : (rows : List Row) (d : Data) → MeetsAll rows d → AreBreaksBy rows d []
 no_breaks rows d meets = record { outcomes = nothing rows; judged = judged rows d meets; told = told rows }
-
--- a property that is there, and is what its form asks
-pub value_met : (Needed : Type 0) (name : List ℕ) (single : Single) (d : Data) → JudgesSingle single d None → JudgesValue Needed name (JudgesForm (one single)) (Some d) None
-value_met Needed name single d met = (None, (None, met, refl), refl)

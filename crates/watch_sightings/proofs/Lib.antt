@@ -1,6 +1,5 @@
 mod AnswerLemmas
 mod BreakLemmas
-mod RoundingLemmas
 mod KindLemmas
 mod SightingLemmas
 mod EnvelopeLemmas

@@ -6,16 +6,16 @@ use crate::form::{
 };
 use crate::row::{Condition, Row};
 
-/// A name, and no more: course-of-action (section 4.3), identity (4.5) and vulnerability (4.18).
+/// A name, and no more: course-of-action (section 4.3), identity (4.5) and vulnerability (4.19).
 pub(crate) const NAMED: &[Row] = &[Row::Required("name", TEXT)];
 
-/// A name and phases: attack-pattern (section 4.1) and tool (4.17).
+/// A name and phases: attack-pattern (section 4.1) and tool (4.18).
 pub(crate) const NAMED_IN_PHASES: &[Row] = &[
     Row::Required("name", TEXT),
     Row::Optional("kill_chain_phases", PHASES),
 ];
 
-/// A name and when it was seen: campaign (section 4.2), intrusion-set (4.8), threat-actor (4.16).
+/// A name and when it was seen: campaign (section 4.2), intrusion-set (4.9), threat-actor (4.17).
 pub(crate) const NAMED_AND_SEEN: &[Row] = &[
     Row::Required("name", TEXT),
     Row::Optional("first_seen", TIME),
@@ -29,7 +29,7 @@ pub(crate) const GROUPING: &[Row] = &[
     Row::Required("object_refs", REFS_ANY),
 ];
 
-/// Section 4.6: indicator.
+/// Section 4.7: indicator.
 pub(crate) const INDICATOR: &[Row] = &[
     Row::Required("pattern", TEXT),
     Row::Required("pattern_type", TEXT),
@@ -39,7 +39,7 @@ pub(crate) const INDICATOR: &[Row] = &[
     Row::Optional("kill_chain_phases", PHASES),
 ];
 
-/// Section 4.7: infrastructure.
+/// Section 4.8: infrastructure.
 pub(crate) const INFRASTRUCTURE: &[Row] = &[
     Row::Required("name", TEXT),
     Row::Optional("kill_chain_phases", PHASES),
@@ -48,7 +48,7 @@ pub(crate) const INFRASTRUCTURE: &[Row] = &[
     Row::Order(Precision::Any, "first_seen", "last_seen"),
 ];
 
-/// Section 4.10: malware.
+/// Section 4.11: malware.
 pub(crate) const MALWARE: &[Row] = &[
     Row::Required("is_family", BOOLEAN),
     Row::RequiredWhere("name", TEXT, Condition::IsTrue("is_family")),
@@ -58,7 +58,7 @@ pub(crate) const MALWARE: &[Row] = &[
     Row::Order(Precision::Any, "first_seen", "last_seen"),
 ];
 
-/// Section 4.11: malware-analysis.
+/// Section 4.12: malware-analysis.
 pub(crate) const MALWARE_ANALYSIS: &[Row] = &[
     Row::Required("product", TEXT),
     Row::Optional("version", TEXT),
@@ -85,13 +85,13 @@ pub(crate) const MALWARE_ANALYSIS: &[Row] = &[
     Row::NeedsOneOf(Some("result"), &["result", "analysis_sco_refs"]),
 ];
 
-/// Section 4.12: note.
+/// Section 4.13: note.
 pub(crate) const NOTE: &[Row] = &[
     Row::Required("content", TEXT),
     Row::Required("object_refs", REFS_ANY),
 ];
 
-/// Section 4.13: observed-data.
+/// Section 4.14: observed-data.
 pub(crate) const OBSERVED_DATA: &[Row] = &[
     Row::Required("first_observed", TIME),
     Row::Required("last_observed", TIME),
@@ -112,7 +112,7 @@ pub(crate) const OBSERVED_DATA: &[Row] = &[
     ),
 ];
 
-/// Section 4.14: opinion, with the values of opinion-enum.
+/// Section 4.15: opinion, with the values of opinion-enum.
 pub(crate) const OPINION: &[Row] = &[
     Row::Required(
         "opinion",
@@ -127,7 +127,7 @@ pub(crate) const OPINION: &[Row] = &[
     Row::Required("object_refs", REFS_ANY),
 ];
 
-/// Section 4.15: report.
+/// Section 4.16: report.
 pub(crate) const REPORT: &[Row] = &[
     Row::Required("name", TEXT),
     Row::Required("published", TIME),

@@ -26,10 +26,6 @@ pub record Misses (object value : Data) : Type 0 where
 abbrev pub IsListAt : List ℕ → Data → List Data → Type 0
 IsListAt name d values = option_and_then as_array (get name d) ≡ Some (items_of values)
 
--- no list stands at the name
-abbrev pub HasNoListAt : List ℕ → Data → Type 0
-HasNoListAt name d = option_and_then as_array (get name d) ≡ None
-
 -- the marking names one marking or one language, and a marking by its identifier
 abbrev pub IsWellNamed : Data → Type 0
 IsWellNamed marking = HasOne marking × (Has (codes "marking_ref") marking → RefersToMarking marking)

@@ -1,7 +1,7 @@
 use Rattle.std.proofs.Common.{ap, ◌∙◌}
 use Rattle.uuid.specs.Text.{hyphenated_text, lower}
 use Rattle.stix_ids.specs.Uuid.{uuid_text}
-use Rattle.taxii_client.proofs.request.write_uuid.Goals as goal
+use Rattle.stix_ids.proofs.hyphenated.write_uuid.Goals as goal
 
 pub returns : goal.returns
 unfolding uuid_text
