@@ -7,3 +7,4 @@ pub mod IndexLemmas
 pub mod LookUpLemmas
 mod HintLemmas
 pub mod GrowthLemmas
+pub mod ObjectLemmas

@@ -1,7 +1,8 @@
--- What stands in a list: at its front, after a filter and after a map.
-use Rattle.std.proofs.Common.{◌≡◌, ◌⊎◌, ℕ, zero, suc, ◌<◌, List, [], ◌∷◌, length, Bool, true, false, cond, inl, inr, get_or, refl, sym, ap, ◌∙◌, subst, arith, map, filter}
+-- What stands in a list: at its front, after a filter and after a map, and among lent ones.
+use Rattle.std.proofs.Common.{◌≡◌, ◌⊎◌, ℕ, zero, suc, ◌<◌, List, [], ◌∷◌, length, Bool, true, false, cond, inl, inr, get_or, refl, sym, ap, ◌∙◌, subst, arith, map, filter, Bor}
 use Rattle.std.specs.List.{Contains}
 use Rattle.std.proofs.lemmas.Bool.{false≢true}
+use Rattle.std.proofs.lemmas.List.{length-map, get_or-map}
 
 pub nothing : {X : Type 0} (x : X) → Contains [] x → ⊥
 nothing x here = omega arith
@@ -74,3 +75,12 @@ pub filter-map : {X Y : Type 0} (test : Y → Bool) (f : X → Y) (xs : List X) 
 filter-map test f [] = refl
 filter-map test f (x ∷ xs) =
     ap (λ rest. cond (test (f x)) (f x ∷ rest) rest) (filter-map test f xs) ∙ cond-map f (test (f x)) x (filter (λ x. test (f x)) xs)
+
+-- ---- among lent ones
+
+pub lent_at : {X : Type 0} (lent : List (Bor X)) (i : ℕ) (one : Bor X) → i < length lent → one ≡ get_or lent i one
+    → (i < length (map (λ one. one.now) lent)) × (one.now ≡ get_or (map (λ one. one.now) lent) i one.now)
+lent_at lent i one within is = (
+  omega (arith, within, length-map lent (λ (one : Bor _). one.now)),
+  ap (λ (one : Bor _). one.now) is ∙ sym (get_or-map (λ (one : Bor _). one.now) lent i one one.now within),
+)

@@ -205,7 +205,7 @@ never_both_ways row other later before = elim later [
 -- ---- the rows of an object
 
 -- each row comes behind the front of its object
-behind_front : (secret collection : ℕ) (id : Id) (row : StoredRow) → IsIn64Bits (version_key secret row) → 0 < row.date → IsBefore (front_of collection id) row
+pub behind_front : (secret collection : ℕ) (id : Id) (row : StoredRow) → IsIn64Bits (version_key secret row) → 0 < row.date → IsBefore (front_of collection id) row
 behind_front secret collection id row bits dated = elim (either_way (front_of collection id) row) [
   | inr before ↦ before
   | inl back ↦ elim back [

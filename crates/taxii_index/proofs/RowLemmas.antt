@@ -8,10 +8,10 @@ use Rattle.taxii_rows.specs.Keeper.{row_at}
 use Rattle.taxii_index.specs.Index.{has_row}
 use Rattle.taxii_index.proofs.ListLemmas.{nothing, first, later, cons_cases, same_element}
 
-none_is_some : {X : Type 0} (x : X) → None ≡ Some x → ⊥
+pub none_is_some : {X : Type 0} (x : X) → None ≡ Some x → ⊥
 none_is_some x is = cc
 
-some_same : {X : Type 0} (x y : X) → Some x ≡ Some y → x ≡ y
+pub some_same : {X : Type 0} (x y : X) → Some x ≡ Some y → x ≡ y
 some_same x y is = cc
 
 -- ---- what is found passes, and where nothing is found nothing does

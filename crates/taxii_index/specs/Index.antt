@@ -1,10 +1,10 @@
 -- The index of some rows: under which keys it has them, and what its look-ups lead to.
-use Rattle.std.specs.Prelude.{◌≡◌, ◌⊎◌, ◌↔◌, ℕ, ◌<◌, pos, negsuc, ◌<ℤ◌, Bool, true, false, List, [], map, All, Any, option_map, unwrap_or}
+use Rattle.std.specs.Prelude.{◌≡◌, ◌⊎◌, ◌↔◌, ℕ, ◌<◌, pos, negsuc, ◌<ℤ◌, Bool, true, false, List, [], map, All, Any, Option, Some, None, cond, option_map, unwrap_or}
 use Rattle.std.specs.List.{Contains}
 use Rattle.stix_ids.specs.declared.id.Id.{Id}
 use Rattle.taxii_rows.specs.declared.stored_row.StoredRow.{StoredRow}
 use Rattle.taxii_rows.specs.declared.described.Described.{Described}
-use Rattle.taxii_rows.specs.StoreState.{RiseFrom}
+use Rattle.taxii_rows.specs.StoreState.{dates_of, RiseFrom}
 use Rattle.taxii_rows.specs.Keeper.{row_at}
 use Rattle.taxii_rows.specs.Identity.{is_row_of}
 use Rattle.taxii_index.specs.declared.row_index.RowIndex.{RowIndex}
@@ -76,3 +76,17 @@ LeadsToObject secret collection id rows keys = LeadsToThose secret (IsBefore (fr
 -- one of the rows is of the object
 abbrev pub HasRowOf : List StoredRow → ℕ → Id → Type 0
 HasRowOf rows collection id = Any (λ row. (row.collection ≡ collection) × (row.id ≡ id)) rows
+
+-- the rows of the object in the collection, by date, and no other
+pub record AreRowsOf (collection : ℕ) (id : Id) (rows found : List StoredRow) : Type 0 where
+  pub rise : RiseFrom 1 (dates_of found)
+  pub each : (row : StoredRow) → Contains found row ↔ (Contains rows row × (is_row_of collection id row ≡ true))
+
+-- a row where it passes the test
+abbrev pub passing : (StoredRow → Bool) → Option StoredRow → Option StoredRow
+passing test None = None
+passing test (Some row) = cond (test row) (Some row) None
+
+-- the row of the date, where it passes the test
+abbrev pub row_where : (StoredRow → Bool) → List StoredRow → ℕ → Option StoredRow
+row_where test rows date = passing test (row_at date rows)

@@ -1,11 +1,11 @@
-ghost use Rattle.std.specs.Prelude.{◌≡◌, ◌↔◌, IsTrue, [], ◌++◌, not, length, take, filter, option_map, true, OnOk, OnErr};
+ghost use Rattle.std.specs.Prelude.{◌≡◌, ◌↔◌, IsTrue, [], ◌++◌, not, length, take, filter, option_map, map, true, IfOk, OnOk, OnErr};
 ghost use Rattle.std.specs.List.{Contains};
 ghost use Rattle.stix_ids.specs.declared.pick.Pick.TheVariants.{Last as LastOne, First as FirstOne};
 ghost use Rattle.taxii_rows.specs.StoreState.{dates_of, RiseFrom};
 ghost use Rattle.taxii_rows.specs.Keeper.{is_date_in};
 ghost use Rattle.taxii_rows.specs.Picking.{IsPicked, IsPickedBy};
 ghost use Rattle.taxii_index.specs.Names.{id_of};
-ghost use Rattle.taxii_index.specs.Index.{HasRowOf};
+ghost use Rattle.taxii_index.specs.Index.{HasRowOf, AreRowsOf};
 ghost use Rattle.taxii_index.specs.Presence.{row_of_same as first_of_same};
 ghost use Rattle.taxii_index.specs.Hints.{AreTrueOf};
 
@@ -14,7 +14,7 @@ use crate::hints::Hints;
 use flow_values::NoMemory;
 use std::alloc::Global;
 use std::marker::Model;
-use stix_ids::Pick;
+use stix_ids::{Id, Pick};
 use taxii_rows::{Described, StoredRow};
 
 /// Indexed rows with a hint for each, which tells without a look-up of most old versions that they are
@@ -174,6 +174,18 @@ impl HintedRows {
         ensures { IsTrue result ↔ HasRowOf self.now collection (id_of number kind.now) }
     {
         self.rows.has_object(collection, number, kind)
+    }
+
+    /// The rows of the object in the collection, by date: as many look-ups as it has, and no pass over all rows.
+    pub fn rows_of(&self, collection: u128, id: &Id) -> Result<Vec<&StoredRow>, NoMemory>
+        ensures { IfOk result (λ found. AreRowsOf collection id.now self.now (map (λ row. row.now) found.items)) }
+    {
+        self.rows.rows_of(collection, id)
+    }
+
+    /// Where the row of a date stands, if there is one. It only hints.
+    pub fn place_of(&self, date: u64) -> usize {
+        self.rows.place_of(date)
     }
 
     /// Whether one of the picks selects the row among the rows of its object.

@@ -1,12 +1,13 @@
-ghost use Rattle.std.specs.Prelude.{◌≡◌, ◌↔◌, ◌-◌, IsTrue, [], ◌∷◌, ◌++◌, not, length, take, map, filter, find, option_map, OnOk, OnErr, IfSome};
-ghost use Rattle.std.specs.List.{list_any};
+ghost use Rattle.std.specs.Prelude.{◌≡◌, ◌↔◌, ◌-◌, IsTrue, true, [], ◌∷◌, ◌++◌, not, length, take, map, filter, find, option_map, filter_map, IfOk, OnOk, OnErr, IfSome};
+ghost use Rattle.std.specs.List.{Contains, list_any};
+ghost use Rattle.taxii_rows.specs.declared.stored_row.StoredRow.{StoredRow as Stored};
 ghost use Rattle.stix_ids.specs.declared.pick.Pick.TheVariants.{Last as LastOne, First as FirstOne};
 ghost use Rattle.taxii_rows.specs.StoreState.{dates_of, RiseFrom};
 ghost use Rattle.taxii_rows.specs.Keeper.{is_date_in};
 ghost use Rattle.taxii_rows.specs.Identity.{is_row_of as is_of};
 ghost use Rattle.taxii_rows.specs.Picking.{IsPicked, IsPickedBy};
 ghost use Rattle.taxii_index.specs.Presence.{is_same as is_present, row_of_same as first_of_same};
-ghost use Rattle.taxii_index.specs.Index.{has_row, key_dates, HasRowOf};
+ghost use Rattle.taxii_index.specs.Index.{has_row, key_dates, HasRowOf, AreRowsOf, row_where};
 ghost use Rattle.taxii_index.specs.Names.{id_of};
 ghost use Rattle.taxii_index.specs.Hints.{ComesBefore};
 
@@ -224,6 +225,54 @@ impl IndexedRows {
         }
     }
 
+    /// The rows of the object in the collection, by date, found by their keys.
+    pub fn rows_of(&self, collection: u128, id: &Id) -> Result<Vec<&StoredRow>, NoMemory>
+        ensures { IfOk result (λ found. AreRowsOf collection id.now self.now (map (λ row. row.now) found.items)) }
+    {
+        self.as_slice();
+        let dates = self.dates_of(collection, id)?;
+        self.rows_at(&dates, collection, id)
+    }
+
+    /// The dates of the object's rows in the collection, rising, and perhaps of others of its name.
+    fn dates_of(&self, collection: u128, id: &Id) -> Result<Vec<u64>, NoMemory>
+        ensures rise { IfOk result (λ dates. RiseFrom 0 dates.items) }
+        ensures every { IfOk result (λ dates. (row : Stored) → Contains self.now row → is_of collection id.now row ≡ true → Contains dates.items row.date) }
+    {
+        let keys = self
+            .index
+            .of_object(collection, id.number, id.kind.as_str());
+        let mut dates = gather_dates(self.alloc, keys)?;
+        dates.sort()?;
+        dates.dedup();
+        Ok(dates)
+    }
+
+    /// Of the rows of these dates those of the object in the collection.
+    fn rows_at(&self, dates: &[u64], collection: u128, id: &Id) -> Result<Vec<&StoredRow>, NoMemory>
+        ensures { IfOk result (λ found. map (λ row. row.now) found.items ≡ filter_map (row_where (is_of collection id.now) self.now) dates.now) }
+    {
+        let mut found = Vec::new(self.alloc);
+        for date in dates {
+            if let Some(row) = self.row_of(*date, collection, id) {
+                found.push(row)?;
+            }
+        }
+        Ok(found)
+    }
+
+    /// The row of that date, where it is of the object in the collection.
+    fn row_of(&self, date: u64, collection: u128, id: &Id) -> Option<&StoredRow>
+        ensures { option_map (λ row. row.now) result ≡ row_where (is_of collection id.now) self.now date }
+    {
+        let row = row_at(&self.rows, date)?;
+        if row.is_of(collection, id) {
+            Some(row)
+        } else {
+            None
+        }
+    }
+
     /// Whether one of the picks selects the row among the rows of its object.
     pub fn is_picked(&self, row: &StoredRow, picks: &[Pick]) -> bool
         ensures { IsTrue result ↔ IsPicked picks.now self.now row.now }
@@ -303,6 +352,13 @@ impl IndexedRows {
             None => false,
         }
     }
+}
+
+/// The dates of some keys.
+fn gather_dates(alloc: Global, keys: Range<'_, Key>) -> Result<Vec<u64>, NoMemory>
+    ensures { IfOk result (λ dates. dates.items ≡ key_dates keys.entry) }
+{
+    Ok(keys.map(|key| key.2).collect(alloc)?)
 }
 
 /// Whether the row is of the object that has that number and kind, in the collection.

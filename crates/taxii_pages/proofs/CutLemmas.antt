@@ -9,7 +9,7 @@ use Rattle.taxii_rows.specs.StoreState.{dates_of, RiseFrom}
 use Rattle.taxii_routes.specs.declared.query.Query.{Query}
 use Rattle.taxii_pages.specs.inner.Candidates.{IsBehind, CanMeet, AreCandidates, IsCutAt}
 
-at_least : (least : ℕ) (rows : List StoredRow) (j : ℕ) (d : StoredRow) → RiseFrom least (dates_of rows) → j < length rows → least ≤ (get_or rows j d).date
+pub at_least : (least : ℕ) (rows : List StoredRow) (j : ℕ) (d : StoredRow) → RiseFrom least (dates_of rows) → j < length rows → least ≤ (get_or rows j d).date
 at_least least [] j d rise within = absurd (omega (arith, within))
 at_least least (row ∷ rows) zero d rise within = rise.0
 at_least least (row ∷ rows) (suc j) d rise within =

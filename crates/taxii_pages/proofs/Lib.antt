@@ -3,3 +3,4 @@ mod CutLemmas
 mod PageLemmas
 mod SetLemmas
 mod AskingLemmas
+pub mod ChosenLemmas

@@ -4,7 +4,7 @@ use Rattle.std.specs.Prelude.{nat_lt}
 use Rattle.std.specs.List.{Contains}
 use Rattle.std.proofs.lemmas.Bool.{false≢true, cases_lt, lt-ltb, le-ltb, cond-true, cond-false}
 use Rattle.std.proofs.lemmas.List.{take-append-le}
-use Rattle.std.proofs.lemmas.List.Elements.{All-head, All-tail, All-weaker, All-contains, All-contains_itself, Contains-append_left, Contains-append_right, filter-append, filter_more}
+use Rattle.std.proofs.lemmas.List.Elements.{All-weaker, All-contains, All-contains_itself, Contains-append_left, filter-append, filter_more}
 use Rattle.stix_ids.specs.declared.id.Id.{Id}
 use Rattle.taxii_rows.specs.declared.stored_row.StoredRow.{StoredRow}
 use Rattle.taxii_rows.specs.StoreState.{StoreState, dates_of, RiseFrom}
@@ -12,19 +12,10 @@ use Rattle.taxii_rows.specs.SoundRow.{IsSoundRow, IsSoundState}
 use Rattle.taxii_routes.specs.declared.query.Query.{Query}
 use Rattle.taxii_walks.specs.Meeting.{Meets}
 use Rattle.taxii_walks.specs.Page.{page_size, AreAllWhere, IsPage}
-use Rattle.taxii_pages.specs.inner.Candidates.{CanMeet, AreCandidates}
+use Rattle.taxii_pages.specs.inner.Candidates.{AreChosen}
 use Rattle.taxii_pages.proofs.SettledLemmas.{Settled, settled_meets, cons_cases}
 
 -- ---- what a test leaves of some rows
-
-none_kept : (test : StoredRow → Bool) (xs : List StoredRow) → All (λ row. test row ≡ false) xs → filter test xs ≡ []
-none_kept test [] none = refl
-none_kept test (x ∷ xs) none =
-    ap (λ b. cond b (x ∷ filter test xs) (filter test xs)) (All-head (λ row. test row ≡ false) x xs none)
-    ∙ none_kept test xs (All-tail (λ row. test row ≡ false) x xs none)
-
-behind_none : (test : StoredRow → Bool) (passed later : List StoredRow) → All (λ row. test row ≡ false) passed → filter test (passed ++ later) ≡ filter test later
-behind_none test passed later none = filter-append test passed later ∙ ap (λ front. front ++ filter test later) (none_kept test passed none)
 
 one_more : (test : StoredRow → Bool) (xs : List StoredRow) (i : ℕ) (row : StoredRow) → i < length xs → row ≡ get_or xs i row → test row ≡ true
     → filter test (take (i + 1) xs) ≡ filter test (take i xs) ++ row ∷ []
@@ -64,7 +55,7 @@ from_kept test (x ∷ xs) y there = elim (kept_cases (test x) x y (filter test x
   | inr rest ↦ let found = from_kept test xs y rest in ((suc found.0.0, omega (arith, found.0.1), found.0.2), found.1)
 ]
 
-from_earlier : (least then : ℕ) (rows : List StoredRow) → least ≤ then → RiseFrom then (dates_of rows) → RiseFrom least (dates_of rows)
+pub from_earlier : (least then : ℕ) (rows : List StoredRow) → least ≤ then → RiseFrom then (dates_of rows) → RiseFrom least (dates_of rows)
 from_earlier least then [] earlier rise = tt
 from_earlier least then (row ∷ rows) earlier rise = (omega (arith, rise.0, earlier), rise.1)
 
@@ -97,16 +88,10 @@ front xs ys row zs size all long = (sym first, sym more)
     more : nat_lt size (length zs) ≡ true
     more = lt-ltb size (length zs) (omega (arith, pushed, total, long))
 
--- a candidate is one of the rows
-pub candidate_there : (rows : List StoredRow) (query : Query) (later : List StoredRow) (i : ℕ) (row : StoredRow) → AreCandidates query rows later
-    → i < length later → row ≡ get_or later i row → Contains rows row
-candidate_there rows query later i row are within is =
-    subst (λ (rs : List StoredRow). Contains rs row) (sym are.all) (Contains-append_right are.passed later row (i, within, sym is))
-
--- and it can meet the query
-pub candidate_can : (rows : List StoredRow) (query : Query) (later : List StoredRow) (i : ℕ) (row : StoredRow) → AreCandidates query rows later
-    → i < length later → row ≡ get_or later i row → CanMeet query row
-candidate_can rows query later i row are within is = All-contains (CanMeet query) later row are.each (i, within, sym is)
+-- a chosen row is one of the store's
+pub chosen_own : (rows : List StoredRow) (collection : ℕ) (only : Option Id) (query : Query) (chosen : List StoredRow) (i : ℕ) (row : StoredRow)
+    → AreChosen rows collection only query chosen → i < length chosen → row ≡ get_or chosen i row → Contains rows row
+chosen_own rows collection only query chosen i row are within is = are.own row (i, within, sym is)
 
 -- where there is room, one more fits
 pub fits : (old size new : ℕ) → old ≤ size → ¬ (old ≡ size) → new ≡ old + 1 → new ≤ size
@@ -157,31 +142,18 @@ module _ (rows : List StoredRow) (collection : ℕ) (only : Option Id) (query : 
   meeting_same later i row within is never =
       none_more (meets_test rows collection only query) later i row within is (no_is (settled_meets rows collection only query row) never)
 
-  -- those among all rows are all that meet it
-  meeting_all : RiseFrom 1 (dates_of rows) → AreAllWhere (Meets rows collection only query) rows (meeting rows collection only query rows)
+  -- those among the chosen ones are all that meet it
+  meeting_all : (chosen : List StoredRow) → AreChosen rows collection only query chosen
+      → AreAllWhere (Meets rows collection only query) rows (meeting rows collection only query chosen)
   unfolding meeting
-  meeting_all rise = record {
-    rise = rise_kept 1 (meets_test rows collection only query) rows rise;
+  meeting_all chosen are = record {
+    rise = rise_kept 1 (meets_test rows collection only query) chosen are.rise;
     each = λ row. (
-      λ there. let found = from_kept (meets_test rows collection only query) rows row there in
-          (found.0, it_holds (settled_meets rows collection only query row) found.1),
-      λ h. in_kept (meets_test rows collection only query) rows row h.0 (yes_is (settled_meets rows collection only query row) h.1),
+      λ there. let found = from_kept (meets_test rows collection only query) chosen row there in
+          (are.own row found.0, it_holds (settled_meets rows collection only query row) found.1),
+      λ h. in_kept (meets_test rows collection only query) chosen row (are.every row h.0 h.1) (yes_is (settled_meets rows collection only query row) h.1),
     );
   }
-
-  -- none of them stands before the candidates
-  unmet : (row : StoredRow) → ¬ CanMeet query row → meets_test rows collection only query row ≡ false
-  unmet row never = no_is (settled_meets rows collection only query row) (λ meets. never (record {
-    behind = record { added = meets.asked.added; next = meets.asked.next };
-    specs = meets.asked.specs;
-  }))
-
-  meeting_behind : (later : List StoredRow) → AreCandidates query rows later → meeting rows collection only query rows ≡ meeting rows collection only query later
-  unfolding meeting
-  meeting_behind later are =
-      ap (filter (meets_test rows collection only query)) are.all
-      ∙ behind_none (meets_test rows collection only query) are.passed later
-      (All-weaker (λ row. ¬ CanMeet query row) (λ row. meets_test rows collection only query row ≡ false) unmet are.passed are.before)
 
   meeting_parts : (xs ys : List StoredRow) → meeting rows collection only query (xs ++ ys) ≡ meeting rows collection only query xs ++ meeting rows collection only query ys
   unfolding meeting
@@ -189,41 +161,37 @@ module _ (rows : List StoredRow) (collection : ℕ) (only : Option Id) (query : 
 
   -- ---- the page
 
-  -- at the end of the candidates it has all of them
-  pub page_whole : (later page : List StoredRow) → RiseFrom 1 (dates_of rows) → AreCandidates query rows later
-      → page ≡ meeting rows collection only query later → length page ≤ page_size query → IsPage rows collection only query page false
-  page_whole later page rise are found few = record {
-    meeting = meeting rows collection only query rows;
-    meeting_are = meeting_all rise;
-    page_is = sym (ap (take (page_size query)) all ∙ take_all (page_size query) page few);
-    more_is = sym (ap (λ (xs : List StoredRow). nat_lt (page_size query) (length xs)) all ∙ le-ltb (page_size query) (length page) few);
+  -- at the end of the chosen ones it has all of them
+  pub page_whole : (chosen page : List StoredRow) → AreChosen rows collection only query chosen
+      → page ≡ meeting rows collection only query chosen → length page ≤ page_size query → IsPage rows collection only query page false
+  page_whole chosen page are found few = record {
+    meeting = meeting rows collection only query chosen;
+    meeting_are = meeting_all chosen are;
+    page_is = sym (ap (take (page_size query)) (sym found) ∙ take_all (page_size query) page few);
+    more_is = sym (ap (λ (xs : List StoredRow). nat_lt (page_size query) (length xs)) (sym found) ∙ le-ltb (page_size query) (length page) few);
   }
-    where
-      all : meeting rows collection only query rows ≡ page
-      all = meeting_behind later are ∙ sym found
 
   -- at one more than it can have, it has the first of them
-  pub page_full : (later page : List StoredRow) (i : ℕ) (row : StoredRow) → RiseFrom 1 (dates_of rows) → AreCandidates query rows later
-      → i < length later → row ≡ get_or later i row → Meets rows collection only query row
-      → page ≡ meeting rows collection only query (take i later) → length page ≡ page_size query → IsPage rows collection only query page true
-  page_full later page i row rise are within is meets found full = record {
-    meeting = meeting rows collection only query rows;
-    meeting_are = meeting_all rise;
+  pub page_full : (chosen page : List StoredRow) (i : ℕ) (row : StoredRow) → AreChosen rows collection only query chosen
+      → i < length chosen → row ≡ get_or chosen i row → Meets rows collection only query row
+      → page ≡ meeting rows collection only query (take i chosen) → length page ≡ page_size query → IsPage rows collection only query page true
+  page_full chosen page i row are within is meets found full = record {
+    meeting = meeting rows collection only query chosen;
+    meeting_are = meeting_all chosen are;
     page_is = ends.0;
     more_is = ends.1;
   }
     where
       rest : List StoredRow
-      rest = meeting rows collection only query (drop (i + 1) later)
+      rest = meeting rows collection only query (drop (i + 1) chosen)
 
-      all : meeting rows collection only query rows ≡ (page ++ row ∷ []) ++ rest
-      all = meeting_behind later are
-          ∙ ap (meeting rows collection only query) (sym (take-append-drop (i + 1) later))
-          ∙ meeting_parts (take (i + 1) later) (drop (i + 1) later)
-          ∙ ap (λ xs. xs ++ rest) (meeting_more later i row within is meets ∙ ap (λ xs. xs ++ row ∷ []) (sym found))
+      all : meeting rows collection only query chosen ≡ (page ++ row ∷ []) ++ rest
+      all = ap (meeting rows collection only query) (sym (take-append-drop (i + 1) chosen))
+          ∙ meeting_parts (take (i + 1) chosen) (drop (i + 1) chosen)
+          ∙ ap (λ xs. xs ++ rest) (meeting_more chosen i row within is meets ∙ ap (λ xs. xs ++ row ∷ []) (sym found))
 
-      ends : (page ≡ take (page_size query) (meeting rows collection only query rows)) × (true ≡ nat_lt (page_size query) (length (meeting rows collection only query rows)))
-      ends = front page rest row (meeting rows collection only query rows) (page_size query) all full
+      ends : (page ≡ take (page_size query) (meeting rows collection only query chosen)) × (true ≡ nat_lt (page_size query) (length (meeting rows collection only query chosen)))
+      ends = front page rest row (meeting rows collection only query chosen) (page_size query) all full
 
 -- ---- what a page is made of
 

@@ -1,4 +1,4 @@
-ghost use Rattle.std.specs.Prelude.{◌↔◌, IsTrue, IfSome};
+ghost use Rattle.std.specs.Prelude.{◌↔◌, IsTrue, IfSome, codes};
 ghost use Rattle.std.specs.List.{Contains};
 ghost use Rattle.taxii_rows.specs.StoreState.{dates_of, RiseFrom};
 ghost use Rattle.taxii_pages.specs.inner.Candidates.{AreCandidates, IsCutAt};
@@ -16,11 +16,18 @@ pub(crate) fn candidates<'a>(library: &'a Library, query: &Query) -> &'a [Stored
     ensures candidates { AreCandidates query.now library.now.rows result.now }
 {
     let rows = library.rows();
-    if names_text(&query.specs, "2.1") {
+    if asks_for_version(query) {
         rows_behind(rows, cursor(query))
     } else {
         &rows[rows.len()..]
     }
+}
+
+/// Whether the query takes the version of the standard that all rows have.
+pub(crate) fn asks_for_version(query: &Query) -> bool
+    ensures { IsTrue result ↔ IfSome query.now.specs (λ specs. Contains specs (codes "2.1")) }
+{
+    names_text(&query.specs, "2.1")
 }
 
 /// The rows that were added later than the date.

@@ -1,8 +1,9 @@
-ghost use Rattle.std.specs.Prelude.{◌≡◌, map, IfOk, option_map};
+ghost use Rattle.std.specs.Prelude.{◌≡◌, map, IfOk, option_map, Some, None};
 ghost use Rattle.taxii_walks.specs.Page.{page_size as size_of, IsPage};
 
 use crate::asked::Asked;
-use crate::candidates::candidates;
+use crate::candidates::{asks_for_version, candidates};
+use crate::cursor::cursor;
 use flow_values::NoMemory;
 use std::alloc::Global;
 use stix_ids::Id;
@@ -23,7 +24,8 @@ pub struct Page<'a> {
 const MOST_ROWS: u64 = 100;
 
 /// The first rows, by date, of those in a collection that meet the query, and of that object only where
-/// one is named: at most 100 of them, or as many as the query's limit says where that is less.
+/// one is named: at most 100 of them, or as many as the query's limit says where that is less. Of one object
+/// it takes as many look-ups as it has rows, else it passes over the rows from where the page may begin.
 pub fn page_of<'a>(
     alloc: Global,
     library: &'a Library,
@@ -33,8 +35,23 @@ pub fn page_of<'a>(
 ) -> Result<Page<'a>, NoMemory>
     ensures { IfOk result (λ page. IsPage library.now.rows collection (option_map (λ id. id.now) only.entry) query.now (map (λ row. row.now) page.rows.items) page.more) }
 {
+    match only {
+        Some(id) => page_of_object(alloc, library, collection, id, query),
+        None => page_of_all(alloc, library, collection, query),
+    }
+}
+
+/// The page of the rows of a collection.
+fn page_of_all<'a>(
+    alloc: Global,
+    library: &'a Library,
+    collection: u128,
+    query: &'a Query,
+) -> Result<Page<'a>, NoMemory>
+    ensures { IfOk result (λ page. IsPage library.now.rows collection None query.now (map (λ row. row.now) page.rows.items) page.more) }
+{
     let size = page_size(query);
-    let mut asked = Asked::of(alloc, collection, only, query)?;
+    let mut asked = Asked::of(alloc, collection, None, query)?;
     let later = candidates(library, query);
     let mut place = library.rows().len().saturating_sub(later.len());
     let mut rows = Vec::new(alloc);
@@ -46,6 +63,35 @@ pub fn page_of<'a>(
             rows.push(row)?;
         }
         place = place.saturating_add(1);
+    }
+    Ok(Page { rows, more: false })
+}
+
+/// The page of the rows of one object in a collection, which are found by its keys.
+fn page_of_object<'a>(
+    alloc: Global,
+    library: &'a Library,
+    collection: u128,
+    id: &'a Id,
+    query: &'a Query,
+) -> Result<Page<'a>, NoMemory>
+    ensures { IfOk result (λ page. IsPage library.now.rows collection (Some id.now) query.now (map (λ row. row.now) page.rows.items) page.more) }
+{
+    let mut rows = Vec::new(alloc);
+    if !asks_for_version(query) {
+        return Ok(Page { rows, more: false });
+    }
+    let size = page_size(query);
+    let after = cursor(query);
+    let mut asked = Asked::of(alloc, collection, Some(id), query)?;
+    let own = library.rows_of(collection, id)?;
+    for row in own.as_slice() {
+        if row.date > after && asked.meets(library, library.place_of(row.date), row) {
+            if rows.len() == size {
+                return Ok(Page { rows, more: true });
+            }
+            rows.push(*row)?;
+        }
     }
     Ok(Page { rows, more: false })
 }

@@ -1,4 +1,4 @@
--- The dates that a deletion takes out of the first rows of a store.
+-- The dates that a deletion takes of an object's rows.
 use Rattle.std.proofs.Common.{◌≡◌, ◌⊎◌, inl, inr, ℕ, zero, suc, ◌+◌, ◌<◌, ◌≤◌, List, [], ◌∷◌, ◌++◌, length, take, get_or, All, sym, ap, subst, ◌∙◌, arith}
 use Rattle.std.specs.List.{Contains}
 use Rattle.std.proofs.Math.Seq.{take-suc}
@@ -7,13 +7,21 @@ use Rattle.stix_ids.specs.declared.id.Id.{Id}
 use Rattle.stix_ids.specs.declared.pick.Pick.{Pick}
 use Rattle.taxii_rows.specs.declared.stored_row.StoredRow.{StoredRow}
 use Rattle.taxii_rows.specs.StoreState.{dates_of, RiseFrom}
+use Rattle.taxii_index.specs.Index.{AreRowsOf}
 use Rattle.taxii_store.specs.Deleting.{IsTaken, AreDatesTaken}
 
--- of these first rows of a store, these are the dates of those that are taken
+-- of these rows of a store, these are the dates of those that are taken
 pub record AreTakenFrom (rows : List StoredRow) (collection : ℕ) (id : Id) (picks : List Pick) (first : List StoredRow) (dates : List ℕ) : Type 0 where
   pub rise : RiseFrom 1 dates
   pub before : (date : ℕ) → Contains dates date → (row : StoredRow) × Contains first row × IsTaken rows collection id picks row × (row.date ≡ date)
   pub all : (row : StoredRow) → Contains first row → IsTaken rows collection id picks row → Contains dates row.date
+
+pub none_taken : (rows : List StoredRow) (collection : ℕ) (id : Id) (picks : List Pick) (dates : List ℕ) → dates ≡ [] → AreTakenFrom rows collection id picks [] dates
+none_taken rows collection id picks dates empty = subst (AreTakenFrom rows collection id picks []) (sym empty) (record {
+  rise = tt;
+  before = λ date there. absurd (omega (arith, there.1));
+  all = λ row there its_taken. absurd (omega (arith, there.1));
+})
 
 -- ---- one row more
 
@@ -54,47 +62,51 @@ dates_pushed n date (first ∷ dates) rise from before =
 all_from : (P : ℕ → Type 0) (dates : List ℕ) → ((date : ℕ) → Contains dates date → P date) → All P dates
 all_from P dates each = All-weaker (Contains dates) P each dates (All-contains_itself dates)
 
-pub taken_more : (rows : List StoredRow) (collection : ℕ) (id : Id) (picks : List Pick) (i : ℕ) (row : StoredRow) (dates : List ℕ)
-    → RiseFrom 1 (dates_of rows) → i < length rows → row ≡ get_or rows i row → AreTakenFrom rows collection id picks (take i rows) dates
-    → IsTaken rows collection id picks row → AreTakenFrom rows collection id picks (take (suc i) rows) (dates ++ row.date ∷ [])
-taken_more rows collection id picks i row dates rise within its taken here =
-    let more = take-suc rows i row within ∙ ap (λ (r : StoredRow). take i rows ++ r ∷ []) (sym its) in
+pub taken_more : (rows walked : List StoredRow) (collection : ℕ) (id : Id) (picks : List Pick) (i : ℕ) (row : StoredRow) (dates : List ℕ)
+    → RiseFrom 1 (dates_of walked) → i < length walked → row ≡ get_or walked i row → AreTakenFrom rows collection id picks (take i walked) dates
+    → IsTaken rows collection id picks row → AreTakenFrom rows collection id picks (take (suc i) walked) (dates ++ row.date ∷ [])
+taken_more rows walked collection id picks i row dates rise within its taken here =
+    let more = take-suc walked i row within ∙ ap (λ (r : StoredRow). take i walked ++ r ∷ []) (sym its) in
     let earlier = λ (date : ℕ) (there : Contains dates date).
     let (held, among, _, is) = taken.before date there in
-    subst (λ (n : ℕ). n < row.date) is (subst (λ (r : StoredRow). held.date < r.date) (sym its) (later_date 1 rows i row held rise within among)) in record {
+    subst (λ (n : ℕ). n < row.date) is (subst (λ (r : StoredRow). held.date < r.date) (sym its) (later_date 1 walked i row held rise within among)) in record {
       rise = dates_pushed 1 row.date dates taken.rise
-          (subst (λ (r : StoredRow). 1 ≤ r.date) (sym its) (at_least 1 rows i row rise within))
+          (subst (λ (r : StoredRow). 1 ≤ r.date) (sym its) (at_least 1 walked i row rise within))
           (all_from (λ one. one < row.date) dates earlier);
       before = λ date there. elim (Contains-push_cases dates row.date date there) [
         | inl held ↦
             let (one, among, its_taken, is) = taken.before date held in
-            (one, subst (λ (rs : List StoredRow). Contains rs one) (sym more) (Contains-append_left (take i rows) (row ∷ []) one among), its_taken, is)
-        | inr same ↦ (row, subst (λ (rs : List StoredRow). Contains rs row) (sym more) (Contains-push (take i rows) row), here, same)
+            (one, subst (λ (rs : List StoredRow). Contains rs one) (sym more) (Contains-append_left (take i walked) (row ∷ []) one among), its_taken, is)
+        | inr same ↦ (row, subst (λ (rs : List StoredRow). Contains rs row) (sym more) (Contains-push (take i walked) row), here, same)
       ];
-      all = λ one there its_taken. elim (Contains-push_cases (take i rows) row one (subst (λ (rs : List StoredRow). Contains rs one) more there)) [
+      all = λ one there its_taken. elim (Contains-push_cases (take i walked) row one (subst (λ (rs : List StoredRow). Contains rs one) more there)) [
         | inl held ↦ Contains-append_left dates (row.date ∷ []) one.date (taken.all one held its_taken)
         | inr same ↦ subst (λ (r : StoredRow). Contains (dates ++ row.date ∷ []) r.date) same (Contains-push dates row.date)
       ];
     }
 
-pub taken_same : (rows : List StoredRow) (collection : ℕ) (id : Id) (picks : List Pick) (i : ℕ) (row : StoredRow) (dates : List ℕ)
-    → i < length rows → row ≡ get_or rows i row → AreTakenFrom rows collection id picks (take i rows) dates
-    → ¬ IsTaken rows collection id picks row → AreTakenFrom rows collection id picks (take (suc i) rows) dates
-taken_same rows collection id picks i row dates within its taken never =
-    let more = take-suc rows i row within ∙ ap (λ (r : StoredRow). take i rows ++ r ∷ []) (sym its) in record {
+pub taken_same : (rows walked : List StoredRow) (collection : ℕ) (id : Id) (picks : List Pick) (i : ℕ) (row : StoredRow) (dates : List ℕ)
+    → i < length walked → row ≡ get_or walked i row → AreTakenFrom rows collection id picks (take i walked) dates
+    → ¬ IsTaken rows collection id picks row → AreTakenFrom rows collection id picks (take (suc i) walked) dates
+taken_same rows walked collection id picks i row dates within its taken never =
+    let more = take-suc walked i row within ∙ ap (λ (r : StoredRow). take i walked ++ r ∷ []) (sym its) in record {
       rise = taken.rise;
       before = λ date there.
           let (one, among, its_taken, is) = taken.before date there in
-          (one, subst (λ (rs : List StoredRow). Contains rs one) (sym more) (Contains-append_left (take i rows) (row ∷ []) one among), its_taken, is);
-      all = λ one there its_taken. elim (Contains-push_cases (take i rows) row one (subst (λ (rs : List StoredRow). Contains rs one) more there)) [
+          (one, subst (λ (rs : List StoredRow). Contains rs one) (sym more) (Contains-append_left (take i walked) (row ∷ []) one among), its_taken, is);
+      all = λ one there its_taken. elim (Contains-push_cases (take i walked) row one (subst (λ (rs : List StoredRow). Contains rs one) more there)) [
         | inl held ↦ taken.all one held its_taken
         | inr same ↦ absurd (never (subst (IsTaken rows collection id picks) (sym same) its_taken))
       ];
     }
 
-pub all_taken : (rows : List StoredRow) (collection : ℕ) (id : Id) (picks : List Pick) (dates : List ℕ)
-    → AreTakenFrom rows collection id picks rows dates → AreDatesTaken rows collection id picks dates
-all_taken rows collection id picks dates taken = record {
+-- where these are all rows of the object, the dates are those that the deletion takes
+pub all_taken : (rows walked : List StoredRow) (collection : ℕ) (id : Id) (picks : List Pick) (dates : List ℕ) → AreRowsOf collection id rows walked
+    → AreTakenFrom rows collection id picks walked dates → AreDatesTaken rows collection id picks dates
+all_taken rows walked collection id picks dates are taken = record {
   rise = taken.rise;
-  each = λ date. (taken.before date, λ row. subst (Contains dates) row.3 (taken.all row.0 row.1 row.2));
+  each = λ date. (
+    λ there. let (row, among, its_taken, is) = taken.before date there in (row, ((are.each row).0 among).0, its_taken, is),
+    λ row. subst (Contains dates) row.3 (taken.all row.0 ((are.each row.0).1 (row.1, row.2.its)) row.2),
+  );
 }

@@ -16,7 +16,8 @@ use taxii_rows::laws::sound_states;
 use taxii_rows::{Keeper, KeeperRefusal, StoredRow};
 
 impl Library {
-    /// The dates of the rows of an object in a collection that the picks select, rising. Nothing changes.
+    /// The dates of the rows of an object in a collection that the picks select, rising. Nothing changes. It takes as many
+    /// look-ups as the object has rows, and no pass over all.
     pub fn plan_delete(
         &self,
         collection: u128,
@@ -26,38 +27,22 @@ impl Library {
         ensures { IfOk result (AreDatesTaken self.now.rows collection id.now picks.now) }
     {
         let set = PickSet::of(self.alloc, picks)?;
+        let rows = self.rows_of(collection, id)?;
         let mut dates = Items::new(self.alloc);
-        let mut place = 0usize;
-        for row in self.rows.as_slice() {
-            if self.is_taken(place, row, collection, id, &set) {
+        for row in rows.as_slice() {
+            if self.is_selected(row, &set) {
                 dates.push(row.date)?;
             }
-            place = place.saturating_add(1);
         }
         Ok(dates)
     }
 
-    /// Whether a row of the library, at that place among its rows, is of the object, and one of the picks
-    /// selects it. What costs no look-up is asked first.
-    fn is_taken(
-        &self,
-        place: usize,
-        row: &StoredRow,
-        collection: u128,
-        id: &Id,
-        set: &PickSet,
-    ) -> bool
-        requires { Contains self.now.rows row.now }
-        ensures { (picks : List Picked) → HasPicks picks set.now → IsTrue result ↔ IsTaken self.now.rows collection id.now picks row.now }
-    {
-        row.is_of(collection, id) && self.is_selected(place, row, set)
-    }
-
-    fn is_selected(&self, place: usize, row: &StoredRow, set: &PickSet) -> bool
+    /// Whether one of the picks selects the row. What costs no look-up among its versions is asked first.
+    fn is_selected(&self, row: &StoredRow, set: &PickSet) -> bool
         requires { Contains self.now.rows row.now }
         ensures { (picks : List Picked) → HasPicks picks set.now → IsTrue result ↔ IsPicked picks self.now.rows row.now }
     {
-        set.may_select(self, place, row) && set.selects(self, row)
+        set.may_select(self, self.place_of(row.date), row) && set.selects(self, row)
     }
 
     /// Removes the rows of these dates, which rise, from the keeper and then from the library. Where there

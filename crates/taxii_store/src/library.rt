@@ -1,4 +1,4 @@
-ghost use Rattle.std.specs.Prelude.{◌≡◌, ◌↔◌, IsTrue, true, option_map, IsOk, OnOk, OnErr, [], Err};
+ghost use Rattle.std.specs.Prelude.{◌≡◌, ◌↔◌, IsTrue, true, option_map, map, IsOk, IfOk, OnOk, OnErr, [], Err};
 ghost use Rattle.std.specs.List.{Contains};
 ghost use Rattle.taxii_rows.specs.Keeper.{row_after as first_later, row_at as first_then, with_rows};
 ghost use Rattle.flow_edges.specs.Faults.{Counted};
@@ -6,14 +6,15 @@ ghost use Rattle.taxii_rows.specs.Picking.{IsPicked, IsPickedBy};
 ghost use Rattle.stix_ids.specs.declared.pick.Pick.TheVariants.{Last as LastOne, First as FirstOne};
 ghost use Rattle.taxii_rows.specs.SoundRow.{IsSoundState};
 ghost use Rattle.taxii_index.specs.Names.{id_of};
-ghost use Rattle.taxii_index.specs.Index.{HasRowOf};
+ghost use Rattle.taxii_index.specs.Index.{HasRowOf, AreRowsOf};
 ghost use Rattle.taxii_store.specs.Addition.{mark_after};
 ghost use Rattle.taxii_store.specs.Agreement.{Agrees, without_rows};
 
 use crate::Planned;
+use flow_values::NoMemory;
 use std::alloc::Global;
 use std::marker::Model;
-use stix_ids::Pick;
+use stix_ids::{Id, Pick};
 use taxii_index::HintedRows;
 use taxii_rows::laws::{later_rows, sound_states};
 use taxii_rows::{Keeper, KeeperRefusal, StoredRow, row_after, row_at};
@@ -39,7 +40,7 @@ impl Model for Library {
 }
 
 impl Library {
-    /// The rows, by date. Takes no memory, as the calls below but for `commit_add`.
+    /// The rows, by date. Takes no memory, as the calls below but for `rows_of` and `commit_add`.
     pub fn rows(&self) -> &[StoredRow]
         ensures rows { result.now ≡ self.now.rows }
         ensures sound { IsSoundState self.now }
@@ -66,6 +67,18 @@ impl Library {
         ensures { IsTrue result ↔ HasRowOf self.now.rows collection (id_of number kind.now) }
     {
         self.rows.has_object(collection, number, kind)
+    }
+
+    /// The rows of the object in the collection, by date: as many look-ups as it has, and no pass over all rows.
+    pub fn rows_of(&self, collection: u128, id: &Id) -> Result<Vec<&StoredRow>, NoMemory>
+        ensures { IfOk result (λ found. AreRowsOf collection id.now self.now.rows (map (λ row. row.now) found.items)) }
+    {
+        self.rows.rows_of(collection, id)
+    }
+
+    /// Where the row of a date stands among the rows, if there is one. It only hints.
+    pub fn place_of(&self, date: u64) -> usize {
+        self.rows.place_of(date)
     }
 
     /// Whether one of the picks selects a row of the library, among the rows of its object.

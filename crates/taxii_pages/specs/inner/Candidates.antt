@@ -1,8 +1,11 @@
 -- Where a page may begin: the rows that can meet a query by when they were added (TAXII 2.1, section 3.4).
-use Rattle.std.specs.Prelude.{◌≡◌, ℕ, ◌*◌, ◌≤◌, ◌<◌, pos, ◌<ℤ◌, List, ◌++◌, All, codes, IfSome}
+use Rattle.std.specs.Prelude.{◌≡◌, ℕ, ◌*◌, ◌≤◌, ◌<◌, pos, ◌<ℤ◌, List, ◌++◌, All, codes, IfSome, Option}
 use Rattle.std.specs.List.{Contains}
+use Rattle.stix_ids.specs.declared.id.Id.{Id}
 use Rattle.taxii_rows.specs.declared.stored_row.StoredRow.{StoredRow}
+use Rattle.taxii_rows.specs.StoreState.{dates_of, RiseFrom}
 use Rattle.taxii_routes.specs.declared.query.Query.{Query}
+use Rattle.taxii_walks.specs.Meeting.{Meets}
 
 -- a row of that date was added behind the instant that the query names, and behind where it begins
 pub record IsBehind (query : Query) (date : ℕ) : Type 0 where
@@ -27,3 +30,9 @@ pub record IsCutAt (date : ℕ) (rows later : List StoredRow) : Type 0 where
   pub all : rows ≡ upto ++ later
   pub before : All (λ row. row.date ≤ date) upto
   pub each : All (λ row. date < row.date) later
+
+-- these are rows of a store, by date, and each that meets the query is among them
+pub record AreChosen (rows : List StoredRow) (collection : ℕ) (only : Option Id) (query : Query) (chosen : List StoredRow) : Type 0 where
+  pub rise : RiseFrom 1 (dates_of chosen)
+  pub own : (row : StoredRow) → Contains chosen row → Contains rows row
+  pub every : (row : StoredRow) → Contains rows row → Meets rows collection only query row → Contains chosen row

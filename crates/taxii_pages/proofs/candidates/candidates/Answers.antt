@@ -4,13 +4,13 @@ use Rattle.taxii_pages.specs.inner.Candidates.{IsCutAt}
 use Rattle.taxii_pages.proofs.CutLemmas.{candidates_behind, none_of_another}
 use Rattle.taxii_pages.proofs.candidates.candidates.Goals as goal
 
-pub returns-then-names_text-clause-candidates : goal.returns-then-names_text-clause-candidates
-returns-then-names_text-clause-candidates c =
+pub returns-then-asks_for_version-clause-candidates : goal.returns-then-asks_for_version-clause-candidates
+returns-then-asks_for_version-clause-candidates c =
     candidates_behind c.args.query.now c.args.library.now.rows c.rows_behind.result.now c.cursor.result c.rows-rows.ensures.sound.rise
     (subst (λ (rows : List StoredRow). IsCutAt c.cursor.result rows c.rows_behind.result.now) c.rows-rows.ensures.rows c.rows_behind.ensures)
-    c.cursor.ensures (c.names_text.ensures.0 c.if-names_text.true)
+    c.cursor.ensures (c.asks_for_version.ensures.0 c.if-asks_for_version.true)
 
-pub returns-else-names_text-clause-candidates : goal.returns-else-names_text-clause-candidates
-returns-else-names_text-clause-candidates c =
+pub returns-else-asks_for_version-clause-candidates : goal.returns-else-asks_for_version-clause-candidates
+returns-else-asks_for_version-clause-candidates c =
     none_of_another c.args.query.now c.args.library.now.rows c.rows-rows.result.now c.rows-rows.ensures.rows
-    (λ version. let wrong = subst IsTrue c.if-names_text.false (c.names_text.ensures.1 version) in absurd (cc wrong))
+    (λ version. let wrong = subst IsTrue c.if-asks_for_version.false (c.asks_for_version.ensures.1 version) in absurd (cc wrong))
