@@ -20,7 +20,7 @@ use Rattle.std.proofs.lemmas.List.Kept.{IsStrictlySortedBy-dedup, Any-dedup, Con
 use Rattle.std.proofs.lemmas.List.Sorted.{searchable_from_sorted, Contains-permutation, IsPermutation-map, IsPermutation-sym}
 use Rattle.stix_ids.specs.declared.id.Id.{Id}
 use native.Mathlib.Numerals.{unary_clauses}
-use Rattle.taxii_pages.specs.inner.Sets.{AreKeysOf, text_cmp, HasTexts, IdKey, id_cmp, id_of, HasIds}
+use Rattle.taxii_pages.specs.inner.Sets.{Key, key_cmp, parts_of, AreKeysOf, measured, HasTexts, numbered, HasIds}
 
 -- ---- what stands in a list after a map
 
@@ -45,7 +45,7 @@ unmapped : {X Y : Type 0} (f : X → Y) (xs : List X) (y : Y) → Contains (map 
 unmapped f [] y here = absurd (omega (arith, here.1))
 unmapped f (first ∷ xs) y here = unmapped_at f first xs y here.0 here.1 here.2 (unmapped f xs y)
 
--- ---- keys that are sorted and then searched
+-- ---- what an order says
 
 -- keys of which each is below those after it stand in order
 less_not_back : (o : Ordering) → o ≡ Less → is_lt (ordering_reverse o) ≡ false
@@ -72,82 +72,7 @@ never_tied : (o : Ordering) → (o ≡ Less) ⊎ (o ≡ Greater) → o ≡ Equal
 never_tied o (inl less) tied = let two : Less ≡ Equal = sym less ∙ tied in absurd cc
 never_tied o (inr greater) tied = let two : Greater ≡ Equal = sym greater ∙ tied in absurd cc
 
-module _ {K V : Type 0} (cmp : K → K → Ordering) (view : K → V) (exact : (x y : K) → cmp x y ≡ Equal → view x ≡ view y) (tied : (x y : K) → view x ≡ view y → cmp x y ≡ Equal) (total : IsTotalOrder cmp) where
-  sorted_keys : (items : List V) (keys sorted : List K) → map view keys ≡ items → IsPermutation keys sorted → IsSorted cmp sorted → AreKeysOf cmp view items sorted
-  sorted_keys items keys sorted is moved ordered = record {
-    ordered = ordered;
-    same = λ item. (
-      λ here. subst (λ (all : List V). Contains all item) is (Contains-permutation _ _ item (IsPermutation-sym _ _ (IsPermutation-map view _ _ moved)) here),
-      λ here. Contains-permutation _ _ item (IsPermutation-map view _ _ moved) (subst (λ (all : List V). Contains all item) (sym is) here),
-    );
-  }
-
-  -- without those that come twice
-  keys_once : {E : K → K → Bool} → IsEquivalence E → ((x y : K) → E x y ≡ eq_by_cmp cmp x y) → (items : List V) (keys once : List K) → AreKeysOf cmp view items keys
-      → IsFiltered (DiffersFromLast E) [] keys once → AreKeysOf cmp view items once
-  keys_once {E} equiv ties items keys once are filtered = subst (AreKeysOf cmp view items) (sym (dedup_is E keys once filtered)) (record {
-    ordered = strict_sorted cmp total (dedup E keys) (IsStrictlySortedBy-dedup total ties keys are.ordered);
-    same = λ item. (
-      λ here. let own = unmapped view (dedup E keys) item here in
-          (are.same item).0 (subst (Contains (map view keys)) own.2 (mapped view keys own.0 (Contains-from_dedup E keys own.0 own.1))),
-      λ here.
-          let own = unmapped view keys item ((are.same item).1 here) in
-          let kept = Any-dedup equiv keys own.0 own.1 in
-          let same : view kept.1 ≡ item = sym (exact own.0 kept.1 (equal (cmp own.0 kept.1) (sym (ties own.0 kept.1) ∙ kept.4))) ∙ own.2 in
-          subst (Contains (map view (dedup E keys))) same (mapped view (dedup E keys) kept.1 (kept.0, kept.2, kept.3)),
-    );
-  })
-
-  searched : (keys : List K) (key : K) (answer : Result ℕ ℕ) → IsSorted cmp keys → IsSearchInRange answer (length keys) → IsBinarySearchResult (λ one. cmp one key) keys answer
-      → IsTrue (is_ok answer) ↔ Contains (map view keys) (view key)
-  searched keys key (Ok at) ordered within found = (
-    λ _. subst (Contains (map view keys)) (exact (get_or keys at key) key (found key)) (mapped view keys (get_or keys at key) (Contains-get_or keys at key within)),
-    λ _. refl,
-  )
-  searched keys key (Err at) ordered within point = (
-    λ holds. absurd (false≢true holds),
-    λ here.
-        let own = unmapped view keys (view key) here in
-        let there = own.1 in
-        let apart = point (searchable_from_sorted total (λ one. one) keys key ordered) in
-        let same : cmp (get_or keys there.0 own.0) key ≡ Equal = tied (get_or keys there.0 own.0) key (ap view there.2 ∙ own.2) in
-        absurd (elim (cases_lt there.0 at) [
-          | inl below ↦ never_tied (cmp (get_or keys there.0 own.0) key) (inl (apart.0 there.0 own.0 (omega arith) below)) same
-          | inr above ↦ never_tied (cmp (get_or keys there.0 own.0) key) (inr (apart.1 there.0 own.0 above there.1)) same
-        ]),
-  )
-
-  found_key : (items : List V) (lent keys : List K) (key : K) (answer : Result ℕ ℕ) (found : Bool) → lent ≡ keys → found ≡ is_ok answer → AreKeysOf cmp view items keys
-      → IsSearchInRange answer (length lent) → IsBinarySearchResult (λ one. cmp one key) lent answer → IsTrue found ↔ Contains items (view key)
-  found_key items lent keys key answer found same is are within position =
-      let told = searched lent key answer (subst (IsSorted cmp) (sym same) are.ordered) within position in
-      let own = are.same (view key) in (
-        λ holds. own.0 (subst (λ (all : List K). Contains (map view all) (view key)) same (told.0 (sym is ∙ holds))),
-        λ here. is ∙ told.1 (subst (λ (all : List K). Contains (map view all) (view key)) (sym same) (own.1 here)),
-      )
-
--- ---- texts
-
-text_exact : (x y : Bor (List ℕ)) → text_cmp x y ≡ Equal → x.now ≡ y.now
-text_exact x y same = exact_bytes x.now y.now same
-
-text_tied : (x y : Bor (List ℕ)) → x.now ≡ y.now → text_cmp x y ≡ Equal
-text_tied x y same = subst (λ (ys : List ℕ). slice_cmp nat_cmp x.now ys ≡ Equal) same (tied_itself nat_list_cmp_total x.now)
-
-text_total : IsTotalOrder text_cmp
-text_total = on_total (λ (text : Bor (List ℕ)). text.now) nat_list_cmp_total
-
-pub sorted_texts : (texts : List (List ℕ)) (row sorted : List (Bor (List ℕ))) → map (λ text. text.now) row ≡ texts → IsPermutation row sorted → IsSorted text_cmp sorted → HasTexts texts sorted
-sorted_texts = sorted_keys text_cmp (λ text. text.now) text_exact text_tied text_total
-
-pub texts_once : (texts : List (List ℕ)) (row once : List (Bor (List ℕ))) → HasTexts texts row → IsFiltered (DiffersFromLast (λ x y. bytes_eq x.now y.now)) [] row once → HasTexts texts once
-texts_once = keys_once text_cmp (λ text. text.now) text_exact text_tied text_total (on_equiv (λ (text : Bor (List ℕ)). text.now) nat_list_eq_equiv) (λ x y. lists_ties nat_cmp unsigned_ties x.now y.now)
-
-pub found_text : (texts : List (List ℕ)) (lent set : List (Bor (List ℕ))) (text : Bor (List ℕ)) (answer : Result ℕ ℕ) (found : Bool) → lent ≡ set → found ≡ is_ok answer → HasTexts texts set
-    → IsSearchInRange answer (length lent) → IsBinarySearchResult (λ one. text_cmp one text) lent answer → IsTrue found ↔ Contains texts text.now
-found_text = found_key text_cmp (λ text. text.now) text_exact text_tied text_total
-
--- ---- identifiers
+-- ---- the order of keys
 
 then_equal : (one other : Ordering) → ordering_then one other ≡ Equal → (one ≡ Equal) × (other ≡ Equal)
 then_equal Less other is = absurd (cc)
@@ -157,36 +82,110 @@ then_equal Greater other is = absurd (cc)
 then_both : (one other : Ordering) → one ≡ Equal → other ≡ Equal → ordering_then one other ≡ Equal
 then_both one other first second = ap (λ (o : Ordering). ordering_then o other) first ∙ second
 
-same_id : (x y : IdKey) → x.0 ≡ y.0 → x.1.now ≡ y.1.now → id_of x ≡ id_of y
-same_id x y number kind =
-    ap (λ (n : ℕ). let id : Id = record { kind = x.1.now; number = n } in id) number ∙ ap (λ (k : List ℕ). let id : Id = record { kind = k; number = y.0 } in id) kind
+key_exact : (x y : Key) → key_cmp x y ≡ Equal → parts_of x ≡ parts_of y
+key_exact x y same =
+    let both = then_equal (nat_cmp x.0 y.0) (slice_cmp nat_cmp x.1.now y.1.now) same in
+    ap (λ (number : ℕ). let parts : ℕ × List ℕ = (number, x.1.now) in parts) (exact_unsigned x.0 y.0 both.0)
+    ∙ ap (λ (text : List ℕ). let parts : ℕ × List ℕ = (y.0, text) in parts) (exact_bytes x.1.now y.1.now both.1)
 
-id_exact : (x y : IdKey) → id_cmp x y ≡ Equal → id_of x ≡ id_of y
-id_exact x y same =
-    let both = then_equal (nat_cmp x.0 y.0) (text_cmp x.1 y.1) same in
-    same_id x y (exact_unsigned x.0 y.0 both.0) (exact_bytes x.1.now y.1.now both.1)
+key_tied : (x y : Key) → parts_of x ≡ parts_of y → key_cmp x y ≡ Equal
+key_tied x y same = then_both (nat_cmp x.0 y.0) (slice_cmp nat_cmp x.1.now y.1.now)
+    (subst (λ (number : ℕ). nat_cmp x.0 number ≡ Equal) (ap (λ (parts : ℕ × List ℕ). parts.0) same) (tied_itself nat_cmp_total x.0))
+    (subst (λ (text : List ℕ). slice_cmp nat_cmp x.1.now text ≡ Equal) (ap (λ (parts : ℕ × List ℕ). parts.1) same) (tied_itself nat_list_cmp_total x.1.now))
 
-id_tied : (x y : IdKey) → id_of x ≡ id_of y → id_cmp x y ≡ Equal
-id_tied x y same = then_both (nat_cmp x.0 y.0) (text_cmp x.1 y.1)
-    (subst (λ (n : ℕ). nat_cmp x.0 n ≡ Equal) (ap (λ (id : Id). id.number) same) (tied_itself nat_cmp_total x.0))
-    (subst (λ (k : List ℕ). slice_cmp nat_cmp x.1.now k ≡ Equal) (ap (λ (id : Id). id.kind) same) (tied_itself nat_list_cmp_total x.1.now))
+key_total : IsTotalOrder key_cmp
+key_total = then_total (on_total (λ (key : Key). key.0) nat_cmp_total) (on_total (λ (key : Key). key.1.now) nat_list_cmp_total)
 
-id_total : IsTotalOrder id_cmp
-id_total = then_total (on_total (λ (k : IdKey). k.0) nat_cmp_total) (on_total (λ (k : IdKey). k.1.now) nat_list_cmp_total)
+abbrev pub key_eq : Key → Key → Bool
+key_eq x y = nat_eq x.0 y.0 && bytes_eq x.1.now y.1.now
 
-pub sorted_ids : (ids : List Id) (row sorted : List IdKey) → map id_of row ≡ ids → IsPermutation row sorted → IsSorted id_cmp sorted → HasIds ids sorted
-sorted_ids = sorted_keys id_cmp id_of id_exact id_tied id_total
+key_equiv : IsEquivalence key_eq
+key_equiv = and_equiv (on_equiv (λ (key : Key). key.0) nat_eq_equiv) (on_equiv (λ (key : Key). key.1.now) nat_list_eq_equiv)
 
-pub ids_once : (ids : List Id) (row once : List IdKey) → HasIds ids row → IsFiltered (DiffersFromLast (λ x y. nat_eq x.0 y.0 && bytes_eq x.1.now y.1.now)) [] row once → HasIds ids once
-ids_once = keys_once id_cmp id_of id_exact id_tied id_total (and_equiv (on_equiv (λ (k : IdKey). k.0) nat_eq_equiv) (on_equiv (λ (k : IdKey). k.1.now) nat_list_eq_equiv))
-    (λ x y. both_tied _ _ (nat_cmp x.0 y.0) (text_cmp x.1 y.1) (unsigned_ties x.0 y.0) (lists_ties nat_cmp unsigned_ties x.1.now y.1.now))
+key_ties : (x y : Key) → key_eq x y ≡ eq_by_cmp key_cmp x y
+key_ties x y = both_tied _ _ (nat_cmp x.0 y.0) (slice_cmp nat_cmp x.1.now y.1.now) (unsigned_ties x.0 y.0) (lists_ties nat_cmp unsigned_ties x.1.now y.1.now)
 
-pub found_id : (ids : List Id) (lent set : List IdKey) (key : IdKey) (answer : Result ℕ ℕ) (found : Bool) → lent ≡ set → found ≡ is_ok answer → HasIds ids set
-    → IsSearchInRange answer (length lent) → IsBinarySearchResult (λ one. id_cmp one key) lent answer → IsTrue found ↔ Contains ids (id_of key)
-found_id = found_key id_cmp id_of id_exact id_tied id_total
+-- ---- keys of a list
 
--- one more key behind those of the first items
-pub next_id : (ids : List Id) (row : List IdKey) (i : ℕ) (key : IdKey) (id : Id) → i < length ids → id ≡ get_or ids i id → id_of key ≡ id → map id_of row ≡ take i ids
-    → map id_of (row ++ key ∷ []) ≡ take (i + 1) ids
-next_id ids row i key id within is same so_far =
-    map-append id_of row (key ∷ []) ∙ ap (λ (front : List Id). front ++ id_of key ∷ []) so_far ∙ ap (λ (one : Id). take i ids ++ one ∷ []) (same ∙ is) ∙ sym (take_more ids i id within)
+sorted_keys : (items : List (ℕ × List ℕ)) (keys sorted : List Key) → map parts_of keys ≡ items → IsPermutation keys sorted → IsSorted key_cmp sorted → AreKeysOf items sorted
+sorted_keys items keys sorted is moved ordered = record {
+  ordered = ordered;
+  same = λ item. (
+    λ here. subst (λ (all : List (ℕ × List ℕ)). Contains all item) is (Contains-permutation _ _ item (IsPermutation-sym _ _ (IsPermutation-map parts_of _ _ moved)) here),
+    λ here. Contains-permutation _ _ item (IsPermutation-map parts_of _ _ moved) (subst (λ (all : List (ℕ × List ℕ)). Contains all item) (sym is) here),
+  );
+}
+
+-- without those that come twice
+keys_once : (items : List (ℕ × List ℕ)) (keys once : List Key) → AreKeysOf items keys → IsFiltered (DiffersFromLast key_eq) [] keys once → AreKeysOf items once
+keys_once items keys once are filtered = subst (AreKeysOf items) (sym (dedup_is key_eq keys once filtered)) (record {
+  ordered = strict_sorted key_cmp key_total (dedup key_eq keys) (IsStrictlySortedBy-dedup key_total key_ties keys are.ordered);
+  same = λ item. (
+    λ here. let own = unmapped parts_of (dedup key_eq keys) item here in
+        (are.same item).0 (subst (Contains (map parts_of keys)) own.2 (mapped parts_of keys own.0 (Contains-from_dedup key_eq keys own.0 own.1))),
+    λ here.
+        let own = unmapped parts_of keys item ((are.same item).1 here) in
+        let kept = Any-dedup key_equiv keys own.0 own.1 in
+        let same : parts_of kept.1 ≡ item = sym (key_exact own.0 kept.1 (equal (key_cmp own.0 kept.1) (sym (key_ties own.0 kept.1) ∙ kept.4))) ∙ own.2 in
+        subst (Contains (map parts_of (dedup key_eq keys))) same (mapped parts_of (dedup key_eq keys) kept.1 (kept.0, kept.2, kept.3)),
+  );
+})
+
+-- keys that are sorted, and then those that come twice dropped
+pub keys_of : (items : List (ℕ × List ℕ)) (row sorted once : List Key) → map parts_of row ≡ items → IsPermutation row sorted → IsSorted key_cmp sorted
+    → IsFiltered (DiffersFromLast key_eq) [] sorted once → AreKeysOf items once
+keys_of items row sorted once is moved ordered filtered = keys_once items sorted once (sorted_keys items row sorted is moved ordered) filtered
+
+-- ---- what a look-up finds
+
+searched : (keys : List Key) (key : Key) (answer : Result ℕ ℕ) → IsSorted key_cmp keys → IsSearchInRange answer (length keys) → IsBinarySearchResult (λ one. key_cmp one key) keys answer
+    → IsTrue (is_ok answer) ↔ Contains (map parts_of keys) (parts_of key)
+searched keys key (Ok at) ordered within found = (
+  λ _. subst (Contains (map parts_of keys)) (key_exact (get_or keys at key) key (found key)) (mapped parts_of keys (get_or keys at key) (Contains-get_or keys at key within)),
+  λ _. refl,
+)
+searched keys key (Err at) ordered within point = (
+  λ holds. absurd (false≢true holds),
+  λ here.
+      let own = unmapped parts_of keys (parts_of key) here in
+      let there = own.1 in
+      let apart = point (searchable_from_sorted key_total (λ one. one) keys key ordered) in
+      let same : key_cmp (get_or keys there.0 own.0) key ≡ Equal = key_tied (get_or keys there.0 own.0) key (ap parts_of there.2 ∙ own.2) in
+      absurd (elim (cases_lt there.0 at) [
+        | inl below ↦ never_tied (key_cmp (get_or keys there.0 own.0) key) (inl (apart.0 there.0 own.0 (omega arith) below)) same
+        | inr above ↦ never_tied (key_cmp (get_or keys there.0 own.0) key) (inr (apart.1 there.0 own.0 above there.1)) same
+      ]),
+)
+
+-- a key is found where the item that it is of stands in the list
+found_key : {X : Type 0} (f : X → ℕ × List ℕ) → ((x y : X) → f x ≡ f y → x ≡ y) → (xs : List X) (lent keys : List Key) (key : Key) (x : X) (answer : Result ℕ ℕ) (found : Bool)
+    → lent ≡ keys → found ≡ is_ok answer → parts_of key ≡ f x → AreKeysOf (map f xs) keys → IsSearchInRange answer (length lent) → IsBinarySearchResult (λ one. key_cmp one key) lent answer
+    → IsTrue found ↔ Contains xs x
+found_key f back xs lent keys key x answer found same is own are within position =
+    let told = subst (λ (item : ℕ × List ℕ). IsTrue (is_ok answer) ↔ Contains (map parts_of keys) item) own
+    (subst (λ (all : List Key). IsTrue (is_ok answer) ↔ Contains (map parts_of all) (parts_of key)) same (searched lent key answer (subst (IsSorted key_cmp) (sym same) are.ordered) within position)) in
+    let kept = are.same (f x) in (
+      λ holds. let there = unmapped f xs (f x) (kept.0 (told.0 (sym is ∙ holds))) in subst (Contains xs) (back there.0 x there.2) there.1,
+      λ here. is ∙ told.1 (kept.1 (mapped f xs x here)),
+    )
+
+-- ---- texts and identifiers
+
+pub found_text : (texts : List (List ℕ)) (lent set : List Key) (text : Bor (List ℕ)) (answer : Result ℕ ℕ) (found : Bool) → lent ≡ set → found ≡ is_ok answer → HasTexts texts set
+    → IsSearchInRange answer (length lent) → IsBinarySearchResult (λ one. key_cmp one (length text.now, text)) lent answer → IsTrue found ↔ Contains texts text.now
+unfolding HasTexts
+found_text texts lent set text answer found same is =
+    found_key measured (λ x y same. ap (λ (parts : ℕ × List ℕ). parts.1) same) texts lent set (length text.now, text) text.now answer found same is refl
+
+pub found_id : (ids : List Id) (lent set : List Key) (key : Key) (id : Id) (answer : Result ℕ ℕ) (found : Bool) → lent ≡ set → found ≡ is_ok answer → parts_of key ≡ numbered id
+    → HasIds ids set → IsSearchInRange answer (length lent) → IsBinarySearchResult (λ one. key_cmp one key) lent answer → IsTrue found ↔ Contains ids id
+unfolding HasIds
+found_id = found_key numbered (λ x y same. ap (λ (parts : ℕ × List ℕ). let id : Id = record { kind = parts.1; number = parts.0 } in id) same)
+
+-- one more key behind those of the first identifiers
+pub next_id : (ids : List Id) (row : List Key) (i : ℕ) (key : Key) (id : Id) → i < length ids → id ≡ get_or ids i id → parts_of key ≡ numbered id
+    → map parts_of row ≡ map numbered (take i ids) → map parts_of (row ++ key ∷ []) ≡ map numbered (take (i + 1) ids)
+next_id ids row i key id within is own so_far =
+    map-append parts_of row (key ∷ []) ∙ ap (λ (front : List (ℕ × List ℕ)). front ++ parts_of key ∷ []) so_far
+    ∙ ap (λ (one : ℕ × List ℕ). map numbered (take i ids) ++ one ∷ []) (own ∙ ap numbered is)
+    ∙ sym (ap (map numbered) (take_more ids i id within) ∙ map-append numbered (take i ids) (get_or ids i id ∷ []))

@@ -5,13 +5,15 @@ ghost use Rattle.taxii_pages.specs.inner.Asking.{IsSetOf};
 use flow_values::{NoMemory, Text};
 use std::alloc::Global;
 
-/// Some texts in their order, so that a look-up compares few of them: a B-tree would compare up to a whole node's at each
-/// level, and a stranger's texts may be long and alike to their end.
+/// Some texts by their length, and those of one length in their order. A text of another length is missed by its length
+/// alone, without a look at its bytes, and of its own length a look-up compares few: a B-tree would compare up to a whole
+/// node's at each level, and a stranger's texts may be long and alike to their end.
 #[derive(Drop)]
 pub(crate) struct TextSet<'a> {
-    texts: Vec<&'a str>,
-    /// The last text that was asked for and isn't one of them, if there is one: of many rows of a kind the next ones are
-    /// often of the same.
+    /// Each with its length before it.
+    texts: Vec<(usize, &'a str)>,
+    /// The last text that was asked for and isn't one of them, though one of them is as long, if there is one: of many
+    /// rows of a kind the next ones are often of the same.
     missed: Option<&'a str>,
 }
 
@@ -22,7 +24,7 @@ impl<'a> TextSet<'a> {
     {
         let mut row = Vec::with_capacity(alloc, texts.len())?;
         for text in texts {
-            row.push(text.as_str())?;
+            row.push((text.len(), text.as_str()))?;
         }
         row.sort()?;
         row.dedup();
@@ -40,11 +42,15 @@ impl<'a> TextSet<'a> {
         if self.has_missed(text) {
             return false;
         }
-        let has = self.texts.binary_search(&text).is_ok();
-        if !has {
-            self.missed = Some(text);
+        match self.texts.binary_search(&(text.len(), text)) {
+            Ok(_) => true,
+            Err(at) => {
+                if self.is_near(at, text.len()) {
+                    self.missed = Some(text);
+                }
+                false
+            }
         }
-        has
     }
 
     /// Whether it is the text that was missed last.
@@ -53,6 +59,20 @@ impl<'a> TextSet<'a> {
     {
         match self.missed {
             Some(missed) => missed == text,
+            None => false,
+        }
+    }
+
+    /// Whether the one at the place, or right before it, is of that length. Else a text that belongs there was missed by
+    /// its length alone, and isn't remembered: to compare the next one with it would touch that one's bytes.
+    fn is_near(&self, at: usize, length: usize) -> bool {
+        self.is_at(at, length) || (at > 0 && self.is_at(at - 1, length))
+    }
+
+    /// Whether the one at the place, if there is one, is of that length.
+    fn is_at(&self, place: usize, length: usize) -> bool {
+        match self.texts.get(place) {
+            Some(text) => text.0 == length,
             None => false,
         }
     }

@@ -1,5 +1,5 @@
 -- What a query asks of a row, as sets: what it names twice counts once.
-use Rattle.std.specs.Prelude.{ℕ, List, ◌↔◌, map}
+use Rattle.std.specs.Prelude.{ℕ, List, ◌↔◌, map, length}
 use Rattle.std.specs.Borrow.{Bor}
 use Rattle.std.specs.List.{Contains}
 use Rattle.std.specs.List.Sorted.{IsSorted}
@@ -8,31 +8,35 @@ use Rattle.std.specs.Ordering.{ordering_then, nat_cmp}
 use Rattle.std.specs.Cmp.Lexicographic.{slice_cmp}
 use Rattle.stix_ids.specs.declared.id.Id.{Id}
 
--- the keys stand in order, and are those of these items and of no other
-pub record AreKeysOf {K V : Type 0} (cmp : K → K → Ordering) (view : K → V) (items : List V) (keys : List K) : Type 0 where
-  pub ordered : IsSorted cmp keys
-  pub same : (item : V) → Contains (map view keys) item ↔ Contains items item
+-- a number, and a text
+abbrev pub Key : Type 0
+Key = ℕ × Bor (List ℕ)
 
--- texts stand in the order of their bytes
-abbrev pub text_cmp : Bor (List ℕ) → Bor (List ℕ) → Ordering
-text_cmp text other = slice_cmp nat_cmp text.now other.now
+-- keys stand by number, and of one number in the order of their texts' bytes
+abbrev pub key_cmp : Key → Key → Ordering
+key_cmp key other = ordering_then (nat_cmp key.0 other.0) (slice_cmp nat_cmp key.1.now other.1.now)
+
+-- the number of a key, and its text as it is
+abbrev pub parts_of : Key → ℕ × List ℕ
+parts_of key = (key.0, key.1.now)
+
+-- the keys stand in order, and are those of these items and of no other
+pub record AreKeysOf (items : List (ℕ × List ℕ)) (keys : List Key) : Type 0 where
+  pub ordered : IsSorted key_cmp keys
+  pub same : (item : ℕ × List ℕ) → Contains (map parts_of keys) item ↔ Contains items item
+
+-- a text, with its length before it
+abbrev pub measured : List ℕ → ℕ × List ℕ
+measured text = (length text, text)
 
 -- the set has these texts, and no other
-abbrev pub HasTexts : List (List ℕ) → List (Bor (List ℕ)) → Type 0
-HasTexts texts set = AreKeysOf text_cmp (λ text. text.now) texts set
+unfoldable pub HasTexts : List (List ℕ) → List Key → Type 0
+HasTexts texts set = AreKeysOf (map measured texts) set
 
 -- the number of a UUID, and a kind
-abbrev pub IdKey : Type 0
-IdKey = ℕ × Bor (List ℕ)
-
--- they stand by number, and of one number by kind
-abbrev pub id_cmp : IdKey → IdKey → Ordering
-id_cmp key other = ordering_then (nat_cmp key.0 other.0) (text_cmp key.1 other.1)
-
--- the identifier of a key
-abbrev pub id_of : IdKey → Id
-id_of key = record { kind = key.1.now; number = key.0 }
+abbrev pub numbered : Id → ℕ × List ℕ
+numbered id = (id.number, id.kind)
 
 -- the set has these identifiers, and no other
-abbrev pub HasIds : List Id → List IdKey → Type 0
-HasIds ids set = AreKeysOf id_cmp id_of ids set
+unfoldable pub HasIds : List Id → List Key → Type 0
+HasIds ids set = AreKeysOf (map numbered ids) set

@@ -1,19 +1,25 @@
-use Rattle.std.proofs.Common.{IsTrue, subst}
+use Rattle.std.proofs.Common.{◌≡◌, ℕ, List, Bool, true, false, ◌↔◌, IsTrue, ap, sym}
+use Rattle.std.specs.List.{Contains}
+use Rattle.std.specs.Result.{is_ok}
+use Rattle.taxii_pages.specs.inner.Asking.{IsSetOf}
 use Rattle.taxii_pages.proofs.SetLemmas.{found_text}
+use Rattle.taxii_pages.proofs.text_set.TextSet.has.Goals.{After-binary_search}
 use Rattle.taxii_pages.proofs.text_set.TextSet.has.Goals as goal
 
-pub returns-then-not-has-clause-has : goal.returns-then-not-has-clause-has
-returns-then-not-has-clause-has c = λ texts set.
-    let position = c.binary_search.ensures.position in
-    found_text texts c.deref.result.now c.args.self.now.texts.items c.args.text c.binary_search.result c.is_ok-has.result c.deref.ensures.value c.is_ok-has.ensures.value set.has c.binary_search.ensures.bound position
+looked_up : (c : After-binary_search) (texts : List (List ℕ)) (found : Bool) → found ≡ is_ok c.binary_search.result → IsSetOf texts c.args.self.now → IsTrue found ↔ Contains texts c.args.text.now
+looked_up c texts found is set =
+    found_text texts c.deref.result.now c.args.self.now.texts.items c.args.text c.binary_search.result found c.deref.ensures.value is set.has c.binary_search.ensures.bound c.binary_search.ensures.position
 
-pub returns-then-not-has-clause-same : goal.returns-then-not-has-clause-same
-returns-then-not-has-clause-same c = λ texts set.
-    let position = c.binary_search.ensures.position in
-    let found = found_text texts c.deref.result.now c.args.self.now.texts.items c.args.text c.binary_search.result c.is_ok-has.result c.deref.ensures.value c.is_ok-has.ensures.value set.has c.binary_search.ensures.bound position in
-    record { has = set.has; missed = λ there. let wrong = subst IsTrue c.if-not-has.true (found.1 there) in absurd (cc wrong) }
+pub returns-in-Ok-clause-has : goal.returns-in-Ok-clause-has
+returns-in-Ok-clause-has c = λ texts. looked_up (goal.at.returns-in-Ok-clause-has c).After-binary_search texts true (sym (ap is_ok c.in-Ok.is))
 
-pub returns-else-not-has-clause-has : goal.returns-else-not-has-clause-has
-returns-else-not-has-clause-has c = λ texts set.
-    let position = c.binary_search.ensures.position in
-    found_text texts c.deref.result.now c.args.self.now.texts.items c.args.text c.binary_search.result c.is_ok-has.result c.deref.ensures.value c.is_ok-has.ensures.value set.has c.binary_search.ensures.bound position
+pub returns-then-is_near-clause-has : goal.returns-then-is_near-clause-has
+returns-then-is_near-clause-has c = λ texts. looked_up (goal.at.returns-then-is_near-clause-has c).After-binary_search texts false (sym (ap is_ok c.in-Err.is))
+
+pub returns-then-is_near-clause-same : goal.returns-then-is_near-clause-same
+returns-then-is_near-clause-same c = λ texts set.
+    let found = looked_up (goal.at.returns-then-is_near-clause-same c).After-binary_search texts false (sym (ap is_ok c.in-Err.is)) set in
+    record { has = set.has; missed = λ there. let wrong = found.1 there in absurd (cc wrong) }
+
+pub returns-else-is_near-clause-has : goal.returns-else-is_near-clause-has
+returns-else-is_near-clause-has c = λ texts. looked_up (goal.at.returns-else-is_near-clause-has c).After-binary_search texts false (sym (ap is_ok c.in-Err.is))
