@@ -1,4 +1,4 @@
-ghost use Rattle.std.specs.Prelude.{◌≡◌, map, IfOk, option_map, Some, None};
+ghost use Rattle.std.specs.Prelude.{◌≡◌, map, IfOk, option_map, Some};
 ghost use Rattle.taxii_walks.specs.Page.{page_size as size_of, IsPage};
 
 use crate::asked::Asked;
@@ -24,8 +24,9 @@ pub struct Page<'a> {
 const MOST_ROWS: u64 = 100;
 
 /// The first rows, by date, of those in a collection that meet the query, and of that object only where
-/// one is named: at most 100 of them, or as many as the query's limit says where that is less. Of one object
-/// it takes as many look-ups as it has rows, else it passes over the rows from where the page may begin.
+/// one is named: at most 100 of them, or as many as the query's limit says where that is less. The first page of one
+/// object takes as many look-ups as it has rows. Another passes over the rows from where it may begin until it is
+/// full, so that all pages of a walk together pass over each row once.
 pub fn page_of<'a>(
     alloc: Global,
     library: &'a Library,
@@ -35,23 +36,24 @@ pub fn page_of<'a>(
 ) -> Result<Page<'a>, NoMemory>
     ensures { IfOk result (λ page. IsPage library.now.rows collection (option_map (λ id. id.now) only.entry) query.now (map (λ row. row.now) page.rows.items) page.more) }
 {
-    match only {
-        Some(id) => page_of_object(alloc, library, collection, id, query),
-        None => page_of_all(alloc, library, collection, query),
+    match (only, query.next) {
+        (Some(id), None) => page_of_object(alloc, library, collection, id, query),
+        _ => page_of_all(alloc, library, collection, only, query),
     }
 }
 
-/// The page of the rows of a collection.
+/// The page, by a pass over the rows from where it may begin until it is full.
 fn page_of_all<'a>(
     alloc: Global,
     library: &'a Library,
     collection: u128,
+    only: Option<&'a Id>,
     query: &'a Query,
 ) -> Result<Page<'a>, NoMemory>
-    ensures { IfOk result (λ page. IsPage library.now.rows collection None query.now (map (λ row. row.now) page.rows.items) page.more) }
+    ensures { IfOk result (λ page. IsPage library.now.rows collection (option_map (λ id. id.now) only.entry) query.now (map (λ row. row.now) page.rows.items) page.more) }
 {
     let size = page_size(query);
-    let mut asked = Asked::of(alloc, collection, None, query)?;
+    let mut asked = Asked::of(alloc, collection, only, query)?;
     let later = candidates(library, query);
     let mut place = library.rows().len().saturating_sub(later.len());
     let mut rows = Vec::new(alloc);
@@ -67,7 +69,7 @@ fn page_of_all<'a>(
     Ok(Page { rows, more: false })
 }
 
-/// The page of the rows of one object in a collection, which are found by its keys.
+/// The page of one object, whose rows are found by its keys.
 fn page_of_object<'a>(
     alloc: Global,
     library: &'a Library,

@@ -1,10 +1,10 @@
-use Rattle.std.proofs.Common.{◌≡◌, ◌≤◌, map, length, take, None}
+use Rattle.std.proofs.Common.{◌≡◌, ◌≤◌, map, length, take, option_map}
 use Rattle.taxii_pages.specs.inner.Asking.{Asks}
 use Rattle.taxii_pages.proofs.PageLemmas.{meeting}
 use Rattle.taxii_pages.proofs.page.page_of_all.Given as goal
 
 abbrev pub invariant-loop-row : goal.invariant-loop-row
 invariant-loop-row l =
-    (map (λ row. row.now) l.rows.items ≡ meeting l.library.rows l.collection None l.query (take l.row-index l.later))
+    (map (λ row. row.now) l.rows.items ≡ meeting l.library.rows l.collection (option_map (λ id. id.now) l.only) l.query (take l.row-index l.later))
     × (length l.rows.items ≤ l.size)
-    × Asks l.collection None l.query l.asked
+    × Asks l.collection (option_map (λ id. id.now) l.only) l.query l.asked
