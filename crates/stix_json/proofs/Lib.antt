@@ -8,7 +8,7 @@ pub mod DataOfLemmas
 pub mod EntriesLemmas
 pub mod GoodEntriesLemmas
 pub mod FieldsLemmas
-pub mod PlacesLemmas
+pub mod PuttingLemmas
 pub mod FitsLemmas
 pub mod TokensLemmas
 mod SomeJsonLemmas

@@ -27,11 +27,11 @@ before_by l k m d e ms more less h Less = less
 before_by l k m d e ms more less h Equal = h
 before_by l k m d e ms more less h Greater = h
 
-put_before : (l k : List ℕ) (d : Data) (ms : Members) → slice_cmp nat_cmp l k ≡ Less → IsNameBefore l ms → IsNameBefore l (put k d ms)
+pub put_before : (l k : List ℕ) (d : Data) (ms : Members) → slice_cmp nat_cmp l k ≡ Less → IsNameBefore l ms → IsNameBefore l (put k d ms)
 put_before l k d no_members less h = less
 put_before l k d (member m e ms) less h = before_by l k m d e ms (put k d ms) less h (slice_cmp nat_cmp k m)
 
-turned : (k l : List ℕ) → slice_cmp nat_cmp k l ≡ Greater → slice_cmp nat_cmp l k ≡ Less
+pub turned : (k l : List ℕ) → slice_cmp nat_cmp k l ≡ Greater → slice_cmp nat_cmp l k ≡ Less
 turned k l is = nat_list_cmp_total.antisymm l k ∙ ap ordering_reverse is
 
 put_by : (k l : List ℕ) (d e : Data) (ms more : Members) → IsOrdered d → MembersAreOrdered (member l e ms) → (slice_cmp nat_cmp l k ≡ Less → IsNameBefore l more) → MembersAreOrdered more

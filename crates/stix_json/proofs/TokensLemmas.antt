@@ -1,6 +1,7 @@
 -- The loops of the grammar under the conversion to data, a turn at a time, as the tokens are taken.
-use Rattle.std.proofs.Common.{◌≡◌, ℕ, ◌-◌, ◌<◌, ◌≤◌, List, [], ◌∷◌, ◌++◌, length, Option, Some, None, IfSome, option_map, option_and_then, refl, sym, ap, subst, ◌∙◌}
+use Rattle.std.proofs.Common.{◌≡◌, ℕ, ◌-◌, ◌<◌, ◌≤◌, List, [], ◌∷◌, ◌++◌, length, take, drop, Option, Some, None, IfSome, option_map, option_and_then, refl, sym, ap, subst, ◌∙◌, arith}
 use Rattle.std.specs.Prelude.{IsUtf8}
+use Rattle.std.proofs.Math.Seq.{take-append_seam}
 use Rattle.json.specs.Token.{Token}
 use Rattle.json.specs.Lex.{tokens}
 use Rattle.json.specs.Json as json
@@ -76,6 +77,11 @@ read_value_ordered o d r e = let j = converted_some of_json o d r e in on_some (
 pub if_same : {A : Type 0} (P : A → Type 0) (found : Option A) (a : A) → P a → IfSome found (λ b. b ≡ a) → IfSome found P
 if_same P None a here same = tt
 if_same P (Some b) a here same = subst P (sym same) here
+
+-- a list that was lent and is given back whole
+pub given_back : {A : Type 0} (len : ℕ) (new items : List A) → len ≡ length items → length new ≡ length items → take len (new ++ drop (length new) items) ≡ new
+given_back len new items all same =
+    ap (λ (n : ℕ). take n (new ++ drop (length new) items)) (omega (arith, all, same)) ∙ take-append_seam new (drop (length new) items)
 
 -- ---- a list that grows at its end
 

@@ -1,5 +1,6 @@
 pub mod GivenNames
 pub mod Texts
 pub mod Naming
+pub mod Putting
 pub mod Flaws
 pub mod Fits

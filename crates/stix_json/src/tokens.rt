@@ -14,7 +14,7 @@ ghost use Rattle.stix_json.specs.DataOf.{data_of, field_data, members_of};
 ghost use Rattle.stix_json.specs.Reading.{IsJsonOf};
 ghost use Rattle.stix_json.specs.inner.Fits.{text_levels, Fits, ItemsFit, MembersFit};
 
-use crate::fields::{fitted, put_field};
+use crate::fields::{fitted, order_fields, push_field};
 use crate::whole::whole_of;
 use crate::{Field, Json, JsonText, MAX_LEVELS};
 use flow_values::{Items, Text};
@@ -130,7 +130,8 @@ fn take_fields(
     let mut fields = Vec::new(alloc);
     'fields: while let Some(name) = reader.next_key().ok()? {
         let value = take_value(alloc, whole, reader, levels)?;
-        put_field(alloc, &mut fields, name, value)?;
+        push_field(alloc, &mut fields, name, value)?;
     }
+    order_fields(&mut fields)?;
     fitted(alloc, fields)
 }

@@ -1,4 +1,4 @@
-use Rattle.std.proofs.Common.{rules, ◌≡◌, ◌-◌, ◌<◌, List, [], ◌∷◌, ◌++◌, length, map, Some, None, ap, sym, subst, ◌∙◌, arith}
+use Rattle.std.proofs.Common.{rules, ◌≡◌, ◌-◌, ◌<◌, List, [], ◌∷◌, ◌++◌, length, map, Some, None, IfSome, ap, sym, subst, ◌∙◌, arith}
 use Rattle.json.specs.Token.{Token}
 use Rattle.json.specs.Json.{parse_map, after_end_array, read_key, items, members, value}
 use Rattle.json.specs.Reads.{token_of}
@@ -8,13 +8,13 @@ use Rattle.serde_json.specs.Read.{of_json, of_items, of_members, converted}
 use Rattle.serde_json.specs.View.{items_of}
 use Rattle.stix_json.specs.declared.value.Json.{Json, the_lemmas}
 use Rattle.stix_json.specs.declared.value.Field.{Field}
-use Rattle.stix_json.specs.DataOf.{data_of, field_data, members_of}
-use Rattle.stix_json.specs.Ordered.{MembersAreOrdered}
+use Rattle.stix_json.specs.DataOf.{Member, data_of, field_data, members_of}
 use Rattle.stix_json.specs.inner.Fits.{text_levels, ItemsFit, MembersFit}
+use Rattle.stix_json.specs.inner.Putting.{put_each}
 use Rattle.stix_json.proofs.FlawsLemmas.{map_pushed, data_of-String, data_of-Bool, data_of-Array, data_of-Object}
 use Rattle.stix_json.proofs.FitsLemmas.{items_fit_push, members_fit_put}
-use Rattle.stix_json.proofs.OrderedLemmas.{put_ordered}
-use Rattle.stix_json.proofs.TokensLemmas.{converted-array, converted-object, item_read, items_over, member_read, members_over, read_value_ordered, items_before, items_before-no_items, one_more_item, if_same}
+use Rattle.stix_json.proofs.PuttingLemmas.{put_pushed}
+use Rattle.stix_json.proofs.TokensLemmas.{converted-array, converted-object, item_read, items_over, member_read, members_over, items_before, items_before-no_items, one_more_item, if_same, given_back}
 use Rattle.stix_json.proofs.tokens.+take.Goals as goal
 
 pub take_value-returns-in_ok-within-in-String-clause-ok : goal.take_value-returns-in_ok-within-in-String-clause-ok
@@ -101,7 +101,8 @@ take_fields-fields-preserved t c =
     let p = value (text_levels c.args.levels) in
     let l = c.fields in
     let n = l.invariant.0 in
-    let old = members_of (map field_data l.fields.items) in
+    let ms = map field_data l.fields.items in
+    let old = put_each ms no_members in
     let k = c.in-Some.name.now in
     let s = c.next_key.new.self in
     let named : read_key l.reader ≡ Some (Some k, s) = search rules in
@@ -111,13 +112,14 @@ take_fields-fields-preserved t c =
     let less = read_key-shorter l.reader (Some k) s named in
     let lesser = done.shorter in
     let turn = member_read p old n k l.reader s r d (omega (arith, less, l.invariant.1)) named done.ok in
-    let new : members_of (map field_data c.put_field.new.fields.items) ≡ put k d old = c.in_ok-put_field.ensures in (
+    let pushed = c.in_ok-push_field.ensures in
+    let new : put_each (map field_data c.push_field.new.fields.items) no_members ≡ put k d old =
+    ap (λ (all : List Member). put_each all no_members) pushed ∙ put_pushed ms (record { name = k; value = d }) no_members in (
       n - 1,
       omega (arith, l.invariant.1, less, lesser),
       l.invariant.2 ∙ turn ∙ ap (λ ms. converted (λ found. of_members found ms) (members p (n - 1) r)) (sym new),
-      subst MembersAreOrdered (sym new) (put_ordered k d old (read_value_ordered (p s) d r done.ok) l.invariant.3),
-      subst (MembersFit c.args.levels) (sym new) (members_fit_put c.args.levels k d old l.invariant.4 done.fits),
-      omega (arith, l.invariant.5, less, lesser),
+      subst (MembersFit c.args.levels) (sym new) (members_fit_put c.args.levels k d old l.invariant.3 done.fits),
+      omega (arith, l.invariant.4, less, lesser),
     )
 
 pub take_fields-returns-clause-ok : goal.take_fields-returns-clause-ok
@@ -126,8 +128,26 @@ take_fields-returns-clause-ok t c =
     let l = c.fields in
     let n = l.invariant.0 in
     let r = c.next_key.new.self in
-    let old = members_of (map field_data l.fields.items) in
+    let old = put_each (map field_data l.fields.items) no_members in
     let over : read_key l.reader ≡ Some (None, r) = search rules in
     let all = converted (λ ms. of_members ms no_members) (members p (length c.args.reader.now) c.args.reader.now) in
-    if_same (λ (fields : List Field). all ≡ Some (members_of (map field_data fields), r)) c.fitted.result l.fields.items
-    (l.invariant.2 ∙ members_over p old n l.reader r l.invariant.1 over) c.fitted.ensures
+    let ordered = c.order_fields.new.fields in
+    let lent = c.deref_mut.ensures.value in
+    let back = given_back l.fields.len ordered l.fields.items (omega (arith, l.fields.ok)) (omega (arith, c.order_fields.auto.fields, ap length lent)) in
+    let same : members_of (map field_data ordered) ≡ old = c.in_ok-order_fields.ensures ∙ ap (λ (fs : List Field). put_each (map field_data fs) no_members) lent in
+    if_same (λ (fields : List Field). all ≡ Some (members_of (map field_data fields), r)) c.fitted.result ordered
+    (l.invariant.2 ∙ members_over p old n l.reader r l.invariant.1 over ∙ ap (λ ms. Some (ms, r)) (sym same))
+    (subst (λ (fields : List Field). IfSome c.fitted.result (λ copy. copy ≡ fields)) back c.fitted.ensures)
+
+pub take_fields-returns-clause-fits : goal.take_fields-returns-clause-fits
+take_fields-returns-clause-fits t c =
+    let levels = c.args.levels in
+    let fields = c.fields.fields in
+    let ordered = c.order_fields.new.fields in
+    let lent = c.deref_mut.ensures.value in
+    let back = given_back fields.len ordered fields.items (omega (arith, fields.ok)) (omega (arith, c.order_fields.auto.fields, ap length lent)) in
+    let same : members_of (map field_data ordered) ≡ put_each (map field_data fields.items) no_members =
+    c.in_ok-order_fields.ensures ∙ ap (λ (fs : List Field). put_each (map field_data fs) no_members) lent in
+    if_same (λ (all : List Field). MembersFit levels (members_of (map field_data all))) c.fitted.result ordered
+    (subst (MembersFit levels) (sym same) c.fields.invariant.3)
+    (subst (λ (all : List Field). IfSome c.fitted.result (λ copy. copy ≡ all)) back c.fitted.ensures)

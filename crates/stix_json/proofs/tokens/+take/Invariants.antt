@@ -3,9 +3,9 @@ use Rattle.json.specs.Json.{items, members, value, parse_map}
 use Rattle.serde_json.specs.Data.{no_members}
 use Rattle.serde_json.specs.Read.{of_items, of_members, converted}
 use Rattle.serde_json.specs.View.{items_of}
-use Rattle.stix_json.specs.DataOf.{data_of, field_data, members_of}
-use Rattle.stix_json.specs.Ordered.{MembersAreOrdered}
+use Rattle.stix_json.specs.DataOf.{data_of, field_data}
 use Rattle.stix_json.specs.inner.Fits.{text_levels, ItemsFit, MembersFit}
+use Rattle.stix_json.specs.inner.Putting.{put_each}
 use Rattle.stix_json.proofs.TokensLemmas.{items_before}
 use Rattle.stix_json.proofs.tokens.+take.Given as goal
 
@@ -33,9 +33,8 @@ abbrev pub invariant-take_fields-fields : goal.invariant-take_fields-fields
 invariant-take_fields-fields l =
     (n : ℕ) × (length l.reader ≤ n)
     × (converted (λ found. of_members found no_members) (members (value (text_levels l.levels)) (length l.initial.reader) l.initial.reader)
-    ≡ converted (λ found. of_members found (members_of (map field_data l.fields.items))) (members (value (text_levels l.levels)) n l.reader))
-    × MembersAreOrdered (members_of (map field_data l.fields.items))
-    × MembersFit l.levels (members_of (map field_data l.fields.items))
+    ≡ converted (λ found. of_members found (put_each (map field_data l.fields.items) no_members)) (members (value (text_levels l.levels)) n l.reader))
+    × MembersFit l.levels (put_each (map field_data l.fields.items) no_members)
     × (length l.reader ≤ length l.initial.reader)
 
 abbrev pub decreases-take_fields-fields : goal.decreases-take_fields-fields
