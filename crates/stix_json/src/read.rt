@@ -1,13 +1,14 @@
-ghost use Rattle.std.specs.Prelude.{◌≡◌, ◌⊎◌, IfOk, IfErr};
+ghost use Rattle.std.specs.Prelude.{◌≡◌, ◌⊎◌, IsTrue, IfOk, IfErr};
 ghost use Rattle.serde_json.specs.View.{view};
 ghost use Rattle.stix_json.specs.Reading.{IsValueOf, HasNoValue, IsJsonOf, IsJsonRefusedAs};
 ghost use Rattle.stix_json.specs.declared.refusal.JsonRefusal.TheVariants.{NotJson, NoMemory as OutOfMemory};
 
 use crate::judge::judge;
+use crate::limits::MAX_TEXT_LEVELS;
 use crate::tokens::{read_tokens, take_whole};
 use crate::{Entry, Json, JsonRefusal};
 use flow_values::{Items, Text};
-use json::Scratch;
+use json::{Reader, Scratch};
 use serde_json::{Category, Value};
 use std::alloc::Global;
 use std::rc::Rc;
@@ -17,6 +18,9 @@ pub(crate) fn read_value(alloc: Global, bytes: &[u8]) -> Result<Value, JsonRefus
     ensures ok { IfOk result (λ value. IsValueOf bytes.now (view value)) }
     ensures err { IfErr result (λ refusal. (refusal ≡ OutOfMemory) ⊎ ((refusal ≡ NotJson) × HasNoValue bytes.now)) }
 {
+    if !may_have_value(alloc, bytes) {
+        return Err(JsonRefusal::NotJson);
+    }
     match Value::from_slice(alloc, bytes) {
         Ok(value) => Ok(value),
         Err(error) => match error.classify() {
@@ -25,6 +29,21 @@ pub(crate) fn read_value(alloc: Global, bytes: &[u8]) -> Result<Value, JsonRefus
                 Err(JsonRefusal::NotJson)
             }
         },
+    }
+}
+
+/// Whether bytes may be a JSON text, as it turns out without a tree, which takes ten times as long to make. Where memory is wanting
+/// they may.
+fn may_have_value(alloc: Global, bytes: &[u8]) -> bool
+    ensures { IsTrue result ⊎ HasNoValue bytes.now }
+{
+    let Ok(text) = std::str::from_utf8(bytes) else {
+        return false;
+    };
+    let mut scratch = Scratch::new(alloc);
+    match Reader::new(text, &mut scratch) {
+        Ok(mut reader) => reader.skip_value(MAX_TEXT_LEVELS).is_ok() && reader.next().is_none(),
+        Err(_) => true,
     }
 }
 
