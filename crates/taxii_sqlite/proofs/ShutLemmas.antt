@@ -123,29 +123,29 @@ conflict false shut still = cc still
 
 module _ {D : Type 0} {disk : Ghosts D} where
   pub no_next : (before after : Database D disk) (date : ℕ) (found : Option StoredRow) → IsShut before → IsClean after → ¬ FindsNext date before after found
-  no_next (Disk b) (Disk a) date None shut clean finds = conflict _ shut (none_open (file_state b) (file_state a) _ _ (finds clean))
-  no_next (Disk b) (Disk a) date (Some row) shut clean finds = let it = finds clean in conflict _ shut (row_open (file_state b) (file_state a) _ _ it.0 it.2)
+  no_next (Disk b) (Disk a) date None shut clean finds = conflict _ shut (none_open (file_state b.value) (file_state a.value) _ _ (finds clean))
+  no_next (Disk b) (Disk a) date (Some row) shut clean finds = let it = finds clean in conflict _ shut (row_open (file_state b.value) (file_state a.value) _ _ it.0 it.2)
   no_next (Disk b) Nowhere date found shut clean finds = absurd finds
   no_next (Disk b) Closed date found shut clean finds = absurd finds
   no_next Nowhere after date found shut clean finds = absurd shut
   no_next Closed after date found shut clean finds = absurd shut
 
   pub no_mark : (before after : Database D disk) (mark : ℕ) → IsShut before → IsClean after → ¬ FindsMark before after mark
-  no_mark (Disk b) (Disk a) mark shut clean finds = let it = finds clean in conflict _ shut (row_open (file_state b) (file_state a) _ _ it.0 it.2)
+  no_mark (Disk b) (Disk a) mark shut clean finds = let it = finds clean in conflict _ shut (row_open (file_state b.value) (file_state a.value) _ _ it.0 it.2)
   no_mark (Disk b) Nowhere mark shut clean finds = absurd finds
   no_mark (Disk b) Closed mark shut clean finds = absurd finds
   no_mark Nowhere after mark shut clean finds = absurd shut
   no_mark Closed after mark shut clean finds = absurd shut
 
   pub none_added : (before after : Database D disk) (rows : List StoredRow) (mark : ℕ) → IsShut before → IsClean after → ¬ Appends rows mark before after
-  none_added (Disk b) (Disk a) rows mark shut clean adds = conflict _ shut (appended_open file_state rows mark b a (adds clean))
+  none_added (Disk b) (Disk a) rows mark shut clean adds = conflict _ shut (appended_open file_state rows mark b.value a.value (adds clean))
   none_added (Disk b) Nowhere rows mark shut clean adds = absurd adds
   none_added (Disk b) Closed rows mark shut clean adds = absurd adds
   none_added Nowhere after rows mark shut clean adds = absurd shut
   none_added Closed after rows mark shut clean adds = absurd shut
 
   pub none_removed : (before after : Database D disk) (dates : List ℕ) → IsShut before → IsClean after → ¬ Removes dates before after
-  none_removed (Disk b) (Disk a) dates shut clean removes = conflict _ shut (removed_open file_state dates b a (removes clean))
+  none_removed (Disk b) (Disk a) dates shut clean removes = conflict _ shut (removed_open file_state dates b.value a.value (removes clean))
   none_removed (Disk b) Nowhere dates shut clean removes = absurd removes
   none_removed (Disk b) Closed dates shut clean removes = absurd removes
   none_removed Nowhere after dates shut clean removes = absurd shut

@@ -1,5 +1,5 @@
 -- Steps of a transaction: what they mean, and one after the other.
-use Rattle.std.proofs.Common.{◌≡◌, ℕ, ◌+◌, ◌<◌, List, length, take, get_or, Result, Ok, ◌∙◌}
+use Rattle.std.proofs.Common.{◌≡◌, ℕ, ◌+◌, ◌<◌, List, length, take, get_or, Result, Ok, Err, IfOk, ◌∙◌}
 use Rattle.std.proofs.lemmas.Result.{on_ok_weaker}
 use Rattle.std.specs.Borrow.{MutBor}
 use Rattle.sqlite.specs.State.{State, KeepsCommit}
@@ -48,3 +48,8 @@ module _ {S : Type 0} (shown : Held S → State) where
   one_more_step step xs i default x before between after within its done last =
       read_as _ (InTurn step (take (i + 1) xs)) before after (Ok tt) (both (InTurn step (take i xs)) (step x) before between after done last)
       (λ ran. one_more step xs i default x before.now ran.0 after.now within its ran.1 ran.2)
+
+-- what is answered under a premise, where it is answered
+pub where_ok : {X E Premise : Type 0} (Answers : X → Type 0) (result : Result X E) → (Premise → IfOk result Answers) → IfOk result (λ value. Premise → Answers value)
+where_ok Answers (Ok value) answers = answers
+where_ok Answers (Err error) answers = tt

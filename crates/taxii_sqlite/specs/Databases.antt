@@ -24,25 +24,25 @@ module _ {D : Type 0} {disk : Ghosts D} where
 
   -- the first row that is later than the date
   abbrev pub FindsNext : ℕ → Database D disk → Database D disk → Option StoredRow → Type 0
-  FindsNext date (Disk before) (Disk after) found = HasCleanDisk (file_state after) → AnswersNext date (file_state before) (file_state after) found
+  FindsNext date (Disk before) (Disk after) found = HasCleanDisk (file_state after.value) → AnswersNext date (file_state before.value) (file_state after.value) found
   FindsNext date Nowhere Nowhere found = found ≡ None
   FindsNext date _ _ found = ⊥
 
   -- the last date ever given
   abbrev pub FindsMark : Database D disk → Database D disk → ℕ → Type 0
-  FindsMark (Disk before) (Disk after) mark = HasCleanDisk (file_state after) → AnswersMark (file_state before) (file_state after) mark
+  FindsMark (Disk before) (Disk after) mark = HasCleanDisk (file_state after.value) → AnswersMark (file_state before.value) (file_state after.value) mark
   FindsMark Nowhere Nowhere mark = mark ≡ 0
   FindsMark _ _ mark = ⊥
 
   -- the rows were added, and the date was made the mark
   abbrev pub Appends : List StoredRow → ℕ → Database D disk → Database D disk → Type 0
-  Appends rows mark (Disk before) (Disk after) = HasCleanDisk (file_state after) → Transacts file_state (Adds file_state rows mark) before after
+  Appends rows mark (Disk before) (Disk after) = HasCleanDisk (file_state after.value) → Transacts file_state (Adds file_state rows mark) before.value after.value
   Appends rows mark Nowhere Nowhere = ⊤
   Appends rows mark _ _ = ⊥
 
   -- the rows of the dates were removed, and the mark stayed
   abbrev pub Removes : List ℕ → Database D disk → Database D disk → Type 0
-  Removes dates (Disk before) (Disk after) = HasCleanDisk (file_state after) → Transacts file_state (DeletesAll file_state dates) before after
+  Removes dates (Disk before) (Disk after) = HasCleanDisk (file_state after.value) → Transacts file_state (DeletesAll file_state dates) before.value after.value
   Removes dates Nowhere Nowhere = ⊤
   Removes dates _ _ = ⊥
 
@@ -59,18 +59,18 @@ module _ {D : Type 0} {disk : Ghosts D} where
   -- a change failed and nothing was added or removed; of a file: what it holds and what is committed are as before, unless a failure
   -- has shut it
   abbrev pub StaysAs : Database D disk → Database D disk → Type 0
-  StaysAs (Disk before) (Disk after) = HasCleanDisk (file_state after) → IsUntouched (file_state before) (file_state after)
+  StaysAs (Disk before) (Disk after) = HasCleanDisk (file_state after.value) → IsUntouched (file_state before.value) (file_state after.value)
   StaysAs Closed Closed = ⊤
   StaysAs _ _ = ⊥
 
   -- a failure of the disk has shut the file: each later call is refused, until the file is opened anew
   abbrev pub IsShut : Database D disk → Type 0
-  IsShut (Disk held) = (file_state held).is_open ≡ false
+  IsShut (Disk held) = (file_state held.value).is_open ≡ false
   IsShut _ = ⊥
 
   -- the disk has returned what was written
   abbrev pub IsClean : Database D disk → Type 0
-  IsClean (Disk held) = HasCleanDisk (file_state held)
+  IsClean (Disk held) = HasCleanDisk (file_state held.value)
   IsClean _ = ⊤
 
   -- what was opened under a path: with an empty one nothing; with another one a file, whose database is the one that these
@@ -79,13 +79,13 @@ module _ {D : Type 0} {disk : Ghosts D} where
   IsOpenAt files path Nowhere = path ≡ []
   IsOpenAt files path (Disk after) =
       (path ≢ [])
-      × (HasCleanDisk (file_state after) → (before : _) × IsNew before × IsOpened before × FindsIn files (file_state before) × IsReady file_state before after)
+      × (HasCleanDisk (file_state after.value) → (before : _) × IsNew before × IsOpened before × FindsIn files (file_state before) × IsReady file_state before after.value)
   IsOpenAt files path Closed = ⊥
 
   -- what an end leaves: of a file, both of its files, of which the database alone holds what was committed last, also after a crash;
   -- else nothing
   abbrev pub Leaves : Database D disk → Option (Files D) → Type 0
-  Leaves (Disk held) (Some files) = AreClean disk files.log files.db → IsCopied held files
+  Leaves (Disk held) (Some files) = AreClean disk files.log files.db → IsCopied held.value files
   Leaves (Disk held) None = ⊥
   Leaves Nowhere left = left ≡ None
   Leaves Closed left = left ≡ None

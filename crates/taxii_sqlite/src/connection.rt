@@ -20,7 +20,7 @@ pub(crate) enum Database<D: Disk + Drop> {
     Closed,
     /// A store without a file: its rows last in the library alone, and are held once.
     Nowhere,
-    Disk(Connection<FileStore<D>>),
+    Disk(Box<Connection<FileStore<D>>>),
 }
 
 const CLOSED: Failure = Failure::Fault(FaultCause::Closed);
@@ -33,7 +33,7 @@ impl<D: Disk + Drop> Database<D> {
         ensures fails { OnErr result (HasFile self) }
     {
         match self {
-            Database::Disk(connection) => Ok(Some(copy_log(connection)?)),
+            Database::Disk(connection) => Ok(Some(copy_log(Box::into_inner(connection))?)),
             Database::Closed | Database::Nowhere => Ok(None),
         }
     }
@@ -122,7 +122,10 @@ pub(crate) fn open<S: Start>(
         Err((error, _)) => return Err(failure_to_open(rt, path, error)),
     };
     statements::make_ready(&mut connection)?;
-    Ok(Database::Disk(connection))
+    match Box::new(rt.alloc(), connection) {
+        Ok(connection) => Ok(Database::Disk(connection)),
+        Err(_) => Err(Failure::NoMemory),
+    }
 }
 
 /// Why a file that the system opens wasn't opened as a database.
