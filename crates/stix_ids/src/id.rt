@@ -1,8 +1,8 @@
-use flow_values::Text;
+use stix_names::Name;
 
 /// An identifier: the kind of the object that it names, and the number of its UUID.
 #[derive(Debug, Drop)]
 pub struct Id {
-    pub kind: Text,
+    pub kind: Name,
     pub number: u128,
 }

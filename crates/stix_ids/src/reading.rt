@@ -7,8 +7,8 @@ ghost use Rattle.stix_ids.specs.Reading.{IsRefused};
 
 use crate::parts::Parts;
 use crate::{Id, IdRefusal};
-use flow_values::Text;
 use std::alloc::Global;
+use stix_names::Name;
 
 /// The identifier that the text is: a kind, `--` and a UUID in hyphenated form, with hex digits of
 /// either case. A text that is no identifier's is refused as such also without memory.
@@ -20,7 +20,7 @@ pub fn read_id(alloc: Global, text: &str) -> Result<Id, IdRefusal>
         → result ≡ Err refusal }
 {
     let parts = Parts::read(text)?;
-    let kind = Text::from_text(alloc, parts.kind)?;
+    let kind = Name::from_text(alloc, parts.kind)?;
     Ok(Id {
         kind,
         number: parts.number,

@@ -1,6 +1,5 @@
 -- Fields whose names rise: each stands before all later ones, and a name finds one of them at most.
-use Rattle.std.proofs.Common.{◌≡◌, ◌≢◌, ◌⊎◌, inl, inr, ℕ, zero, suc, ◌<◌, ◌≤◌, List, [], ◌∷◌, length, map, Some, None, Option, Result, Ok, Err, slice_get, unwrap_or, IsTrue, ◌↔◌, ◌+◌, Bool, true, false, drop, is_lt, nat_lt, Ordering, Less, Equal, Greater, nat_cmp, get_or, refl, sym, ap, subst, ◌∙◌, arith}
-use Rattle.std.proofs.lemmas.Bool.Decides.{nat_tests}
+use Rattle.std.proofs.Common.{◌≡◌, ◌≢◌, ◌⊎◌, inl, inr, ℕ, zero, suc, ◌<◌, ◌≤◌, List, [], ◌∷◌, length, map, Some, None, Option, Result, Ok, Err, slice_get, unwrap_or, IsTrue, ◌↔◌, ◌+◌, Bool, true, drop, is_lt, Ordering, Less, Equal, Greater, nat_cmp, get_or, refl, sym, ap, subst, ◌∙◌, arith}
 use Rattle.std.specs.Ordering.{ordering_index, ordering_reverse, match_ordering}
 use Rattle.std.specs.List.{HoldsAt}
 use Rattle.std.specs.List.Sorted.{IsNonDecreasingBy, IsPartitionPoint, IsSearchInRange, IsBinarySearchResult}
@@ -194,9 +193,3 @@ close_ordered fields at field within is ordered = subst MembersAreOrdered (sym (
 -- where a field stands, there is a place
 pub place_within : (name : List ℕ) (fields : List Field) (at : ℕ) → IsFieldAt name fields at → at < length fields
 place_within name fields at is = slice_get_within fields at is.field is.there
-
-pub lt_from_test : (m n : ℕ) → true ≡ nat_lt m n → m < n
-lt_from_test m n is = grind (arith, nat_tests)
-
-pub le_from_test : (m n : ℕ) → false ≡ nat_lt m n → n ≤ m
-le_from_test m n is = grind (arith, nat_tests)

@@ -1,4 +1,3 @@
-pub mod GivenNames
 pub mod Texts
 pub mod Naming
 pub mod Putting

@@ -7,10 +7,11 @@ ghost use Rattle.stix_json.specs.inner.Flaws.{first_flaw, items_flaw, members_fl
 
 use crate::flaw::{Flaw, Halt, Reason};
 use crate::place::Place;
-use crate::{Field, Json, JsonText, MAX_WHOLE, Name};
+use crate::{Field, Json, JsonText, MAX_WHOLE};
 use flow_values::{Items, NoMemory, Text};
 use serde_json::{Map, Number, Value};
 use std::alloc::Global;
+use stix_names::Name;
 
 /// The whole number that a number is, where it is one in range.
 fn whole_of(number: Number) -> Result<i64, Reason>

@@ -5,9 +5,10 @@ ghost use Rattle.serde_json.specs.Data.{no_members};
 ghost use Rattle.stix_json.specs.DataOf.{data_of, field_data, members_of};
 ghost use Rattle.stix_json.specs.inner.Putting.{put_each, NamesRise};
 
-use crate::{Field, Json, Name};
+use crate::{Field, Json};
 use flow_values::Items;
 use std::alloc::Global;
+use stix_names::Name;
 
 /// Room for so many more fields or items may stay unused.
 const MAX_SPARE: usize = 3;

@@ -1,5 +1,6 @@
-use crate::{JsonText, Name};
+use crate::JsonText;
 use flow_values::Items;
+use stix_names::Name;
 
 /// A JSON value without fractions and null.
 #[derive(Drop)]

@@ -14,6 +14,7 @@ use flow_values::{NoMemory, Text};
 use std::alloc::Global;
 use stix_ids::{Id, Parts, write_id};
 use stix_json::{Json, JsonRefusal};
+use stix_names::Name;
 use stix_objects::{Break, Precision, object_id, timestamp_at};
 use stix_times::Instant;
 use taxii_rows::{LAST_DATE, StoredRow};
@@ -100,7 +101,7 @@ fn id_text(alloc: Global, parts: Parts<'_>) -> Result<Text, NoMemory>
     requires { IsKind parts.kind.now }
     ensures { IfOk result (λ text. text ≡ canonical_text (id_of parts.entry)) }
 {
-    let kind = Text::from_text(alloc, parts.kind)?;
+    let kind = Name::from_text(alloc, parts.kind)?;
     let id = Id {
         kind,
         number: parts.number,

@@ -12,6 +12,7 @@ use flow_values::{NoMemory, Text};
 use std::alloc::Global;
 use stix_ids::Id;
 use stix_json::{Json, write_json};
+use stix_names::Name;
 use stix_objects::object_id;
 
 /// What a store keeps of an object.
@@ -37,7 +38,7 @@ pub fn describe(alloc: Global, object: &Json) -> Result<Option<Described>, NoMem
     let Some(parts) = object_id(object) else {
         return Ok(None);
     };
-    let kind = Text::from_text(alloc, parts.kind)?;
+    let kind = Name::from_text(alloc, parts.kind)?;
     let body = write_json(alloc, object)?;
     Ok(Some(Described {
         id: Id {

@@ -4,6 +4,7 @@ ghost use Rattle.taxii_rows.specs.Identity.{is_row_of};
 use flow_values::{NoMemory, Text};
 use std::alloc::Global;
 use stix_ids::Id;
+use stix_names::Name;
 
 /// The latest date that a row can have, in microseconds since 1970: the last one of the year 9999.
 pub const LAST_DATE: u64 = 253_402_300_799_999_999;
@@ -39,7 +40,7 @@ impl StoredRow {
     pub fn copy(&self, alloc: Global) -> Result<StoredRow, NoMemory>
         ensures { IfOk result (λ copy. copy ≡ self.now) }
     {
-        let kind = Text::from_text(alloc, self.id.kind.as_str())?;
+        let kind = Name::from_text(alloc, self.id.kind.as_str())?;
         let body = Text::from_text(alloc, self.body.as_str())?;
         Ok(StoredRow {
             date: self.date,

@@ -10,6 +10,7 @@ use crate::failure::Failure;
 use crate::{file, statements};
 use sqlite::{Connection, Error, ErrorCode, FileFrom, FileStore, Files, Start};
 use sqlite_disk::Disk;
+use std::alloc::Global;
 use std::rt::HostRuntime;
 use taxii_rows::{FaultCause, StoredRow};
 
@@ -39,7 +40,11 @@ impl<D: Disk + Drop> Database<D> {
     }
 
     /// The first row that is later than the date, or none.
-    pub(crate) fn next_after(&mut self, date: u64) -> Result<Option<StoredRow>, Failure>
+    pub(crate) fn next_after(
+        &mut self,
+        alloc: Global,
+        date: u64,
+    ) -> Result<Option<StoredRow>, Failure>
         ensures open { is_open self.new ≡ is_open self.old }
         ensures finds { IfOk result (FindsNext date self.old self.new) }
         ensures fails { OnErr result (CanFail self.old) }
@@ -47,7 +52,7 @@ impl<D: Disk + Drop> Database<D> {
         match self {
             Database::Closed => Err(CLOSED),
             Database::Nowhere => Ok(None),
-            Database::Disk(connection) => statements::next_after(connection, date),
+            Database::Disk(connection) => statements::next_after(alloc, connection, date),
         }
     }
 

@@ -111,7 +111,7 @@ impl<S: Start> Keeper for SqliteKeeper<FileFrom<S>, S> {
         ensures attached { is_open self.new.database ≡ is_open self.old.database }
         ensures causes { Counted (result ≡ Err KeeperRefusal.Fault) self.old.faults.count self.new.faults.count }
     {
-        let found = self.database.next_after(date);
+        let found = self.database.next_after(self.rt.alloc(), date);
         self.faults.counted(found)
     }
 

@@ -12,7 +12,9 @@ use crate::failure::Failure;
 use flow_values::Text;
 use sqlite::Row;
 use sqlite::types::ValueRef;
+use std::alloc::Global;
 use stix_ids::Id;
+use stix_names::Name;
 use taxii_rows::{FaultCause, StoredRow};
 
 /// What isn't as a store writes it.
@@ -59,13 +61,13 @@ pub(crate) fn columns_of<'a>(
 }
 
 /// The row that is in these columns. Columns that hold none are a fault.
-pub(crate) fn read_row(columns: &Row) -> Result<StoredRow, Failure>
+pub(crate) fn read_row(alloc: Global, columns: &Row) -> Result<StoredRow, Failure>
     ensures ok { IfOk result (HoldsRow columns.now) }
     ensures fault { (cause : Cause) → result ≡ Err (IsFault cause) → (row : WholeRow) → ¬ HoldsRow columns.now row }
 {
     let date = date_at(columns, 0)?;
     let collection = number_at(columns, 1)?;
-    let kind = text_at(columns, 2)?;
+    let kind = name_at(alloc, columns, 2)?;
     let number = number_at(columns, 3)?;
     let version = columns.get(4)?;
     let dated = truth_at(columns, 5)?;
@@ -112,6 +114,18 @@ fn truth_at(columns: &Row, at: usize) -> Result<bool, Failure>
         ValueRef::Int(0) => Ok(false),
         ValueRef::Int(1) => Ok(true),
         _ => Err(UNSOUND),
+    }
+}
+
+/// The name in a column.
+fn name_at(alloc: Global, columns: &Row, at: usize) -> Result<Name, Failure>
+    ensures ok { IfOk result (HoldsText (column columns.now at)) }
+    ensures fault { (cause : Cause) → result ≡ Err (IsFault cause) → (text : List ℕ) → ¬ HoldsText (column columns.now at) text }
+{
+    let text = text_at(columns, at)?;
+    match Name::from_text(alloc, text.as_str()) {
+        Ok(name) => Ok(name),
+        Err(_) => Err(Failure::NoMemory),
     }
 }
 

@@ -16,6 +16,7 @@ use crate::schema::{
 };
 use sqlite::types::ValueRef;
 use sqlite::{Alter, Connection, Error, Transaction, params};
+use std::alloc::Global;
 use taxii_rows::{FaultCause, StoredRow};
 
 /// Sees that the database is a store, or makes one of it where it may be (`form::take`): it has a mark, and no row that
@@ -35,6 +36,7 @@ pub(crate) fn make_ready<S: Alter>(connection: &mut Connection<S>) -> Result<(),
 
 /// The first row that is later than the date, or none.
 pub(crate) fn next_after<S: Alter>(
+    alloc: Global,
     connection: &mut Connection<S>,
     date: u64,
 ) -> Result<Option<StoredRow>, Failure>
@@ -42,7 +44,7 @@ pub(crate) fn next_after<S: Alter>(
 {
     let date = integer_of(date)?;
     match connection.query_row(NEXT_ROW, params![date]) {
-        Ok(columns) => Ok(Some(read_row(&columns)?)),
+        Ok(columns) => Ok(Some(read_row(alloc, &columns)?)),
         Err(Error::QueryReturnedNoRows) => Ok(None),
         Err(error) => Err(Failure::from(error)),
     }

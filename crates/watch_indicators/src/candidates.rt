@@ -15,6 +15,7 @@ use std::alloc::Global;
 use std::collections::BTreeMap;
 use stix_bundles::laws::one_meaning;
 use stix_ids::Id;
+use stix_names::Name;
 use stix_objects::laws::{one_id, one_timestamp};
 use stix_times::Instant;
 use stix_times::laws::is_before;
@@ -90,6 +91,6 @@ fn judge(alloc: Global, kept: Kept, hunt: &mut Hunt) -> Result<(), NoMemory>
 fn indicator_id(alloc: Global, number: u128) -> Result<Id, NoMemory>
     ensures { IfOk result (λ id. id ≡ indicator_id number) }
 {
-    let kind = Text::from_text(alloc, "indicator")?;
+    let kind = Name::from_text(alloc, "indicator")?;
     Ok(Id { kind, number })
 }

@@ -14,7 +14,8 @@ use crate::times::{time_text, version_text};
 use flow_values::{Items, NoMemory, Text};
 use std::alloc::Global;
 use stix_ids::{Id, write_id};
-use stix_json::{Field, Json, JsonText, Name};
+use stix_json::{Field, Json, JsonText};
+use stix_names::Name;
 use stix_times::Instant;
 
 /// Fields that come one by one.

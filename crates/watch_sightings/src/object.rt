@@ -13,6 +13,7 @@ use std::alloc::Global;
 use stix_ids::Id;
 use stix_ids::laws::written_reads_back as written_ids;
 use stix_json::{Json, write_json};
+use stix_names::Name;
 use stix_times::Instant;
 use stix_times::laws::{one_instant, written_reads_back};
 
@@ -35,7 +36,7 @@ fn object_of(alloc: Global, moment: Instant, seen: &Seen<'_>) -> Result<Json, No
     ensures { IfOk result (λ json. IsSightingOf moment seen.now (data_of json)) }
 {
     let modified = modified_at(seen.created, moment);
-    let kind = Text::from_text(alloc, "sighting")?;
+    let kind = Name::from_text(alloc, "sighting")?;
     let id = Id {
         kind,
         number: seen.indicator.number,

@@ -1,18 +1,18 @@
 ghost use Rattle.std.specs.Prelude.{◌≡◌, IfOk, IfSome, map, unwrap_or, slice_get, []};
-ghost use Rattle.stix_json.specs.inner.GivenNames.{given_names};
+ghost use Rattle.stix_names.specs.inner.GivenNames.{given_names};
 
 use flow_values::{NoMemory, Text};
 use std::alloc::Global;
 use std::marker::Model;
 
-/// The name of a field, which contracts see as the list of its bytes. One that the standards give lies in a table and takes no
-/// memory: nearly all names that come are such.
-#[derive(Drop)]
+/// The name of a field or of a type, which contracts see as the list of its bytes. One that the standards give lies in a table and
+/// takes no memory: nearly all names that come are such.
+#[derive(Debug, Drop)]
 pub struct Name {
     form: NameForm,
 }
 
-#[derive(Drop)]
+#[derive(Debug, Drop)]
 enum NameForm {
     /// The one at this place of those that are given.
     Given(u8),
@@ -21,7 +21,7 @@ enum NameForm {
 
 impl Model for Name {
     ghost use Rattle.std.specs.Prelude.{List, ℕ};
-    ghost use Rattle.stix_json.specs.inner.Texts.{name_of};
+    ghost use Rattle.stix_names.specs.inner.GivenNames.{name_of};
 
     ghost Value = { List ℕ };
 
@@ -82,8 +82,8 @@ fn given() -> &'static [&'static str]
     GIVEN
 }
 
-/// The names that STIX 2.1 gives most objects, and TAXII 2.1 its resources, by their length; of one length those that come most
-/// stand first.
+/// The names that STIX 2.1 gives most objects and TAXII 2.1 its resources, and those of the types of objects (STIX 2.1, sections 3.2
+/// and 4 to 7), by their length; of one length fields stand first, and those that come most.
 const GIVEN: &[&str] = &[
     "id",
     "pid",
@@ -99,13 +99,19 @@ const GIVEN: &[&str] = &[
     "more",
     "next",
     "date",
+    "file",
+    "note",
+    "tool",
     "value",
     "roles",
     "title",
+    "mutex",
     "labels",
     "hashes",
     "number",
     "region",
+    "report",
+    "bundle",
     "objects",
     "created",
     "revoked",
@@ -117,18 +123,34 @@ const GIVEN: &[&str] = &[
     "content",
     "version",
     "subject",
+    "malware",
+    "opinion",
+    "process",
     "modified",
     "defanged",
     "src_port",
     "dst_port",
     "from_ref",
     "path_enc",
+    "identity",
+    "campaign",
+    "grouping",
+    "incident",
+    "location",
+    "sighting",
+    "artifact",
+    "mac-addr",
+    "software",
     "last_seen",
     "protocols",
     "mime_type",
     "is_active",
     "is_hidden",
     "image_ref",
+    "indicator",
+    "ipv4-addr",
+    "directory",
+    "ipv6-addr",
     "confidence",
     "extensions",
     "first_seen",
@@ -139,11 +161,13 @@ const GIVEN: &[&str] = &[
     "date_added",
     "media_type",
     "phase_name",
+    "email-addr",
     "object_refs",
     "description",
     "valid_until",
     "source_name",
     "external_id",
+    "domain-name",
     "spec_version",
     "pattern_type",
     "command_line",
@@ -151,24 +175,43 @@ const GIVEN: &[&str] = &[
     "display_name",
     "account_type",
     "is_multipart",
+    "relationship",
+    "threat-actor",
+    "user-account",
     "account_login",
     "last_observed",
+    "observed-data",
+    "intrusion-set",
+    "vulnerability",
+    "email-message",
     "created_by_ref",
     "first_observed",
+    "attack-pattern",
+    "infrastructure",
     "number_observed",
     "kill_chain_name",
     "indicator_types",
+    "network-traffic",
     "resolves_to_refs",
+    "course-of-action",
+    "malware-analysis",
+    "x509-certificate",
+    "language-content",
     "kill_chain_phases",
     "relationship_type",
     "granular_markings",
+    "autonomous-system",
+    "marking-definition",
     "external_references",
     "object_marking_refs",
     "parent_directory_ref",
+    "windows-registry-key",
+    "extension-definition",
     "opened_connection_refs",
 ];
 
 /// Where the names of each length begin.
 const FIRSTS: &[u8] = &[
-    0, 0, 0, 1, 5, 14, 17, 21, 32, 38, 44, 54, 59, 66, 68, 70, 73, 74, 77, 77, 79, 80, 80, 81,
+    0, 0, 0, 1, 5, 17, 21, 27, 41, 56, 66, 77, 83, 93, 99, 103, 107, 112, 116, 117, 119, 122, 122,
+    123,
 ];

@@ -1,8 +1,8 @@
 use Rattle.std.proofs.Common.{◌≡◌, ◌<◌, ◌≤◌, true, false, nat_lt, map, length, unwrap_or, slice_get, [], ℕ, List, Bor, Some, Option, option_map, ap, sym, ◌∙◌}
 use Rattle.std.proofs.lemmas.Option.{slice_get-map, slice_get-get_or, slice_get_past}
-use Rattle.stix_json.specs.inner.GivenNames.{given_names}
-use Rattle.stix_json.proofs.FieldsLemmas.{lt_from_test, le_from_test}
-use Rattle.stix_json.proofs.name.given_at.Goals as goal
+use Rattle.stix_names.specs.inner.GivenNames.{given_names}
+use Rattle.stix_names.proofs.TestLemmas.{lt_from_test, le_from_test}
+use Rattle.stix_names.proofs.name.given_at.Goals as goal
 
 abbrev text : Bor (List ℕ) → List ℕ
 text name = name.now
