@@ -1,10 +1,14 @@
-# A log without what `match` would refuse: null and fractions are left out of a bundle, and a line that is no bundle is left out
+# A log without what `match` would refuse: null, fractions and numbers past 2^53 - 1 are left out of a bundle, and a line that is no bundle is left out
 # whole and told on standard error.
 #
 #   jq -c -R -f examples/logs/sound.jq log.jsonl | ./stix_command match PATTERN
 
-def mended: walk(if type == "object" then with_entries(select(.value != null and (.value | type != "number" or . == floor)))
-  elif type == "array" then map(select(. != null and (type != "number" or . == floor))) else . end);
+# Whether a value isn't one that is left out.
+def stays: . != null and (type != "number" or (. == floor and fabs <= 9007199254740991));
+
+# A sum with 0 is written as a whole number also where the number was `-0`.
+def mended: walk(if type == "object" then with_entries(select(.value | stays)) elif type == "array" then map(select(stays))
+  elif type == "number" then . + 0 else . end);
 
 select(test("[^ \t\r]"))
 | . as $line
