@@ -5,11 +5,12 @@ pub mod NamingLemmas
 pub mod WriteLemmas
 pub mod ReadingLemmas
 pub mod DataOfLemmas
-pub mod EntriesLemmas
-pub mod GoodEntriesLemmas
 pub mod FieldsLemmas
 pub mod PuttingLemmas
-pub mod FitsLemmas
+pub mod DefectLemmas
+pub mod JudgedLemmas
 pub mod TokensLemmas
+pub mod HeldLemmas
 mod SomeJsonLemmas
 mod OneJsonLemmas
+pub mod PropertiesLemmas

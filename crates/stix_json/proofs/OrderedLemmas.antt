@@ -1,5 +1,5 @@
 -- What is read has its names in rising order.
-use Rattle.std.proofs.Common.{◌≡◌, ℕ, List, [], ◌∷◌, ◌++◌, Option, Some, None, option_map, option_and_then, Ordering, Less, Equal, Greater, nat_cmp, refl, sym, ap, subst, ◌∙◌}
+use Rattle.std.proofs.Common.{◌≡◌, ℕ, List, Option, Some, None, option_map, option_and_then, Ordering, Less, Equal, Greater, nat_cmp, refl, sym, ap, subst, ◌∙◌}
 use Rattle.std.specs.Prelude.{⊤}
 use Rattle.std.proofs.lemmas.Cmp.{nat_list_cmp_total}
 use Rattle.std.specs.Cmp.Lexicographic.{slice_cmp}
@@ -8,9 +8,6 @@ use Rattle.json.specs.Lex.{tokens}
 use Rattle.json.specs.Json as json
 use Rattle.serde_json.specs.Data.{Num, Data, null, boolean, number, string, array, object, Items, item, Members, no_members, member, put}
 use Rattle.serde_json.specs.Find.{get, get_member}
-use Rattle.serde_json.specs.View.{view, items_view}
-use Rattle.serde_json.specs.declared.value.Value.{Value}
-use Rattle.stix_json.specs.Entries.{list_of, list_or_none, list_under}
 use Rattle.serde_json.specs.Read.{of_json, of_items, of_members, number_of, read, max_depth}
 use Rattle.stix_json.specs.declared.value.Json.{Json}
 use Rattle.stix_json.specs.Refusal.{refusal_of}
@@ -116,40 +113,6 @@ found_ordered Greater e later he hl = hl
 member_ordered : (name : List ℕ) (ms : Members) → MembersAreOrdered ms → On IsOrdered (get_member name ms)
 member_ordered name no_members h = tt
 member_ordered name (member l e ms) h = found_ordered (slice_cmp nat_cmp name l) e (get_member name ms) h.1 (member_ordered name ms h.2)
-
-list_ordered : (d : Data) → IsOrdered d → On ItemsAreOrdered (list_of d)
-list_ordered null h = tt
-list_ordered (boolean b) h = tt
-list_ordered (number n) h = tt
-list_ordered (string s) h = tt
-list_ordered (array ds) h = h
-list_ordered (object ms) h = tt
-
-none_or_ordered : (o : Option Data) → On IsOrdered o → On ItemsAreOrdered (list_or_none o)
-none_or_ordered None h = tt
-none_or_ordered (Some d) h = list_ordered d h
-
-under_ordered : (name : List ℕ) (d : Data) → IsOrdered d → On ItemsAreOrdered (list_under name d)
-under_ordered name null h = tt
-under_ordered name (boolean b) h = tt
-under_ordered name (number n) h = tt
-under_ordered name (string s) h = tt
-under_ordered name (array ds) h = tt
-under_ordered name (object ms) h = none_or_ordered (get_member name ms) (member_ordered name ms h)
-
--- the items of a list of an ordered value are ordered
-pub listed_ordered : (bytes name : List ℕ) (d : Data) (ds : Items) → IsValueOf bytes d → Some ds ≡ list_under name d → ItemsAreOrdered ds
-listed_ordered bytes name d ds value is = let P : Option Items → Type 0 = λ o. On ItemsAreOrdered o in subst P (sym is) (under_ordered name d (value_ordered bytes d value))
-
-at_item : (done : List Value) (v : Value) (rest : List Value) → ItemsAreOrdered (items_view (done ++ v ∷ rest)) → IsOrdered (view v)
-at_item [] v rest h = h.0
-at_item (x ∷ done) v rest h = at_item done v rest h.1
-
--- an item of them is
-pub item_ordered : (all done left rest : List Value) (v : Value) → ItemsAreOrdered (items_view all) → all ≡ done ++ left → left ≡ v ∷ rest → IsOrdered (view v)
-item_ordered all done left rest v h whole split =
-    let P : List Value → Type 0 = λ vs. ItemsAreOrdered (items_view vs) in
-    at_item done v rest (subst P (whole ∙ ap (λ vs. done ++ vs) split) h)
 
 -- the property of an ordered object is ordered
 pub property_ordered : (object value : Data) (name : List ℕ) → IsOrdered object → get name object ≡ Some value → IsOrdered value

@@ -1,214 +1,377 @@
--- Members that are put in one after another are, where their names differ, the same members in the order of their names.
-use Rattle.std.proofs.Common.{◌≡◌, IsTrue, Bool, true, false, ℕ, suc, ◌+◌, ◌<◌, List, [], ◌∷◌, ◌++◌, length, get_or, Option, Some, None, Ordering, Less, Equal, Greater, nat_cmp, is_eq, is_lt, arith, bytes_eq, true≢false, unwrap_or, refl, sym, ap, subst, ◌∙◌}
+-- What has names, put in one after another: of those that have one name the last stays, in the order of the names.
+use Rattle.std.proofs.Common.{◌≡◌, IsTrue, Bool, true, false, cond, if◌then◌else◌, not, ◌&&◌, ℕ, suc, ◌+◌, ◌-◌, ◌<◌, List, [], ◌∷◌, ◌++◌, length, get_or, slice_get, option_to_list, IsSome, filter, Option, Some, None, Ordering, Less, Equal, Greater, nat_cmp, is_eq, is_lt, arith, bytes_eq, true≢false, unwrap_or, append-nil, length-append, refl, sym, ap, subst, ◌∙◌}
 use Rattle.std.proofs.lemmas.Cmp.{nat_list_cmp_total, tied_itself}
+use Rattle.std.proofs.lemmas.List.MinMax.{ranks_by}
+use Rattle.std.proofs.lemmas.List.Sorted.{sorted_far}
 use Rattle.std.proofs.lemmas.Slice.Eq.{bytes_eq-Decides}
 use Rattle.std.proofs.lemmas.Map.Text.{is_eq-slice_cmp}
-use Rattle.std.proofs.lemmas.List.Elements.{All-from_recursion, recursion_from_All}
-use Rattle.std.proofs.lemmas.List.Sorted.{All-permutation, IsPermutation-sym}
 use Rattle.std.specs.Cmp.Lexicographic.{slice_cmp}
 use Rattle.std.specs.List.{AllByRecursion, AllAdjacentBelow, IsAllAdjacentAnswer}
-use Rattle.std.specs.List.Sorted.{IsPermutation}
-use Rattle.std.specs.Ordering.{match_ordering}
-use Rattle.serde_json.specs.Data.{Data, Members, no_members, member, put}
-use Rattle.serde_json.specs.Find.{get_member}
-use Rattle.serde_json.proofs.Views.{get_member-put, get_member-put_other}
-use Rattle.stix_json.specs.declared.value.Field.{Field}
-use Rattle.stix_json.specs.DataOf.{Member, members_of}
-use Rattle.stix_json.specs.Ordered.{IsNameBefore}
-use Rattle.stix_json.specs.inner.Putting.{put_each, NamesRise}
-use Rattle.stix_json.proofs.OrderedLemmas.{turned, put_before}
-use Rattle.stix_json.proofs.FieldsLemmas.{named}
+use Rattle.std.specs.List.Sorted.{IsStableBy, ties}
+use Rattle.std.specs.Option.{option_or}
+use Rattle.std.specs.Ordering.{match_ordering, ordering_reverse}
+use Rattle.stix_json.specs.inner.Putting.{put_named, put_all, last_named, ends_with, IsBehind, NamesRise, NamesDoNotFall}
 
--- one more
-pub put_pushed : (ms : List Member) (m : Member) (found : Members) → put_each (ms ++ m ∷ []) found ≡ put m.name m.value (put_each ms found)
-put_pushed [] m found = refl
-put_pushed (first ∷ ms) m found = put_pushed ms m (put first.name first.value found)
+-- ---- two names
 
--- ---- the order of names
+turned : (k l : List ℕ) → slice_cmp nat_cmp k l ≡ Greater → slice_cmp nat_cmp l k ≡ Less
+turned k l is = nat_list_cmp_total.antisymm l k ∙ ap ordering_reverse is
 
-rises_by : (k l : List ℕ) (d e : Data) (ms more : Members) → NamesRise (member l e ms) → (slice_cmp nat_cmp l k ≡ Less → IsNameBefore l more) → NamesRise more
-    → (o : Ordering) → slice_cmp nat_cmp k l ≡ o → NamesRise (match_ordering o (member k d (member l e ms)) (member l d ms) (member l e more))
-rises_by k l d e ms more rises above rest Less is = (is, rises)
-rises_by k l d e ms more rises above rest Equal is = rises
-rises_by k l d e ms more rises above rest Greater is = (above (turned k l is), rest)
+turned_back : (k l : List ℕ) → slice_cmp nat_cmp k l ≡ Less → slice_cmp nat_cmp l k ≡ Greater
+turned_back k l is = nat_list_cmp_total.antisymm l k ∙ ap ordering_reverse is
 
-put_rises : (k : List ℕ) (d : Data) (ms : Members) → NamesRise ms → NamesRise (put k d ms)
-put_rises k d no_members rises = (tt, tt)
-put_rises k d (member l e ms) rises = rises_by k l d e ms (put k d ms) rises (λ less. put_before l k d ms less rises.0) (put_rises k d ms rises.1) (slice_cmp nat_cmp k l) refl
+one_name : (k l : List ℕ) → slice_cmp nat_cmp k l ≡ Equal → k ≡ l
+one_name k l is = (bytes_eq-Decides k l).0 (sym (is_eq-slice_cmp k l) ∙ ap is_eq is)
 
-each_rises : (ms : List Member) (found : Members) → NamesRise found → NamesRise (put_each ms found)
-each_rises [] found rises = rises
-each_rises (m ∷ ms) found rises = each_rises ms (put m.name m.value found) (put_rises m.name m.value found rises)
+same_name : (k l : List ℕ) → bytes_eq k l ≡ true → k ≡ l
+same_name k l test = (bytes_eq-Decides k l).0 test
 
-before_later : (q l : List ℕ) (ms : Members) → slice_cmp nat_cmp q l ≡ Less → IsNameBefore l ms → IsNameBefore q ms
-before_later q l no_members less before = tt
-before_later q l (member m d ms) less before = nat_list_cmp_total.trans q l m less before
+itself : (k : List ℕ) → bytes_eq k k ≡ true
+itself k = (bytes_eq-Decides k k).1 refl
 
--- a name before them finds none
-none_before : (q : List ℕ) (ms : Members) → IsNameBefore q ms → NamesRise ms → get_member q ms ≡ None
-none_before q no_members before rises = refl
-none_before q (member l e ms) before rises = rw before (none_before q ms (before_later q l ms before rises.0) rises.1)
+-- a name behind another is not the same
+other_behind : (k l : List ℕ) → slice_cmp nat_cmp k l ≡ Less → bytes_eq l k ≡ false
+other_behind k l less = sym (is_eq-slice_cmp l k) ∙ ap is_eq (turned_back k l less)
 
--- ---- what a name finds
-
-one_name : (q l : List ℕ) → slice_cmp nat_cmp q l ≡ Equal → q ≡ l
-one_name q l is = (bytes_eq-Decides q l).0 (sym (is_eq-slice_cmp q l) ∙ ap is_eq is)
-
-other_name : (q l : List ℕ) → bytes_eq q l ≡ false → q ≡ l → ⊥
-other_name q l test same = true≢false (sym ((bytes_eq-Decides q l).1 same) ∙ test)
-
-one_value : (o : Option Data) (d e : Data) → o ≡ Some d → o ≡ Some e → d ≡ e
-one_value o d e first second = ap (λ found. unwrap_or found d) (sym first ∙ second)
-
-found_here : (name : List ℕ) (d : Data) (ms : Members) → get_member name (member name d ms) ≡ Some d
-found_here name d ms = rw (tied_itself nat_list_cmp_total name)
-
--- what a name finds among the ones it finds among the others
-abbrev Agree : Members → Members → Type 0
-Agree ones others = (name : List ℕ) (d : Data) → get_member name ones ≡ Some d → get_member name others ≡ Some d
-
-agree_by : (k q : List ℕ) (d e : Data) (found all : Members) → get_member k all ≡ Some d → Agree found all → get_member q (put k d found) ≡ Some e
-    → (same : Bool) → bytes_eq q k ≡ same → get_member q all ≡ Some e
-agree_by k q d e found all there agree is true test =
-    let one : q ≡ k = (bytes_eq-Decides q k).0 test in
-    let here : get_member k (put k d found) ≡ Some e = subst (λ (n : List ℕ). get_member n (put k d found) ≡ Some e) one is in
-    subst (λ (n : List ℕ). get_member n all ≡ Some e) (sym one) (there ∙ sym (get_member-put k d found) ∙ here)
-agree_by k q d e found all there agree is false test =
-    agree q e (sym (get_member-put_other q k d found (other_name q k test)) ∙ is)
-
-agree_each : (ms : List Member) (found all : Members) → AllByRecursion (λ m. get_member m.name all ≡ Some m.value) ms → Agree found all → Agree (put_each ms found) all
-agree_each [] found all each agree = agree
-agree_each (m ∷ ms) found all each agree =
-    agree_each ms (put m.name m.value found) all each.1 (λ q e is. agree_by m.name q m.value e found all each.0 agree is (bytes_eq q m.name) refl)
-
--- its name finds something
-abbrev IsFoundIn : Members → Member → Type 0
-IsFoundIn all m = (d : Data) × (get_member m.name all ≡ Some d)
-
-kept_by : (k q : List ℕ) (d e : Data) (found : Members) → get_member q found ≡ Some e → (same : Bool) → bytes_eq q k ≡ same
-    → (x : Data) × (get_member q (put k d found) ≡ Some x)
-kept_by k q d e found is true test =
-    (d, subst (λ (n : List ℕ). get_member n (put k d found) ≡ Some d) (sym ((bytes_eq-Decides q k).0 test)) (get_member-put k d found))
-kept_by k q d e found is false test = (e, get_member-put_other q k d found (other_name q k test) ∙ is)
-
-kept : (ms : List Member) (found : Members) (q : List ℕ) (d : Data) → get_member q found ≡ Some d → (e : Data) × (get_member q (put_each ms found) ≡ Some e)
-kept [] found q d is = (d, is)
-kept (m ∷ ms) found q d is =
-    let one = kept_by m.name q m.value d found is (bytes_eq q m.name) refl in
-    kept ms (put m.name m.value found) q one.0 one.1
-
-each_found : (ms : List Member) (found : Members) → AllByRecursion (IsFoundIn (put_each ms found)) ms
-each_found [] found = tt
-each_found (m ∷ ms) found =
-    (kept ms (put m.name m.value found) m.name m.value (get_member-put m.name m.value found), each_found ms (put m.name m.value found))
-
--- ---- members whose names rise
-
-later_by : (l q : List ℕ) (e d : Data) (ms : Members) → IsNameBefore l ms → NamesRise ms → get_member q ms ≡ Some d
-    → (o : Ordering) → slice_cmp nat_cmp q l ≡ o → get_member q (member l e ms) ≡ Some d
-later_by l q e d ms before rises is Less test = rw test is
-later_by l q e d ms before rises is Greater test = rw test is
-later_by l q e d ms before rises is Equal test =
-    let none : get_member q ms ≡ None = subst (λ (n : List ℕ). get_member n ms ≡ None) (sym (one_name q l test)) (none_before l ms before rises) in
-    let both : None ≡ Some d = sym none ∙ is in absurd cc
-
--- a name that finds something among the later ones finds it among all
-later : (l : List ℕ) (e : Data) (ms : Members) → IsNameBefore l ms → NamesRise ms → Agree ms (member l e ms)
-later l e ms before rises q d is = later_by l q e d ms before rises is (slice_cmp nat_cmp q l) refl
-
-own_found : (ms : List Member) (all : Members) → Agree (members_of ms) all → NamesRise (members_of ms) → AllByRecursion (λ m. get_member m.name all ≡ Some m.value) ms
-own_found [] all agree rises = tt
-own_found (m ∷ ms) all agree rises =
-    let rest = members_of ms in (
-      agree m.name m.value (found_here m.name m.value rest),
-      own_found ms all (λ q d is. agree q d (later m.name m.value rest rises.0 rises.1 q d is)) rises.1,
-    )
-
-named_by : (m : Member) (ms : List Member) (all : Members) (q : List ℕ) (d : Data) → IsFoundIn all m → get_member q (members_of (m ∷ ms)) ≡ Some d
-    → (get_member q (members_of ms) ≡ Some d → (e : Data) × (get_member q all ≡ Some e)) → (o : Ordering) → slice_cmp nat_cmp q m.name ≡ o
-    → (e : Data) × (get_member q all ≡ Some e)
-named_by m ms all q d first is rest Less test = rest (rw test at is)
-named_by m ms all q d first is rest Greater test = rest (rw test at is)
-named_by m ms all q d first is rest Equal test =
-    (first.0, subst (λ (n : List ℕ). get_member n all ≡ Some first.0) (sym (one_name q m.name test)) first.1)
-
--- what a name finds among members it finds, where each of them is found
-named_in : (ms : List Member) (all : Members) (q : List ℕ) (d : Data) → AllByRecursion (IsFoundIn all) ms → get_member q (members_of ms) ≡ Some d
-    → (e : Data) × (get_member q all ≡ Some e)
-named_in [] all q d each is = absurd cc
-named_in (m ∷ ms) all q d each is = named_by m ms all q d each.0 is (named_in ms all q d each.1) (slice_cmp nat_cmp q m.name) refl
-
-passed_by : (l q : List ℕ) (e d : Data) (ms : Members) → (q ≡ l → ⊥) → get_member q (member l e ms) ≡ Some d
-    → (o : Ordering) → slice_cmp nat_cmp q l ≡ o → get_member q ms ≡ Some d
-passed_by l q e d ms other is Less test = rw test at is
-passed_by l q e d ms other is Greater test = rw test at is
-passed_by l q e d ms other is Equal test = absurd (other (one_name q l test))
-
--- without their first, which has one name
-later_agree : (k l : List ℕ) (d e : Data) (ms ns : Members) → k ≡ l → NamesRise (member k d ms) → Agree (member k d ms) (member l e ns) → Agree ms ns
-later_agree k l d e ms ns one rises agree q x is =
-    let other : q ≡ l → ⊥ = λ same.
-    let none : get_member q ms ≡ None = subst (λ (n : List ℕ). get_member n ms ≡ None) (one ∙ sym same) (none_before k ms rises.0 rises.1) in
-    let both : None ≡ Some x = sym none ∙ is in absurd cc in
-    passed_by l q e x ns other (agree q x (later k d ms rises.0 rises.1 q x is)) (slice_cmp nat_cmp q l) refl
-
-one_by : (k l : List ℕ) (d e : Data) (ms ns : Members) → NamesRise (member k d ms) → NamesRise (member l e ns)
-    → Agree (member k d ms) (member l e ns) → Agree (member l e ns) (member k d ms) → (k ≡ l → ms ≡ ns) → (o : Ordering) → slice_cmp nat_cmp k l ≡ o
-    → member k d ms ≡ member l e ns
-one_by k l d e ms ns first second there back rest Less test =
-    let none : None ≡ Some d = sym (none_before k (member l e ns) test second) ∙ there k d (found_here k d ms) in absurd cc
-one_by k l d e ms ns first second there back rest Greater test =
-    let none : None ≡ Some e = sym (none_before l (member k d ms) (turned k l test) first) ∙ back l e (found_here l e ns) in absurd cc
-one_by k l d e ms ns first second there back rest Equal test =
-    let one : k ≡ l = one_name k l test in
-    let found : get_member l (member l e ns) ≡ Some d = subst (λ (n : List ℕ). get_member n (member l e ns) ≡ Some d) one (there k d (found_here k d ms)) in
-    let value : d ≡ e = one_value (get_member l (member l e ns)) d e found (found_here l e ns) in
-    ap (λ (n : List ℕ). member n d ms) one ∙ ap (λ (x : Data). member l x ms) value ∙ ap (member l e) (rest one)
-
--- two lists of members whose names rise are one where each name finds in the one what it finds in the other
-one_list : (ms ns : Members) → NamesRise ms → NamesRise ns → Agree ms ns → Agree ns ms → ms ≡ ns
-one_list no_members no_members first second there back = refl
-one_list no_members (member l e ns) first second there back = let none : None ≡ Some e = back l e (found_here l e ns) in absurd cc
-one_list (member k d ms) no_members first second there back = let none : None ≡ Some d = there k d (found_here k d ms) in absurd cc
-one_list (member k d ms) (member l e ns) first second there back =
-    one_by k l d e ms ns first second there back
-    (λ one. one_list ms ns first.1 second.1 (later_agree k l d e ms ns one first there) (later_agree l k e d ns ms (sym one) second back))
-    (slice_cmp nat_cmp k l) refl
-
--- where members in another order rise, they are what comes of putting each in
-pub ordered_put : (before after : List Member) → IsPermutation before after → NamesRise (members_of after) → members_of after ≡ put_each before no_members
-ordered_put before after moved rises =
-    let all = members_of after in
-    let put = put_each before no_members in
-    let Own : Member → Type 0 = λ m. get_member m.name all ≡ Some m.value in
-    let own = recursion_from_All Own before (All-permutation Own after before (IsPermutation-sym before after moved) (All-from_recursion Own after (own_found after all (λ q d is. is) rises))) in
-    let found = recursion_from_All (IsFoundIn put) after (All-permutation (IsFoundIn put) before after moved (All-from_recursion (IsFoundIn put) before (each_found before no_members))) in
-    let back : Agree put all = agree_each before no_members all own (λ q d is. absurd cc) in
-    let there : Agree all put = λ q d is.
-    let named = named_in after put q d found is in
-    named.1 ∙ ap Some (one_value (get_member q all) named.0 d (back q named.0 named.1) is) in
-    one_list all put rises (each_rises before no_members tt) there back
-
--- ---- fields
+-- those of one name tie
+one_tie : (k l : List ℕ) → k ≡ l → (not (is_lt (slice_cmp nat_cmp l k)) && not (is_lt (slice_cmp nat_cmp k l))) ≡ true
+one_tie k l same =
+    subst (λ (n : List ℕ). (not (is_lt (slice_cmp nat_cmp n k)) && not (is_lt (slice_cmp nat_cmp k n))) ≡ true) same (rw (tied_itself nat_list_cmp_total k))
 
 lt_less : (o : Ordering) → true ≡ is_lt o → o ≡ Less
 lt_less Less is = refl
 lt_less Equal is = absurd (true≢false is)
 lt_less Greater is = absurd (true≢false is)
 
+-- ---- options
+
+or_none : {X : Type 0} (o : Option X) → option_or o None ≡ o
+or_none None = refl
+or_none (Some x) = refl
+
+one_value : {X : Type 0} (x y : X) → Some x ≡ Some y → x ≡ y
+one_value x y same = ap (λ found. unwrap_or found x) same
+
+-- a choice before another option
+pushed_by : {X : Type 0} (x : X) (first last : Option X) (b : Bool) → option_or (if b then Some x else last) first ≡ (if b then Some x else option_or last first)
+pushed_by x first last true = refl
+pushed_by x first last false = refl
+
+-- in the place of one that has the same name
+placed_by : {X : Type 0} (x y : X) (others : Option X) (b : Bool) → (if b then Some x else others) ≡ (if b then Some x else (if b then Some y else others))
+placed_by x y others true = refl
+placed_by x y others false = refl
+
+-- a choice behind another option
+or_chain : {X : Type 0} (x : X) (last found : Option X) (b : Bool) → option_or last (if b then Some x else found) ≡ option_or (option_or last (if b then Some x else None)) found
+or_chain x None found true = refl
+or_chain x None found false = refl
+or_chain x (Some y) found b = refl
+
+-- ---- places in a list
+
+at_middle : {X : Type 0} (xs : List X) (x : X) (more : List X) (d : X) → get_or (xs ++ x ∷ more) (length xs) d ≡ x
+at_middle [] x more d = refl
+at_middle (y ∷ ys) x more d = at_middle ys x more d
+
 plus_one : (k : ℕ) → suc k + 1 ≡ suc (k + 1)
 plus_one k = omega arith
 
-before_each : (fields : List Field) → AllAdjacentBelow (λ one next. true ≡ is_lt (slice_cmp nat_cmp one.name next.name)) fields (length fields) → NamesRise (named fields)
-before_each [] below = tt
-before_each (f ∷ []) below = (tt, tt)
-before_each (f ∷ g ∷ fs) below =
-    let next : (k : ℕ) (d : Field) → k + 1 < length (g ∷ fs) → true ≡ is_lt (slice_cmp nat_cmp (get_or (g ∷ fs) k d).name (get_or (g ∷ fs) (k + 1) d).name)
-    = λ k d within. subst (λ (n : ℕ). true ≡ is_lt (slice_cmp nat_cmp (get_or (g ∷ fs) k d).name (get_or (f ∷ g ∷ fs) n d).name)) (plus_one k) (below (suc k) d (omega arith)) in
-    (lt_less (slice_cmp nat_cmp f.name g.name) (below 0 f (omega arith)), before_each (g ∷ fs) next)
+one_more : (k : ℕ) → suc (suc k) - 1 ≡ suc (suc k - 1)
+one_more k = omega arith
 
--- what a test of each name and the next says
-pub rise_by_tests : (fields : List Field) (answer : Bool) → IsAllAdjacentAnswer (λ one next b. b ≡ is_lt (slice_cmp nat_cmp one.name next.name)) fields answer
-    → IsTrue answer → NamesRise (named fields)
-rise_by_tests fields true below rises = before_each fields below
-rise_by_tests fields false below rises = absurd (true≢false (sym rises))
+module _ {X : Type 0} (name : X → List ℕ) where
+  -- one more
+  pub put_pushed : (xs : List X) (x : X) (found : List X) → put_all name (xs ++ x ∷ []) found ≡ put_named name x (put_all name xs found)
+  put_pushed [] x found = refl
+  put_pushed (first ∷ xs) x found = put_pushed xs x (put_named name first found)
+
+  -- ---- the order of names
+
+  behind_by : (q : List ℕ) (x y : X) (ys more : List X) → slice_cmp nat_cmp q (name x) ≡ Less → slice_cmp nat_cmp q (name y) ≡ Less → (o : Ordering)
+      → IsBehind name q (match_ordering o (x ∷ y ∷ ys) (x ∷ ys) (y ∷ more))
+  behind_by q x y ys more first behind Less = first
+  behind_by q x y ys more first behind Equal = first
+  behind_by q x y ys more first behind Greater = behind
+
+  put_behind : (q : List ℕ) (x : X) (ys : List X) → slice_cmp nat_cmp q (name x) ≡ Less → IsBehind name q ys → IsBehind name q (put_named name x ys)
+  put_behind q x [] first behind = first
+  put_behind q x (y ∷ ys) first behind = behind_by q x y ys (put_named name x ys) first behind (slice_cmp nat_cmp (name x) (name y))
+
+  rises_by : (x y : X) (ys more : List X) → NamesRise name (y ∷ ys) → (slice_cmp nat_cmp (name y) (name x) ≡ Less → IsBehind name (name y) more) → NamesRise name more
+      → (o : Ordering) → slice_cmp nat_cmp (name x) (name y) ≡ o → NamesRise name (match_ordering o (x ∷ y ∷ ys) (x ∷ ys) (y ∷ more))
+  rises_by x y ys more rises above rest Less is = (is, rises)
+  rises_by x y ys more rises above rest Equal is = (subst (λ (n : List ℕ). IsBehind name n ys) (sym (one_name (name x) (name y) is)) rises.0, rises.1)
+  rises_by x y ys more rises above rest Greater is = (above (turned (name x) (name y) is), rest)
+
+  put_rises : (x : X) (ys : List X) → NamesRise name ys → NamesRise name (put_named name x ys)
+  put_rises x [] rises = (tt, tt)
+  put_rises x (y ∷ ys) rises =
+      rises_by x y ys (put_named name x ys) rises (λ less. put_behind (name y) x ys less rises.0) (put_rises x ys rises.1) (slice_cmp nat_cmp (name x) (name y)) refl
+
+  all_rise : (xs found : List X) → NamesRise name found → NamesRise name (put_all name xs found)
+  all_rise [] found rises = rises
+  all_rise (x ∷ xs) found rises = all_rise xs (put_named name x found) (put_rises x found rises)
+
+  later_behind : (q : List ℕ) (x : X) (xs : List X) → slice_cmp nat_cmp q (name x) ≡ Less → IsBehind name (name x) xs → IsBehind name q xs
+  later_behind q x [] less behind = tt
+  later_behind q x (y ∷ ys) less behind = nat_list_cmp_total.trans q (name x) (name y) less behind
+
+  -- ---- what a name finds
+
+  -- a name before them finds none
+  none_before : (q : List ℕ) (xs : List X) → IsBehind name q xs → NamesRise name xs → last_named name q xs ≡ None
+  none_before q [] behind rises = refl
+  none_before q (x ∷ xs) behind rises = rw (none_before q xs (later_behind q x xs behind rises.0) rises.1, other_behind q (name x) behind)
+
+  found_here : (x : X) (xs : List X) → NamesRise name (x ∷ xs) → last_named name (name x) (x ∷ xs) ≡ Some x
+  found_here x xs rises = rw (none_before (name x) xs rises.0 rises.1, itself (name x))
+
+  found_later : (q : List ℕ) (x : X) (xs : List X) → bytes_eq (name x) q ≡ false → last_named name q (x ∷ xs) ≡ last_named name q xs
+  found_later q x xs other = rw other (or_none (last_named name q xs))
+
+  pub last_pushed : (q : List ℕ) (xs : List X) (x : X) → last_named name q (xs ++ x ∷ []) ≡ (if bytes_eq (name x) q then Some x else last_named name q xs)
+  last_pushed q [] x = refl
+  last_pushed q (y ∷ ys) x =
+      let first : Option X = if bytes_eq (name y) q then Some y else None in
+      ap (λ (found : Option X). option_or found first) (last_pushed q ys x) ∙ pushed_by x first (last_named name q ys) (bytes_eq (name x) q)
+
+  -- one before the others, of which none has its name
+  first_by : (q : List ℕ) (x : X) (others : Option X) → (name x ≡ q → others ≡ None) → (b : Bool) → bytes_eq (name x) q ≡ b
+      → option_or others (if b then Some x else None) ≡ (if b then Some x else others)
+  first_by q x others none true test = rw (none (same_name (name x) q test))
+  first_by q x others none false test = or_none others
+
+  first_found : (q : List ℕ) (x : X) (xs : List X) → NamesRise name (x ∷ xs) → last_named name q (x ∷ xs) ≡ (if bytes_eq (name x) q then Some x else last_named name q xs)
+  first_found q x xs rises =
+      first_by q x (last_named name q xs) (λ same. subst (λ (n : List ℕ). last_named name n xs ≡ None) same (none_before (name x) xs rises.0 rises.1)) (bytes_eq (name x) q) refl
+
+  found_by : (q : List ℕ) (x y : X) (ys more : List X) → NamesRise name (y ∷ ys)
+      → last_named name q more ≡ (if bytes_eq (name x) q then Some x else last_named name q ys) → (o : Ordering) → slice_cmp nat_cmp (name x) (name y) ≡ o
+      → last_named name q (match_ordering o (x ∷ y ∷ ys) (x ∷ ys) (y ∷ more)) ≡ (if bytes_eq (name x) q then Some x else last_named name q (y ∷ ys))
+  found_by q x y ys more rises rest Less is = first_found q x (y ∷ ys) (is, rises)
+  found_by q x y ys more rises rest Equal is =
+      let same = one_name (name x) (name y) is in
+      first_found q x ys (subst (λ (n : List ℕ). IsBehind name n ys) (sym same) rises.0, rises.1)
+      ∙ placed_by x y (last_named name q ys) (bytes_eq (name x) q)
+      ∙ ap (λ (n : List ℕ). if bytes_eq (name x) q then Some x else (if bytes_eq n q then Some y else last_named name q ys)) same
+      ∙ ap (λ (found : Option X). if bytes_eq (name x) q then Some x else found) (sym (first_found q y ys rises))
+  found_by q x y ys more rises rest Greater is =
+      let first : Option X = if bytes_eq (name y) q then Some y else None in
+      ap (λ (found : Option X). option_or found first) rest ∙ pushed_by x first (last_named name q ys) (bytes_eq (name x) q)
+
+  -- what a name finds once one more is put in
+  found_put : (q : List ℕ) (x : X) (ys : List X) → NamesRise name ys → last_named name q (put_named name x ys) ≡ (if bytes_eq (name x) q then Some x else last_named name q ys)
+  found_put q x [] rises = refl
+  found_put q x (y ∷ ys) rises =
+      found_by q x y ys (put_named name x ys) rises (found_put q x ys rises.1) (slice_cmp nat_cmp (name x) (name y)) refl
+
+  found_all : (q : List ℕ) (xs found : List X) → NamesRise name found → last_named name q (put_all name xs found) ≡ option_or (last_named name q xs) (last_named name q found)
+  found_all q [] found rises = refl
+  found_all q (x ∷ xs) found rises =
+      found_all q xs (put_named name x found) (put_rises x found rises)
+      ∙ ap (option_or (last_named name q xs)) (found_put q x found rises)
+      ∙ or_chain x (last_named name q xs) (last_named name q found) (bytes_eq (name x) q)
+
+  -- a name finds among those put in the last that has it
+  pub last_put : (q : List ℕ) (xs : List X) → last_named name q (put_all name xs []) ≡ last_named name q xs
+  last_put q xs = found_all q xs [] tt ∙ or_none (last_named name q xs)
+
+  -- ---- lists whose names rise
+
+  -- the name of each X finds the same
+  abbrev Agree : List X → List X → Type 0
+  Agree xs ys = (z : X) → last_named name (name z) xs ≡ last_named name (name z) ys
+
+  later_by : (x y : X) (xs ys : List X) → NamesRise name (x ∷ xs) → NamesRise name (y ∷ ys) → name x ≡ name y → Agree (x ∷ xs) (y ∷ ys)
+      → (z : X) (b : Bool) → bytes_eq (name x) (name z) ≡ b → last_named name (name z) xs ≡ last_named name (name z) ys
+  later_by x y xs ys first second same agree z true test =
+      let here = same_name (name x) (name z) test in
+      subst (λ (n : List ℕ). last_named name n xs ≡ None) here (none_before (name x) xs first.0 first.1)
+      ∙ sym (subst (λ (n : List ℕ). last_named name n ys ≡ None) (sym same ∙ here) (none_before (name y) ys second.0 second.1))
+  later_by x y xs ys first second same agree z false test =
+      let other : bytes_eq (name y) (name z) ≡ false = subst (λ (n : List ℕ). bytes_eq n (name z) ≡ false) same test in
+      sym (found_later (name z) x xs test) ∙ agree z ∙ found_later (name z) y ys other
+
+  -- without their first, which has one name
+  later_agree : (x y : X) (xs ys : List X) → NamesRise name (x ∷ xs) → NamesRise name (y ∷ ys) → name x ≡ name y → Agree (x ∷ xs) (y ∷ ys) → Agree xs ys
+  later_agree x y xs ys first second same agree z = later_by x y xs ys first second same agree z (bytes_eq (name x) (name z)) refl
+
+  one_by : (x y : X) (xs ys : List X) → NamesRise name (x ∷ xs) → NamesRise name (y ∷ ys) → Agree (x ∷ xs) (y ∷ ys)
+      → (name x ≡ name y → xs ≡ ys) → (o : Ordering) → slice_cmp nat_cmp (name x) (name y) ≡ o → x ∷ xs ≡ y ∷ ys
+  one_by x y xs ys first second agree rest Less is =
+      let none : None ≡ Some x = sym (none_before (name x) (y ∷ ys) is second) ∙ sym (agree x) ∙ found_here x xs first in absurd cc
+  one_by x y xs ys first second agree rest Greater is =
+      let none : None ≡ Some y = sym (none_before (name y) (x ∷ xs) (turned (name x) (name y) is) first) ∙ agree y ∙ found_here y ys second in absurd cc
+  one_by x y xs ys first second agree rest Equal is =
+      let same = one_name (name x) (name y) is in
+      let found : last_named name (name x) (y ∷ ys) ≡ Some y = subst (λ (n : List ℕ). last_named name n (y ∷ ys) ≡ Some y) (sym same) (found_here y ys second) in
+      let value : x ≡ y = one_value x y (sym (found_here x xs first) ∙ agree x ∙ found) in
+      ap (λ (z : X). z ∷ xs) value ∙ ap (λ (zs : List X). y ∷ zs) (rest same)
+
+  -- two lists whose names rise are one where each name finds the same in both
+  one_list : (xs ys : List X) → NamesRise name xs → NamesRise name ys → Agree xs ys → xs ≡ ys
+  one_list [] [] first second agree = refl
+  one_list [] (y ∷ ys) first second agree = let none : None ≡ Some y = agree y ∙ found_here y ys second in absurd cc
+  one_list (x ∷ xs) [] first second agree = let none : None ≡ Some x = sym (agree x) ∙ found_here x xs first in absurd cc
+  one_list (x ∷ xs) (y ∷ ys) first second agree =
+      one_by x y xs ys first second agree (λ same. one_list xs ys first.1 second.1 (later_agree x y xs ys first second same agree)) (slice_cmp nat_cmp (name x) (name y)) refl
+
+  -- those whose names rise already stay as they are
+  pub put_rising : (xs : List X) → NamesRise name xs → put_all name xs [] ≡ xs
+  put_rising xs rises = one_list (put_all name xs []) xs (all_rise xs [] tt) rises (λ z. last_put (name z) xs)
+
+  -- ---- a stable sort
+
+  -- whether one name is before another
+  abbrev pub by_name : X → X → Bool
+  by_name x y = is_lt (slice_cmp nat_cmp (name x) (name y))
+
+  untied_by : (z x : X) → ties by_name z x ≡ false → (b : Bool) → bytes_eq (name x) (name z) ≡ b → b ≡ false
+  untied_by z x untied true test = absurd (true≢false (sym (one_tie (name x) (name z) (same_name (name x) (name z) test)) ∙ untied))
+  untied_by z x untied false test = refl
+
+  tied_by : (z x : X) (xs kept : List X) → last_named name (name z) xs ≡ last_named name (name z) kept → (b : Bool) → ties by_name z x ≡ b
+      → last_named name (name z) (x ∷ xs) ≡ last_named name (name z) (cond b (x ∷ kept) kept)
+  tied_by z x xs kept rest true test = ap (λ (found : Option X). option_or found (if bytes_eq (name x) (name z) then Some x else None)) rest
+  tied_by z x xs kept rest false test = found_later (name z) x xs (untied_by z x test (bytes_eq (name x) (name z)) refl) ∙ rest
+
+  -- a name finds the same among those that tie with one of that name
+  found_tied : (z : X) (xs : List X) → last_named name (name z) xs ≡ last_named name (name z) (filter (ties by_name z) xs)
+  found_tied z [] = refl
+  found_tied z (x ∷ xs) = tied_by z x xs (filter (ties by_name z) xs) (found_tied z xs) (ties by_name z x) refl
+
+  -- a stable sort by name changes nothing
+  pub put_stable : (xs ys : List X) → IsStableBy by_name xs ys → put_all name ys [] ≡ put_all name xs []
+  put_stable xs ys stable =
+      let agree : Agree (put_all name ys []) (put_all name xs []) = λ z.
+      last_put (name z) ys ∙ found_tied z ys ∙ ap (last_named name (name z)) (stable z) ∙ sym (found_tied z xs) ∙ sym (last_put (name z) xs) in
+      one_list (put_all name ys []) (put_all name xs []) (all_rise ys [] tt) (all_rise xs [] tt) agree
+
+  -- ---- the last of a list
+
+  pub last_ends : (q : List ℕ) (xs : List X) (x : X) → slice_get xs (length xs - 1) ≡ Some x → ends_with name q xs ≡ bytes_eq (name x) q
+  last_ends q [] x is = let none : None ≡ Some x = is in absurd cc
+  last_ends q (y ∷ []) x is = ap (λ (z : X). bytes_eq (name z) q) (one_value y x is)
+  last_ends q (y ∷ z ∷ zs) x is = last_ends q (z ∷ zs) x (subst (λ (k : ℕ). slice_get (y ∷ z ∷ zs) k ≡ Some x) (one_more (length zs)) is)
+
+  ends_pushed : (q : List ℕ) (front : List X) (x : X) → ends_with name q (front ++ x ∷ []) ≡ bytes_eq (name x) q
+  ends_pushed q [] x = refl
+  ends_pushed q (y ∷ []) x = refl
+  ends_pushed q (y ∷ z ∷ zs) x = ends_pushed q (z ∷ zs) x
+
+  -- each of these is before a name
+  abbrev AreBefore : List ℕ → List X → Type 0
+  AreBefore q = AllByRecursion (λ y. slice_cmp nat_cmp (name y) q ≡ Less)
+
+  -- a name is before none of these
+  abbrev BeforeNone : List ℕ → List X → Type 0
+  BeforeNone q = AllByRecursion (λ y. is_lt (slice_cmp nat_cmp q (name y)) ≡ false)
+
+  -- one goes past those before it
+  put_past : (x : X) (front more : List X) → AreBefore (name x) front → put_named name x (front ++ more) ≡ front ++ put_named name x more
+  put_past x [] more before = refl
+  put_past x (y ∷ ys) more before = rw (turned_back (name y) (name x) before.0, put_past x ys more before.1)
+
+  front_before : (front : List X) (x : X) → NamesRise name (front ++ x ∷ []) → AreBefore (name x) front
+  front_before [] x rises = tt
+  front_before (y ∷ []) x rises = (rises.0, tt)
+  front_before (y ∷ z ∷ zs) x rises =
+      let rest = front_before (z ∷ zs) x rises.1 in (nat_list_cmp_total.trans (name y) (name z) (name x) rises.0 rest.0, rest)
+
+  put_same : (x y : X) → name y ≡ name x → put_named name x (y ∷ []) ≡ x ∷ []
+  put_same x y same =
+      subst (λ (n : List ℕ). match_ordering (slice_cmp nat_cmp (name x) n) (x ∷ y ∷ []) (x ∷ []) (y ∷ x ∷ []) ≡ x ∷ []) (sym same) (rw (tied_itself nat_list_cmp_total (name x)))
+
+  -- one that has the name of the last goes into its place
+  put_over : (front : List X) (y x : X) → NamesRise name (front ++ y ∷ []) → ends_with name (name x) (front ++ y ∷ []) ≡ true
+      → put_named name x (front ++ y ∷ []) ≡ front ++ x ∷ []
+  put_over front y x rises ends =
+      let same = same_name (name y) (name x) (sym (ends_pushed (name x) front y) ∙ ends) in
+      put_past x front (y ∷ []) (subst (λ (n : List ℕ). AreBefore n front) same (front_before front y rises))
+      ∙ ap (λ (zs : List X). front ++ zs) (put_same x y same)
+
+  before_by : (x y : X) → is_lt (slice_cmp nat_cmp (name x) (name y)) ≡ false → bytes_eq (name y) (name x) ≡ false → (o : Ordering) → slice_cmp nat_cmp (name x) (name y) ≡ o
+      → slice_cmp nat_cmp (name y) (name x) ≡ Less
+  before_by x y behind other Less is = absurd (true≢false (sym (ap is_lt is) ∙ behind))
+  before_by x y behind other Equal is =
+      absurd (true≢false (sym (itself (name x)) ∙ ap (λ (n : List ℕ). bytes_eq n (name x)) (one_name (name x) (name y) is) ∙ other))
+  before_by x y behind other Greater is = turned (name x) (name y) is
+
+  all_before : (x : X) (ys : List X) → NamesRise name ys → BeforeNone (name x) ys → ends_with name (name x) ys ≡ false → AreBefore (name x) ys
+  all_before x [] rises behind other = tt
+  all_before x (y ∷ []) rises behind other = (before_by x y behind.0 other (slice_cmp nat_cmp (name x) (name y)) refl, tt)
+  all_before x (y ∷ z ∷ zs) rises behind other =
+      let rest = all_before x (z ∷ zs) rises.1 behind.1 other in (nat_list_cmp_total.trans (name y) (name z) (name x) rises.0 rest.0, rest)
+
+  -- one that has another name than the last goes behind them all
+  put_end : (x : X) (ys : List X) → NamesRise name ys → BeforeNone (name x) ys → ends_with name (name x) ys ≡ false → put_named name x ys ≡ ys ++ x ∷ []
+  put_end x ys rises behind other =
+      ap (put_named name x) (sym (append-nil ys)) ∙ put_past x ys [] (all_before x ys rises behind other)
+
+  -- ---- what holds of each holds of those that are put in
+
+  holds_by : (P : X → Type 0) (x y : X) (ys more : List X) → P x → P y → AllByRecursion P ys → AllByRecursion P more → (o : Ordering)
+      → AllByRecursion P (match_ordering o (x ∷ y ∷ ys) (x ∷ ys) (y ∷ more))
+  holds_by P x y ys more first second rest others Less = (first, (second, rest))
+  holds_by P x y ys more first second rest others Equal = (first, rest)
+  holds_by P x y ys more first second rest others Greater = (second, others)
+
+  holds_put : (P : X → Type 0) (x : X) (ys : List X) → P x → AllByRecursion P ys → AllByRecursion P (put_named name x ys)
+  holds_put P x [] first each = (first, tt)
+  holds_put P x (y ∷ ys) first each = holds_by P x y ys (put_named name x ys) first each.0 each.1 (holds_put P x ys first each.1) (slice_cmp nat_cmp (name x) (name y))
+
+  holds_all : (P : X → Type 0) (xs found : List X) → AllByRecursion P xs → AllByRecursion P found → AllByRecursion P (put_all name xs found)
+  holds_all P [] found each others = others
+  holds_all P (x ∷ xs) found each others = holds_all P xs (put_named name x found) each.1 (holds_put P x found each.0 others)
+
+  -- ---- names that don't fall
+
+  tail_up : (x : X) (xs : List X) → NamesDoNotFall name (x ∷ xs) → NamesDoNotFall name xs
+  tail_up x xs up k d low high = subst (λ (n : ℕ). by_name (get_or (x ∷ xs) n d) (get_or xs k d) ≡ false) (plus_one k) (up (suc k) d (omega arith) (omega arith))
+
+  before_none : (done : List X) (x : X) (rest : List X) → NamesDoNotFall name (done ++ x ∷ rest) → BeforeNone (name x) done
+  before_none [] x rest up = tt
+  before_none (y ∷ ys) x rest up =
+      let all = y ∷ (ys ++ x ∷ rest) in
+      let within : suc (length ys) < length all = omega (arith, length-append ys (x ∷ rest)) in
+      let far : by_name (get_or all (suc (length ys)) y) y ≡ false = sorted_far by_name (ranks_by nat_list_cmp_total name) all up 0 (suc (length ys)) y (omega arith) within in
+      (subst (λ (z : X). by_name z y ≡ false) (at_middle ys x rest y) far, before_none ys x rest (tail_up y (ys ++ x ∷ rest) up))
+
+  -- the next goes behind those that were put in, where the last has another name
+  pub put_next : (done : List X) (x : X) (rest : List X) → NamesDoNotFall name (done ++ x ∷ rest) → ends_with name (name x) (put_all name done []) ≡ false
+      → put_all name (done ++ x ∷ []) [] ≡ put_all name done [] ++ x ∷ []
+  put_next done x rest up other =
+      let behind : BeforeNone (name x) (put_all name done []) = holds_all (λ y. is_lt (slice_cmp nat_cmp (name x) (name y)) ≡ false) done [] (before_none done x rest up) tt in
+      put_pushed done x [] ∙ put_end x (put_all name done []) (all_rise done [] tt) behind other
+
+  put_again : (done front : List X) (y x : X) → put_all name done [] ≡ front ++ y ∷ [] → ends_with name (name x) (put_all name done []) ≡ true
+      → put_all name (done ++ x ∷ []) [] ≡ front ++ x ∷ []
+  put_again done front y x is ends =
+      put_pushed done x []
+      ∙ ap (put_named name x) is
+      ∙ put_over front y x (subst (NamesRise name) is (all_rise done [] tt)) (subst (λ (zs : List X). ends_with name (name x) zs ≡ true) is ends)
+
+  has_last : (q : List ℕ) (xs : List X) → ends_with name q xs ≡ true → 0 < length xs
+  has_last q [] ends = absurd (true≢false (sym ends))
+  has_last q (x ∷ xs) ends = omega arith
+
+  -- and into the place of the last, where that has its name
+  pub put_popped : (done front : List X) (last : Option X) (x : X) → put_all name done [] ≡ front ++ option_to_list last → (0 < length (put_all name done []) → IsSome last)
+      → ends_with name (name x) (put_all name done []) ≡ true → put_all name (done ++ x ∷ []) [] ≡ front ++ x ∷ []
+  put_popped done front None x is some ends = absurd (true≢false (sym (some (has_last (name x) (put_all name done []) ends))))
+  put_popped done front (Some y) x is some ends = put_again done front y x is ends
+
+  -- ---- what a test of each name and the next says
+
+  before_each : (xs : List X) → AllAdjacentBelow (λ one next. true ≡ by_name one next) xs (length xs) → NamesRise name xs
+  before_each [] below = tt
+  before_each (x ∷ []) below = (tt, tt)
+  before_each (x ∷ y ∷ ys) below =
+      let next : (k : ℕ) (d : X) → k + 1 < length (y ∷ ys) → true ≡ by_name (get_or (y ∷ ys) k d) (get_or (y ∷ ys) (k + 1) d)
+      = λ k d within. subst (λ (n : ℕ). true ≡ by_name (get_or (y ∷ ys) k d) (get_or (x ∷ y ∷ ys) n d)) (plus_one k) (below (suc k) d (omega arith)) in
+      (lt_less (slice_cmp nat_cmp (name x) (name y)) (below 0 x (omega arith)), before_each (y ∷ ys) next)
+
+  pub rise_by_tests : (xs : List X) (answer : Bool) → IsAllAdjacentAnswer (λ one next b. b ≡ by_name one next) xs answer → IsTrue answer → NamesRise name xs
+  rise_by_tests xs true below rises = before_each xs below
+  rise_by_tests xs false below rises = absurd (true≢false (sym rises))

@@ -1,23 +1,14 @@
--- The loops of the grammar under the conversion to data, a turn at a time, as the tokens are taken.
-use Rattle.std.proofs.Common.{◌≡◌, ℕ, ◌-◌, ◌<◌, ◌≤◌, List, [], ◌∷◌, ◌++◌, length, take, drop, Option, Some, None, IfSome, option_map, option_and_then, refl, sym, ap, subst, ◌∙◌, arith}
-use Rattle.std.specs.Prelude.{IsUtf8}
-use Rattle.std.proofs.Math.Seq.{take-append_seam}
+-- The loops of the grammar under the conversion to data, a turn at a time, as the tokens are taken; and whole texts.
+use Rattle.std.proofs.Common.{◌≡◌, ℕ, zero, suc, ◌-◌, ◌<◌, ◌≤◌, length, List, [], ◌∷◌, ◌++◌, Option, Some, None, option_map, option_and_then, refl, ap, ◌∙◌}
 use Rattle.json.specs.Token.{Token}
-use Rattle.json.specs.Lex.{tokens}
 use Rattle.json.specs.Json as json
-use Rattle.json.specs.Json.{Parse, parse_map, after_end_array, read_key, items, members, if_last}
-use Rattle.json.proofs.Grammar.{items_end, items_more, members_end, members_more}
-use Rattle.serde_json.specs.Data.{Data, array, object, Items, no_items, item, Members, no_members, put}
-use Rattle.serde_json.specs.Read.{of_json, of_items, of_members, converted, read}
+use Rattle.json.specs.Json.{Parse, parse_map, after_end_array, read_key, items_step, items, members, if_last}
+use Rattle.json.proofs.Grammar.{items_end, items_more, members_end, members_no_key, members_more}
+use Rattle.serde_json.specs.Data.{Num, Data, number, array, object, Items, no_items, item, Members, no_members, put}
+use Rattle.serde_json.specs.Read.{of_json, of_items, of_members, converted, number_of}
 use Rattle.serde_json.specs.View.{items_of}
-use Rattle.stix_json.specs.declared.limits.TheConstants.{MAX_LEVELS}
-use Rattle.stix_json.specs.declared.value.Json.{Json}
-use Rattle.stix_json.specs.DataOf.{data_of}
 use Rattle.stix_json.specs.Ordered.{IsOrdered}
-use Rattle.stix_json.specs.Reading.{IsJsonOf}
-use Rattle.stix_json.specs.inner.Fits.{text_levels, Fits}
-use Rattle.stix_json.proofs.FitsLemmas.{fits_good}
-use Rattle.stix_json.proofs.OrderedLemmas.{on_some, json_ordered, read_ordered}
+use Rattle.stix_json.proofs.OrderedLemmas.{on_some, json_ordered}
 
 abbrev pick : {A : Type 0} → A → Option A → A
 pick d None = d
@@ -27,9 +18,13 @@ found : {A B : Type 0} (a : A) (r s : List Token) (x : Option B) (b : B) → opt
 found a r s None b e = absurd (cc)
 found a r s (Some y) b e = let same = ap (pick (y, r)) e in (ap (λ p. p.1) same, ap (λ p. Some p.0) same)
 
-converted_some : {A B : Type 0} (f : A → Option B) (o : Option (A × List Token)) (b : B) (r : List Token) → converted f o ≡ Some (b, r) → (a : A) × (o ≡ Some (a, r)) × (f a ≡ Some b)
+pub converted_some : {A B : Type 0} (f : A → Option B) (o : Option (A × List Token)) (b : B) (r : List Token) → converted f o ≡ Some (b, r) → (a : A) × (o ≡ Some (a, r)) × (f a ≡ Some b)
 converted_some f None b r e = absurd (cc)
 converted_some f (Some p) b r e = let both = found p.0 p.1 r (f p.0) b e in (p.0, ap (λ s. Some (p.0, s)) both.0, both.1)
+
+refused : {B : Type 0} (r : List Token) (x : Option B) → option_map {U = B × List Token} (λ y. (y, r)) x ≡ None → x ≡ None
+refused r None e = refl
+refused r (Some y) e = absurd (cc)
 
 twice : {A B : Type 0} (g : A → B) (r : List Token) (x : Option A) → option_map (λ b. (b, r)) (option_map g x) ≡ parse_map g (option_map (λ a. (a, r)) x)
 twice g r None = refl
@@ -47,41 +42,62 @@ with_item : (j : json.Json) (d : Data) → of_json j ≡ Some d → (o : Option 
 with_item j d e None = refl
 with_item j d e (Some p) = rw e (twice (item d) p.1 (of_items p.0))
 
+without_item : (j : json.Json) → of_json j ≡ None → (o : Option (json.Items × List Token)) → converted of_items (parse_map (json.item j) o) ≡ None
+without_item j e None = refl
+without_item j e (Some p) = rw e
+
 with_member : (k : List ℕ) (j : json.Json) (d : Data) (old : Members) → of_json j ≡ Some d → (o : Option (json.Members × List Token))
     → converted (λ ms. of_members ms old) (parse_map (json.member k j) o) ≡ converted (λ ms. of_members ms (put k d old)) o
 with_member k j d old e None = refl
 with_member k j d old e (Some p) = rw e
+
+without_member : (k : List ℕ) (j : json.Json) (old : Members) → of_json j ≡ None → (o : Option (json.Members × List Token)) → converted (λ ms. of_members ms old) (parse_map (json.member k j) o) ≡ None
+without_member k j old e None = refl
+without_member k j old e (Some p) = rw e
 
 module _ (p : Parse json.Json) where
   pub item_read : (n : ℕ) (ts r : List Token) (d : Data) → 0 < n → after_end_array ts ≡ None → converted of_json (p ts) ≡ Some (d, r)
       → converted of_items (items p n ts) ≡ parse_map (item d) (converted of_items (items p (n - 1) r))
   item_read n ts r d some going e = let j = converted_some of_json (p ts) d r e in ap (converted of_items) (items_more p n ts r j.0 some going j.1) ∙ with_item j.0 d j.2 _
 
+  no_item : (more : Parse json.Items) (o : Option (json.Json × List Token)) → converted of_json o ≡ None → converted of_items (option_and_then (λ q. parse_map (json.item q.0) (more q.1)) o) ≡ None
+  no_item more None e = refl
+  no_item more (Some q) e = without_item q.0 (refused q.1 (of_json q.0) e) (more q.1)
+
+  pub item_refused : (n : ℕ) (ts : List Token) → after_end_array ts ≡ None → converted of_json (p ts) ≡ None → converted of_items (items p n ts) ≡ None
+  unfolding items
+  item_refused zero ts going e = refl
+  item_refused (suc n) ts going e = ap (λ o. converted of_items (items_step p (items p n) ts o)) going ∙ no_item (items p n) (p ts) e
+
   pub items_over : (n : ℕ) (ts r : List Token) → length ts ≤ n → after_end_array ts ≡ Some r → converted of_items (items p n ts) ≡ Some (no_items, r)
   items_over n ts r enough e = ap (converted of_items) (items_end p n ts r enough e)
 
-  pub member_read : (old : Members) (n : ℕ) (k : List ℕ) (ts s r : List Token) (d : Data) → 0 < n → read_key ts ≡ Some (Some k, s) → converted of_json (p s) ≡ Some (d, r)
-      → converted (λ ms. of_members ms old) (members p n ts) ≡ converted (λ ms. of_members ms (put k d old)) (members p (n - 1) r)
-  member_read old n k ts s r d some key e =
-      let j = converted_some of_json (p s) d r e in
-      ap (converted (λ ms. of_members ms old)) (members_more p n k ts s r j.0 some key j.1) ∙ with_member k j.0 d old j.2 _
+  module _ (old : Members) where
+    pub member_read : (n : ℕ) (k : List ℕ) (ts s r : List Token) (d : Data) → 0 < n → read_key ts ≡ Some (Some k, s) → converted of_json (p s) ≡ Some (d, r)
+        → converted (λ ms. of_members ms old) (members p n ts) ≡ converted (λ ms. of_members ms (put k d old)) (members p (n - 1) r)
+    member_read n k ts s r d some key e =
+        let j = converted_some of_json (p s) d r e in
+        ap (converted (λ ms. of_members ms old)) (members_more p n k ts s r j.0 some key j.1) ∙ with_member k j.0 d old j.2 _
 
-  pub members_over : (old : Members) (n : ℕ) (ts r : List Token) → length ts ≤ n → read_key ts ≡ Some (None, r) → converted (λ ms. of_members ms old) (members p n ts) ≡ Some (old, r)
-  members_over old n ts r enough e = ap (converted (λ ms. of_members ms old)) (members_end p n ts r enough e)
+    no_member : (k : List ℕ) (more : Parse json.Members) (o : Option (json.Json × List Token)) → converted of_json o ≡ None
+        → converted (λ ms. of_members ms old) (option_and_then (λ q. parse_map (json.member k q.0) (more q.1)) o) ≡ None
+    no_member k more None e = refl
+    no_member k more (Some q) e = without_member k q.0 old (refused q.1 (of_json q.0) e) (more q.1)
+
+    pub member_refused : (n : ℕ) (k : List ℕ) (ts s : List Token) → read_key ts ≡ Some (Some k, s) → converted of_json (p s) ≡ None → converted (λ ms. of_members ms old) (members p n ts) ≡ None
+    unfolding members
+    member_refused zero k ts s key e = refl
+    member_refused (suc n) k ts s key e = rw key (no_member k (members p n) (p s) e)
+
+    pub key_refused : (n : ℕ) (ts : List Token) → read_key ts ≡ None → converted (λ ms. of_members ms old) (members p n ts) ≡ None
+    key_refused n ts e = ap (converted (λ ms. of_members ms old)) (members_no_key p n ts e)
+
+    pub members_over : (n : ℕ) (ts r : List Token) → length ts ≤ n → read_key ts ≡ Some (None, r) → converted (λ ms. of_members ms old) (members p n ts) ≡ Some (old, r)
+    members_over n ts r enough e = ap (converted (λ ms. of_members ms old)) (members_end p n ts r enough e)
 
 -- what was read has its names in order
 pub read_value_ordered : (o : Option (json.Json × List Token)) (d : Data) (r : List Token) → converted of_json o ≡ Some (d, r) → IsOrdered d
 read_value_ordered o d r e = let j = converted_some of_json o d r e in on_some (of_json j.0) d j.2 (json_ordered j.0)
-
--- what holds of a value holds of what is found, where that can only be the value
-pub if_same : {A : Type 0} (P : A → Type 0) (found : Option A) (a : A) → P a → IfSome found (λ b. b ≡ a) → IfSome found P
-if_same P None a here same = tt
-if_same P (Some b) a here same = subst P (sym same) here
-
--- a list that was lent and is given back whole
-pub given_back : {A : Type 0} (len : ℕ) (new items : List A) → len ≡ length items → length new ≡ length items → take len (new ++ drop (length new) items) ≡ new
-given_back len new items all same =
-    ap (λ (n : ℕ). take n (new ++ drop (length new) items)) (omega (arith, all, same)) ∙ take-append_seam new (drop (length new) items)
 
 -- ---- a list that grows at its end
 
@@ -101,23 +117,10 @@ pub one_more_item : (ds : List Data) (d : Data) (r : Option (Items × List Token
 one_more_item ds d None = refl
 one_more_item ds d (Some p) = ap (λ items. Some (items, p.1)) (items_push ds d p.0)
 
--- ---- the whole text
+pub none_before : (r : Option (Items × List Token)) → r ≡ parse_map (items_before []) r
+none_before None = refl
+none_before (Some p) = refl
 
-abbrev whole : Option (json.Json × List Token) → Option Data
-whole o = option_and_then of_json (option_and_then (λ p. if_last p.0 p.1) o)
-
-whole_read : (o : Option (json.Json × List Token)) (d : Data) → converted of_json o ≡ Some (d, []) → whole o ≡ Some d
-whole_read o d e = let j = converted_some of_json o d [] e in ap whole j.1 ∙ j.2
-
--- the Json that all tokens of a text give is that of its bytes
-pub json_taken : (bytes text : List ℕ) (ts rest : List Token) (value : Json) → IsUtf8 bytes → text ≡ bytes → ts ≡ tokens text → rest ≡ []
-    → converted of_json (json.value (text_levels MAX_LEVELS) ts) ≡ Some (data_of value, rest) → Fits MAX_LEVELS (data_of value) → IsJsonOf bytes value
-json_taken bytes text ts rest value utf8 same begun ended e fits =
-    let all : converted of_json (json.value (text_levels MAX_LEVELS) (tokens bytes)) ≡ Some (data_of value, []) =
-    ap (λ tokens. converted of_json (json.value (text_levels MAX_LEVELS) tokens)) (sym (begun ∙ ap tokens same)) ∙ e ∙ ap (λ left. Some (data_of value, left)) ended in
-    let read : read bytes ≡ Some (data_of value) = whole_read (json.value (text_levels MAX_LEVELS) (tokens bytes)) (data_of value) all in
-    record {
-      value = record { text = utf8; value = read };
-      good = fits_good (data_of value) fits;
-      ordered = read_ordered bytes (data_of value) read;
-    }
+-- a number that is read
+pub number_token : (text : List ℕ) (rest : List Token) (n : Num) → number_of text ≡ Some n → option_map {U = Data × List Token} (λ (d : Data). (d, rest)) (option_map number (number_of text)) ≡ Some (number n, rest)
+number_token text rest n is = ap (λ (o : Option Num). option_map {U = Data × List Token} (λ (d : Data). (d, rest)) (option_map number o)) is

@@ -2,4 +2,6 @@ pub mod Texts
 pub mod Naming
 pub mod Putting
 pub mod Flaws
-pub mod Fits
+pub mod Defects
+pub mod Judging
+pub mod Held

@@ -1,62 +1,82 @@
-//! The fields of an object: gathered as they come, and then put in the order of their names.
+ghost use Rattle.std.specs.Prelude.{◌≡◌, [], ◌∷◌, ◌++◌, suc, ℕ, List, None, Some, IfOk, OnOk};
+ghost use Rattle.serde_json.specs.Data.{Data, Members, object};
+ghost use Rattle.stix_json.specs.DataOf.{Member, members_of};
+ghost use Rattle.stix_json.specs.inner.Defects.{defect_under, sooner};
+ghost use Rattle.stix_json.specs.inner.Judging.{IsJudgedAs, AreGathered};
 
-ghost use Rattle.std.specs.Prelude.{◌≡◌, [], ◌∷◌, ◌++◌, IsTrue, IfSome, OnSome, map};
-ghost use Rattle.serde_json.specs.Data.{no_members};
-ghost use Rattle.stix_json.specs.DataOf.{data_of, field_data, members_of};
-ghost use Rattle.stix_json.specs.inner.Putting.{put_each, NamesRise};
-
+use crate::defect::Defect;
+use crate::gathered::Gathered;
+use crate::judged::Judged;
 use crate::{Field, Json};
-use flow_values::Items;
+use flow_values::{Items, NoMemory};
 use std::alloc::Global;
-use stix_names::Name;
 
-/// Room for so many more fields or items may stay unused.
-const MAX_SPARE: usize = 3;
-
-/// Adds a field behind the others. None without memory.
-pub(crate) fn push_field(
-    alloc: Global,
-    fields: &mut Vec<Field>,
-    name: &str,
-    value: Json,
-) -> Option<()>
-    ensures { OnSome result (map field_data fields.new.items
-        ≡ map field_data fields.old.items ++ record { name = name.now; value = data_of value } ∷ []) }
-{
-    let name = Name::from_text(alloc, name).ok()?;
-    fields.push(Field { name, value }).ok()?;
-    Some(())
+/// The fields of an object, until something stands against the value of one.
+#[derive(Drop)]
+pub(crate) struct Fields {
+    pub fields: Vec<Field>,
+    pub defect: Option<Defect>,
 }
 
-/// Puts the fields in the order of their names. None where a name comes twice.
-pub(crate) fn order_fields(fields: &mut [Field]) -> Option<()>
-    ensures { OnSome result (members_of (map field_data fields.new) ≡ put_each (map field_data fields.old) no_members) }
-{
-    if names_rise(fields) {
-        return Some(());
+impl Fields {
+    ghost use Rattle.stix_json.specs.inner.Judging.{AreFields};
+
+    /// Adds the next field.
+    fn push(&mut self, alloc: Global, member: Gathered) -> Result<(), NoMemory>
+        ensures { OnOk result ((levels : ℕ) (done : List Member) («data» : Data) → AreFields levels done self.old → IsJudgedAs levels «data» member.judged
+            → AreFields levels (done ++ record { name = member.name; value = «data» } ∷ []) self.new) }
+    {
+        let Gathered { name, judged } = member;
+        match judged {
+            Judged::Good(value) => self.add(Field { name, value }),
+            Judged::Bad(defect) => self.note(alloc, name.as_str(), defect),
+        }
     }
-    fields.sort_unstable_by(|one, other| one.name.as_str().cmp(other.name.as_str()));
-    if names_rise(fields) { Some(()) } else { None }
-}
 
-/// Whether each name is before the next.
-fn names_rise(fields: &[Field]) -> bool
-    ensures { IsTrue result → NamesRise (members_of (map field_data fields.now)) }
-{
-    fields.is_sorted_by(|one, next| one.name.as_str() < next.name.as_str())
-}
-
-/// The fields or items as they are, in memory of their own size where more than a little would stay unused:
-/// values are kept, and these take most of the memory of one. Copying them costs less than shrinking the
-/// memory where it lies.
-pub(crate) fn fitted<T: Drop>(alloc: Global, row: Vec<T>) -> Option<Items<T>>
-    ensures { IfSome result (λ copy. copy ≡ row.items) }
-{
-    if row.capacity() - row.len() <= MAX_SPARE {
-        return Some(Items::from_vec(row));
+    /// Adds a field, unless something stands against one.
+    fn add(&mut self, field: Field) -> Result<(), NoMemory>
+        ensures defect { self.new.defect ≡ self.old.defect }
+        ensures fields { OnOk result (self.old.defect ≡ None → self.new.fields.items ≡ self.old.fields.items ++ field ∷ []) }
+    {
+        if self.defect.is_some() {
+            return Ok(());
+        }
+        self.fields.push(field)?;
+        Ok(())
     }
-    let mut row = row;
-    let mut copy = Vec::with_capacity(alloc, row.len()).ok()?;
-    copy.append(&mut row).ok()?;
-    Some(Items::from_vec(copy))
+
+    /// Notes what stands against the value of that name, if it counts.
+    fn note(&mut self, alloc: Global, name: &str, defect: Defect) -> Result<(), NoMemory>
+        ensures { OnOk result (self.new.defect ≡ sooner self.old.defect (Some (defect_under name.now defect))) }
+    {
+        if defect.counts_behind(&self.defect) {
+            self.defect = Some(defect.below(alloc, name)?);
+        }
+        Ok(())
+    }
+
+    /// The whole object, judged.
+    fn into_judged(self) -> Judged
+        ensures { (levels : ℕ) (done : List Member) → AreFields levels done self → IsJudgedAs (suc levels) (object (members_of done)) result }
+    {
+        let Fields { fields, defect } = self;
+        match defect {
+            Some(defect) => Judged::Bad(defect),
+            None => Judged::Good(Json::Object(Items::from_vec(fields))),
+        }
+    }
+}
+
+/// The object that has these members, judged.
+pub(crate) fn judge_members(alloc: Global, members: Vec<Gathered>) -> Result<Judged, NoMemory>
+    ensures { IfOk result (λ judged. (levels : ℕ) (ms : Members) → AreGathered levels ms members.items → IsJudgedAs (suc levels) (object ms) judged) }
+{
+    let mut fields = Fields {
+        fields: Vec::with_capacity(alloc, members.len())?,
+        defect: None,
+    };
+    for member in members {
+        fields.push(alloc, member)?;
+    }
+    Ok(fields.into_judged())
 }

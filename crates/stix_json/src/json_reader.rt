@@ -1,8 +1,7 @@
 ghost use Rattle.std.specs.Prelude.{IfOk, IfErr};
 ghost use Rattle.stix_json.specs.Reading.{IsJsonOf, IsJsonRefusedAs};
 
-use crate::read::read_judged;
-use crate::tokens::read_tokens_with;
+use crate::read::read_with;
 use crate::{Json, JsonRefusal};
 use flow_values::NoMemory;
 use json::Scratch;
@@ -29,9 +28,6 @@ impl JsonReader {
         ensures ok { IfOk result (λ json. IsJsonOf bytes.now json) }
         ensures err { IfErr result (λ refusal. IsJsonRefusedAs bytes.now refusal) }
     {
-        if let Some(json) = read_tokens_with(self.alloc, &mut self.scratch, bytes) {
-            return Ok(json);
-        }
-        read_judged(self.alloc, bytes)
+        read_with(self.alloc, &mut self.scratch, bytes)
     }
 }

@@ -66,16 +66,15 @@ impl JsonText {
         whole: &Rc<Text>,
         place: usize,
         text: &str,
-    ) -> Option<JsonText>
-        ensures { IfSome result (λ found. found ≡ text.now) }
+    ) -> Result<JsonText, NoMemory>
+        ensures { IfOk result (λ found. found ≡ text.now) }
     {
         if let Some(part) = Part::at(whole, place, text) {
-            return Some(JsonText {
+            return Ok(JsonText {
                 form: TextForm::Part(part),
             });
         }
-        let text = Text::from_text(alloc, text).ok()?;
-        JsonText::from_text(alloc, text).ok()
+        JsonText::from_text(alloc, Text::from_text(alloc, text)?)
     }
 }
 

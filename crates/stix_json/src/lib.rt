@@ -5,27 +5,30 @@
 //! against it, with its path. `write_json` writes a value so that it reads back.
 #![tactic(auto)]
 
-mod convert;
-mod depth;
+mod defect;
+mod elements;
 mod entries;
 mod entry;
 mod envelope;
 mod fields;
 mod flaw;
+mod gathered;
+mod held;
 mod json_reader;
 mod json_text;
-mod judge;
+mod judged;
 pub mod laws;
 mod limits;
 mod lookup;
+mod number;
 mod ordered;
 mod place;
 mod property;
 mod read;
 mod refusal;
 mod tokens;
+mod unread;
 mod value;
-mod whole;
 mod write;
 
 pub use entries::read_entries;

@@ -1,5 +1,4 @@
 ghost use Rattle.std.specs.Prelude.{◌≡◌, IfOk};
-ghost use Rattle.stix_json.specs.Walk.{place_part};
 ghost use Rattle.stix_json.specs.inner.Flaws.{under, path_of};
 
 use flow_values::{NoMemory, Text};
@@ -15,7 +14,7 @@ pub(crate) enum Place {
 }
 
 impl Place {
-    // The two that make a path run where a value is refused. Out of line, they cost the others no stack.
+    // A path is made where a value is refused. Out of line, that costs the others no stack.
 
     /// The place in a value that has this one's value under a part.
     #[inline(never)]
@@ -28,15 +27,6 @@ impl Place {
             path.push(rest.as_str())?;
         }
         Ok(Place::Below(path))
-    }
-
-    /// The place in a list that has this one's value as its item.
-    #[inline(never)]
-    pub fn below_item(self, alloc: Global, at: usize) -> Result<Place, NoMemory>
-        ensures { IfOk result (λ place. place ≡ under (place_part at) self) }
-    {
-        let part = format!(in alloc; "[{at}]")?;
-        self.below(alloc, part.as_str())
     }
 
     /// The path, empty where the value is the whole one.

@@ -1,51 +1,18 @@
-ghost use Rattle.std.specs.Prelude.{◌≡◌, ◌⊎◌, IsTrue, IfOk, IfErr};
-ghost use Rattle.serde_json.specs.View.{view};
-ghost use Rattle.stix_json.specs.Reading.{IsValueOf, HasNoValue, IsJsonOf, IsJsonRefusedAs};
-ghost use Rattle.stix_json.specs.declared.refusal.JsonRefusal.TheVariants.{NotJson, NoMemory as OutOfMemory};
+ghost use Rattle.std.specs.Prelude.{◌≡◌, IfOk, IfErr};
+ghost use Rattle.serde_json.specs.Data.{Data};
+ghost use Rattle.stix_json.specs.Reading.{IsValueOf, IsJsonOf, IsJsonRefusedAs};
+ghost use Rattle.stix_json.specs.inner.Judging.{IsJudgedAs, IsNoText};
+ghost use Rattle.stix_json.specs.declared.limits.TheConstants.{MAX_LEVELS as LEVELS};
 
-use crate::judge::judge;
+use crate::judged::Judged;
 use crate::limits::MAX_TEXT_LEVELS;
-use crate::tokens::{read_tokens, take_whole};
-use crate::{Entry, Json, JsonRefusal};
-use flow_values::{Items, Text};
+use crate::tokens::take_value;
+use crate::unread::Unread;
+use crate::{Json, JsonRefusal, MAX_LEVELS};
+use flow_values::{Items, NoMemory, Text};
 use json::{Reader, Scratch};
-use serde_json::{Category, Value};
 use std::alloc::Global;
 use std::rc::Rc;
-
-/// The JSON value that bytes are.
-pub(crate) fn read_value(alloc: Global, bytes: &[u8]) -> Result<Value, JsonRefusal>
-    ensures ok { IfOk result (λ value. IsValueOf bytes.now (view value)) }
-    ensures err { IfErr result (λ refusal. (refusal ≡ OutOfMemory) ⊎ ((refusal ≡ NotJson) × HasNoValue bytes.now)) }
-{
-    if !may_have_value(alloc, bytes) {
-        return Err(JsonRefusal::NotJson);
-    }
-    match Value::from_slice(alloc, bytes) {
-        Ok(value) => Ok(value),
-        Err(error) => match error.classify() {
-            Category::Memory => Err(JsonRefusal::NoMemory),
-            Category::Syntax | Category::Data | Category::Eof | Category::Io => {
-                Err(JsonRefusal::NotJson)
-            }
-        },
-    }
-}
-
-/// Whether bytes may be a JSON text, as it turns out without a tree, which takes ten times as long to make. Where memory is wanting
-/// they may.
-fn may_have_value(alloc: Global, bytes: &[u8]) -> bool
-    ensures { IsTrue result ⊎ HasNoValue bytes.now }
-{
-    let Ok(text) = std::str::from_utf8(bytes) else {
-        return false;
-    };
-    let mut scratch = Scratch::new(alloc);
-    match Reader::new(text, &mut scratch) {
-        Ok(mut reader) => reader.skip_value(MAX_TEXT_LEVELS).is_ok() && reader.next().is_none(),
-        Err(_) => true,
-    }
-}
 
 /// The JSON value that bytes are, which is ordered, or why they are none: `NotJson`, else `TooDeep`, else
 /// the first value that `Json` doesn't hold, with its path. Never `NotList`.
@@ -53,10 +20,21 @@ pub fn read_json(alloc: Global, bytes: &[u8]) -> Result<Json, JsonRefusal>
     ensures ok { IfOk result (λ json. IsJsonOf bytes.now json) }
     ensures err { IfErr result (λ refusal. IsJsonRefusedAs bytes.now refusal) }
 {
-    if let Some(json) = read_tokens(alloc, bytes) {
-        return Ok(json);
-    }
-    read_judged(alloc, bytes)
+    let mut scratch = Scratch::new(alloc);
+    read_with(alloc, &mut scratch, bytes)
+}
+
+/// The same with a scratch that may have served other texts.
+pub(crate) fn read_with(
+    alloc: Global,
+    scratch: &mut Scratch,
+    bytes: &[u8],
+) -> Result<Json, JsonRefusal>
+    ensures ok { IfOk result (λ json. IsJsonOf bytes.now json) }
+    ensures err { IfErr result (λ refusal. IsJsonRefusedAs bytes.now refusal) }
+{
+    let whole = whole_text(alloc, bytes)?;
+    read_whole(alloc, scratch, &whole)
 }
 
 /// The same of bytes that are taken over: the value's texts lie in them, where `read_json` copies them first.
@@ -68,31 +46,53 @@ pub fn read_owned(alloc: Global, bytes: Items<u8>) -> Result<Json, JsonRefusal>
         return Err(JsonRefusal::NotJson);
     };
     match Rc::new(alloc, Text::from_string(text)) {
-        Ok(whole) => read_lent(alloc, &whole),
+        Ok(whole) => {
+            let mut scratch = Scratch::new(alloc);
+            read_whole(alloc, &mut scratch, &whole)
+        }
         Err(_) => Err(JsonRefusal::NoMemory),
     }
 }
 
-/// The JSON value of a text, which the value's texts keep.
-fn read_lent(alloc: Global, whole: &Rc<Text>) -> Result<Json, JsonRefusal>
+/// The text that bytes are, which the texts of its value keep.
+pub(crate) fn whole_text(alloc: Global, bytes: &[u8]) -> Result<Rc<Text>, Unread>
+    ensures ok { IfOk result (λ whole. whole.value ≡ bytes.now) }
+    ensures err { IfErr result (λ unread. IsNoText bytes.now unread) }
+{
+    let Ok(text) = std::str::from_utf8(bytes) else {
+        return Err(Unread::NotJson);
+    };
+    let text = Text::from_text(alloc, text)?;
+    match Rc::new(alloc, text) {
+        Ok(whole) => Ok(whole),
+        Err(_) => Err(Unread::NoMemory),
+    }
+}
+
+/// The JSON value of a whole text.
+fn read_whole(alloc: Global, scratch: &mut Scratch, whole: &Rc<Text>) -> Result<Json, JsonRefusal>
     ensures ok { IfOk result (λ json. IsJsonOf whole.now.value json) }
     ensures err { IfErr result (λ refusal. IsJsonRefusedAs whole.now.value refusal) }
 {
-    let mut scratch = Scratch::new(alloc);
-    if let Some(json) = take_whole(alloc, &mut scratch, whole) {
-        return Ok(json);
+    match judge_whole(alloc, scratch, whole)? {
+        Judged::Good(json) => Ok(json),
+        Judged::Bad(defect) => Err(defect.into_refusal(alloc)),
     }
-    read_judged(alloc, whole.as_str().as_bytes())
 }
 
-/// The same by way of a `Value`, which tells what stands against a text.
-pub(crate) fn read_judged(alloc: Global, bytes: &[u8]) -> Result<Json, JsonRefusal>
-    ensures ok { IfOk result (λ json. IsJsonOf bytes.now json) }
-    ensures err { IfErr result (λ refusal. IsJsonRefusedAs bytes.now refusal) }
+/// The value of a whole text, judged.
+fn judge_whole(alloc: Global, scratch: &mut Scratch, whole: &Rc<Text>) -> Result<Judged, Unread>
+    ensures ok { IfOk result (λ judged. («data» : Data) × IsValueOf whole.now.value «data» × IsJudgedAs LEVELS «data» judged) }
+    ensures err { IfErr result (λ unread. IsNoText whole.now.value unread) }
 {
-    let value = read_value(alloc, bytes)?;
-    match judge(alloc, value)? {
-        Entry::Good(json) => Ok(json),
-        Entry::Bad(refusal) => Err(refusal),
+    let mut reader = match Reader::new(whole.as_str(), scratch) {
+        Ok(reader) => reader,
+        Err(_) => return Err(Unread::NoMemory),
+    };
+    let judged = take_value(alloc, whole, &mut reader, MAX_TEXT_LEVELS, MAX_LEVELS)?;
+    if reader.next().is_some() {
+        drop(judged);
+        return Err(Unread::NotJson);
     }
+    Ok(judged)
 }

@@ -1,137 +1,139 @@
-//! The short way from a text to a `Json`: straight from the tokens of the crate under `serde_json`, with no
-//! tree of another kind between.
+//! From the tokens of a text to its value, judged by itself, in one pass and with no tree of another kind between: the crate under
+//! `serde_json` gives the tokens.
 //!
-//! It takes what most texts are and gives up on all else: no JSON, what `Json` doesn't hold, a name that
-//! comes twice, want of memory. It says no reason. Who calls it then reads the text once more the long way,
-//! which tells the refusal and its place; a refused text is read twice.
+//! A value against which something stands is read to its end too: a text that is no JSON is that before all else, and of members
+//! with one name the last counts.
 
-ghost use Rattle.std.specs.Prelude.{◌≡◌, ◌<◌, Some, IfSome, OnSome, length, map};
+ghost use Rattle.std.specs.Prelude.{◌≡◌, ◌<◌, ◌∷◌, ◌+◌, suc, Some, IfOk, IfErr, OnOk, length};
 ghost use Rattle.json.specs.Json.{value, items, members};
-ghost use Rattle.serde_json.specs.Data.{no_members};
+ghost use Rattle.json.specs.Reads.{token_of};
+ghost use Rattle.serde_json.specs.Data.{Data, Items as DataItems, Members, array, object, no_members};
 ghost use Rattle.serde_json.specs.Read.{of_json, of_items, of_members, converted};
-ghost use Rattle.serde_json.specs.View.{items_of};
-ghost use Rattle.stix_json.specs.DataOf.{data_of, field_data, members_of};
-ghost use Rattle.stix_json.specs.Reading.{IsJsonOf};
-ghost use Rattle.stix_json.specs.inner.Fits.{text_levels, Fits, ItemsFit, MembersFit};
+ghost use Rattle.stix_json.specs.inner.Judging.{IsJudgedAs, IsUnread};
 
-use crate::fields::{fitted, order_fields, push_field};
-use crate::whole::whole_of;
-use crate::{Field, Json, JsonText, MAX_LEVELS};
-use flow_values::{Items, Text};
-use json::{Reader, Scratch, Token};
+use crate::defect::Defect;
+use crate::elements::Elements;
+use crate::fields::judge_members;
+use crate::flaw::Reason;
+use crate::gathered::{no_members_yet, order_members, push_member};
+use crate::judged::Judged;
+use crate::number::judge_number;
+use crate::unread::Unread;
+use crate::{Json, JsonText};
+use flow_values::Text;
+use json::{Reader, Token};
 use std::alloc::Global;
 use std::rc::Rc;
+use stix_names::Name;
 
-/// The `Json` of some bytes, where nothing stands against it.
-pub(crate) fn read_tokens(alloc: Global, bytes: &[u8]) -> Option<Json>
-    ensures value { IfSome result (λ json. IsJsonOf bytes.now json) }
-    ensures fits { IfSome result (λ json. Fits MAX_LEVELS (data_of json)) }
-{
-    let mut scratch = Scratch::new(alloc);
-    read_tokens_with(alloc, &mut scratch, bytes)
-}
-
-/// The same with a scratch that may have served other texts.
-pub(crate) fn read_tokens_with(alloc: Global, scratch: &mut Scratch, bytes: &[u8]) -> Option<Json>
-    ensures value { IfSome result (λ json. IsJsonOf bytes.now json) }
-    ensures fits { IfSome result (λ json. Fits MAX_LEVELS (data_of json)) }
-{
-    let text = std::str::from_utf8(bytes).ok()?;
-    let whole = Rc::new(alloc, Text::from_text(alloc, text).ok()?).ok()?;
-    take_whole(alloc, scratch, &whole)
-}
-
-/// The `Json` of a whole text, which the value's texts keep.
-pub(crate) fn take_whole(alloc: Global, scratch: &mut Scratch, whole: &Rc<Text>) -> Option<Json>
-    ensures value { IfSome result (λ json. IsJsonOf whole.now.value json) }
-    ensures fits { IfSome result (λ json. Fits MAX_LEVELS (data_of json)) }
-{
-    let text = std::str::from_utf8(whole.as_str().as_bytes()).ok()?;
-    let mut reader = Reader::new(text, scratch).ok()?;
-    let json = take_value(alloc, whole, &mut reader, MAX_LEVELS)?;
-    if reader.next().is_some() {
-        return None;
-    }
-    Some(json)
-}
-
-/// The next value of the whole text, with at most so many levels.
+/// The next value of the whole text, judged. It may nest `left` levels to be read at all, and `levels` to be good.
 #[cycle(take)]
-fn take_value(
+pub(crate) fn take_value(
     alloc: Global,
     whole: &Rc<Text>,
     reader: &mut Reader<'_>,
+    left: usize,
     levels: usize,
-) -> Option<Json>
-    ensures ok { IfSome result
-        (λ json. converted of_json (value (text_levels levels) reader.old) ≡ Some (data_of json, reader.new)) }
-    ensures fits { IfSome result (λ json. Fits levels (data_of json)) }
-    ensures shorter { OnSome result (length reader.new < length reader.old) }
+) -> Result<Judged, Unread>
+    ensures ok { IfOk result (λ judged. («data» : Data) × (converted of_json (value left reader.old) ≡ Some («data», reader.new))
+        × IsJudgedAs levels «data» judged) }
+    ensures err { IfErr result (λ unread. IsUnread (converted of_json (value left reader.old)) unread) }
+    ensures shorter { OnOk result (length reader.new < length reader.old) }
 {
-    let place = reader.offset().saturating_add(1);
-    match reader.next()? {
-        Token::String(text) => Some(Json::String(JsonText::within(alloc, whole, place, text)?)),
-        Token::Number(text) => Some(Json::Integer(whole_of(text)?)),
-        Token::Bool(truth) => Some(Json::Bool(truth)),
-        Token::BeginArray => {
-            if levels == 0 {
-                return None;
-            }
-            Some(Json::Array(take_items(alloc, whole, reader, levels - 1)?))
-        }
-        Token::BeginObject => {
-            if levels == 0 {
-                return None;
-            }
-            Some(Json::Object(take_fields(alloc, whole, reader, levels - 1)?))
-        }
-        Token::Null | Token::EndObject | Token::EndArray | Token::Key(_) | Token::Bad => None,
+    let place = reader.offset();
+    match reader.next() {
+        Some(token) => judge_token(alloc, whole, reader, place, token, left, levels),
+        None => Err(Unread::NotJson),
     }
 }
 
-/// The items up to the bracket that closes their list.
+/// The same of the value that begins with that token, which was read at that place.
+#[cycle(take)]
+pub(crate) fn judge_token(
+    alloc: Global,
+    whole: &Rc<Text>,
+    reader: &mut Reader<'_>,
+    place: usize,
+    token: Token<'_>,
+    left: usize,
+    levels: usize,
+) -> Result<Judged, Unread>
+    ensures ok { IfOk result (λ judged. («data» : Data) × (converted of_json (value left (token_of token.entry ∷ reader.old)) ≡ Some («data», reader.new))
+        × IsJudgedAs levels «data» judged) }
+    ensures err { IfErr result (λ unread. IsUnread (converted of_json (value left (token_of token.entry ∷ reader.old))) unread) }
+    ensures shorter { OnOk result (length reader.new < length reader.old + 1) }
+{
+    match token {
+        Token::String(text) => {
+            let text = JsonText::within(alloc, whole, place.saturating_add(1), text)?;
+            Ok(Judged::Good(Json::String(text)))
+        }
+        Token::Number(text) => judge_number(text),
+        Token::Bool(truth) => Ok(Judged::Good(Json::Bool(truth))),
+        Token::Null => Ok(Judged::Bad(Defect::here(Reason::Null))),
+        Token::BeginArray => {
+            if left == 0 {
+                return Err(Unread::NotJson);
+            }
+            let judged = take_items(alloc, whole, reader, left - 1, levels.saturating_sub(1))?;
+            Ok(judged.within(levels))
+        }
+        Token::BeginObject => {
+            if left == 0 {
+                return Err(Unread::NotJson);
+            }
+            let judged = take_members(alloc, whole, reader, left - 1, levels.saturating_sub(1))?;
+            Ok(judged.within(levels))
+        }
+        Token::EndObject | Token::EndArray | Token::Key(_) | Token::Bad => Err(Unread::NotJson),
+    }
+}
+
+/// The list that has the items up to the bracket that closes it, judged.
 #[cycle(take)]
 fn take_items(
     alloc: Global,
     whole: &Rc<Text>,
     reader: &mut Reader<'_>,
+    left: usize,
     levels: usize,
-) -> Option<Items<Json>>
-    ensures ok { IfSome result
-        (λ row. converted of_items (items (value (text_levels levels)) (length reader.old) reader.old)
-        ≡ Some (items_of (map data_of row), reader.new)) }
-    ensures fits { IfSome result (λ row. ItemsFit levels (items_of (map data_of row))) }
-    ensures shorter { OnSome result (length reader.new < length reader.old) }
+) -> Result<Judged, Unread>
+    ensures ok { IfOk result (λ judged. (ds : DataItems)
+        × (converted of_items (items (value left) (length reader.old) reader.old) ≡ Some (ds, reader.new))
+        × IsJudgedAs (suc levels) (array ds) judged) }
+    ensures err { IfErr result (λ unread. IsUnread (converted of_items (items (value left) (length reader.old) reader.old)) unread) }
+    ensures shorter { OnOk result (length reader.new < length reader.old) }
 {
-    // Lists nest, and most have one item: without this each would keep room for four.
-    let mut row = Vec::with_capacity(alloc, 1).ok()?;
+    let mut elements = Elements::new(alloc)?;
     'items: while !reader.take_end_array() {
-        let item = take_value(alloc, whole, reader, levels)?;
-        row.push(item).ok()?;
+        let judged = take_value(alloc, whole, reader, left, levels)?;
+        elements.push(alloc, judged)?;
     }
-    fitted(alloc, row)
+    Ok(elements.into_judged(alloc)?)
 }
 
-/// The fields up to the brace that closes their object.
+/// The object that has the members up to the brace that closes it, judged.
 #[cycle(take)]
-fn take_fields(
+fn take_members(
     alloc: Global,
     whole: &Rc<Text>,
     reader: &mut Reader<'_>,
+    left: usize,
     levels: usize,
-) -> Option<Items<Field>>
-    ensures ok { IfSome result
-        (λ fields. converted (λ found. of_members found no_members)
-        (members (value (text_levels levels)) (length reader.old) reader.old)
-        ≡ Some (members_of (map field_data fields), reader.new)) }
-    ensures fits { IfSome result (λ fields. MembersFit levels (members_of (map field_data fields))) }
-    ensures shorter { OnSome result (length reader.new < length reader.old) }
+) -> Result<Judged, Unread>
+    ensures ok { IfOk result (λ judged. (ms : Members)
+        × (converted (λ found. of_members found no_members) (members (value left) (length reader.old) reader.old) ≡ Some (ms, reader.new))
+        × IsJudgedAs (suc levels) (object ms) judged) }
+    ensures err { IfErr result
+        (λ unread. IsUnread (converted (λ found. of_members found no_members) (members (value left) (length reader.old) reader.old)) unread) }
+    ensures shorter { OnOk result (length reader.new < length reader.old) }
 {
-    let mut fields = Vec::new(alloc);
-    'fields: while let Some(name) = reader.next_key().ok()? {
-        let value = take_value(alloc, whole, reader, levels)?;
-        push_field(alloc, &mut fields, name, value)?;
+    let mut gathered = no_members_yet(alloc)?;
+    'members: while let Some(name) = reader.next_key()? {
+        let name = Name::from_text(alloc, name)?;
+        let judged = take_value(alloc, whole, reader, left, levels)?;
+        push_member(&mut gathered, name, judged)?;
     }
-    order_fields(&mut fields)?;
-    fitted(alloc, fields)
+    let ordered = order_members(alloc, gathered)?;
+    Ok(judge_members(alloc, ordered)?)
 }

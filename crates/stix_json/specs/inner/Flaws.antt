@@ -1,6 +1,6 @@
 -- For private clauses: the first flaw of a value and the first value past the last level, by recursion. The lemmas of
 -- proofs/WalkLemmas.antt say that these are the first in walk order.
-use Rattle.std.specs.Prelude.{◌≡◌, ⊤, ℕ, zero, suc, ◌+◌, List, [], ◌∷◌, ◌++◌, nat_le, if◌then◌else◌, ℤ, unsigned_abs, Option, Some, None, option_map}
+use Rattle.std.specs.Prelude.{ℕ, zero, suc, ◌+◌, List, [], ◌∷◌, ◌++◌, nat_le, if◌then◌else◌, ℤ, unsigned_abs, Option, Some, None, option_map}
 use Rattle.std.specs.Option.{option_or}
 use Rattle.serde_json.specs.Data.{Num, Data, null, boolean, number, string, array, object, Items, no_items, item, Members, no_members, member}
 use Rattle.serde_json.specs.Find.{as_integer}
@@ -10,8 +10,6 @@ use Rattle.stix_json.specs.declared.place.Place.TheVariants.{Here, Below}
 use Rattle.stix_json.specs.declared.flaw.Reason.{Reason}
 use Rattle.stix_json.specs.declared.flaw.Reason.TheVariants.{NotWhole as NoWhole, Null as IsNull, OutOfRange as PastRange}
 use Rattle.stix_json.specs.declared.flaw.Flaw.{Flaw}
-use Rattle.stix_json.specs.declared.flaw.Halt.{Halt}
-use Rattle.stix_json.specs.declared.flaw.Halt.TheVariants.{Flawed, NoMemory}
 use Rattle.stix_json.specs.declared.refusal.JsonRefusal.{JsonRefusal}
 use Rattle.stix_json.specs.declared.refusal.JsonRefusal.TheVariants.{NotWhole, Null, OutOfRange}
 use Rattle.stix_json.specs.Walk.{place_part}
@@ -36,11 +34,6 @@ refusal_for PastRange path = OutOfRange path
 
 abbrev pub refusal_at : Flaw → JsonRefusal
 refusal_at flaw = refusal_for flaw.reason (path_of flaw.place)
-
--- a conversion stops for the first flaw, or for memory
-abbrev pub Halts : Option Flaw → Halt → Type 0
-Halts found (Flawed flaw) = found ≡ Some flaw
-Halts found NoMemory = ⊤
 
 abbrev pub whole_flaw : Option ℤ → Option Reason
 whole_flaw None = Some NoWhole

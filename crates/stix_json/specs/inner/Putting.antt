@@ -1,15 +1,42 @@
--- For private clauses: members that are put in one after another, as they come.
-use Rattle.std.specs.Prelude.{List, [], ◌∷◌, ⊤}
-use Rattle.serde_json.specs.Data.{Members, no_members, member, put}
-use Rattle.stix_json.specs.DataOf.{Member}
-use Rattle.stix_json.specs.Ordered.{IsNameBefore}
+-- For private clauses: what has names, put in one after another, as it comes; and what of it has a name.
+use Rattle.std.specs.Prelude.{ℕ, List, [], ◌∷◌, ⊤, ◌≡◌, Bool, false, bytes_eq, if◌then◌else◌, Option, None, Some}
+use Rattle.std.specs.Option.{option_or}
+use Rattle.std.specs.Ordering.{nat_cmp, match_ordering, is_lt}
+use Rattle.std.specs.List.Sorted.{IsSortedBy}
+use Rattle.std.specs.declared.cmp.Ordering.TheVariants.{Less}
+use Rattle.std.specs.Cmp.Lexicographic.{slice_cmp}
+
+-- these, whose names rise, with one more: in the place of the one that has its name, where there is one
+abbrev pub put_named : {X : Type 0} → (X → List ℕ) → X → List X → List X
+put_named name x [] = x ∷ []
+put_named name x (y ∷ ys) = match_ordering (slice_cmp nat_cmp (name x) (name y)) (x ∷ y ∷ ys) (x ∷ ys) (y ∷ put_named name x ys)
 
 -- those found, with each of these put among them
-abbrev pub put_each : List Member → Members → Members
-put_each [] found = found
-put_each (m ∷ ms) found = put_each ms (put m.name m.value found)
+abbrev pub put_all : {X : Type 0} → (X → List ℕ) → List X → List X → List X
+put_all name [] found = found
+put_all name (x ∷ xs) found = put_all name xs (put_named name x found)
+
+-- the last that has this name
+abbrev pub last_named : {X : Type 0} → (X → List ℕ) → List ℕ → List X → Option X
+last_named name q [] = None
+last_named name q (x ∷ xs) = option_or (last_named name q xs) (if bytes_eq (name x) q then Some x else None)
+
+-- whether the last of these has this name
+abbrev pub ends_with : {X : Type 0} → (X → List ℕ) → List ℕ → List X → Bool
+ends_with name q [] = false
+ends_with name q (x ∷ []) = bytes_eq (name x) q
+ends_with name q (x ∷ y ∷ ys) = ends_with name q (y ∷ ys)
+
+-- the first of these comes behind a name
+abbrev pub IsBehind : {X : Type 0} → (X → List ℕ) → List ℕ → List X → Type 0
+IsBehind name q [] = ⊤
+IsBehind name q (x ∷ xs) = slice_cmp nat_cmp q (name x) ≡ Less
 
 -- each name is before the next
-abbrev pub NamesRise : Members → Type 0
-NamesRise no_members = ⊤
-NamesRise (member name d ms) = IsNameBefore name ms × NamesRise ms
+abbrev pub NamesRise : {X : Type 0} → (X → List ℕ) → List X → Type 0
+NamesRise name [] = ⊤
+NamesRise name (x ∷ xs) = IsBehind name (name x) xs × NamesRise name xs
+
+-- no name is before the one that stands before it
+abbrev pub NamesDoNotFall : {X : Type 0} → (X → List ℕ) → List X → Type 0
+NamesDoNotFall name xs = IsSortedBy (λ x y. is_lt (slice_cmp nat_cmp (name x) (name y))) xs

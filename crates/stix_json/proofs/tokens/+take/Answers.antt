@@ -1,153 +1,227 @@
-use Rattle.std.proofs.Common.{rules, ◌≡◌, ◌-◌, ◌<◌, List, [], ◌∷◌, ◌++◌, length, map, Some, None, IfSome, ap, sym, subst, ◌∙◌, arith}
+use Rattle.std.proofs.Common.{rules, ◌≡◌, ◌-◌, ◌<◌, suc, List, [], ◌∷◌, ◌++◌, length, None, Some, ap, ap₂, refl, sym, subst, ◌∙◌, arith}
+use Rattle.std.proofs.lemmas.Result.{IfOk-weaker}
 use Rattle.json.specs.Token.{Token}
 use Rattle.json.specs.Json.{parse_map, after_end_array, read_key, items, members, value}
 use Rattle.json.specs.Reads.{token_of}
 use Rattle.json.proofs.Grammar.{value_is, value-begin_array, value-begin_object, read_key-shorter}
-use Rattle.serde_json.specs.Data.{Data, array, object, put, no_members}
+use Rattle.serde_json.specs.Data.{null, boolean, number, string, array, object, put, no_members}
 use Rattle.serde_json.specs.Read.{of_json, of_items, of_members, converted}
-use Rattle.serde_json.specs.View.{items_of}
-use Rattle.stix_json.specs.declared.value.Json.{Json, the_lemmas}
-use Rattle.stix_json.specs.declared.value.Field.{Field}
-use Rattle.stix_json.specs.DataOf.{Member, data_of, field_data, members_of}
-use Rattle.stix_json.specs.inner.Fits.{text_levels, ItemsFit, MembersFit}
-use Rattle.stix_json.specs.inner.Putting.{put_each}
-use Rattle.stix_json.proofs.FlawsLemmas.{map_pushed, data_of-String, data_of-Bool, data_of-Array, data_of-Object}
-use Rattle.stix_json.proofs.FitsLemmas.{items_fit_push, members_fit_put}
+use Rattle.stix_json.specs.declared.gathered.Gathered.{Gathered}
+use Rattle.stix_json.specs.inner.Putting.{put_all}
+use Rattle.stix_json.specs.inner.Judging.{IsJudgedAs, AreGathered, name_of}
+use Rattle.stix_json.proofs.FlawsLemmas.{data_of-String, data_of-Bool}
 use Rattle.stix_json.proofs.PuttingLemmas.{put_pushed}
-use Rattle.stix_json.proofs.TokensLemmas.{converted-array, converted-object, item_read, items_over, member_read, members_over, items_before, items_before-no_items, one_more_item, if_same, given_back}
+use Rattle.stix_json.proofs.TokensLemmas.{converted-array, converted-object, item_read, item_refused, items_over, member_read, member_refused, key_refused, members_over, items_before, items_before-no_items, one_more_item, none_before, number_token}
+use Rattle.stix_json.proofs.JudgedLemmas.{list_within, object_within, gathered_put, unread_under, unread_since, unread_at, no_number}
 use Rattle.stix_json.proofs.tokens.+take.Goals as goal
 
-pub take_value-returns-in_ok-within-in-String-clause-ok : goal.take_value-returns-in_ok-within-in-String-clause-ok
-take_value-returns-in_ok-within-in-String-clause-ok t c =
-    let depth = text_levels c.args.levels in
-    let first : c.args.reader.now ≡ token_of c.in_ok-text.field-0 ∷ c.next.new.self = grind arith in
-    let is : c.args.reader.now ≡ Token.string c.in-String.text.now ∷ c.next.new.self = grind (arith, first) in
-    let copied : c.in_ok-within-in-String.field-0 ≡ c.in-String.text.now = search rules in
-    ap (converted of_json) (ap (value depth) is ∙ value_is depth _) ∙ ap (λ d. Some (d, c.next.new.self)) (sym (data_of-String _ _ copied))
+pub judge_token-returns-then-left-eq0-clause-err : goal.judge_token-returns-then-left-eq0-clause-err
+unfolding value
+judge_token-returns-then-left-eq0-clause-err t c =
+    let none : c.args.left ≡ 0 = omega arith in
+    ap (converted of_json) (ap₂ value none (ap (λ k. token_of k ∷ c.args.reader.now) c.in-BeginArray.is))
 
-pub take_value-returns-in_ok-whole_of-in-Number-clause-ok : goal.take_value-returns-in_ok-whole_of-in-Number-clause-ok
-take_value-returns-in_ok-whole_of-in-Number-clause-ok t c =
-    let depth = text_levels c.args.levels in
-    let first : c.args.reader.now ≡ token_of c.in_ok-text.field-0 ∷ c.next.new.self = grind arith in
-    let is : c.args.reader.now ≡ Token.number c.in-Number.text.now ∷ c.next.new.self = grind (arith, first) in
-    let found = c.in_ok-whole_of-in-Number in
-    ap (converted of_json) (ap (value depth) is ∙ value_is depth _) ∙ rw found.ensures.read (search (rules, the_lemmas))
+pub judge_token-returns-then-left-eq0-2-clause-err : goal.judge_token-returns-then-left-eq0-2-clause-err
+unfolding value
+judge_token-returns-then-left-eq0-2-clause-err t c =
+    let none : c.args.left ≡ 0 = omega arith in
+    ap (converted of_json) (ap₂ value none (ap (λ k. token_of k ∷ c.args.reader.now) c.in-BeginObject.is))
 
-pub take_value-returns-in-Bool-clause-ok : goal.take_value-returns-in-Bool-clause-ok
-take_value-returns-in-Bool-clause-ok t c =
-    let depth = text_levels c.args.levels in
-    let first : c.args.reader.now ≡ token_of c.in_ok-text.field-0 ∷ c.next.new.self = grind arith in
-    let is : c.args.reader.now ≡ Token.boolean c.in-Bool.truth ∷ c.next.new.self = grind (arith, first) in
-    ap (converted of_json) (ap (value depth) is ∙ value_is depth _) ∙ ap (λ d. Some (d, c.next.new.self)) (sym (data_of-Bool c.in-Bool.truth))
+pub judge_token-returns-in_err-judged-in-BeginArray-clause-err : goal.judge_token-returns-in_err-judged-in-BeginArray-clause-err
+judge_token-returns-in_err-judged-in-BeginArray-clause-err t c =
+    let r = c.args.reader.now in
+    let some : 0 < c.args.left = omega arith in
+    let opened = ap (converted of_json) (ap (λ k. value c.args.left (token_of k ∷ r)) c.in-BeginArray.is ∙ value-begin_array c.args.left r some)
+    ∙ converted-array (items (value (c.args.left - 1)) (length r) r) in
+    let told = unread_under c.take_items.result array (converted of_items (items (value (c.args.left - 1)) (length r) r)) _ opened c.take_items.ensures.err in
+    search (rules, told)
 
-pub take_value-returns-in_ok-take_items-in-BeginArray-clause-ok : goal.take_value-returns-in_ok-take_items-in-BeginArray-clause-ok
-take_value-returns-in_ok-take_items-in-BeginArray-clause-ok t c =
-    let depth = text_levels c.args.levels in
-    let rest = c.next.new.self in
-    let first : c.args.reader.now ≡ token_of c.in_ok-text.field-0 ∷ rest = grind arith in
-    let fewer : depth - 1 ≡ text_levels (c.args.levels - 1) = omega arith in
-    let opened = ap (converted of_json) (ap (value depth) (first ∙ ap (λ k. token_of k ∷ rest) c.in-BeginArray.is) ∙ value-begin_array depth rest (omega arith)) ∙ converted-array (items (value (depth - 1)) (length rest) rest) in
-    let found = c.in_ok-take_items-in-BeginArray in
-    opened ∙ ap (λ n. parse_map array (converted of_items (items (value n) (length rest) rest))) fewer ∙ ap (parse_map array) found.ensures.ok
-    ∙ ap (λ d. Some (d, c.take_items.new.reader)) (sym (data_of-Array found.field-0))
+pub judge_token-returns-in_err-judged-in-BeginObject-clause-err : goal.judge_token-returns-in_err-judged-in-BeginObject-clause-err
+judge_token-returns-in_err-judged-in-BeginObject-clause-err t c =
+    let r = c.args.reader.now in
+    let some : 0 < c.args.left = omega arith in
+    let opened = ap (converted of_json) (ap (λ k. value c.args.left (token_of k ∷ r)) c.in-BeginObject.is ∙ value-begin_object c.args.left r some)
+    ∙ converted-object (members (value (c.args.left - 1)) (length r) r) in
+    let told = unread_under c.take_members.result object (converted (λ ms. of_members ms no_members) (members (value (c.args.left - 1)) (length r) r)) _ opened c.take_members.ensures.err in
+    search (rules, told)
 
-pub take_value-returns-in_ok-take_fields-in-BeginObject-clause-ok : goal.take_value-returns-in_ok-take_fields-in-BeginObject-clause-ok
-take_value-returns-in_ok-take_fields-in-BeginObject-clause-ok t c =
-    let depth = text_levels c.args.levels in
-    let rest = c.next.new.self in
-    let first : c.args.reader.now ≡ token_of c.in_ok-text.field-0 ∷ rest = grind arith in
-    let fewer : depth - 1 ≡ text_levels (c.args.levels - 1) = omega arith in
-    let opened = ap (converted of_json) (ap (value depth) (first ∙ ap (λ k. token_of k ∷ rest) c.in-BeginObject.is) ∙ value-begin_object depth rest (omega arith)) ∙ converted-object (members (value (depth - 1)) (length rest) rest) in
-    let found = c.in_ok-take_fields-in-BeginObject in
-    opened ∙ ap (λ n. parse_map object (converted (λ ms. of_members ms no_members) (members (value n) (length rest) rest))) fewer ∙ ap (parse_map object) found.ensures.ok
-    ∙ ap (λ d. Some (d, c.take_fields.new.reader)) (sym (data_of-Object found.field-0))
+pub judge_token-returns-in_ok-text-in-String-clause-ok : goal.judge_token-returns-in_ok-text-in-String-clause-ok
+judge_token-returns-in_ok-text-in-String-clause-ok t c =
+    let r = c.args.reader.now in
+    let is : token_of c.args.token ≡ Token.string c.in-String.text.now = ap token_of c.in-String.is in (
+      string c.in-String.text.now,
+      ap (converted of_json) (ap (λ (k : Token). value c.args.left (k ∷ r)) is ∙ value_is c.args.left _),
+      (refl, data_of-String _ _ c.in_ok-text-in-String.ensures),
+    )
+
+pub judge_token-returns-in-Bool-clause-ok : goal.judge_token-returns-in-Bool-clause-ok
+judge_token-returns-in-Bool-clause-ok t c =
+    let r = c.args.reader.now in
+    let is : token_of c.args.token ≡ Token.boolean c.in-Bool.truth = ap token_of c.in-Bool.is in (
+      boolean c.in-Bool.truth,
+      ap (converted of_json) (ap (λ (k : Token). value c.args.left (k ∷ r)) is ∙ value_is c.args.left _),
+      (refl, data_of-Bool c.in-Bool.truth),
+    )
+
+pub judge_token-returns-in-Null-clause-ok : goal.judge_token-returns-in-Null-clause-ok
+judge_token-returns-in-Null-clause-ok t c =
+    let r = c.args.reader.now in
+    let is : token_of c.args.token ≡ Token.null = ap token_of c.in-Null.is in (
+      null,
+      ap (converted of_json) (ap (λ (k : Token). value c.args.left (k ∷ r)) is ∙ value_is c.args.left _),
+      ap Some (sym c.here.ensures),
+    )
+
+pub judge_token-returns-in-Number-clause-ok : goal.judge_token-returns-in-Number-clause-ok
+judge_token-returns-in-Number-clause-ok t c =
+    let r = c.args.reader.now in
+    let is : token_of c.args.token ≡ Token.number c.in-Number.text.now = ap token_of c.in-Number.is in
+    let read = ap (converted of_json) (ap (λ (k : Token). value c.args.left (k ∷ r)) is ∙ value_is c.args.left _) in
+    IfOk-weaker c.judge_number.result _ _ (λ judged found. (number found.0, read ∙ number_token c.in-Number.text.now r found.0 found.1, found.2 c.args.levels)) c.judge_number.ensures.ok
+
+pub judge_token-returns-in-Number-clause-err : goal.judge_token-returns-in-Number-clause-err
+judge_token-returns-in-Number-clause-err t c =
+    let r = c.args.reader.now in
+    let is : token_of c.args.token ≡ Token.number c.in-Number.text.now = ap token_of c.in-Number.is in
+    let read = ap (converted of_json) (ap (λ (k : Token). value c.args.left (k ∷ r)) is ∙ value_is c.args.left _) in
+    no_number c.judge_number.result c.in-Number.text.now r _ read c.judge_number.ensures.err
+
+pub judge_token-returns-in_ok-judged-in-BeginArray-clause-ok : goal.judge_token-returns-in_ok-judged-in-BeginArray-clause-ok
+judge_token-returns-in_ok-judged-in-BeginArray-clause-ok t c =
+    let r = c.args.reader.now in
+    let some : 0 < c.args.left = omega arith in
+    let opened = ap (converted of_json) (ap (λ k. value c.args.left (token_of k ∷ r)) c.in-BeginArray.is ∙ value-begin_array c.args.left r some)
+    ∙ converted-array (items (value (c.args.left - 1)) (length r) r) in
+    let found = c.in_ok-judged-in-BeginArray.ensures.ok in
+    let less : c.saturating_sub.result ≡ c.args.levels - 1 = omega arith in (
+      array found.0,
+      opened ∙ ap (parse_map array) found.1,
+      list_within c.args.levels found.0 c.in_ok-judged-in-BeginArray.judged c.within-in-BeginArray.result (subst (λ n. IsJudgedAs (suc n) (array found.0) c.in_ok-judged-in-BeginArray.judged) less found.2)
+          c.within-in-BeginArray.ensures.deep c.within-in-BeginArray.ensures.same,
+    )
+
+pub judge_token-returns-in_ok-judged-in-BeginObject-clause-ok : goal.judge_token-returns-in_ok-judged-in-BeginObject-clause-ok
+judge_token-returns-in_ok-judged-in-BeginObject-clause-ok t c =
+    let r = c.args.reader.now in
+    let some : 0 < c.args.left = omega arith in
+    let opened = ap (converted of_json) (ap (λ k. value c.args.left (token_of k ∷ r)) c.in-BeginObject.is ∙ value-begin_object c.args.left r some)
+    ∙ converted-object (members (value (c.args.left - 1)) (length r) r) in
+    let found = c.in_ok-judged-in-BeginObject.ensures.ok in
+    let less : c.saturating_sub-in-BeginObject.result ≡ c.args.levels - 1 = omega arith in (
+      object found.0,
+      opened ∙ ap (parse_map object) found.1,
+      object_within c.args.levels found.0 c.in_ok-judged-in-BeginObject.judged c.within-in-BeginObject.result (subst (λ n. IsJudgedAs (suc n) (object found.0) c.in_ok-judged-in-BeginObject.judged) less found.2)
+          c.within-in-BeginObject.ensures.deep c.within-in-BeginObject.ensures.same,
+    )
+
+pub judge_token-returns-in-EndObject-clause-err : goal.judge_token-returns-in-EndObject-clause-err
+judge_token-returns-in-EndObject-clause-err t c =
+    let none : value c.args.left (token_of c.args.token ∷ c.args.reader.now) ≡ None = rw (value_is c.args.left (token_of c.args.token ∷ c.args.reader.now)) (grind arith) in
+    ap (converted of_json) none
+
+pub take_value-returns-in-None-clause-err : goal.take_value-returns-in-None-clause-err
+take_value-returns-in-None-clause-err t c =
+    let empty : c.args.reader.now ≡ [] = grind arith in
+    ap (converted of_json) (ap (value c.args.left) empty ∙ value_is c.args.left [])
+
+pub take_items-items-init : goal.take_items-items-init
+take_items-items-init t c =
+    let all = converted of_items (items (value c.args.left) (length c.args.reader.now) c.args.reader.now) in
+    (length c.args.reader.now, omega arith, [], none_before all, c.in_ok-elements.ensures c.args.levels, omega arith)
+
+pub take_items-returns-in_err-judged-clause-err : goal.take_items-returns-in_err-judged-clause-err
+take_items-returns-in_err-judged-clause-err t c =
+    let p = value c.args.left in
+    let l = c.items in
+    let n = l.invariant.0 in
+    let going : (after_end_array l.reader ≡ None) × (c.take_end_array.new.self ≡ l.reader) = grind arith in
+    let told = unread_since c.take_value.result (converted of_json (p c.take_end_array.new.self)) _
+    (λ none. l.invariant.3 ∙ ap (parse_map (items_before l.invariant.2)) (item_refused p n l.reader going.0 (rw (← going.1) none))) c.take_value.ensures.err in
+    search (rules, told)
 
 pub take_items-items-preserved : goal.take_items-items-preserved
 take_items-items-preserved t c =
-    let p = value (text_levels c.args.levels) in
+    let p = value c.args.left in
     let l = c.items in
     let n = l.invariant.0 in
-    let ds = map data_of l.row.items in
+    let ds = l.invariant.2 in
     let going : (after_end_array l.reader ≡ None) × (c.take_end_array.new.self ≡ l.reader) = grind arith in
-    let done = c.in_ok-item.ensures in
-    let v = c.in_ok-item.item in
+    let found = c.in_ok-judged.ensures.ok in
+    let d = found.0 in
     let r = c.take_value.new.reader in
-    let less : length r < length l.reader = rw (← going.1) done.shorter in
-    let turn = item_read p n l.reader r (data_of v) (omega (arith, l.invariant.1)) going.0 (rw (← going.1) done.ok) in
-    let pushed : c.push.new.self.items ≡ l.row.items ++ v ∷ [] = search rules in
-    let grown : map data_of c.push.new.self.items ≡ ds ++ data_of v ∷ [] = ap (map data_of) pushed ∙ map_pushed data_of l.row.items v in (
+    let less : length r < length l.reader = rw (← going.1) c.in_ok-judged.ensures.shorter in
+    let turn = item_read p n l.reader r d (omega (arith, l.invariant.1)) going.0 (rw (← going.1) found.1) in (
       n - 1,
       omega (arith, l.invariant.1),
-      l.invariant.2 ∙ ap (parse_map (items_before ds)) turn ∙ one_more_item ds (data_of v) _
-          ∙ ap (λ es. parse_map (items_before es) (converted of_items (items p (n - 1) r))) (sym grown),
-      subst (λ (es : List Data). ItemsFit c.args.levels (items_of es)) (sym grown) (items_fit_push c.args.levels ds (data_of v) l.invariant.3 done.fits),
-      omega (arith, l.invariant.4),
+      ds ++ d ∷ [],
+      l.invariant.3 ∙ ap (parse_map (items_before ds)) turn ∙ one_more_item ds d _,
+      c.in_ok-push.ensures c.args.levels ds d l.invariant.4 found.2,
+      omega (arith, l.invariant.5),
     )
 
 pub take_items-returns-clause-ok : goal.take_items-returns-clause-ok
 take_items-returns-clause-ok t c =
-    let p = value (text_levels c.args.levels) in
+    let p = value c.args.left in
     let l = c.items in
     let n = l.invariant.0 in
     let r = c.take_end_array.new.self in
-    let ds = map data_of l.row.items in
-    let all = converted of_items (items p (length c.args.reader.now) c.args.reader.now) in
-    if_same (λ (row : List Json). all ≡ Some (items_of (map data_of row), r)) c.fitted.result l.row.items
-    (l.invariant.2 ∙ ap (parse_map (items_before ds)) (items_over p n l.reader r l.invariant.1 (grind arith)) ∙ ap (λ es. Some (es, r)) (items_before-no_items ds))
-    c.fitted.ensures
+    let ds = l.invariant.2 in
+    let read = l.invariant.3 ∙ ap (parse_map (items_before ds)) (items_over p n l.reader r l.invariant.1 (grind arith)) ∙ ap (λ es. Some (es, r)) (items_before-no_items ds) in
+    (_, read, c.in_ok-into_judged.ensures c.args.levels ds l.invariant.4)
 
-pub take_fields-fields-preserved : goal.take_fields-fields-preserved
-take_fields-fields-preserved t c =
-    let p = value (text_levels c.args.levels) in
-    let l = c.fields in
+pub take_members-members-init : goal.take_members-members-init
+take_members-members-init t c =
+    (length c.args.reader.now, omega arith, no_members, refl, search rules, omega arith)
+
+pub take_members-returns-in_err-name-clause-err : goal.take_members-returns-in_err-name-clause-err
+take_members-returns-in_err-name-clause-err t c =
+    let l = c.members in
+    unread_at c.from_residual-in_err-name.result _ (l.invariant.3 ∙ key_refused (value c.args.left) l.invariant.2 l.invariant.0 l.reader c.in_err-name.ensures.value)
+
+pub take_members-returns-in_err-judged-clause-err : goal.take_members-returns-in_err-judged-clause-err
+take_members-returns-in_err-judged-clause-err t c =
+    let p = value c.args.left in
+    let l = c.members in
     let n = l.invariant.0 in
-    let ms = map field_data l.fields.items in
-    let old = put_each ms no_members in
+    let old = l.invariant.2 in
     let k = c.in-Some.name.now in
     let s = c.next_key.new.self in
     let named : read_key l.reader ≡ Some (Some k, s) = search rules in
-    let done = c.in_ok-value.ensures in
-    let d = data_of c.in_ok-value.value in
+    let told = unread_since c.take_value.result (converted of_json (p s)) _
+    (λ none. l.invariant.3 ∙ member_refused p old n k l.reader s named none) c.take_value.ensures.err in
+    search (rules, told)
+
+pub take_members-members-preserved : goal.take_members-members-preserved
+take_members-members-preserved t c =
+    let p = value c.args.left in
+    let l = c.members in
+    let n = l.invariant.0 in
+    let old = l.invariant.2 in
+    let k = c.in-Some.name.now in
+    let s = c.next_key.new.self in
+    let named : read_key l.reader ≡ Some (Some k, s) = search rules in
+    let found = c.in_ok-judged.ensures.ok in
+    let d = found.0 in
     let r = c.take_value.new.reader in
     let less = read_key-shorter l.reader (Some k) s named in
-    let lesser = done.shorter in
-    let turn = member_read p old n k l.reader s r d (omega (arith, less, l.invariant.1)) named done.ok in
-    let pushed = c.in_ok-push_field.ensures in
-    let new : put_each (map field_data c.push_field.new.fields.items) no_members ≡ put k d old =
-    ap (λ (all : List Member). put_each all no_members) pushed ∙ put_pushed ms (record { name = k; value = d }) no_members in (
+    let lesser = c.in_ok-judged.ensures.shorter in
+    let one : Gathered = record { name = c.in_ok-name-2.name; judged = c.in_ok-judged.judged } in
+    let turn = member_read p old n k l.reader s r d (omega (arith, less, l.invariant.1)) named found.1 in (
       n - 1,
       omega (arith, l.invariant.1, less, lesser),
-      l.invariant.2 ∙ turn ∙ ap (λ ms. converted (λ found. of_members found ms) (members p (n - 1) r)) (sym new),
-      subst (MembersFit c.args.levels) (sym new) (members_fit_put c.args.levels k d old l.invariant.3 done.fits),
-      omega (arith, l.invariant.4, less, lesser),
+      put k d old,
+      l.invariant.3 ∙ turn,
+      subst (λ (gs : List Gathered). AreGathered c.args.levels (put k d old) (put_all name_of gs [])) (sym c.in_ok-push_member.ensures) (subst (AreGathered c.args.levels (put k d old)) (sym (put_pushed name_of l.gathered.items one []))
+          (gathered_put c.args.levels k d old one (put_all name_of l.gathered.items []) c.in_ok-name-2.ensures found.2 l.invariant.4)),
+      omega (arith, l.invariant.5, less, lesser),
     )
 
-pub take_fields-returns-clause-ok : goal.take_fields-returns-clause-ok
-take_fields-returns-clause-ok t c =
-    let p = value (text_levels c.args.levels) in
-    let l = c.fields in
+pub take_members-returns-clause-ok : goal.take_members-returns-clause-ok
+take_members-returns-clause-ok t c =
+    let p = value c.args.left in
+    let l = c.members in
     let n = l.invariant.0 in
     let r = c.next_key.new.self in
-    let old = put_each (map field_data l.fields.items) no_members in
     let over : read_key l.reader ≡ Some (None, r) = search rules in
-    let all = converted (λ ms. of_members ms no_members) (members p (length c.args.reader.now) c.args.reader.now) in
-    let ordered = c.order_fields.new.fields in
-    let lent = c.deref_mut.ensures.value in
-    let back = given_back l.fields.len ordered l.fields.items (omega (arith, l.fields.ok)) (omega (arith, c.order_fields.auto.fields, ap length lent)) in
-    let same : members_of (map field_data ordered) ≡ old = c.in_ok-order_fields.ensures ∙ ap (λ (fs : List Field). put_each (map field_data fs) no_members) lent in
-    if_same (λ (fields : List Field). all ≡ Some (members_of (map field_data fields), r)) c.fitted.result ordered
-    (l.invariant.2 ∙ members_over p old n l.reader r l.invariant.1 over ∙ ap (λ ms. Some (ms, r)) (sym same))
-    (subst (λ (fields : List Field). IfSome c.fitted.result (λ copy. copy ≡ fields)) back c.fitted.ensures)
-
-pub take_fields-returns-clause-fits : goal.take_fields-returns-clause-fits
-take_fields-returns-clause-fits t c =
-    let levels = c.args.levels in
-    let fields = c.fields.fields in
-    let ordered = c.order_fields.new.fields in
-    let lent = c.deref_mut.ensures.value in
-    let back = given_back fields.len ordered fields.items (omega (arith, fields.ok)) (omega (arith, c.order_fields.auto.fields, ap length lent)) in
-    let same : members_of (map field_data ordered) ≡ put_each (map field_data fields.items) no_members =
-    c.in_ok-order_fields.ensures ∙ ap (λ (fs : List Field). put_each (map field_data fs) no_members) lent in
-    if_same (λ (all : List Field). MembersFit levels (members_of (map field_data all))) c.fitted.result ordered
-    (subst (MembersFit levels) (sym same) c.fields.invariant.3)
-    (subst (λ (all : List Field). IfSome c.fitted.result (λ copy. copy ≡ all)) back c.fitted.ensures)
+    let gathered = subst (AreGathered c.args.levels l.invariant.2) (sym c.in_ok-ordered.ensures) l.invariant.4 in
+    (l.invariant.2, l.invariant.3 ∙ members_over p l.invariant.2 n l.reader r l.invariant.1 over, c.in_ok-judge_members.ensures c.args.levels l.invariant.2 gathered)

@@ -1,7 +1,0 @@
-use Rattle.serde_json.specs.View.{view, items_view}
-use Rattle.stix_json.proofs.OrderedLemmas.{listed_ordered}
-use Rattle.stix_json.proofs.entries.read_entries.Goals as goal
-
-pub judge_items-requires : goal.judge_items-requires
-judge_items-requires c =
-    listed_ordered c.args.bytes.now c.args.name.now (view c.in_ok-value.value) (items_view c.in-Some-take_list.items.items) c.in_ok-value.ensures.ok c.in-Some-take_list.ensures

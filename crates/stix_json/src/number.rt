@@ -1,0 +1,95 @@
+//! The number that a text of JSON is, judged.
+
+ghost use Rattle.std.specs.Prelude.{◌≡◌, ◌==◌, ◌<◌, ℕ, true, false, None, Some, IfOk, IfErr, IsTrue, length, slice_index, option_map};
+ghost use Rattle.serde_json.specs.Data.{Num, number as number_data};
+ghost use Rattle.serde_json.specs.Find.{of_integer};
+ghost use Rattle.serde_json.specs.Read.{number_of as number_text_of, number_from, float_of};
+ghost use Rattle.serde_json.specs.View.{number_view};
+ghost use Rattle.stix_json.specs.inner.Flaws.{number_flaw};
+ghost use Rattle.stix_json.specs.inner.Judging.{IsJudgedAs, IsUnread};
+
+use crate::defect::Defect;
+use crate::flaw::Reason;
+use crate::judged::Judged;
+use crate::unread::Unread;
+use crate::{Json, MAX_WHOLE};
+use fast_float::Numeral;
+use serde_json::Number;
+
+/// The number that a text is, judged. None is read from one too large for a float.
+pub(crate) fn judge_number(text: &str) -> Result<Judged, Unread>
+    ensures ok { IfOk result (λ judged. (n : Num) × (number_text_of text.now ≡ Some n)
+        × ((levels : ℕ) → IsJudgedAs levels (number_data n) judged)) }
+    ensures err { IfErr result (λ unread. IsUnread (number_text_of text.now) unread) }
+{
+    let number = number_of(text).ok_or(Unread::NotJson)?;
+    match whole_of(number) {
+        Ok(whole) => Ok(Judged::Good(Json::Integer(whole))),
+        Err(reason) => Ok(Judged::Bad(Defect::here(reason))),
+    }
+}
+
+/// The whole number that a number is, where it is one in range.
+fn whole_of(number: Number) -> Result<i64, Reason>
+    ensures ok { IfOk result
+        (λ whole. (number_flaw (number_view number) ≡ None) × (of_integer whole ≡ number_view number)) }
+    ensures err { IfErr result (λ reason. number_flaw (number_view number) ≡ Some reason) }
+{
+    if number.is_f64() {
+        return Err(Reason::NotWhole);
+    }
+    let Some(whole) = number.as_i64() else {
+        return Err(Reason::OutOfRange);
+    };
+    if whole.unsigned_abs() > MAX_WHOLE {
+        return Err(Reason::OutOfRange);
+    }
+    Ok(whole)
+}
+
+/// The number that a text is.
+fn number_of(text: &str) -> Option<Number>
+    ensures { option_map number_view result ≡ number_text_of text.now }
+{
+    let bytes = text.as_bytes();
+    if has_minus(bytes) {
+        below_zero(&Numeral::scan(&bytes[1..]))
+    } else {
+        not_below_zero(&Numeral::scan(bytes))
+    }
+}
+
+fn has_minus(bytes: &[u8]) -> bool
+    ensures value { result ≡ (slice_index bytes.now 0 == 45) }
+    ensures some { IsTrue result → 0 < length bytes.now }
+{
+    !bytes.is_empty() && bytes[0] == b'-'
+}
+
+/// The number with this numeral behind a minus. `-0` is none that is whole.
+fn below_zero(numeral: &Numeral<'_>) -> Option<Number>
+    ensures { option_map number_view result ≡ number_from true numeral.now }
+{
+    if let Some(whole) = numeral.to_i64(true) {
+        if whole < 0 {
+            return Number::from_i128(i128::from(whole));
+        }
+    }
+    nearest(true, numeral)
+}
+
+fn not_below_zero(numeral: &Numeral<'_>) -> Option<Number>
+    ensures { option_map number_view result ≡ number_from false numeral.now }
+{
+    match numeral.to_u64() {
+        Some(whole) => Number::from_u128(u128::from(whole)),
+        None => nearest(false, numeral),
+    }
+}
+
+/// The float nearest to it, where there is one.
+fn nearest(negative: bool, numeral: &Numeral<'_>) -> Option<Number>
+    ensures { option_map number_view result ≡ float_of negative numeral.now }
+{
+    Number::from_f64(numeral.to_float::<f64>(negative))
+}
