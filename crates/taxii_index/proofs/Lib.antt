@@ -1,5 +1,6 @@
 pub mod ListLemmas
 pub mod KeyLemmas
+mod MadeLemmas
 pub mod OrderLemmas
 pub mod RowLemmas
 pub mod NameLemmas

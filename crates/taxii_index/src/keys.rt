@@ -1,4 +1,4 @@
-ghost use Rattle.std.specs.Prelude.{◌≡◌, ℕ, [], ◌∷◌, ◌++◌, List, IfOk, OnOk, OnErr};
+ghost use Rattle.std.specs.Prelude.{◌≡◌, ℕ, [], ◌∷◌, ◌++◌, List, OnOk, OnErr};
 ghost use Rattle.std.specs.List.{Contains};
 ghost use Rattle.std.specs.declared.ops.Bound.TheVariants.{Included, Excluded};
 ghost use Rattle.std.specs.BTreeSet.{keys_between, IsOrdered};
@@ -31,12 +31,11 @@ impl Keys {
         }
     }
 
-    /// The set of these keys, made at once: a sort, and no look-up for each.
-    pub(crate) fn of(alloc: Global, keys: &[Key]) -> Result<Keys, NoMemory>
-        ensures { IfOk result (λ set. HasKeys keys.now set.keys) }
+    /// The set of these keys.
+    pub(crate) fn of(keys: BTreeSet<Key, Global>) -> Keys
+        ensures { result.keys ≡ keys }
     {
-        let set: BTreeSet<Key, Global> = keys.iter().copied().collect(alloc)?;
-        Ok(Keys { keys: set })
+        Keys { keys }
     }
 
     /// All keys, in their order.

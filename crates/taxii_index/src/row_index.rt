@@ -11,6 +11,7 @@ use crate::keys::{Key, Keys};
 use crate::names::{object_name, parts_name, text_name};
 use flow_values::NoMemory;
 use std::alloc::Global;
+use std::collections::BTreeSet;
 use std::collections::btree_set::{Iter, Range};
 use taxii_rows::{Described, StoredRow, row_at};
 
@@ -186,61 +187,41 @@ fn key_date(key: Option<&Key>) -> u64 {
     }
 }
 
-/// Some rows among the versions of their objects.
+/// Some rows among the versions of their objects: a sort of their keys, and no look-up for each. They go
+/// into the set as they are made, since what a list of them would leave free stays the process's.
 fn by_version(alloc: Global, secret: u128, rows: &[StoredRow]) -> Result<Keys, NoMemory>
     ensures keys { IfOk result (λ set. HasKeys (map (version_key_of secret) rows.now) set.keys) }
     ensures bits { IfOk result (λ _. All (λ row. IsIn64Bits (version_key_of secret row)) rows.now) }
 {
-    let keys = version_keys(alloc, secret, rows)?;
-    Keys::of(alloc, &keys)
+    let keys: BTreeSet<Key, Global> = rows
+        .iter()
+        .map(|row| version_key(secret, row))
+        .collect(alloc)?;
+    Ok(Keys::of(keys))
 }
 
-/// Some rows among the rows of their texts.
+/// Some rows among the rows of their texts, as above.
 fn by_text(alloc: Global, secret: u128, rows: &[StoredRow]) -> Result<Keys, NoMemory>
     ensures { IfOk result (λ set. HasKeys (map (text_key_of secret) rows.now) set.keys) }
 {
-    let keys = text_keys(alloc, secret, rows)?;
-    Keys::of(alloc, &keys)
-}
-
-/// The keys of some rows among the versions of their objects.
-fn version_keys(alloc: Global, secret: u128, rows: &[StoredRow]) -> Result<Vec<Key>, NoMemory>
-    ensures keys { IfOk result (λ keys. keys.items ≡ map (version_key_of secret) rows.now) }
-    ensures bits { IfOk result (λ _. All (λ row. IsIn64Bits (version_key_of secret row)) rows.now) }
-{
-    let mut keys = Vec::with_capacity(alloc, rows.len())?;
-    for row in rows {
-        push_key(&mut keys, version_key(secret, row))?;
-    }
-    Ok(keys)
-}
-
-/// Adds a key.
-fn push_key(keys: &mut Vec<Key>, key: Key) -> Result<(), NoMemory>
-    ensures pushed { OnOk result (keys.new.items ≡ keys.old.items ++ key ∷ []) }
-    ensures bits { IsIn64Bits key }
-{
-    keys.push(key)?;
-    Ok(())
-}
-
-/// The keys of some rows among the rows of their texts.
-fn text_keys(alloc: Global, secret: u128, rows: &[StoredRow]) -> Result<Vec<Key>, NoMemory>
-    ensures { IfOk result (λ keys. keys.items ≡ map (text_key_of secret) rows.now) }
-{
-    let mut keys = Vec::with_capacity(alloc, rows.len())?;
-    for row in rows {
-        keys.push(text_key(secret, row))?;
-    }
-    Ok(keys)
+    let keys: BTreeSet<Key, Global> = rows.iter().map(|row| text_key(secret, row)).collect(alloc)?;
+    Ok(Keys::of(keys))
 }
 
 /// The key of a row among the versions of its object.
 fn version_key(secret: u128, row: &StoredRow) -> Key
-    ensures { result ≡ version_key_of secret row.now }
+    ensures key { result ≡ version_key_of secret row.now }
+    ensures bits { IsIn64Bits result }
 {
     let name = object_name(secret, row.collection, &row.id);
-    (name, row.version, row.date)
+    key_of(name, row.version, row.date)
+}
+
+fn key_of(name: u64, number: i64, date: u64) -> Key
+    ensures key { result ≡ (name, number, date) }
+    ensures bits { IsIn64Bits result }
+{
+    (name, number, date)
 }
 
 /// The key of a row among the rows of its text.

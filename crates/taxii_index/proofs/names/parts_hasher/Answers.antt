@@ -1,4 +1,4 @@
-use Rattle.std.proofs.Common.{◌≡◌, ◌∙◌, ap}
+use Rattle.std.proofs.Common.{◌≡◌}
 use Rattle.std.specs.Int.{w128, to_le_bytes}
 use Rattle.std.specs.Hash.DefaultHasher as sip
 use Rattle.taxii_index.specs.Names.{fed_with}

@@ -20,7 +20,7 @@ pub returns-then-is_err-clause-err : goal.returns-then-is_err-clause-err
 returns-then-is_err-clause-err c = λ rows absent index.
     let row = c.args.row.now in
     let secret = c.args.self.now.secret in
-    let version = c.version_key-key.ensures in
+    let version = c.version_key-key.ensures.key in
     on_err c.insert-added.result (c.insert-added.ensures.err (map (text_key secret) rows) index.texts) (λ texts. record {
       versions = c.remove.ensures (map (version_key secret) rows) (own_key (version_key secret) (λ _. refl) rows row c.version_key-key.result version absent)
           (c.in_ok-insert.ensures.ok (map (version_key secret) rows) index.versions);
@@ -33,6 +33,6 @@ returns-else-is_err-clause-ok c = λ rows index.
     let row = c.args.row.now in
     let secret = c.args.self.now.secret in
     on_ok c.insert-added.result (c.insert-added.ensures.ok (map (text_key secret) rows) index.texts) (λ texts.
-    index_with rows row c.args.self.now c.insert.new.self c.insert-added.new.self index (subst IsIn64Bits c.version_key-key.ensures c.in_ok-insert.ensures.bits)
-    (has_pushed (version_key secret) rows row c.version_key-key.result c.insert.new.self.keys c.version_key-key.ensures (c.in_ok-insert.ensures.ok (map (version_key secret) rows) index.versions))
+    index_with rows row c.args.self.now c.insert.new.self c.insert-added.new.self index (subst IsIn64Bits c.version_key-key.ensures.key c.in_ok-insert.ensures.bits)
+    (has_pushed (version_key secret) rows row c.version_key-key.result c.insert.new.self.keys c.version_key-key.ensures.key (c.in_ok-insert.ensures.ok (map (version_key secret) rows) index.versions))
     (has_pushed (text_key secret) rows row c.text_key.result c.insert-added.new.self.keys c.text_key.ensures texts))

@@ -11,4 +11,4 @@ pub returns : goal.returns
 returns c = λ rows index.
     let leads = leads_to_later c.args.self.now.secret c.args.row.now rows (pos 9223372036854775807) 18446744073709551615 c.args.self.now.by_version.keys index.versions
     (λ other here. let bits = All-contains (λ (r : StoredRow). IsIn64Bits (version_key c.args.self.now.secret r)) rows other index.bits here in (omega (arith, ints, bits.number), omega (arith, bits.date))) in
-    rw (c.after.ensures, c.version_key.ensures) leads
+    rw (c.after.ensures, c.version_key.ensures.key) leads

@@ -9,7 +9,7 @@ pub returns : goal.returns
 returns c = λ rows absent index.
     let row = c.args.row.now in
     let secret = c.args.self.now.secret in
-    let version = c.version_key.ensures in
+    let version = c.version_key.ensures.key in
     let text = c.text_key.ensures in record {
       versions = c.remove.ensures (map (version_key secret) rows) (own_key (version_key secret) (λ _. refl) rows row c.version_key.result version absent)
           (has_unpushed (version_key secret) rows row c.version_key.result c.args.self.now.by_version.keys version index.versions);

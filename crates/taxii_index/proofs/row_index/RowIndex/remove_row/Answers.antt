@@ -8,7 +8,7 @@ pub returns : goal.returns
 returns c = λ gone rows rise here index.
     let row = c.args.row.now in
     let secret = c.args.self.now.secret in
-    let version = c.version_key.ensures in
+    let version = c.version_key.ensures.key in
     let text = c.text_key.ensures in record {
       versions = subst (λ (k : Key). HasKeysBut (gone ++ k.2 ∷ []) (map (version_key secret) rows) c.remove_one.new.self.keys) version
           (c.remove_one.ensures gone (map (version_key secret) rows) (alone_in (version_key secret) (λ _. refl) rows row c.version_key.result version rise here) index.versions);
