@@ -9,21 +9,22 @@ use stix_names::Name;
 /// The latest date that a row can have, in microseconds since 1970: the last one of the year 9999.
 pub const LAST_DATE: u64 = 253_402_300_799_999_999;
 
-/// A row of a store: an object in a collection, and when it was added.
+/// A row of a store: an object in a collection, and when it was added. The fields lie in this order, in which no
+/// room is left between them.
 #[derive(Drop)]
 pub struct StoredRow {
     /// When the object was added, in microseconds since 1970. No two rows of a store have one date.
     pub date: u64,
+    /// The object's version in microseconds since 1970, or the date where it is undated.
+    pub version: i64,
     /// The number of the collection's UUID.
     pub collection: u128,
     /// The object's identifier.
     pub id: Id,
-    /// The object's version in microseconds since 1970, or the date where it is undated.
-    pub version: i64,
-    /// Whether the object tells its version.
-    pub dated: bool,
     /// The object as compact JSON.
     pub body: Text,
+    /// Whether the object tells its version.
+    pub dated: bool,
 }
 
 impl StoredRow {
