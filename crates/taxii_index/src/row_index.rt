@@ -16,7 +16,7 @@ use std::collections::btree_set::{Iter, Range};
 use taxii_rows::{Described, StoredRow, row_at};
 
 /// To make the keys of a row, and to find them, takes about as long as to pass over those of so many rows.
-const ROWS_A_LOOK_UP: usize = 32;
+const ROWS_A_LOOK_UP: usize = 16;
 
 /// Under which keys some rows are found: the versions of an object, and the rows of a text of it.
 #[derive(Drop)]
