@@ -8,6 +8,7 @@ use Rattle.std.proofs.lemmas.Option.{slice_get_within, slice_get-get_or}
 use Rattle.serde_json.specs.Data.{Data}
 use Rattle.stix_bundles.specs.declared.observation.Observation.{Observation}
 use Rattle.pattern_types.specs.declared.pattern.Pattern.{Pattern}
+use Rattle.pattern_types.specs.PlainLeaf.{PlainLeaf}
 use Rattle.pattern_types.specs.PlainPattern.{PlainPattern, plain_pattern}
 use Rattle.match_bindings.specs.declared.log_entry.LogEntry.{LogEntry}
 use Rattle.match_bindings.specs.NumberedPattern.{numbered_pattern}
@@ -23,6 +24,7 @@ use Rattle.watch_indicators.specs.declared.hunted.Hunted.{Hunted}
 use Rattle.watch_hunt.specs.declared.found.Found.{Found}
 use Rattle.watch_hunt.specs.declared.refusal.EngineRefusal.{EngineRefusal}
 use Rattle.watch_hunt.specs.declared.refusal.EngineRefusal.TheVariants as refusal
+use Rattle.watch_hunt.specs.Known.{brackets_of, IsRight}
 use Rattle.watch_hunt.specs.EngineLog.{Row, row_of, IsLogOf, last_of_rows}
 use Rattle.watch_hunt.specs.EngineState.{EngineState, EngineStandsFor}
 use Rattle.watch_hunt.specs.EngineAnswer.{binds_at, TellsRow, IsFirstCrowded}
@@ -330,3 +332,18 @@ takes-first objects seen later observations before after text are takes = record
   after = after;
   takes = takes;
 }
+
+-- ---- what is known of a bundle
+
+-- nothing is, at first
+pub right-none : (objects : List Data) (brackets : List PlainLeaf) (known : List (Option (List ℕ))) → known ≡ [] → IsRight objects brackets known
+right-none objects brackets known is root places at = let none : slice_get [] root ≡ Some (Some places) = sym (ap (λ (l : List (Option (List ℕ))). slice_get l root) is) ∙ at in absurd (cc)
+
+-- it is right for the brackets of the engine's patterns, which are those of the hunted list
+pub right-engine : (hunter : HunterState) (objects : List Data) (known : List (Option (List ℕ))) → IsReady hunter
+    → IsRight objects (brackets_of (patterns_of hunter.hunted)) known → IsRight objects (brackets_of hunter.engine.patterns) known
+right-engine hunter objects known ready right = subst (λ (ps : List Pattern). IsRight objects (brackets_of ps) known) (sym ready.hunts.patterns) right
+
+pub right-hunted : (hunter : HunterState) (objects : List Data) (known : List (Option (List ℕ))) → IsReady hunter
+    → IsRight objects (brackets_of hunter.engine.patterns) known → IsRight objects (brackets_of (patterns_of hunter.hunted)) known
+right-hunted hunter objects known ready right = subst (λ (ps : List Pattern). IsRight objects (brackets_of ps) known) ready.hunts.patterns right

@@ -4,8 +4,9 @@ ghost use Rattle.stix_bundles.specs.Objects.{data_in};
 ghost use Rattle.match_live.specs.MatcherState.{Falls};
 ghost use Rattle.watch_log.specs.Reading.{MayFollow};
 ghost use Rattle.watch_hunt.specs.EngineLog.{row_of};
+ghost use Rattle.watch_hunt.specs.Known.{brackets_of, IsRight};
 ghost use Rattle.watch_hunt.specs.declared.refusal.EngineRefusal.TheVariants.{Ended};
-ghost use Rattle.watch_hits.specs.Hunting.{IsHuntable, HuntsOver, IsReady, SeesBundle, BeginsBundle, StopsInBundle};
+ghost use Rattle.watch_hits.specs.Hunting.{patterns_of, IsHuntable, HuntsOver, IsReady, SeesBundle, BeginsBundle, StopsInBundle};
 ghost use Rattle.watch_hits.specs.inner.Noting.{noted, all_noted, AreBefore};
 ghost use Rattle.watch_hits.specs.inner.Telling.{TakesRow, end_of_engine, EndsAtRow, TakesSoFar, EndsAmong, HasCutLines};
 
@@ -20,7 +21,7 @@ use std::marker::Model;
 use stix_bundles::{Bundle, Observation};
 use stix_times::Instant;
 use watch_hunt::laws::one_log;
-use watch_hunt::{Engine, EngineRefusal, Found};
+use watch_hunt::{Engine, EngineRefusal, Found, Known};
 use watch_indicators::Hunted;
 use watch_log::laws::parts_on_their_way;
 use watch_log::{Pending, SeeEnd, Watcher};
@@ -91,9 +92,10 @@ impl<'p> Hunter<'p> {
         ensures causes { Counted (result ≡ Err SeeEnd.WriteFault) (O.faults output.old) (O.faults output.new) }
     {
         parts_on_their_way();
+        let mut known = Known::new(self.alloc);
         let observations = batch.observations.as_slice();
         for observation in observations {
-            let hits = match self.take(observation, &batch.bundle) {
+            let hits = match self.take(observation, &batch.bundle, &mut known) {
                 Ok(hits) => hits,
                 Err(end) => return Err(end),
             };
@@ -102,24 +104,27 @@ impl<'p> Hunter<'p> {
         Ok(())
     }
 
-    /// Takes the next observation, and notes the hits that end there.
+    /// Takes the next observation of a bundle of which so much is known, and notes the hits that end there.
     fn take(
         &mut self,
         observation: &Observation,
         bundle: &Bundle,
+        known: &mut Known,
     ) -> Result<Items<Found>, SeeEnd<Crowded>>
         requires ready { IsReady self.old }
+        requires right { IsRight (data_in bundle.now) (brackets_of (patterns_of self.old.hunted)) known.old }
         requires span { observation.now.first ≤ℤ observation.now.last }
         requires number { observation.now.number ≡ self.old.engine.rows + 1 }
         requires order { ¬ (Falls self.old.engine.last observation.now.last) }
         ensures row { IfOk result (TakesRow (row_of observation.now (data_in bundle.now)) self.old self.new) }
         ensures end { IfErr result (EndsAtRow (row_of observation.now (data_in bundle.now)) self.old) }
+        ensures right { OnOk result (IsRight (data_in bundle.now) (brackets_of (patterns_of self.old.hunted)) known.new) }
     {
         one_log();
         if observation.number >= TOO_MANY {
             return Err(SeeEnd::NoMemory);
         }
-        let hits = match self.engine.take(observation, bundle) {
+        let hits = match self.engine.take(observation, bundle, known) {
             Ok(hits) => hits,
             Err(refusal) => return Err(end_of(refusal)),
         };

@@ -1,11 +1,11 @@
 -- What is given at a row of an engine, by what it keeps.
 use Rattle.std.proofs.Common.{◌≡◌, ◌<◌, ◌++◌, ◌∷◌, [], ℕ, List, length, take, drop, get_or, refl, sym, ◌∙◌, ap, subst, arith}
-use Rattle.std.specs.Prelude.{Bool, false, true, Some, Contains, map, slice_get}
+use Rattle.std.specs.Prelude.{Bool, false, Option, map}
 use Rattle.std.proofs.lemmas.List.{length-map, take-append-le}
 use Rattle.stix_bundles.specs.declared.observation.Observation.{Observation}
 use Rattle.pattern_types.specs.PlainLeaf.{PlainLeaf, plain_leaf}
 use Rattle.pattern_types.specs.PlainPattern.{plain_pattern}
-use Rattle.watch_index.specs.Candidates.{AreCandidates}
+use Rattle.serde_json.specs.Data.{Data}
 use Rattle.watch_hunt.specs.declared.engine.Engine.TheInside.{Inside}
 use Rattle.watch_hunt.specs.declared.next_row.NextRow.{NextRow}
 use Rattle.watch_hunt.specs.EngineLog.{Row}
@@ -13,9 +13,10 @@ use Rattle.watch_hunt.specs.EngineState.{EngineState, EngineStandsFor, IsReady}
 use Rattle.watch_hunt.specs.FollowerState.{FollowerState}
 use Rattle.watch_hunt.specs.inner.Built.{IsBuilt}
 use Rattle.watch_hunt.specs.inner.Following.{GoesOn}
-use Rattle.watch_hunt.specs.inner.Judging.{Judged}
+use Rattle.watch_hunt.specs.inner.Judging.{Judged, AreListed}
+use Rattle.watch_hunt.specs.Known.{brackets_of, IsRight}
 use Rattle.watch_hunt.specs.inner.Round.{AllFollow, StillFollow}
-use Rattle.watch_hunt.proofs.RoundLemmas.{AtRow, all_follow, still_all, touched_inside, marked_there, at_row}
+use Rattle.watch_hunt.proofs.RoundLemmas.{AtRow, all_follow, still_all, touched_inside, at_row}
 
 -- an engine without where it lies in memory
 abbrev pub state_of : Inside → EngineState
@@ -57,12 +58,19 @@ places_inside m r marks touched touched' first swept now built judged a e still 
     (touched_inside (map plain_pattern (map (λ h. h.pattern) m.hunted.now)) (leaves_of m) m.brackets.owners.items m.brackets.stretches.items r.objects r.observation.roots marks touched (length now) built.table judged
     (let g : length (map plain_pattern (map (λ h. h.pattern) m.hunted.now)) ≡ length now = omega (arith, many, count, one, are, long, long') in g))
 
-pub marked_inside : (m : Inside) (r : Row) (marks now : List Bool) (touched candidates candidates' : List ℕ) → Judged r.objects r.observation.roots (leaves_of m) m.brackets.owners.items marks touched → IsBuilt m →
-    AreCandidates r.objects r.observation.roots (map plain_leaf m.index) candidates → now ≡ marks → candidates' ≡ candidates → (at : ℕ) → slice_get now at ≡ Some true → Contains candidates' at
-marked_inside m r marks now touched candidates candidates' judged built are e f at mark =
-    let are' = subst (λ l. AreCandidates r.objects r.observation.roots (map plain_leaf l) candidates) built.index_is are in
-    subst (λ (l : List ℕ). Contains l at) (sym f)
-    (marked_there r.objects r.observation.roots (leaves_of m) m.brackets.owners.items marks touched candidates judged are' at (ap (λ l. slice_get l at) (sym e) ∙ mark))
+-- what is marked is what is cleared
+pub marked_inside : (marks now : List Bool) (held held' : List ℕ) → AreListed marks held → now ≡ marks → held' ≡ held → AreListed now held'
+marked_inside marks now held held' listed e f =
+    subst (λ (l : List Bool). AreListed l held') (sym e) (subst (λ (l : List ℕ). AreListed marks l) (sym f) listed)
+
+-- what is known is right for the brackets of the engine's patterns
+pub right_given : (m : Inside) (s : EngineState) (objects : List Data) (known : List (Option (List ℕ))) → IsBuilt m → state_of m ≡ s → IsRight objects (brackets_of s.patterns) known → IsRight objects (leaves_of m) known
+right_given m s objects known built e right =
+    subst (λ (l : List PlainLeaf). IsRight objects l known) (sym (built.brackets_are ∙ ap (λ (k : EngineState). brackets_of k.patterns) e)) right
+
+pub right_then : (m : Inside) (s : EngineState) (objects : List Data) (known : List (Option (List ℕ))) → IsBuilt m → state_of m ≡ s → IsRight objects (leaves_of m) known → IsRight objects (brackets_of s.patterns) known
+right_then m s objects known built e right =
+    subst (λ (l : List PlainLeaf). IsRight objects l known) (built.brackets_are ∙ ap (λ (k : EngineState). brackets_of k.patterns) e) right
 
 -- all that is given at the row
 pub given_at : (m : Inside) (rows : List Row) (r : Row) (marks marks' : List Bool) (touched touched' : List ℕ) (first swept now : List FollowerState) → IsBuilt m → EngineStandsFor (state_of m) rows → GoesOn (row_at m r.observation) →

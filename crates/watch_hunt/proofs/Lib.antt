@@ -6,7 +6,9 @@ mod TruthLemmas
 mod PlaceLemmas
 mod TableLemmas
 mod RoundLemmas
+mod HoldingLemmas
 mod JudgeLemmas
+mod KnownLemmas
 mod StepLemmas
 mod SoundLemmas
 mod EngineLemmas

@@ -68,6 +68,10 @@ get_set_other (y ∷ xs) (suc i) (suc k) x h = get_set_other xs i k x (λ e. h (
 pub got : (xs : List ℕ) (n : ℕ) → Contains xs n → (k : ℕ) × (slice_get xs k ≡ Some n)
 got xs n (k, inside, is) = (k, slice_get_read xs (length xs) k n refl inside (sym is))
 
+-- and what stands in it is contained
+pub stands : (xs : List ℕ) (k n : ℕ) → slice_get xs k ≡ Some n → Contains xs n
+stands xs k n at = (k, slice_get_within xs k n at, get_or_from_slice_get xs k n n at)
+
 pub there : {A : Type 0} (xs : List A) (k : ℕ) → k < length xs → (x : A) × (slice_get xs k ≡ Some x)
 there [] k h = absurd (omega arith)
 there (x ∷ xs) zero h = (x, refl)

@@ -1,6 +1,6 @@
 -- All followers at one row: each pattern's log with the row is followed, touched or not, and what was found for it ends there.
 use Rattle.std.proofs.Common.{◌≡◌, ℕ, zero, suc, ◌+◌, ◌<◌, List, [], ◌∷◌, ◌++◌, length, get_or, sym, ◌∙◌, ap, subst, arith, inl, inr, length-append}
-use Rattle.std.specs.Prelude.{◌⊎◌, Bool, true, false, Some, None, Contains, map, slice_get}
+use Rattle.std.specs.Prelude.{◌⊎◌, Bool, false, Some, None, map, slice_get}
 use Rattle.std.specs.Option.{option_map}
 use Rattle.std.proofs.lemmas.Bool.{cases_order}
 use Rattle.std.proofs.lemmas.List.{length-map}
@@ -15,7 +15,6 @@ use Rattle.match_live.specs.Answer.{IsAnswer}
 use Rattle.match_live.specs.Passing.{IsQuiet}
 use Rattle.match_live.proofs.ShapeLemmas.{Rule}
 use Rattle.serde_json.specs.Data.{Data}
-use Rattle.watch_index.specs.Candidates.{AreCandidates}
 use Rattle.watch_hunt.specs.declared.found.Found.{Found}
 use Rattle.watch_hunt.specs.declared.next_row.NextRow.{NextRow}
 use Rattle.watch_hunt.specs.declared.brackets.Stretch.{Stretch}
@@ -238,13 +237,6 @@ pub touched_inside : (patterns : List PlainPattern) (leaves : List PlainLeaf) (o
 touched_inside patterns leaves owners stretches objects roots marks touched n table judged e k d h =
     let t = there touched k h in let o = judged.owned k t.0 t.1 in let v = table.valid o.0 t.0 o.1 in
     let same = get_or_from_slice_get touched k t.0 d t.1 in omega (arith, v, same, e)
-
--- what is marked is a candidate
-pub marked_there : (objects : List Data) (roots : List ℕ) (leaves : List PlainLeaf) (owners : List ℕ) (marks : List Bool) (touched candidates : List ℕ) → Judged objects roots leaves owners marks touched →
-    AreCandidates objects roots leaves candidates → (at : ℕ) → slice_get marks at ≡ Some true → Contains candidates at
-marked_there objects roots leaves owners marks touched candidates judged are at mark =
-    let inside = slice_get_within marks at true mark in let count = judged.count in
-    let leaf = there leaves at (omega (arith, inside, count)) in are.all at leaf.0 leaf.1 ((judged.marks_hold at leaf.0 leaf.1).0 mark)
 
 -- what is given at a row
 pub at_row : (state : EngineState) (rows : List Row) (r : Row) (row : NextRow) (leaves : List PlainLeaf) (owners : List ℕ) (stretches : List Stretch) (marks : List Bool) (touched : List ℕ) (swept : List FollowerState) →

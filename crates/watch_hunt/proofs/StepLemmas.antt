@@ -1,6 +1,6 @@
 -- One follower more takes the row; and the marks taken off again.
 use Rattle.std.proofs.Common.{◌≡◌, ℕ, zero, suc, ◌+◌, ◌≤◌, ◌<◌, ℤ, List, [], ◌∷◌, ◌++◌, length, set, refl, sym, ◌∙◌, ap, subst, arith, inl, inr, append-nil}
-use Rattle.std.specs.Prelude.{◌⊎◌, Bool, true, false, nat_eq, Option, Some, map, slice_get}
+use Rattle.std.specs.Prelude.{◌⊎◌, Bool, true, false, nat_eq, Option, Some, Contains, map, slice_get}
 use Rattle.std.proofs.lemmas.List.{length-set, map-append}
 use Rattle.std.proofs.lemmas.Bool.{eq-eqb, ne_eqb}
 use Rattle.std.proofs.lemmas.Option.{slice_get_within}
@@ -17,7 +17,7 @@ use Rattle.watch_hunt.specs.inner.Table.{part_of}
 use Rattle.watch_hunt.specs.inner.Judging.{IsRising}
 use Rattle.watch_hunt.specs.inner.Following.{EndsAt}
 use Rattle.watch_hunt.specs.inner.Round.{Takes, TookSome, StillFollow, found_of}
-use Rattle.watch_hunt.proofs.PlaceLemmas.{same_or_other, seam, get_one, get_set, get_set_other}
+use Rattle.watch_hunt.proofs.PlaceLemmas.{same_or_other, seam, got, get_one, get_set, get_set_other}
 use Rattle.watch_hunt.proofs.JudgeLemmas.{below_or_at}
 
 -- ---- what is found
@@ -159,3 +159,30 @@ pub record ClearSoFar (candidates : List ℕ) (i : ℕ) (old now : List Bool) : 
   pub count : length now ≡ length old
   pub marked : (at : ℕ) → slice_get now at ≡ Some true → slice_get old at ≡ Some true
   pub off : (j at : ℕ) → j < i → slice_get candidates j ≡ Some at → slice_get now at ≡ Some true → ⊥
+
+-- one more is
+pub clear_next : (candidates : List ℕ) (i : ℕ) (old now : List Bool) → ClearSoFar candidates i old now → (at : ℕ) → slice_get candidates i ≡ Some at → at < length now
+    → ClearSoFar candidates (i + 1) old (set now at false)
+clear_next candidates i old now far at at_is inside = record {
+  count = length-set now at false ∙ far.count;
+  marked = λ b mark. far.marked b (was b mark (same_or_other at b));
+  off = λ j b h of_j mark. off j b of_j mark (below_or_at j i h);
+} where
+  gone : slice_get (set now at false) at ≡ Some true → ⊥
+  gone mark = let is : Some false ≡ Some true = sym (get_set now at false inside) ∙ mark in cc
+
+  was : (b : ℕ) → slice_get (set now at false) b ≡ Some true → (at ≡ b) ⊎ (at ≡ b → ⊥) → slice_get now b ≡ Some true
+  was b mark (inl e) = absurd (gone (ap (slice_get (set now at false)) e ∙ mark))
+  was b mark (inr e) = sym (get_set_other now at b false e) ∙ mark
+
+  off : (j b : ℕ) → slice_get candidates j ≡ Some b → slice_get (set now at false) b ≡ Some true → (j < i) ⊎ (j ≡ i) → ⊥
+  off j b of_j mark (inl h) = far.off j b h of_j (was b mark (same_or_other at b))
+  off j b of_j mark (inr e) = let same : at ≡ b = cc in gone (ap (slice_get (set now at false)) same ∙ mark)
+
+-- all of them are, and no other was marked
+pub all_clear : (candidates : List ℕ) (i : ℕ) (old now : List Bool) → ClearSoFar candidates i old now → length candidates ≤ i
+    → ((at : ℕ) → slice_get old at ≡ Some true → Contains candidates at) → (at : ℕ) → slice_get now at ≡ Some true → ⊥
+all_clear candidates i old now far end there at mark =
+    let k = got candidates at (there at (far.marked at mark)) in
+    let inside = slice_get_within candidates k.0 at k.1 in
+    far.off k.0 at (omega (arith, inside, end)) k.1 mark

@@ -5,7 +5,8 @@ use Rattle.std.proofs.lemmas.List.{take-append-le, drop-append-le, length-drop}
 use Rattle.pattern_types.specs.PlainLeaf.{PlainLeaf}
 use Rattle.pattern_types.specs.PlainPattern.{PlainPattern}
 use Rattle.watch_hunt.specs.declared.brackets.Stretch.{Stretch}
-use Rattle.watch_hunt.specs.inner.Table.{leaf_list, part_of, repeated, IsTable}
+use Rattle.watch_hunt.specs.Known.{leaf_list}
+use Rattle.watch_hunt.specs.inner.Table.{part_of, repeated, IsTable}
 use Rattle.watch_hunt.proofs.PlaceLemmas.{seam, get_left, get_right, get_one, get_repeated, repeated_get, length_repeated}
 
 take_all : {A : Type 0} (xs : List A) → take (length xs) xs ≡ xs

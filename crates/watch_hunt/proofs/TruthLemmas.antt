@@ -8,7 +8,8 @@ use Rattle.pattern_types.specs.PlainPattern.{PlainPattern, a_leaf, a_both, an_ei
 use Rattle.match_tests.specs.Tests.{LeafHolds}
 use Rattle.match_tests.specs.Truths.{AreOfBoth, AreTruths}
 use Rattle.watch_hunt.specs.declared.brackets.Stretch.{Stretch}
-use Rattle.watch_hunt.specs.inner.Table.{leaf_list, part_of}
+use Rattle.watch_hunt.specs.Known.{leaf_list}
+use Rattle.watch_hunt.specs.inner.Table.{part_of}
 
 -- a mark tells whether its bracket holds
 abbrev pub Tells : List Data → List ℕ → PlainLeaf → Bool → Type 0

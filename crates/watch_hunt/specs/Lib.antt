@@ -2,4 +2,5 @@ pub mod EngineLog
 pub mod FollowerState
 pub mod EngineState
 pub mod EngineAnswer
+pub mod Known
 pub mod inner

@@ -1,24 +1,15 @@
-//! The brackets of all patterns, and which of them hold at a row.
+//! The brackets of all patterns.
 
-ghost use Rattle.std.specs.Prelude.{◌≡◌, ◌↔◌, ◌≤◌, ◌<◌, ◌+◌, ◌-◌, ◌^◌, ◌++◌, ℕ, IsTrue, true, List, [], ◌∷◌, All, Contains, Some, length, map, slice_get, IfOk, OnOk};
-ghost use Rattle.stix_bundles.specs.Objects.{data_in};
+ghost use Rattle.std.specs.Prelude.{◌≡◌, ◌≤◌, ◌<◌, ◌+◌, ◌^◌, ◌++◌, List, [], ◌∷◌, Some, length, map, slice_get, OnOk};
 ghost use Rattle.pattern_types.specs.PlainLeaf.{plain_leaf};
 ghost use Rattle.pattern_types.specs.PlainPattern.{PlainPattern, plain_pattern};
-ghost use Rattle.pattern_types.specs.Soundness.{IsSoundLeaf};
-ghost use Rattle.match_tests.specs.Tests.{LeafHolds};
-ghost use Rattle.watch_index.specs.Exact.{IsExact};
-ghost use Rattle.watch_index.specs.Candidates.{AreCandidates};
-ghost use Rattle.watch_hunt.specs.EngineAnswer.{NeverFalls};
 ghost use Rattle.watch_hunt.specs.declared.brackets.Stretch.{Stretch};
-ghost use Rattle.watch_hunt.specs.inner.Table.{leaf_list, part_of, repeated, IsTable};
-ghost use Rattle.watch_hunt.specs.inner.Judging.{IsRising, AreClear, Judged, AddsPlace};
+ghost use Rattle.watch_hunt.specs.Known.{leaf_list};
+ghost use Rattle.watch_hunt.specs.inner.Table.{part_of, repeated, IsTable};
 
-use flow_values::{Items, NoMemory};
-use match_tests::leaf_holds;
+use flow_values::NoMemory;
 use pattern_types::{Leaf, Pattern};
 use std::alloc::Global;
-use stix_bundles::{Bundle, Observation};
-use watch_index::is_exact;
 
 /// So many brackets are counted by a u32.
 const MAX_BRACKETS: usize = 4_294_967_295;
@@ -122,78 +113,4 @@ fn add_owner(owners: &mut Vec<u32>, place: u32, count: usize) -> Result<(), NoMe
         owners.push(place)?;
     }
     Ok(())
-}
-
-/// Marks the brackets that hold at a row. The answer is the places of their patterns, in order and each
-/// once. Only the candidates are judged: all that hold are among them, and those that are exact hold.
-pub(crate) fn judge(
-    alloc: Global,
-    brackets: &Brackets<'_>,
-    observation: &Observation,
-    bundle: &Bundle,
-    candidates: &[u32],
-    marks: &mut [bool],
-) -> Result<Items<u32>, NoMemory>
-    requires sound { All IsSoundLeaf (map plain_leaf (map (λ leaf. leaf.now) brackets.now.leaves.items)) }
-    requires owned { length brackets.now.owners.items ≡ length brackets.now.leaves.items }
-    requires rise { NeverFalls brackets.now.owners.items }
-    requires candidates { AreCandidates (data_in bundle.now) observation.now.roots (map plain_leaf (map (λ leaf. leaf.now) brackets.now.leaves.items)) candidates.now }
-    requires count { length marks.old ≡ length brackets.now.leaves.items }
-    requires clear { AreClear marks.old }
-    ensures { IfOk result (Judged (data_in bundle.now) observation.now.roots (map plain_leaf (map (λ leaf. leaf.now) brackets.now.leaves.items))
-        brackets.now.owners.items marks.new) }
-{
-    let mut touched = Vec::new(alloc);
-    for bracket in candidates {
-        let at = *bracket as usize;
-        if candidate_holds(alloc, brackets.leaves[at], observation, bundle)? {
-            marks[at] = true;
-            add_place(&mut touched, brackets.owners[at])?;
-        }
-    }
-    Ok(Items::from_vec(touched))
-}
-
-/// Whether a candidate holds. One that is exact isn't asked: the index found what it asks for.
-fn candidate_holds(
-    alloc: Global,
-    leaf: &Leaf,
-    observation: &Observation,
-    bundle: &Bundle,
-) -> Result<bool, NoMemory>
-    requires sound { IsSoundLeaf (plain_leaf leaf.now) }
-    requires certain { IsExact (plain_leaf leaf.now) → LeafHolds (data_in bundle.now) observation.now.roots (plain_leaf leaf.now) }
-    ensures { IfOk result (λ holds. IsTrue holds ↔ LeafHolds (data_in bundle.now) observation.now.roots (plain_leaf leaf.now)) }
-{
-    if is_exact(leaf) {
-        return Ok(true);
-    }
-    leaf_holds(alloc, leaf, observation, bundle)
-}
-
-/// Adds a place behind those that are there, unless it is the last one.
-fn add_place(touched: &mut Vec<u32>, place: u32) -> Result<(), NoMemory>
-    requires rise { IsRising touched.old.items }
-    requires least { (k other : ℕ) → slice_get touched.old.items k ≡ Some other → other ≤ place }
-    ensures { OnOk result (AddsPlace touched.old.items place touched.new.items) }
-{
-    if let Some(last) = touched.last()
-        && *last == place
-    {
-        return Ok(());
-    }
-    touched.push(place)?;
-    Ok(())
-}
-
-/// Takes the marks off again.
-pub(crate) fn clear(candidates: &[u32], marks: &mut [bool])
-    requires there { All (λ at. at < length marks.old) candidates.now }
-    requires marked { (at : ℕ) → slice_get marks.old at ≡ Some true → Contains candidates.now at }
-    ensures clear { AreClear marks.new }
-    ensures count { length marks.new ≡ length marks.old }
-{
-    for bracket in candidates {
-        marks[*bracket as usize] = false;
-    }
 }

@@ -8,16 +8,18 @@ ghost use Rattle.watch_hunt.specs.declared.refusal.EngineRefusal.TheVariants as 
 ghost use Rattle.pattern_types.specs.declared.pattern.Pattern.{Pattern};
 ghost use Rattle.pattern_types.specs.PlainLeaf.{plain_leaf};
 ghost use Rattle.watch_hunt.specs.EngineLog.{Row, row_of};
+ghost use Rattle.watch_hunt.specs.Known.{brackets_of, IsRight};
 ghost use Rattle.watch_hunt.specs.FollowerState.{FollowerState, Follows};
 ghost use Rattle.watch_hunt.specs.inner.Table.{IsTable};
 ghost use Rattle.watch_hunt.specs.EngineState.{EngineStandsFor, IsReady};
 ghost use Rattle.watch_hunt.specs.EngineAnswer.{TellsRow, IsFirstCrowded};
 
-use crate::brackets::{Brackets, clear, judge};
+use crate::brackets::Brackets;
 use crate::follower::Follower;
 use crate::followers::{sweep, take_all};
+use crate::judging::{clear, judge};
 use crate::next_row::NextRow;
-use crate::{EngineRefusal, Found};
+use crate::{EngineRefusal, Found, Known};
 use flow_values::{Items, NoMemory};
 use match_bindings::laws::test_is_the_rule;
 use std::alloc::Global;
@@ -31,9 +33,9 @@ use watch_indicators::Hunted;
 /// many rows it took, the last time of the last of them, whether it has ended, and who follows the log for each
 /// pattern; and by `EngineStandsFor` the rows that this stands for.
 ///
-/// A row costs what the index of brackets finds for it, and one look at the stores of one matcher that it
-/// doesn't concern, in turn, so that what has expired there goes. A pattern of one bracket takes some 40
-/// bytes and what the index keeps.
+/// A row costs what the index of brackets finds for those of its roots that aren't known, the brackets that
+/// hold at the others, and one look at the stores of one matcher that it doesn't concern, in turn, so that what
+/// has expired there goes. A pattern of one bracket takes some 40 bytes and what the index keeps.
 #[derive(Drop)]
 pub struct Engine<'p> {
     alloc: Global,
@@ -107,8 +109,8 @@ impl<'p> Engine<'p> {
         })
     }
 
-    /// Takes the next observation of a log, with the bundle that it is of: by the pattern's place in the hunted
-    /// list all bindings that end there, each once, by flat list.
+    /// Takes the next observation of a log, with the bundle that it is of and what is known of that: by the
+    /// pattern's place in the hunted list all bindings that end there, each once, by flat list.
     ///
     /// It is refused where more of a pattern is live than the cap allows, or for want of memory; the engine has
     /// ended then.
@@ -116,8 +118,10 @@ impl<'p> Engine<'p> {
         &mut self,
         observation: &Observation,
         bundle: &Bundle,
+        known: &mut Known,
     ) -> Result<Items<Found>, EngineRefusal>
         requires ready { IsReady self.old }
+        requires right { IsRight (data_in bundle.now) (brackets_of self.old.patterns) known.old }
         requires span { observation.now.first ≤ℤ observation.now.last }
         requires number { observation.now.number ≡ self.old.rows + 1 }
         requires room { observation.now.number < 2 ^ 63 }
@@ -132,6 +136,7 @@ impl<'p> Engine<'p> {
         ensures ends { OnErr result (self.new.ended ≡ true) }
         ensures unchanged { self.old.ended ≡ true → self.new ≡ self.old }
         ensures kept { (self.new.patterns ≡ self.old.patterns) × (self.new.cap ≡ self.old.cap) }
+        ensures right { OnOk result (IsRight (data_in bundle.now) (brackets_of self.old.patterns) known.new) }
     {
         test_is_the_rule();
         if self.ended {
@@ -147,13 +152,13 @@ impl<'p> Engine<'p> {
         };
         let followers = self.followers.as_mut_slice();
         self.turn = sweep(followers, self.turns.as_slice(), self.turn, &row, self.cap)?;
-        let candidates = self.index.candidates(observation, bundle)?;
-        let touched = judge(
+        let judgement = judge(
             self.alloc,
             &self.brackets,
-            observation,
+            &self.index,
+            observation.roots.as_slice(),
             bundle,
-            candidates.as_slice(),
+            known,
             self.marks.as_mut_slice(),
         )?;
         let found = match take_all(
@@ -161,14 +166,14 @@ impl<'p> Engine<'p> {
             self.followers.as_mut_slice(),
             &self.brackets,
             self.marks.as_slice(),
-            touched.as_slice(),
+            judgement.touched.as_slice(),
             &row,
             self.cap,
         ) {
             Ok(found) => found,
             Err(refusal) => return Err(refusal),
         };
-        clear(candidates.as_slice(), self.marks.as_mut_slice());
+        clear(judgement.held.as_slice(), self.marks.as_mut_slice());
         self.rows = row.rows + 1;
         self.last = Some(row.last);
         self.ended = false;
@@ -183,6 +188,7 @@ fn brackets_of<'p>(alloc: Global, hunted: &'p [Hunted]) -> Result<Brackets<'p>, 
     ensures table { IfOk result (λ brackets. IsTable (map plain_pattern (map (λ h. h.pattern) hunted.now)) (map plain_leaf (map (λ leaf. leaf.now) brackets.leaves.items))
         brackets.owners.items brackets.stretches.items) }
     ensures sound { IfOk result (λ brackets. All IsSoundLeaf (map plain_leaf (map (λ leaf. leaf.now) brackets.leaves.items))) }
+    ensures leaves { IfOk result (λ brackets. map plain_leaf (map (λ leaf. leaf.now) brackets.leaves.items) ≡ brackets_of (map (λ h. h.pattern) hunted.now)) }
     ensures few { IfOk result (λ brackets. length brackets.leaves.items < 2 ^ 32) }
 {
     let mut brackets = Brackets::new(alloc);

@@ -3,7 +3,8 @@
 //! An `Engine` takes the observations of a log one by one, and answers to each the bindings that end there,
 //! by the pattern's place in the hunted list. An observation costs what the index of brackets finds for it:
 //! a pattern of which no bracket holds isn't touched, and its matcher is caught up once one does (STIX 2.1,
-//! section 9, of patterns; the bindings are those of `match_bindings`).
+//! section 9, of patterns; the bindings are those of `match_bindings`). What is `Known` of a root serves all
+//! observations of a bundle that have it.
 #![tactic(auto)]
 
 mod brackets;
@@ -11,10 +12,14 @@ mod engine;
 mod follower;
 mod followers;
 mod found;
+mod holding;
+mod judging;
+mod known;
 pub mod laws;
 mod next_row;
 mod refusal;
 
 pub use engine::Engine;
 pub use found::Found;
+pub use known::Known;
 pub use refusal::EngineRefusal;

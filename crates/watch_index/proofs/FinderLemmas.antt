@@ -14,7 +14,6 @@ use Rattle.match_paths.specs.Selection.{IsRoot, Reaches}
 use Rattle.match_tests.specs.Tests.{HoldsAt}
 use Rattle.watch_index.specs.declared.guard.Guard.{Guard}
 use Rattle.watch_index.specs.declared.key.Key.{Key}
-use Rattle.watch_index.specs.declared.rows.Row.{Row}
 use Rattle.watch_index.specs.declared.rows.Rows.{Rows}
 use Rattle.watch_index.specs.declared.paths.Lookup.{Lookup}
 use Rattle.watch_index.specs.declared.paths.Filed.{Filed}

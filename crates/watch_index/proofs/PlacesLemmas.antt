@@ -12,7 +12,7 @@ use Rattle.match_tests.proofs.ContainsLemmas.{in_more}
 use Rattle.watch_index.specs.declared.paths.Lookup.{Lookup}
 use Rattle.watch_index.specs.declared.finder.Finder.{Finder}
 use Rattle.watch_index.specs.inner.Indexed.{IsFound, IsEntryOf, IsOpenOf, IsFinderOf}
-use Rattle.watch_index.specs.inner.Finding.{AreAlike, AreAsked, AreSeen, IsPlaceSeen, FindsPlaces, IsPlaceOf, AddsFound}
+use Rattle.watch_index.specs.inner.Finding.{AreAlike, AreAsked, AreSeen, FindsPlaces, IsPlaceOf, AddsFound}
 use Rattle.watch_index.specs.Candidates.{AreCandidates}
 use Rattle.watch_index.specs.Exact.{IsExact}
 use Rattle.watch_index.proofs.LookupLemmas.{seen_alike}

@@ -9,7 +9,7 @@ use flow_values::{Items, NoMemory};
 use pattern_types::Leaf;
 use std::alloc::Global;
 use std::marker::Model;
-use stix_bundles::{Bundle, Observation};
+use stix_bundles::Bundle;
 
 /// Brackets of patterns, found by what an observation says. Contracts see the brackets.
 #[derive(Drop)]
@@ -52,20 +52,16 @@ impl<'p> Index<'p> {
         })
     }
 
-    /// The places of the brackets that can hold for an observation, counted from 0, in order and each
-    /// once. All those that hold are among them; most of those that don't are left out.
+    /// The places of the brackets that can hold for an observation of these roots, counted from 0, in order
+    /// and each once. All those that hold are among them; most of those that don't are left out.
     ///
-    /// It costs a walk for each root of the observation and each path that brackets have for its type,
-    /// the logarithm of the number of brackets for each value that is found, and the places that are
-    /// given, however many brackets there are.
-    pub fn candidates(
-        &self,
-        observation: &Observation,
-        bundle: &Bundle,
-    ) -> Result<Items<u32>, NoMemory>
-        ensures { IfOk result (AreCandidates (data_in bundle.now) observation.now.roots (map plain_leaf self.now)) }
+    /// It costs a walk for each of the roots and each path that brackets have for its type, the logarithm of
+    /// the number of brackets for each value that is found, and the places that are given, however many
+    /// brackets there are.
+    pub fn candidates(&self, roots: &[u32], bundle: &Bundle) -> Result<Items<u32>, NoMemory>
+        ensures { IfOk result (AreCandidates (data_in bundle.now) roots.now (map plain_leaf self.now)) }
     {
-        let roots = Vec::from_slice(self.alloc, observation.roots.as_slice())?;
+        let roots = Vec::from_slice(self.alloc, roots)?;
         let roots = each_once(roots);
         let places = self
             .finder

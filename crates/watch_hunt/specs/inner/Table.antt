@@ -1,17 +1,10 @@
 -- For private clauses: where the brackets of each pattern stand among those of all.
-use Rattle.std.specs.Prelude.{◌≡◌, ℕ, zero, suc, ◌+◌, ◌≤◌, ◌<◌, List, [], ◌∷◌, ◌++◌, Some, length, take, drop, slice_get}
+use Rattle.std.specs.Prelude.{◌≡◌, ℕ, zero, suc, ◌+◌, ◌≤◌, ◌<◌, List, [], ◌∷◌, Some, length, take, drop, slice_get}
 use Rattle.pattern_types.specs.PlainLeaf.{PlainLeaf}
-use Rattle.pattern_types.specs.PlainPattern.{PlainPattern, a_leaf, a_both, an_either, a_then, a_limited}
+use Rattle.pattern_types.specs.PlainPattern.{PlainPattern}
 use Rattle.watch_hunt.specs.declared.brackets.Stretch.{Stretch}
 use Rattle.watch_hunt.specs.EngineAnswer.{NeverFalls}
-
--- the brackets of a pattern, from left to right
-abbrev pub leaf_list : PlainPattern → List PlainLeaf
-leaf_list (a_leaf leaf) = leaf ∷ []
-leaf_list (a_both p q) = leaf_list p ++ leaf_list q
-leaf_list (an_either p q) = leaf_list p ++ leaf_list q
-leaf_list (a_then p q) = leaf_list p ++ leaf_list q
-leaf_list (a_limited p limit) = leaf_list p
+use Rattle.watch_hunt.specs.Known.{leaf_list}
 
 -- part of a list
 abbrev pub part_of : {A : Type 0} → Stretch → List A → List A

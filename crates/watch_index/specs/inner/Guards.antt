@@ -1,5 +1,5 @@
 -- For private clauses: the guards of a bracket, one of which is met where it holds.
-use Rattle.std.specs.Prelude.{◌≡◌, ⊤, ℕ, List, All, Contains, Option, MatchOption, None}
+use Rattle.std.specs.Prelude.{◌≡◌, ⊤, ℕ, List, Contains, Option, MatchOption, None}
 use Rattle.std.specs.declared.cmp.Ordering.TheVariants.{Equal}
 use Rattle.serde_json.specs.Data.{Data}
 use Rattle.pattern_types.specs.declared.constant.Constant.{Constant}

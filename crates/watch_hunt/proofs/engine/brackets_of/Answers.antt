@@ -1,13 +1,16 @@
 -- The brackets of one pattern more.
-use Rattle.std.proofs.Common.{◌≡◌, ◌+◌, ◌<◌, ◌++◌, ◌∷◌, [], ℕ, List, length, take, get_or, arith, ap, sym, ◌∙◌, subst}
+use Rattle.std.proofs.Common.{◌≡◌, ◌+◌, ◌<◌, ◌++◌, ◌∷◌, [], ℕ, List, length, take, get_or, arith, ap, sym, ◌∙◌, subst, append-nil}
 use Rattle.std.specs.Prelude.{All, map}
+use Rattle.std.specs.List.{flat_map}
+use Rattle.std.proofs.lemmas.Grind.{flat_map-append}
 use Rattle.std.proofs.lemmas.List.{take_more, map-append}
 use Rattle.std.proofs.lemmas.List.Elements.{All-append, All-get_or}
 use Rattle.pattern_types.specs.PlainLeaf.{PlainLeaf, plain_leaf}
 use Rattle.pattern_types.specs.PlainPattern.{PlainPattern, plain_pattern}
 use Rattle.pattern_types.specs.Soundness.{IsSoundLeaf, IsSoundPattern}
 use Rattle.watch_indicators.specs.declared.hunted.Hunted.{Hunted}
-use Rattle.watch_hunt.specs.inner.Table.{leaf_list, IsTable}
+use Rattle.watch_hunt.specs.Known.{leaf_list, brackets_of}
+use Rattle.watch_hunt.specs.inner.Table.{IsTable}
 use Rattle.watch_hunt.proofs.SoundLemmas.{sound_leaves}
 use Rattle.watch_hunt.proofs.engine.brackets_of.Goals as goal
 
@@ -18,6 +21,14 @@ patterns_more hunted i h inside is =
     ap (λ (l : List Hunted). map plain_pattern (map (λ k. k.pattern) l)) (take_more hunted i h inside ∙ ap (λ k. take i hunted ++ k ∷ []) (sym is))
     ∙ ap (map plain_pattern) (map-append (λ k. k.pattern) (take i hunted) (h ∷ []))
     ∙ map-append plain_pattern (map (λ k. k.pattern) (take i hunted)) (h.pattern ∷ [])
+
+brackets_more : (hunted : List Hunted) (i : ℕ) (h : Hunted) → i < length hunted → h ≡ get_or hunted i h →
+    brackets_of (map (λ k. k.pattern) (take (i + 1) hunted)) ≡ brackets_of (map (λ k. k.pattern) (take i hunted)) ++ leaf_list (plain_pattern h.pattern)
+brackets_more hunted i h inside is =
+    let before = map plain_pattern (map (λ k. k.pattern) (take i hunted)) in
+    ap (flat_map leaf_list) (patterns_more hunted i h inside is)
+    ∙ flat_map-append leaf_list before (plain_pattern h.pattern ∷ [])
+    ∙ ap (λ (l : List PlainLeaf). flat_map leaf_list before ++ l) (append-nil (leaf_list (plain_pattern h.pattern)))
 
 pub loop-indicator-preserved : goal.loop-indicator-preserved
 loop-indicator-preserved c =
@@ -31,5 +42,7 @@ loop-indicator-preserved c =
           (c.in_ok-add.ensures.table (map plain_pattern (map (λ k. k.pattern) (take i hunted))) c.loop-indicator.invariant.table);
       sound = subst (λ (l : List PlainLeaf). All IsSoundLeaf l) (sym c.in_ok-add.ensures.leaves)
           (All-append IsSoundLeaf leaves (leaf_list (plain_pattern h.pattern)) c.loop-indicator.invariant.sound (sound_leaves (plain_pattern h.pattern) sound));
+      leaves = c.in_ok-add.ensures.leaves ∙ ap (λ (l : List PlainLeaf). l ++ leaf_list (plain_pattern h.pattern)) c.loop-indicator.invariant.leaves
+          ∙ sym (brackets_more hunted i h inside c.indicator-item.is);
       few = c.in_ok-add.ensures.few;
     }

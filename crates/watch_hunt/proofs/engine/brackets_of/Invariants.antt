@@ -1,8 +1,9 @@
-use Rattle.std.proofs.Common.{◌<◌, ◌^◌, length, take}
+use Rattle.std.proofs.Common.{◌≡◌, ◌<◌, ◌^◌, length, take}
 use Rattle.std.specs.Prelude.{All, map}
 use Rattle.pattern_types.specs.PlainLeaf.{plain_leaf}
 use Rattle.pattern_types.specs.PlainPattern.{plain_pattern}
 use Rattle.pattern_types.specs.Soundness.{IsSoundLeaf}
+use Rattle.watch_hunt.specs.Known.{brackets_of}
 use Rattle.watch_hunt.specs.inner.Table.{IsTable}
 use Rattle.watch_hunt.proofs.engine.brackets_of.Given as goal
 
@@ -10,5 +11,6 @@ abbrev pub invariant-loop-indicator : goal.invariant-loop-indicator
 invariant-loop-indicator l = record {
   table : IsTable (map plain_pattern (map (λ h. h.pattern) (take l.indicator-index l.hunted))) (map plain_leaf (map (λ leaf. leaf.now) l.brackets.leaves.items)) l.brackets.owners.items l.brackets.stretches.items;
   sound : All IsSoundLeaf (map plain_leaf (map (λ leaf. leaf.now) l.brackets.leaves.items));
+  leaves : map plain_leaf (map (λ leaf. leaf.now) l.brackets.leaves.items) ≡ brackets_of (map (λ h. h.pattern) (take l.indicator-index l.hunted));
   few : length l.brackets.leaves.items < 2 ^ 32;
 }

@@ -2,7 +2,7 @@ use Rattle.std.proofs.Common.{◌+◌, inr, List, Option, drop, sym, subst}
 use Rattle.pattern_types.specs.declared.leaf.Leaf.{Leaf}
 use Rattle.pattern_types.specs.PlainLeaf.{plain_leaf, listed}
 use Rattle.match_tests.specs.Tests.{HoldsAt, SomeHold}
-use Rattle.watch_index.specs.Exact.{IsExact, AreExact}
+use Rattle.watch_index.specs.Exact.{IsExact}
 use Rattle.watch_index.specs.declared.guard.Guard.{Guard}
 use Rattle.watch_index.specs.inner.Guards.{AreGuards, Guards, AreEnough, Enough}
 use Rattle.match_tests.proofs.ContainsLemmas.{drop_next, drop_whole}

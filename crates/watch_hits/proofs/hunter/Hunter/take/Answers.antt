@@ -4,14 +4,27 @@ use Rattle.stix_bundles.specs.Objects.{data_in}
 use Rattle.match_live.specs.MatcherState.{Falls}
 use Rattle.watch_hunt.specs.declared.found.Found.{Found}
 use Rattle.watch_hunt.specs.EngineLog.{row_of}
-use Rattle.watch_hits.specs.Hunting.{HunterState, IsReady}
+use Rattle.watch_hunt.specs.Known.{brackets_of, IsRight}
+use Rattle.watch_hits.specs.Hunting.{HunterState, patterns_of, IsReady}
 use Rattle.watch_hits.specs.inner.Noting.{all_noted}
 use Rattle.watch_hits.specs.inner.Telling.{TakesRow, EndsAtRow}
-use Rattle.watch_hits.proofs.HunterLemmas.{takes-row, ends-engine, hits-inside, seen-before}
+use Rattle.watch_hits.proofs.HunterLemmas.{right-engine, right-hunted, takes-row, ends-engine, hits-inside, seen-before}
 use Rattle.watch_hits.proofs.hunter.Hunter.take.Goals as goal
 
 pub take-requires-clause-ready : goal.take-requires-clause-ready
 take-requires-clause-ready c = λ runs. let ready = subst IsReady (sym c.self.view_is) c.requires.ready in (ready.rows, ready.hunts.engine)
+
+pub take-requires-clause-right : goal.take-requires-clause-right
+take-requires-clause-right c =
+    let before : HunterState = record { hunted = c.self.inside.hunted.now; engine = c.self.inside.engine; sights = c.self.inside.sights.items } in
+    right-engine before (data_in c.args.bundle.now) c.args.known.now (subst IsReady (sym c.self.view_is) c.requires.ready)
+    (subst (λ (s : HunterState). IsRight (data_in c.args.bundle.now) (brackets_of (patterns_of s.hunted)) c.args.known.now) (sym c.self.view_is) c.requires.right)
+
+pub returns-clause-right : goal.returns-clause-right
+returns-clause-right c =
+    let before : HunterState = record { hunted = c.self.inside.hunted.now; engine = c.self.inside.engine; sights = c.self.inside.sights.items } in
+    subst (λ (s : HunterState). IsRight (data_in c.args.bundle.now) (brackets_of (patterns_of s.hunted)) c.take.new.known) c.self.view_is
+    (right-hunted before (data_in c.args.bundle.now) c.take.new.known (subst IsReady (sym c.self.view_is) c.requires.ready) c.in-Ok.ensures.right)
 
 pub end_of-requires : goal.end_of-requires
 end_of-requires c is =

@@ -10,11 +10,12 @@ use Rattle.watch_log.specs.OnItsWay.{IsOnItsWay}
 use Rattle.watch_indicators.specs.declared.hunted.Hunted.{Hunted}
 use Rattle.watch_hunt.specs.declared.found.Found.{Found}
 use Rattle.watch_hunt.specs.EngineLog.{row_of}
-use Rattle.watch_hits.specs.Hunting.{HunterState, TakesRows}
+use Rattle.watch_hunt.specs.Known.{brackets_of, IsRight}
+use Rattle.watch_hits.specs.Hunting.{HunterState, patterns_of, TakesRows}
 use Rattle.watch_hits.specs.Lines.{hits_text}
 use Rattle.watch_hits.proofs.KindLemmas.{kinds}
 use Rattle.watch_hits.specs.Rows.{rows_over}
-use Rattle.watch_hits.proofs.HunterLemmas.{takes-none, sees-more, takes-first, ready-row, follow-after}
+use Rattle.watch_hits.proofs.HunterLemmas.{right-none, takes-none, sees-more, takes-first, ready-row, follow-after}
 use Rattle.watch_hits.proofs.TellingLemmas.{ends-next, ends-cut}
 use Rattle.watch_hits.proofs.hunter.Hunter.tell_all.Goals as goal
 
@@ -22,6 +23,7 @@ pub loop-observation-init : goal.loop-observation-init
 loop-observation-init g c =
     let written = g.O.Sink.written c.args.output.now in record {
       ready = c.requires.ready;
+      right = right-none (data_in c.args.batch.now.bundle) (brackets_of (patterns_of c.args.self.now.hunted)) c.new-known.result c.new-known.ensures;
       sees = record {
         text = [];
         takes = takes-none c.args.self.now;
@@ -45,12 +47,12 @@ add_hits-requires-clause-kinds g c =
     let o = c.observation-item.result in
     let objects = data_in c.args.batch.now.bundle in
     let ready = ready-row (row_of o objects) c.loop-observation.self c.take.new.self c.in-Ok.hits c.loop-observation.invariant.ready c.in-Ok.ensures.row in
-    subst (λ (s : HunterState). All (λ h. IsKind h.id.kind) s.hunted) (sym c.self.view_is) (kinds c.take.new.self.hunted ready.huntable)
+    subst (λ (s : HunterState). All (λ h. IsKind h.id.kind) s.hunted) (sym c.self-in-loop-observation.view_is) (kinds c.take.new.self.hunted ready.huntable)
 
 pub add_hits-requires-clause-inside : goal.add_hits-requires-clause-inside
 add_hits-requires-clause-inside g c =
     let row = c.in-Ok.ensures.row in
-    subst (λ (s : HunterState). All (λ hit. hit.hunted < length s.hunted) c.as_slice.result.now) (sym c.self.view_is)
+    subst (λ (s : HunterState). All (λ hit. hit.hunted < length s.hunted) c.as_slice.result.now) (sym c.self-in-loop-observation.view_is)
     (subst (λ (hits : List Found). All (λ hit. hit.hunted < length c.take.new.self.hunted) hits) (sym c.as_slice.ensures)
     (subst (λ (h : List Hunted). All (λ hit. hit.hunted < length h) c.in-Ok.hits) (sym row.hunted) row.inside))
 
@@ -62,8 +64,8 @@ returns-in_err-add_hits-clause-end g c =
     let objects = data_in c.args.batch.now.bundle in
     let first = g.O.Sink.written c.args.output.now in
     let far = c.loop-observation.invariant.sees in
-    let same : hits_text c.self.inside.hunted.now c.as_slice.result.now ≡ hits_text c.loop-observation.self.hunted c.in-Ok.hits =
-    ap (λ (h : List Hunted). hits_text h c.as_slice.result.now) (ap (λ (s : HunterState). s.hunted) c.self.view_is ∙ c.in-Ok.ensures.row.hunted)
+    let same : hits_text c.self-in-loop-observation.inside.hunted.now c.as_slice.result.now ≡ hits_text c.loop-observation.self.hunted c.in-Ok.hits =
+    ap (λ (h : List Hunted). hits_text h c.as_slice.result.now) (ap (λ (s : HunterState). s.hunted) c.self-in-loop-observation.view_is ∙ c.in-Ok.ensures.row.hunted)
     ∙ ap (hits_text c.loop-observation.self.hunted) c.as_slice.ensures in
     let between = c.take.new.self in
     let text = far.text ++ hits_text c.loop-observation.self.hunted c.in-Ok.hits in
@@ -88,8 +90,8 @@ loop-observation-preserved g c =
     let between = c.loop-observation.self in
     let after = c.take.new.self in
     let far = c.loop-observation.invariant.sees in
-    let same : hits_text c.self.inside.hunted.now c.as_slice.result.now ≡ hits_text c.loop-observation.self.hunted c.in-Ok.hits =
-    ap (λ (h : List Hunted). hits_text h c.as_slice.result.now) (ap (λ (s : HunterState). s.hunted) c.self.view_is ∙ c.in-Ok.ensures.row.hunted)
+    let same : hits_text c.self-in-loop-observation.inside.hunted.now c.as_slice.result.now ≡ hits_text c.loop-observation.self.hunted c.in-Ok.hits =
+    ap (λ (h : List Hunted). hits_text h c.as_slice.result.now) (ap (λ (s : HunterState). s.hunted) c.self-in-loop-observation.view_is ∙ c.in-Ok.ensures.row.hunted)
     ∙ ap (hits_text c.loop-observation.self.hunted) c.as_slice.ensures in
     let row = c.in-Ok.ensures.row in
     let text = far.text ++ hits_text between.hunted c.in-Ok.hits in
@@ -98,6 +100,7 @@ loop-observation-preserved g c =
     let follow = subst (λ (os : List Observation). MayFollow between.engine.last (between.engine.rows + 1) os) here c.loop-observation.invariant.follow in
     record {
       ready = ready-row (row_of o objects) between after c.in-Ok.hits c.loop-observation.invariant.ready row;
+      right = subst (λ (h : List Hunted). IsRight objects (brackets_of (patterns_of h)) c.take.new.known) (sym row.hunted) c.in-Ok.ensures.right;
       sees = record {
         text = text;
         takes = subst (λ (os : List Observation). TakesRows (rows_over objects os) before after text) (sym seen)

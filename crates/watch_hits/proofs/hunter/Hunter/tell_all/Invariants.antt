@@ -1,13 +1,15 @@
 use Rattle.std.proofs.Common.{◌≡◌, ◌+◌, take, drop}
 use Rattle.stix_bundles.specs.Objects.{data_in}
 use Rattle.watch_log.specs.Reading.{MayFollow}
-use Rattle.watch_hits.specs.Hunting.{IsReady}
+use Rattle.watch_hunt.specs.Known.{brackets_of, IsRight}
+use Rattle.watch_hits.specs.Hunting.{patterns_of, IsReady}
 use Rattle.watch_hits.specs.inner.Telling.{TakesSoFar}
 use Rattle.watch_hits.proofs.hunter.Hunter.tell_all.Given as goal
 
 abbrev pub invariant-loop-observation : goal.invariant-loop-observation
 invariant-loop-observation g l = record {
   ready : IsReady l.self;
+  right : IsRight (data_in l.batch.bundle) (brackets_of (patterns_of l.self.hunted)) l.known;
   sees : TakesSoFar (data_in l.batch.bundle) (take l.observation-index l.observations) l.fn.self l.self l.pending
       (g.O.Sink.written l.fn.output) (g.O.Sink.written l.output);
   follow : MayFollow l.self.engine.last (l.self.engine.rows + 1) (drop l.observation-index l.observations);

@@ -4,7 +4,7 @@ use Rattle.std.specs.Prelude.{map}
 use Rattle.std.proofs.lemmas.List.{length-map}
 use Rattle.pattern_types.specs.PlainLeaf.{plain_leaf}
 use Rattle.pattern_types.specs.PlainPattern.{plain_pattern}
-use Rattle.watch_hunt.specs.inner.Table.{leaf_list}
+use Rattle.watch_hunt.specs.Known.{leaf_list}
 use Rattle.watch_hunt.proofs.TableLemmas.{add_law}
 use Rattle.watch_hunt.proofs.brackets.Brackets.add.Goals as goal
 

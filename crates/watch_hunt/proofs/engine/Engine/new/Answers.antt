@@ -8,6 +8,7 @@ pub invariant_of-result : goal.invariant_of-result
 invariant_of-result c = record {
   table = c.in_ok-brackets.ensures.table;
   sound = c.in_ok-brackets.ensures.sound;
+  brackets_are = c.in_ok-brackets.ensures.leaves;
   index_is = c.in_ok-index.ensures ∙ ap (map (λ leaf. leaf.now)) c.as_slice-2.ensures.value;
   followers_are = c.in_ok-followers.ensures.count;
   marks_are = search rules;

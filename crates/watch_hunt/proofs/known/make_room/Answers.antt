@@ -1,0 +1,14 @@
+use Rattle.std.proofs.Common.{◌≡◌, ◌++◌, ◌∷◌, [], ℕ, List, length, ap, sym, ◌∙◌, arith, length-append}
+use Rattle.std.specs.Prelude.{Option, None, slice_get}
+use Rattle.watch_hunt.proofs.KnownLemmas.{none_more}
+use Rattle.watch_hunt.proofs.known.make_room.Goals as goal
+
+pub loop-preserved : goal.loop-preserved
+loop-preserved c =
+    let is = c.in_ok-push.ensures.items in
+    let long = c.loop.invariant.long in
+    let more : length c.push.new.self.items ≡ length (c.loop.roots.items ++ None ∷ []) = ap length is in
+    record {
+      long = omega (arith, more, long, length-append c.loop.roots.items (None ∷ []));
+      kept = λ root places at. c.loop.invariant.kept root places (none_more c.loop.roots.items root places (sym (ap (λ (l : List (Option (List ℕ))). slice_get l root) is) ∙ at));
+    }
