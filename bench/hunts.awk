@@ -38,6 +38,13 @@ function meeting(count,  root) {
   for (root = 0; root < count; root++) at(root, address(root), ",\"x_number\":" root)
   close_line()
 }
+# shared: a line whose 3,000 observations refer to one file, which has a list of 500,000 numbers.
+function shared(  number) {
+  printf "{\"type\":\"bundle\",\"id\":\"bundle--%s\",\"objects\":[", id(0)
+  for (number = 0; number < 3000; number++) printf "{\"type\":\"observed-data\",\"spec_version\":\"2.1\",\"id\":\"observed-data--%s\",\"created\":\"2021-01-01T00:00:00.000Z\",\"modified\":\"2021-01-01T00:00:00.000Z\",\"first_observed\":\"2021-01-01T00:%02d:%02dZ\",\"last_observed\":\"2021-01-01T00:%02d:%02dZ\",\"number_observed\":1,\"object_refs\":[\"file--%s\"]},", id(number), number / 60, number % 60, number / 60, number % 60, id(0)
+  printf "{\"type\":\"file\",\"id\":\"file--%s\",\"name\":\"x\",\"x_list\":[0%s]", id(0), repeated(",0", 499999)
+  print "}]}"
+}
 function wide(number,  bracket, pattern) {
   for (bracket = 0; bracket < 1024; bracket++) pattern = pattern (bracket ? " OR " : "") "[ipv4-addr:value = '" address(number * 1024 + bracket) "']"
   return pattern
@@ -54,6 +61,7 @@ function feed(  number) {
   if (what == "equal") for (number = 0; number < 10000; number++) indicator(number, "[ipv4-addr:value = '" address(number) "']")
   if (what == "among") for (number = 0; number < 10000; number++) indicator(number, "[ipv4-addr:value IN ('" address(number) "', 'x')]")
   if (what == "either") for (number = 0; number < 10000; number++) indicator(number, "[ipv4-addr:value = '" address(number) "' OR ipv4-addr:x_number = 20000]")
+  if (what == "shared") for (number = 0; number < 10; number++) indicator(number, "[file:x_list[*] = " (number + 1) "]")
   if (what == "both") for (number = 0; number < 2000; number++) indicator(number, "[ipv4-addr:value = '" address(number) "' AND ipv4-addr:x_number = " number "]")
 }
 function log_lines(  number) {
@@ -70,5 +78,6 @@ function log_lines(  number) {
   }
   if (what == "equal" || what == "among" || what == "either") meeting(10000)
   if (what == "both") meeting(2000)
+  if (what == "shared") shared()
 }
 BEGIN { if (part == "feed") feed(); else log_lines() }

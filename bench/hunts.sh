@@ -34,3 +34,4 @@ costs "10,000 objects in a line, 10,000 indicators that they meet, =" equal
 costs "the same, IN" among
 costs "the same, two tests joined by OR" either
 costs "2,000 objects in a line, 2,000 brackets of two tests joined by AND" both
+costs "a list of 500,000 that 3,000 observations of a line refer to, 10 brackets" shared
