@@ -1,11 +1,10 @@
 use flow_values::Text;
 use stix_times::Instant;
 
-/// What a hunt asks of an indicator that may be hunted.
+/// What a hunt asks of an indicator that may be hunted. The fields lie in this order, in which the least room is
+/// left between them: there is one for each indicator of a feed.
 #[derive(Debug, Drop)]
 pub(crate) struct Kept {
-    /// Its position among the objects, counted from 0.
-    pub(crate) at: u32,
     /// The number of its identifier.
     pub(crate) number: u128,
     /// When it was created.
@@ -16,4 +15,6 @@ pub(crate) struct Kept {
     pub(crate) until: Option<Instant>,
     /// The text of its pattern.
     pub(crate) pattern: Text,
+    /// Its position among the objects, counted from 0.
+    pub(crate) at: u32,
 }

@@ -4,13 +4,13 @@ ghost use Rattle.watch_indicators.specs.inner.Adding.{IsNextVersion};
 use stix_times::Instant;
 use stix_times::laws::is_before;
 
-/// What is known of the versions of an indicator.
+/// What is known of the versions of an indicator. The fields lie in this order, as those of `Kept` do.
 #[derive(Clone, Copy, Debug)]
 pub(crate) struct Version {
-    /// The position of the latest one.
-    pub(crate) at: u32,
-    /// When that one was modified.
+    /// When the latest one was modified.
     pub(crate) modified: Instant,
+    /// The position of that one.
+    pub(crate) at: u32,
     /// Whether one of all is revoked.
     pub(crate) revoked: bool,
 }
