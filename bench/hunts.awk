@@ -45,6 +45,21 @@ function shared(  number) {
   printf "{\"type\":\"file\",\"id\":\"file--%s\",\"name\":\"x\",\"x_list\":[0%s]", id(0), repeated(",0", 499999)
   print "}]}"
 }
+# observation NUMBER REFERENCES: an object of a line, at a second of its own, and a comma.
+function observation(number, references) {
+  printf "{\"type\":\"observed-data\",\"spec_version\":\"2.1\",\"id\":\"observed-data--%s\",\"created\":\"2021-01-01T00:00:00.000Z\",\"modified\":\"2021-01-01T00:00:00.000Z\",\"first_observed\":\"2021-01-01T%02d:%02d:%02dZ\",\"last_observed\":\"2021-01-01T%02d:%02d:%02dZ\",\"number_observed\":1,\"object_refs\":[%s]},", id(number), number / 3600, number / 60 % 60, number % 60, number / 3600, number / 60 % 60, number % 60, references
+}
+# led: a line of so many processes, whose parent is one with a list of 50,000 numbers: in one observation, or each in one of its own.
+function led(count, apart,  number, references) {
+  printf "{\"type\":\"bundle\",\"id\":\"bundle--%s\",\"objects\":[", id(0)
+  for (number = 1; number <= count; number++)
+    if (apart) observation(number, "\"process--" id(number) "\"")
+    else references = references (number > 1 ? "," : "") "\"process--" id(number) "\""
+  if (!apart) observation(0, references)
+  for (number = 1; number <= count; number++) printf "{\"type\":\"process\",\"id\":\"process--%s\",\"parent_ref\":\"process--%s\"},", id(number), id(0)
+  printf "{\"type\":\"process\",\"id\":\"process--%s\",\"pid\":1,\"x_list\":[0%s]", id(0), repeated(",0", 49999)
+  print "}]}"
+}
 function wide(number,  bracket, pattern) {
   for (bracket = 0; bracket < 1024; bracket++) pattern = pattern (bracket ? " OR " : "") "[ipv4-addr:value = '" address(number * 1024 + bracket) "']"
   return pattern
@@ -62,6 +77,7 @@ function feed(  number) {
   if (what == "among") for (number = 0; number < 10000; number++) indicator(number, "[ipv4-addr:value IN ('" address(number) "', 'x')]")
   if (what == "either") for (number = 0; number < 10000; number++) indicator(number, "[ipv4-addr:value = '" address(number) "' OR ipv4-addr:x_number = 20000]")
   if (what == "shared") for (number = 0; number < 10; number++) indicator(number, "[file:x_list[*] = " (number + 1) "]")
+  if (what == "led" || what == "apart") indicator(0, "[process:parent_ref.x_list[*] = 5]")
   if (what == "both") for (number = 0; number < 2000; number++) indicator(number, "[ipv4-addr:value = '" address(number) "' AND ipv4-addr:x_number = " number "]")
 }
 function log_lines(  number) {
@@ -79,5 +95,7 @@ function log_lines(  number) {
   if (what == "equal" || what == "among" || what == "either") meeting(10000)
   if (what == "both") meeting(2000)
   if (what == "shared") shared()
+  if (what == "led") led(40000, 0)
+  if (what == "apart") led(15000, 1)
 }
 BEGIN { if (part == "feed") feed(); else log_lines() }

@@ -35,3 +35,5 @@ costs "the same, IN" among
 costs "the same, two tests joined by OR" either
 costs "2,000 objects in a line, 2,000 brackets of two tests joined by AND" both
 costs "a list of 500,000 that 3,000 observations of a line refer to, 10 brackets" shared
+costs "40,000 objects that refer to one with a list of 50,000, a bracket by [*]" led
+costs "15,000 of them, each in an observation of the line" apart

@@ -134,3 +134,13 @@ module _ (Whole Rest : ℕ → Type 0) (asked : List ℕ) (split : Split) where
     failed = λ at has. let it = still.failed_is at has in (it.0, λ whole. over at (it.1.0 whole));
     all = still.each;
   }
+
+-- those of which the fact holds
+pub held_are : (Fact : ℕ → Type 0) (asked held : List ℕ) (split : Split) → Splits Fact asked split → held ≡ split.held.items → (at : ℕ) → Contains held at ↔ (Contains asked at × Fact at)
+held_are Fact asked held split splits is at = (
+  λ has. splits.held at (subst (λ (l : List ℕ). Contains l at) is has),
+  λ both. elim (splits.all at both.0) [
+    | inl there ↦ subst (λ (l : List ℕ). Contains l at) (sym is) there
+    | inr isnt ↦ absurd ((splits.failed at isnt).1 both.1)
+  ],
+)

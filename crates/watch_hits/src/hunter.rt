@@ -92,8 +92,8 @@ impl<'p> Hunter<'p> {
         ensures causes { Counted (result ≡ Err SeeEnd.WriteFault) (O.faults output.old) (O.faults output.new) }
     {
         parts_on_their_way();
-        let mut known = Known::new(self.alloc);
         let observations = batch.observations.as_slice();
+        let mut known = Known::of(self.alloc, observations)?;
         for observation in observations {
             let hits = match self.take(observation, &batch.bundle, &mut known) {
                 Ok(hits) => hits,

@@ -9,6 +9,7 @@ mod RoundLemmas
 mod HoldingLemmas
 mod JudgeLemmas
 mod KnownLemmas
+mod PieceLemmas
 mod StepLemmas
 mod SoundLemmas
 mod EngineLemmas

@@ -1,9 +1,9 @@
 -- What stands at a place of a list: behind a seam, after a write, and in a list of one number.
 use Rattle.std.proofs.Common.{◌≡◌, ℕ, zero, suc, ◌+◌, ◌<◌, List, [], ◌∷◌, ◌++◌, length, set, get_or, refl, sym, ◌∙◌, ap, subst, arith, inl, inr, append_assoc}
-use Rattle.std.specs.Prelude.{◌⊎◌, Bool, true, false, nat_eq, Some, All, Contains, map, slice_get}
+use Rattle.std.specs.Prelude.{◌⊎◌, Bool, true, false, nat_eq, nat_lt, Some, All, Contains, map, slice_get}
 use Rattle.std.specs.Option.{option_map}
 use Rattle.std.proofs.lemmas.List.Elements.{All-get_or}
-use Rattle.std.proofs.lemmas.Bool.{eqb-true, eq-eqb}
+use Rattle.std.proofs.lemmas.Bool.{eqb-true, eq-eqb, ltb-true}
 use Rattle.std.proofs.lemmas.Option.{slice_get-map, slice_get-get_or, slice_get_within, slice_get_read, get_or_from_slice_get}
 use Rattle.watch_hunt.specs.inner.Table.{repeated}
 
@@ -105,3 +105,9 @@ get_number xs i h = slice_get-get_or xs i 0 h
 
 pub all_at : {A : Type 0} (P : A → Type 0) (xs : List A) (i : ℕ) (x : A) → All P xs → slice_get xs i ≡ Some x → P x
 all_at P xs i x all at = subst P (get_or_from_slice_get xs i x x at) (All-get_or P xs i x (slice_get_within xs i x at) all)
+
+-- the same of an item that a look-up found
+pub get_looked : {A B C : Type 0} (xs items : List A) (f : A → B) (g : B → C) (i : ℕ) (x : A) → xs ≡ items → true ≡ nat_lt i (length xs) → x ≡ get_or xs i x
+    → slice_get (map g (map f items)) i ≡ Some (g (f x))
+get_looked {A} xs items f g i x e test is =
+    get_map_twice items f g i x (subst (λ (l : List A). i < length l) e (ltb-true i (length xs) (sym test))) (is ∙ ap (λ (l : List A). get_or l i x) e)

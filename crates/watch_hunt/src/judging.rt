@@ -1,24 +1,20 @@
 //! Which brackets hold at a row: those that hold at one of its roots.
 
-ghost use Rattle.std.specs.Prelude.{◌≡◌, ◌↔◌, ◌≤◌, ◌<◌, ℕ, IsTrue, true, All, ◌∷◌, [], Contains, Some, length, map, slice_get, IfOk, OnOk};
+ghost use Rattle.std.specs.Prelude.{◌≡◌, ◌↔◌, ◌≤◌, ◌<◌, ℕ, true, All, Contains, Some, length, map, slice_get, IfOk, OnOk};
 ghost use Rattle.stix_bundles.specs.Objects.{data_in};
 ghost use Rattle.pattern_types.specs.PlainLeaf.{plain_leaf};
 ghost use Rattle.pattern_types.specs.Soundness.{IsSoundLeaf};
-ghost use Rattle.match_tests.specs.Tests.{LeafHolds, HoldsAt};
-ghost use Rattle.watch_index.specs.Exact.{IsExact};
 ghost use Rattle.watch_hunt.specs.EngineAnswer.{NeverFalls};
-ghost use Rattle.watch_hunt.specs.Known.{AreHeld, IsRight};
+ghost use Rattle.watch_hunt.specs.Known.{IsRight};
 ghost use Rattle.watch_hunt.specs.inner.Judging.{IsRising, AreClear, Judged, MarksHeld, MarksMore, AreOwners, AddsPlace};
-ghost use Rattle.watch_hunt.specs.inner.Knowing.{IsKnown};
 
 use crate::Known;
 use crate::brackets::Brackets;
-use crate::holding::holds_at;
-use flow_values::{Items, NoMemory};
-use pattern_types::Leaf;
+use crate::learning::learn;
+use flow_values::NoMemory;
 use std::alloc::Global;
 use stix_bundles::Bundle;
-use watch_index::{Index, is_exact};
+use watch_index::Index;
 
 /// What holds at a row.
 #[derive(Drop)]
@@ -79,66 +75,10 @@ fn mark_held(
     for root in roots {
         learn(alloc, brackets, index, *root, bundle, known)?;
         mark_more(known.places_at(*root), marks, &mut places)?;
+        known.pass();
     }
     places.sort_unstable();
     Ok(places)
-}
-
-/// Makes a root known.
-fn learn(
-    alloc: Global,
-    brackets: &Brackets<'_>,
-    index: &Index<'_>,
-    root: u32,
-    bundle: &Bundle,
-    known: &mut Known,
-) -> Result<(), NoMemory>
-    requires sound { All IsSoundLeaf (map plain_leaf (map (λ leaf. leaf.now) brackets.now.leaves.items)) }
-    requires index { index.now ≡ map (λ leaf. leaf.now) brackets.now.leaves.items }
-    requires right { IsRight (data_in bundle.now) (map plain_leaf (map (λ leaf. leaf.now) brackets.now.leaves.items)) known.old }
-    ensures known { OnOk result (IsKnown known.new root) }
-    ensures right { OnOk result (IsRight (data_in bundle.now) (map plain_leaf (map (λ leaf. leaf.now) brackets.now.leaves.items)) known.new) }
-{
-    if known.has(root) {
-        return Ok(());
-    }
-    let places = held_at(alloc, brackets, index, root, bundle)?;
-    known.add(root, places)
-}
-
-/// The places of the brackets that hold at a root. Only the candidates are asked: all that hold are among
-/// them, and those that are exact hold.
-fn held_at(
-    alloc: Global,
-    brackets: &Brackets<'_>,
-    index: &Index<'_>,
-    root: u32,
-    bundle: &Bundle,
-) -> Result<Items<u32>, NoMemory>
-    requires sound { All IsSoundLeaf (map plain_leaf (map (λ leaf. leaf.now) brackets.now.leaves.items)) }
-    requires index { index.now ≡ map (λ leaf. leaf.now) brackets.now.leaves.items }
-    ensures { IfOk result (AreHeld (data_in bundle.now) (map plain_leaf (map (λ leaf. leaf.now) brackets.now.leaves.items)) root) }
-{
-    let candidates = index.candidates(&[root], bundle)?;
-    let mut held = Vec::new(alloc);
-    for place in candidates.as_slice() {
-        if candidate_holds(alloc, brackets.leaves[*place as usize], bundle, root)? {
-            held.push(*place)?;
-        }
-    }
-    Ok(Items::from_vec(held))
-}
-
-/// Whether a candidate holds at a root. One that is exact isn't asked: the index found what it asks for.
-fn candidate_holds(alloc: Global, leaf: &Leaf, bundle: &Bundle, root: u32) -> Result<bool, NoMemory>
-    requires sound { IsSoundLeaf (plain_leaf leaf.now) }
-    requires certain { IsExact (plain_leaf leaf.now) → LeafHolds (data_in bundle.now) (root ∷ []) (plain_leaf leaf.now) }
-    ensures { IfOk result (λ met. IsTrue met ↔ HoldsAt (data_in bundle.now) root (plain_leaf leaf.now)) }
-{
-    if is_exact(leaf) {
-        return Ok(true);
-    }
-    holds_at(alloc, leaf, bundle, root)
 }
 
 /// Marks brackets, and adds the places of those that weren't marked.

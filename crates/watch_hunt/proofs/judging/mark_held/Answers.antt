@@ -1,9 +1,10 @@
 -- Each root in turn.
-use Rattle.std.proofs.Common.{◌≡◌, ℕ, List, length, get_or, arith, subst}
-use Rattle.std.specs.Prelude.{map}
+use Rattle.std.proofs.Common.{◌≡◌, ℕ, List, length, get_or, arith, sym, subst}
+use Rattle.std.specs.Prelude.{Option, map}
 use Rattle.std.proofs.lemmas.List.Sorted.{Contains-permutation, IsPermutation-sym, IsNonDecreasingBy-from_sort}
 use Rattle.stix_bundles.specs.Objects.{data_in}
 use Rattle.pattern_types.specs.PlainLeaf.{plain_leaf}
+use Rattle.watch_hunt.specs.Known.{IsRight}
 use Rattle.watch_hunt.specs.inner.Judging.{MarkedSoFar, MarksMore}
 use Rattle.watch_hunt.proofs.PlaceLemmas.{get_number}
 use Rattle.watch_hunt.proofs.JudgeLemmas.{in_order, marked_more, marks_held}
@@ -21,7 +22,7 @@ loop-root-preserved c =
     let held = c.in_ok-learn.ensures.right root known.0 known.1 in
     let more = subst (λ (l : List ℕ). MarksMore l (length l) c.loop-root.marks c.loop-root.places.items c.mark_more.new.marks c.mark_more.new.places.items) own c.in_ok-mark_more.ensures in
     record {
-      right = c.in_ok-learn.ensures.right;
+      right = subst (λ (l : List (Option (List ℕ))). IsRight objects leaves l) (sym c.pass.ensures) c.in_ok-learn.ensures.right;
       marked = marked_more objects roots leaves i c.loop-root.marks c.loop-root.places.items c.mark_more.new.marks c.mark_more.new.places.items known.0 root
           c.loop-root.invariant.marked (get_number roots i (omega arith)) held more;
     }

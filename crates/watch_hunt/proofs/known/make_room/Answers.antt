@@ -10,5 +10,9 @@ loop-preserved c =
     let more : length c.push.new.self.items ≡ length (c.loop.roots.items ++ None ∷ []) = ap length is in
     record {
       long = omega (arith, more, long, length-append c.loop.roots.items (None ∷ []));
-      kept = λ root places at. c.loop.invariant.kept root places (none_more c.loop.roots.items root places (sym (ap (λ (l : List (Option (List ℕ))). slice_get l root) is) ∙ at));
+      same = λ root places.
+          let more = none_more c.loop.roots.items root places in
+          let kept = c.loop.invariant.same root places in
+          let read = ap (λ (l : List (Option (List ℕ))). slice_get l root) is in
+          (λ at. kept.0 (more.0 (sym read ∙ at)), λ at. read ∙ more.1 (kept.1 at));
     }

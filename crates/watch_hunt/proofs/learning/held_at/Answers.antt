@@ -12,8 +12,8 @@ use Rattle.watch_hunt.specs.Known.{AreHeld}
 use Rattle.watch_hunt.specs.inner.Judging.{HeldSoFar}
 use Rattle.watch_hunt.proofs.PlaceLemmas.{get_map_twice, get_number, all_at}
 use Rattle.watch_hunt.proofs.JudgeLemmas.{left_out, held_with, held_all}
-use Rattle.watch_hunt.proofs.judging.held_at.Goals as goal
-use Rattle.watch_hunt.proofs.judging.held_at.Goals.{then-branch+in_ok-push, else-branch}
+use Rattle.watch_hunt.proofs.learning.held_at.Goals as goal
+use Rattle.watch_hunt.proofs.learning.held_at.Goals.{then-branch+in_ok-push, else-branch}
 
 -- what the index found, by the brackets that it has
 found : (index brackets : List Leaf) (objects : _) (root : ℕ) (candidates items : List ℕ) → index ≡ brackets → items ≡ candidates
