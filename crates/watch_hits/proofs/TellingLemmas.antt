@@ -17,7 +17,7 @@ use Rattle.watch_hunt.specs.EngineLog.{row_of}
 use Rattle.watch_hits.specs.declared.crowded.Crowded.{Crowded}
 use Rattle.watch_hits.specs.Hunting.{HunterState, BeginsBundle, StopsInBundle}
 use Rattle.watch_hits.specs.inner.Telling.{EndsAtRow, TakesSoFar, StopsSoFar, TakesPart, EndsAmong, HasCutLines}
-use Rattle.watch_hits.proofs.HunterLemmas.{stops-next, takes-first}
+use Rattle.watch_hits.proofs.HunterLemmas.{stops-next, takes-none, takes-first}
 
 -- the law on texts that are on their way
 abbrev pub Prefix : Type 0
@@ -51,6 +51,16 @@ pub ends-cut : {T : Type 0} (objects : List Data) (observations : List Observati
 ends-cut objects observations before pending first now (Ok value) short is part = absurd is
 ends-cut objects observations before pending first now (Err end) cut.WriteFault is part = subst (EndsAmong objects observations before pending first now) (sym is) part
 ends-cut objects observations before pending first now (Err end) cut.NoMemory is part = subst (EndsAmong objects observations before pending first now) (sym is) part
+
+-- memory ran out ahead of the first one
+pub ends-first : {T : Type 0} (law : Prefix) (objects : List Data) (observations : List Observation) (before : HunterState) (pending : List ℕ) (first : Option (List ℕ))
+    (answer : Result T (SeeEnd Crowded)) → IsErrAnd answer (λ end. end ≡ NoMemory) → IsOnItsWay [] pending first first → IfErr answer (EndsAmong objects observations before pending first first)
+ends-first law objects observations before pending first (Ok value) is way = absurd is
+ends-first law objects observations before pending first (Err end) is way = subst (EndsAmong objects observations before pending first first) (sym is) (record {
+  text = [];
+  takes = takes-first objects [] observations observations before before [] refl (takes-none before);
+  prefix = prefix_of law [] pending first first way;
+})
 
 -- ---- a bundle
 

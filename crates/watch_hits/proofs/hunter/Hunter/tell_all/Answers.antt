@@ -16,14 +16,14 @@ use Rattle.watch_hits.specs.Lines.{hits_text}
 use Rattle.watch_hits.proofs.KindLemmas.{kinds}
 use Rattle.watch_hits.specs.Rows.{rows_over}
 use Rattle.watch_hits.proofs.HunterLemmas.{right-none, takes-none, sees-more, takes-first, ready-row, follow-after}
-use Rattle.watch_hits.proofs.TellingLemmas.{ends-next, ends-cut}
+use Rattle.watch_hits.proofs.TellingLemmas.{ends-first, ends-next, ends-cut}
 use Rattle.watch_hits.proofs.hunter.Hunter.tell_all.Goals as goal
 
 pub loop-observation-init : goal.loop-observation-init
 loop-observation-init g c =
     let written = g.O.Sink.written c.args.output.now in record {
       ready = c.requires.ready;
-      right = right-none (data_in c.args.batch.now.bundle) (brackets_of (patterns_of c.args.self.now.hunted)) c.new-known.result c.new-known.ensures;
+      right = right-none (data_in c.args.batch.now.bundle) (brackets_of (patterns_of c.args.self.now.hunted)) c.in_ok-known.known c.in_ok-known.ensures;
       sees = record {
         text = [];
         takes = takes-none c.args.self.now;
@@ -32,6 +32,12 @@ loop-observation-init g c =
       follow = subst (λ (os : List Observation). MayFollow c.args.self.now.engine.last (c.args.self.now.engine.rows + 1) os) (sym c.as_slice-observations.ensures) c.requires.follow;
       quiet = refl;
     }
+
+pub returns-in_err-known-clause-end : goal.returns-in_err-known-clause-end
+returns-in_err-known-clause-end g c =
+    let written = g.O.Sink.written c.args.output.now in
+    ends-first c.parts_on_their_way.ensures.prefix (data_in c.args.batch.now.bundle) c.args.batch.now.observations c.args.self.now c.args.pending.now written c.from_residual.result c.from_residual.ensures.1
+    (subst (λ (p : List ℕ). IsOnItsWay [] p written written) (sym c.requires.empty) (c.parts_on_their_way.ensures.none written))
 
 pub returns-in-Err-clause-end : goal.returns-in-Err-clause-end
 returns-in-Err-clause-end g c =
@@ -71,7 +77,7 @@ returns-in_err-add_hits-clause-end g c =
     let text = far.text ++ hits_text c.loop-observation.self.hunted c.in-Ok.hits in
     let told = sees-more objects (take i items) o c.args.self.now c.loop-observation.self between far.text c.in-Ok.hits far.takes c.in-Ok.ensures.row in
     ends-cut objects c.args.batch.now.observations c.args.self.now c.add_hits.new.pending first (g.O.Sink.written c.add_hits.new.output)
-    c.from_residual.result c.in_err-add_hits.field-0.0 c.from_residual.ensures.1 (record {
+    c.from_residual-in_err-add_hits.result c.in_err-add_hits.field-0.0 c.from_residual-in_err-add_hits.ensures.1 (record {
       text = text;
       takes = takes-first objects (take i items ++ o ∷ []) (drop (i + 1) items) c.args.batch.now.observations c.args.self.now between text
           (sym c.as_slice-observations.ensures ∙ all_here items i o c.loop-observation-test.true c.observation-item.is ∙ sym (append_assoc (take i items) (o ∷ []) (drop (i + 1) items))) told;
