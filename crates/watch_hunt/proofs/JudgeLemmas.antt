@@ -1,6 +1,6 @@
 -- One root more is judged, and what is judged once all are; and the same of the candidates of one root.
 use Rattle.std.proofs.Common.{◌≡◌, ℕ, zero, suc, ◌+◌, ◌≤◌, ◌<◌, List, [], ◌∷◌, ◌++◌, length, set, replicate, get_or, refl, sym, ◌∙◌, ap, subst, arith, inl, inr}
-use Rattle.std.specs.Prelude.{◌⊎◌, ◌↔◌, Bool, true, false, Option, Some, Contains, slice_get}
+use Rattle.std.specs.Prelude.{◌⊎◌, ◌↔◌, Bool, true, false, Some, Contains, slice_get}
 use Rattle.std.proofs.lemmas.List.{length-set}
 use Rattle.std.proofs.lemmas.Option.{slice_get_within, get_or_from_slice_get}
 use Rattle.serde_json.specs.Data.{Data}
@@ -8,11 +8,10 @@ use Rattle.pattern_types.specs.PlainLeaf.{PlainLeaf}
 use Rattle.match_tests.specs.Tests.{HoldsAt, LeafHolds}
 use Rattle.match_tests.proofs.ContainsLemmas.{none_in, item_in, item_is, in_more}
 use Rattle.std.specs.List.Sorted.{IsNonDecreasing}
-use Rattle.std.proofs.lemmas.List.Elements.{All-nil, All-push}
+use Rattle.std.proofs.lemmas.List.Elements.{All-push}
 use Rattle.watch_index.specs.Candidates.{AreCandidates}
 use Rattle.watch_hunt.specs.EngineAnswer.{NeverFalls}
-use Rattle.watch_hunt.specs.Known.{AreHeld, IsRight}
-use Rattle.watch_hunt.specs.inner.Knowing.{AddsRoot}
+use Rattle.watch_hunt.specs.Known.{AreHeld}
 use Rattle.watch_hunt.specs.inner.Judging.{AreClear, AreListed, Judged, MarksHeld, MarkedSoFar, MarksMore, HeldSoFar, AreOwners, AddsPlace}
 use Rattle.watch_hunt.proofs.PlaceLemmas.{same_or_other, got, stands, get_set, get_set_other}
 
@@ -83,21 +82,6 @@ held_all objects leaves root candidates held are far = record {
     λ met. let k = got candidates at (are.all at leaf of_at (root, item_in root, met)) in far.all k.0 at leaf (slice_get_within candidates k.0 at k.1) k.1 of_at met,
   );
 }
-
-pub held_none : (objects : List Data) (leaves : List PlainLeaf) (root : ℕ) (candidates : List ℕ) → HeldSoFar objects leaves root candidates 0 []
-held_none objects leaves root candidates = record {
-  there = All-nil (λ (place : ℕ). place < length leaves);
-  holds = λ at leaf has of_at. absurd (none_in at has);
-  all = λ j at leaf h of_j of_at met. absurd (omega (arith, h));
-}
-
--- a root more is known
-pub right_with : (objects : List Data) (leaves : List PlainLeaf) (root : ℕ) (places : List ℕ) (old new : List (Option (List ℕ))) → IsRight objects leaves old → AreHeld objects leaves root places
-    → AddsRoot root places old new → IsRight objects leaves new
-right_with objects leaves root places old new right held adds other kept at = elim (adds.no_other other kept at) [
-  | inl before ↦ right other kept before
-  | inr (same, own) ↦ subst (λ (r : ℕ). AreHeld objects leaves r kept) (sym same) (subst (λ (l : List ℕ). AreHeld objects leaves root l) (sym own) held)
-]
 
 -- ---- the marks
 
