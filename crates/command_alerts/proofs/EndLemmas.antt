@@ -7,10 +7,10 @@ use Rattle.pattern_types.specs.declared.pattern.Pattern.{Pattern}
 use Rattle.pattern_types.specs.PlainPattern.{plain_pattern}
 use Rattle.match_bindings.specs.declared.log_entry.LogEntry.{LogEntry}
 use Rattle.match_input.specs.Reading.{BundleOf}
-use Rattle.match_log.specs.Entries.{AreEntriesOf, AreEntries}
-use Rattle.watch_log.specs.Watching.{SeesAll, Says, BreaksOff, StopsWithin as EndsWithin, AnswersWatch}
-use Rattle.watch_log.specs.declared.end.WatchEnd.{WatchEnd}
-use Rattle.watch_log.specs.declared.end.WatchEnd.TheVariants.{Done, Input, ReadFault, WriteFault, Stopped, NoMemory}
+use Rattle.match_run.specs.Entries.{AreEntriesOf, AreEntries}
+use Rattle.match_run.specs.Watching.{SeesAll, Says, BreaksOff, StopsWithin as EndsWithin, AnswersWatch}
+use Rattle.match_run.specs.declared.watch_end.WatchEnd.{WatchEnd}
+use Rattle.match_run.specs.declared.watch_end.WatchEnd.TheVariants.{Done, Input, ReadFault, WriteFault, Stopped, NoMemory}
 use Rattle.command_alerts.specs.Alerts.{TellsLog}
 use Rattle.command_alerts.specs.Telling.{TellsBundles, StopsWithin, AnswersAlerts}
 use Rattle.command_alerts.specs.inner.Seeing.{AlerterState, IsBehind, TakesRows, SeesBundle, BeginsBundle}

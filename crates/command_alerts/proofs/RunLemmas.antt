@@ -4,7 +4,7 @@ use Rattle.flow_edges.specs.Streams.{Streams}
 use Rattle.pattern_types.specs.declared.pattern.Pattern.{Pattern}
 use Rattle.pattern_types.specs.PlainPattern.{plain_pattern}
 use Rattle.pattern_reader.specs.Read.{IsReadAs}
-use Rattle.watch_log.specs.declared.end.WatchEnd.TheVariants as end
+use Rattle.match_run.specs.declared.watch_end.WatchEnd.TheVariants as end
 use Rattle.command_alerts.specs.declared.ending.AlertEnding.{AlertEnding}
 use Rattle.command_alerts.specs.declared.ending.AlertEnding.TheVariants.{Usage, PatternRefused, NotLeaf, Ended, NoMemory}
 use Rattle.command_alerts.specs.Tasks.{AlertTask, AskFor, IsReadAsNoLeaf}

@@ -6,20 +6,20 @@ use Rattle.stix_bundles.specs.declared.observation.Observation.{Observation}
 use Rattle.pattern_types.specs.declared.pattern.Pattern.{Pattern}
 use Rattle.pattern_types.specs.PlainPattern.{PlainPattern, plain_pattern}
 use Rattle.pattern_types.specs.Soundness.{IsSoundPattern}
-use Rattle.match_tests.specs.Truths.{AreTruths}
+use Rattle.match_comparisons.specs.Truths.{AreTruths}
 use Rattle.match_bindings.specs.declared.log_entry.LogEntry.{LogEntry}
 use Rattle.match_bindings.specs.Log.{IsInOrder}
-use Rattle.match_live.specs.MatcherState.{Falls}
+use Rattle.match_stream.specs.MatcherState.{Falls}
 use Rattle.match_input.specs.Line.{last_after}
-use Rattle.watch_log.specs.declared.see_end.SeeEnd.{SeeEnd}
-use Rattle.watch_log.specs.declared.see_end.SeeEnd.TheVariants.{WriteFault}
-use Rattle.watch_log.specs.Reading.{MayFollow}
-use Rattle.watch_log.specs.Watching.{BreaksOff, EndsSeeing}
-use Rattle.watch_log.proofs.ReadingLemmas.{last_after-append}
-use Rattle.match_log.specs.Entries.{AreEntriesOf}
-use Rattle.match_log.proofs.LogLemmas.{entries_of-more, entries_of-length}
-use Rattle.watch_alerts.specs.Alert.{IsAlert}
-use Rattle.watch_alerts.specs.WatchState.{StandsFor, AnswersRow, with_row, last_of}
+use Rattle.match_run.specs.declared.see_end.SeeEnd.{SeeEnd}
+use Rattle.match_run.specs.declared.see_end.SeeEnd.TheVariants.{WriteFault}
+use Rattle.match_run.specs.Reading.{MayFollow}
+use Rattle.match_run.specs.Watching.{BreaksOff, EndsSeeing}
+use Rattle.match_run.proofs.ReadingLemmas.{last_after-append}
+use Rattle.match_run.specs.Entries.{AreEntriesOf}
+use Rattle.match_run.proofs.LogLemmas.{entries_of-more, entries_of-length}
+use Rattle.alert_window.specs.Alert.{IsAlert}
+use Rattle.alert_window.specs.WatchState.{StandsFor, AnswersRow, with_row, last_of}
 use Rattle.command_alerts.specs.Tasks.{IsOneLeaf}
 use Rattle.command_alerts.specs.Alerts.{IsLineOf, TellsRow}
 use Rattle.command_alerts.specs.inner.Seeing.{AlerterState, IsBehind, IsReady, TakesRows, Sees, SeesFirst, row_of}

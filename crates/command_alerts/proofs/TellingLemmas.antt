@@ -2,7 +2,7 @@
 use Rattle.std.proofs.Common.{◌≡◌, ◌↔◌, inl, inr, ℕ, suc, ◌+◌, ◌≤◌, ◌<◌, List, [], ◌∷◌, ◌++◌, length, refl, sym, ap, subst, ◌∙◌, append_assoc, length-append, arith}
 use Rattle.std.proofs.lemmas.List.{append-nil}
 use Rattle.match_bindings.specs.declared.log_entry.LogEntry.{LogEntry}
-use Rattle.watch_alerts.specs.Alert.{IsAlert}
+use Rattle.alert_window.specs.Alert.{IsAlert}
 use Rattle.command_alerts.specs.Alerts.{TellsRow, TellsRows}
 use Rattle.command_alerts.specs.inner.Seeing.{AlerterState, IsBehind, TellsBehind, TakesRows}
 

@@ -2,7 +2,7 @@
 use Rattle.std.specs.Prelude.{◌≡◌, ◌⊎◌, ℕ, ◌+◌, ℤ, List, [], ◌∷◌, ◌++◌, codes, decimal}
 use Rattle.stix_times.specs.Writing.{IsCanonicalTextOf}
 use Rattle.match_bindings.specs.declared.log_entry.LogEntry.{LogEntry}
-use Rattle.watch_alerts.specs.Alert.{IsAlert}
+use Rattle.alert_window.specs.Alert.{IsAlert}
 
 -- alert I at TIME
 pub record IsLineOf (number : ℕ) (last : ℤ) (line : List ℕ) : Type 0 where

@@ -3,9 +3,9 @@ use Rattle.std.specs.Prelude.{◌≡◌, ◌⊎◌, ℕ, List, [], codes}
 use Rattle.flow_edges.specs.Streams.{Streams, AreUntouched}
 use Rattle.pattern_types.specs.declared.pattern.Pattern.{Pattern}
 use Rattle.match_input.specs.Texts.{IsInputRefusalText}
-use Rattle.watch_log.specs.declared.end.WatchEnd.{WatchEnd}
+use Rattle.match_run.specs.declared.watch_end.WatchEnd.{WatchEnd}
 use Rattle.std.specs.declared.convert.Infallible.{Infallible}
-use Rattle.watch_log.specs.declared.end.WatchEnd.TheVariants as end
+use Rattle.match_run.specs.declared.watch_end.WatchEnd.TheVariants as end
 use Rattle.command_reasons.specs.Reasons.{IsRefusedPattern, pattern_reason}
 use Rattle.command_alerts.specs.declared.ending.AlertEnding.{AlertEnding}
 use Rattle.command_alerts.specs.declared.ending.AlertEnding.TheVariants.{Usage, PatternRefused, NotLeaf, Ended, NoMemory}

@@ -4,7 +4,7 @@ use Rattle.flow_edges.specs.Streams.{Streams}
 use Rattle.pattern_types.specs.declared.pattern.Pattern.{Pattern}
 use Rattle.match_input.specs.declared.mode.Mode.TheVariants.{Lines}
 use Rattle.match_input.specs.Reading.{BundleOf, InputEnd, Whole, Refused}
-use Rattle.match_log.specs.Matching.{ReadsInput}
+use Rattle.match_run.specs.Matching.{ReadsInput}
 use Rattle.command_alerts.specs.declared.ending.AlertEnding.{AlertEnding}
 use Rattle.command_alerts.specs.Tasks.{AlertTask, AskFor, AskForNothing, IsReadAsLeaf, IsReadAsNoLeaf}
 use Rattle.command_alerts.specs.Telling.{TellsBundles}

@@ -11,11 +11,11 @@ use Rattle.match_bindings.specs.declared.log_entry.LogEntry.{LogEntry}
 use Rattle.match_input.specs.declared.mode.Mode.TheVariants.{Lines}
 use Rattle.match_input.specs.declared.rule.InputRule.{InputRule}
 use Rattle.match_input.specs.Reading.{BundleOf, Whole, Refused}
-use Rattle.match_log.specs.Entries.{AreEntriesOf, AreEntries}
-use Rattle.match_log.specs.Matching.{ReadsInput, BeginsSo, StopsIn, ReadsTaken}
-use Rattle.watch_log.specs.Reading.{ReadsOnlyTo}
-use Rattle.watch_log.specs.declared.end.WatchEnd.{WatchEnd}
-use Rattle.watch_log.specs.declared.end.WatchEnd.TheVariants.{Done, Input, ReadFault, WriteFault, Stopped, NoMemory}
+use Rattle.match_run.specs.Entries.{AreEntriesOf, AreEntries}
+use Rattle.match_run.specs.Matching.{ReadsInput, BeginsSo, StopsIn, ReadsTaken}
+use Rattle.match_run.specs.Reading.{ReadsOnlyTo}
+use Rattle.match_run.specs.declared.watch_end.WatchEnd.{WatchEnd}
+use Rattle.match_run.specs.declared.watch_end.WatchEnd.TheVariants.{Done, Input, ReadFault, WriteFault, Stopped, NoMemory}
 use Rattle.command_alerts.specs.Alerts.{TellsLog}
 
 -- the alerts over the log of some bundles were told

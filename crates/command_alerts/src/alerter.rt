@@ -2,24 +2,24 @@ ghost use Rattle.std.specs.Prelude.{◌≡◌, ◌+◌, ◌≤ℤ◌, [], ◌∷
 ghost use Rattle.flow_edges.specs.Faults.{Counted};
 ghost use Rattle.stix_bundles.specs.Objects.{data_in};
 ghost use Rattle.pattern_types.specs.PlainPattern.{plain_pattern};
-ghost use Rattle.match_live.specs.MatcherState.{Falls};
-ghost use Rattle.watch_log.specs.Reading.{MayFollow};
+ghost use Rattle.match_stream.specs.MatcherState.{Falls};
+ghost use Rattle.match_run.specs.Reading.{MayFollow};
 ghost use Rattle.command_alerts.specs.inner.Seeing.{IsReady, TakesRows, SeesBundle, BeginsBundle, SeesSoFar, SeesPart, row_of};
 
 use crate::alert_line::line_of;
 use flow_edges::Sink;
 use flow_values::NoMemory;
 use match_input::Batch;
-use match_tests::leaf_truths;
+use match_comparisons::leaf_truths;
 use pattern_types::Pattern;
 use std::alloc::Global;
 use std::convert::Infallible;
 use std::marker::Model;
 use stix_bundles::Observation;
-use watch_alerts::laws::alerts_stay;
-use watch_alerts::{Watch, WatchRefusal};
-use watch_log::laws::parts_on_their_way;
-use watch_log::{CutShort, Pending, SeeEnd, Watcher};
+use alert_window::laws::alerts_stay;
+use alert_window::{Watch, WatchRefusal};
+use match_run::watch_laws::parts_on_their_way;
+use match_run::{CutShort, Pending, SeeEnd, Watcher};
 
 /// Who tells the alerts of a log: a pattern, which is one bracket, and the watch over the rows at which it holds.
 #[derive(Drop)]

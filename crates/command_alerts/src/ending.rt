@@ -7,7 +7,7 @@ use flow_values::Fault;
 use match_input::write_input_refusal;
 use pattern_reader::PatternRefusal;
 use std::convert::Infallible;
-use watch_log::WatchEnd;
+use match_run::WatchEnd;
 
 /// How the program ends.
 #[derive(Debug, Drop)]

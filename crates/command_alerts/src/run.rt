@@ -15,15 +15,15 @@ use crate::words::{AlertRequest, read_request};
 use flow_edges::{Sink, Source};
 use flow_values::NoMemory;
 use match_input::{Mode, Reader};
-use pattern_reader::laws::{none_refused, one_pattern};
+use pattern_reader::reader_laws::{none_refused, one_pattern};
 use pattern_reader::{PatternRefusal, read_pattern};
 use pattern_types::Pattern;
 use std::alloc::Global;
 use std::convert::Infallible;
-use watch_alerts::Watch;
-use watch_alerts::laws::alerts_stay;
-use watch_log::laws::begins_with_none;
-use watch_log::{WatchEnd, follow};
+use alert_window::Watch;
+use alert_window::laws::alerts_stay;
+use match_run::watch_laws::begins_with_none;
+use match_run::{WatchEnd, follow};
 
 /// Tells the alerts of an input for a pattern that is one bracket.
 fn watch_input<I: Source, O: Sink>(

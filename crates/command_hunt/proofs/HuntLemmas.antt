@@ -9,38 +9,38 @@ use Rattle.serde_json.specs.Data.{Data}
 use Rattle.pattern_types.specs.declared.pattern.Pattern.{Pattern}
 use Rattle.match_bindings.specs.declared.log_entry.LogEntry.{LogEntry}
 use Rattle.match_bindings.specs.NumberedPattern.{numbered_pattern}
-use Rattle.match_live.specs.Answer.{IsRoomy}
+use Rattle.match_stream.specs.Answer.{IsRoomy}
 use Rattle.match_input.specs.declared.mode.Mode.TheVariants.{Lines}
 use Rattle.match_input.specs.declared.read_end.ReadEnd.{ReadEnd}
 use Rattle.match_input.specs.declared.read_end.ReadEnd.TheVariants as read
 use Rattle.match_input.specs.Reading.{BundleOf, Whole}
 use Rattle.match_input.specs.Ahead.{ReaderState, reader_start}
-use Rattle.match_log.specs.Matching.{ReadsInput}
-use Rattle.match_log.proofs.PendingLemmas.{written_with-nil, written_with-both}
-use Rattle.watch_log.specs.Watching.{Says, BreaksOff, EndsSeeing, SeesAll, WatchesWhole, StopsWithin as EndsWithin, AnswersWatch}
-use Rattle.watch_log.specs.inner.Ends.{end_of_read, end_of_see}
-use Rattle.watch_log.specs.Reading.{HasRead, NextAnswers}
-use Rattle.watch_log.proofs.WayLemmas.{way-cut}
-use Rattle.watch_log.specs.declared.see_end.SeeEnd.{SeeEnd}
-use Rattle.watch_log.specs.declared.see_end.SeeEnd.TheVariants as see
-use Rattle.watch_log.specs.declared.end.WatchEnd.{WatchEnd}
-use Rattle.watch_log.specs.declared.end.WatchEnd.TheVariants.{Done, Input, ReadFault, WriteFault, Stopped, NoMemory}
-use Rattle.watch_indicators.specs.declared.hunted.Hunted.{Hunted}
-use Rattle.watch_indicators.specs.declared.hunted.Hunt.{Hunt}
-use Rattle.watch_indicators.specs.Indicators.{IsHuntOf}
-use Rattle.watch_feed.specs.declared.rule.FeedRule.{FeedRule}
-use Rattle.watch_feed.specs.declared.end.FeedEnd.{FeedEnd}
-use Rattle.watch_feed.specs.declared.end.FeedEnd.TheVariants as unfed
-use Rattle.watch_feed.specs.Feeds.{Refused as RefusedLine, ReadsFeed}
-use Rattle.watch_hunt.specs.declared.found.Found.{Found}
-use Rattle.watch_hunt.specs.EngineLog.{Row, row_of}
-use Rattle.watch_hunt.specs.EngineAnswer.{IsFirstCrowded}
-use Rattle.watch_hits.specs.declared.crowded.Crowded.{Crowded}
-use Rattle.watch_hits.specs.Rows.{rows_over, rows_of}
-use Rattle.watch_hits.specs.Hits.{AnswerRows, AreHits, AreNeverCrowded}
-use Rattle.watch_hits.specs.Lines.{skipped_text, hit_line, hits_text}
-use Rattle.watch_hits.specs.Sights.{IsReport, TellsReport}
-use Rattle.watch_hits.specs.Hunting.{HunterState, patterns_of, HuntsOver, TakesRows, SeesBundle, BeginsBundle, StopsInBundle}
+use Rattle.match_run.specs.Matching.{ReadsInput}
+use Rattle.match_run.proofs.PendingLemmas.{written_with-nil, written_with-both}
+use Rattle.match_run.specs.Watching.{Says, BreaksOff, EndsSeeing, SeesAll, WatchesWhole, StopsWithin as EndsWithin, AnswersWatch}
+use Rattle.match_run.specs.inner.WatchEnds.{end_of_read, end_of_see}
+use Rattle.match_run.specs.Reading.{HasRead, NextAnswers}
+use Rattle.match_run.proofs.WayLemmas.{way-cut}
+use Rattle.match_run.specs.declared.see_end.SeeEnd.{SeeEnd}
+use Rattle.match_run.specs.declared.see_end.SeeEnd.TheVariants as see
+use Rattle.match_run.specs.declared.watch_end.WatchEnd.{WatchEnd}
+use Rattle.match_run.specs.declared.watch_end.WatchEnd.TheVariants.{Done, Input, ReadFault, WriteFault, Stopped, NoMemory}
+use Rattle.hunt_feed.specs.declared.hunted.Hunted.{Hunted}
+use Rattle.hunt_feed.specs.declared.hunted.Hunt.{Hunt}
+use Rattle.hunt_feed.specs.Indicators.{IsHuntOf}
+use Rattle.hunt_feed.specs.declared.rule.FeedRule.{FeedRule}
+use Rattle.hunt_feed.specs.declared.end.FeedEnd.{FeedEnd}
+use Rattle.hunt_feed.specs.declared.end.FeedEnd.TheVariants as unfed
+use Rattle.hunt_feed.specs.Feeds.{Refused as RefusedLine, ReadsFeed}
+use Rattle.hunt_engine.specs.declared.found.Found.{Found}
+use Rattle.hunt_engine.specs.EngineLog.{Row, row_of}
+use Rattle.hunt_engine.specs.EngineAnswer.{IsFirstCrowded}
+use Rattle.hunt_report.specs.declared.crowded.Crowded.{Crowded}
+use Rattle.hunt_report.specs.Rows.{rows_over, rows_of}
+use Rattle.hunt_report.specs.Hits.{AnswerRows, AreHits, AreNeverCrowded}
+use Rattle.hunt_report.specs.Lines.{skipped_text, hit_line, hits_text}
+use Rattle.hunt_report.specs.Sights.{IsReport, TellsReport}
+use Rattle.hunt_report.specs.Hunting.{HunterState, patterns_of, HuntsOver, TakesRows, SeesBundle, BeginsBundle, StopsInBundle}
 use Rattle.command_hunt.specs.Tasks.{HuntTask}
 use Rattle.command_hunt.specs.Feeding.{IsUnfed}
 use Rattle.command_hunt.specs.Telling.{feed_of, HuntsRows, told_of, TellsHits, TellsAll, HuntsWhole, StopsCrowded, StopsWithin, StopsReporting, StopsSkipping, AnswersHunt}

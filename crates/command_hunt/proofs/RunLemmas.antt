@@ -2,8 +2,8 @@
 use Rattle.std.proofs.Common.{◌≡◌, ◌≢◌, ◌⊎◌, ◌↔◌, inl, inr, ℕ, List, Option, refl, ap, arith}
 use Rattle.flow_edges.specs.Streams.{Streams}
 use Rattle.match_input.specs.Reading.{Whole, Refused}
-use Rattle.watch_log.specs.declared.end.WatchEnd.TheVariants as end
-use Rattle.watch_feed.specs.declared.end.FeedEnd.TheVariants as feed
+use Rattle.match_run.specs.declared.watch_end.WatchEnd.TheVariants as end
+use Rattle.hunt_feed.specs.declared.end.FeedEnd.TheVariants as feed
 use Rattle.command_hunt.specs.declared.ending.HuntEnding.{HuntEnding}
 use Rattle.command_hunt.specs.declared.ending.HuntEnding.TheVariants.{Usage, Unfed, Ended}
 use Rattle.command_hunt.specs.Tasks.{HuntTask, AskForNothing}

@@ -3,9 +3,9 @@ use Rattle.std.specs.Prelude.{◌≡◌, ◌⊎◌, ℕ, List, [], Option, codes
 use Rattle.flow_edges.specs.Streams.{Streams, AreUntouched}
 use Rattle.serde_json.specs.Data.{Data}
 use Rattle.match_input.specs.Texts.{IsInputRefusalText}
-use Rattle.watch_log.specs.declared.end.WatchEnd.TheVariants as end
-use Rattle.watch_feed.specs.declared.end.FeedEnd.TheVariants as feed
-use Rattle.watch_feed.specs.Texts.{feed_refusal_text}
+use Rattle.match_run.specs.declared.watch_end.WatchEnd.TheVariants as end
+use Rattle.hunt_feed.specs.declared.end.FeedEnd.TheVariants as feed
+use Rattle.hunt_feed.specs.Texts.{feed_refusal_text}
 use Rattle.command_reasons.specs.Reasons.{crowded_reason}
 use Rattle.command_hunt.specs.declared.ending.HuntEnding.{HuntEnding}
 use Rattle.command_hunt.specs.declared.ending.HuntEnding.TheVariants.{Usage, Unfed, Ended}

@@ -3,10 +3,10 @@
 use Rattle.std.specs.Prelude.{◌≡◌, ◌⊎◌, ⊤, ℕ, List, Option, Some, None}
 use Rattle.serde_json.specs.Data.{Data}
 use Rattle.flow_edges.specs.Faults.{Counted}
-use Rattle.watch_feed.specs.Feeds.{Whole, Refused as RefusedLine, ReadsFeed}
-use Rattle.watch_feed.specs.declared.rule.FeedRule.{FeedRule}
-use Rattle.watch_feed.specs.declared.end.FeedEnd.{FeedEnd}
-use Rattle.watch_feed.specs.declared.end.FeedEnd.TheVariants.{Refused, Fault, NoMemory}
+use Rattle.hunt_feed.specs.Feeds.{Whole, Refused as RefusedLine, ReadsFeed}
+use Rattle.hunt_feed.specs.declared.rule.FeedRule.{FeedRule}
+use Rattle.hunt_feed.specs.declared.end.FeedEnd.{FeedEnd}
+use Rattle.hunt_feed.specs.declared.end.FeedEnd.TheVariants.{Refused, Fault, NoMemory}
 use Rattle.command_hunt.specs.Tasks.{HuntTask}
 
 -- the words name a file of which that holds

@@ -5,11 +5,11 @@ use Rattle.flow_edges.specs.Streams.{Streams, AreUntouched}
 use Rattle.serde_json.specs.Data.{Data}
 use Rattle.match_input.specs.declared.mode.Mode.TheVariants.{Lines}
 use Rattle.match_input.specs.Reading.{BundleOf, InputEnd, Whole, Refused}
-use Rattle.match_log.specs.Matching.{ReadsInput}
-use Rattle.watch_hits.specs.declared.crowded.Crowded.{Crowded}
+use Rattle.match_run.specs.Matching.{ReadsInput}
+use Rattle.hunt_report.specs.declared.crowded.Crowded.{Crowded}
 use Rattle.command_hunt.specs.declared.ending.HuntEnding.{HuntEnding}
 use Rattle.command_hunt.specs.Tasks.{HuntTask}
-use Rattle.watch_feed.specs.declared.rule.FeedRule.{FeedRule}
+use Rattle.hunt_feed.specs.declared.rule.FeedRule.{FeedRule}
 use Rattle.command_hunt.specs.Feeding.{NamesFile, IsFed, IsRefusedFeed}
 use Rattle.command_hunt.specs.Telling.{TellsTo, StopsCrowded}
 use Rattle.command_hunt.specs.Endings.{AskSo, EndsHunt, hunt_status, IsHuntReason}

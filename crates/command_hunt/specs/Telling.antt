@@ -8,21 +8,21 @@ use Rattle.stix_bundles.specs.declared.observation.Observation.{Observation}
 use Rattle.match_input.specs.declared.mode.Mode.TheVariants.{Lines}
 use Rattle.match_input.specs.declared.rule.InputRule.{InputRule}
 use Rattle.match_input.specs.Reading.{BundleOf, InputEnd, Whole, Refused}
-use Rattle.match_log.specs.Matching.{ReadsInput, BeginsSo, StopsIn, ReadsTaken}
-use Rattle.watch_log.specs.Reading.{ReadsOnlyTo}
-use Rattle.watch_log.specs.declared.end.WatchEnd.{WatchEnd}
-use Rattle.watch_log.specs.declared.end.WatchEnd.TheVariants.{Done, Input, ReadFault, WriteFault, Stopped, NoMemory}
-use Rattle.watch_indicators.specs.declared.hunted.Hunt.{Hunt}
-use Rattle.watch_indicators.specs.Indicators.{IsHuntOf}
-use Rattle.watch_hunt.specs.declared.found.Found.{Found}
-use Rattle.watch_hunt.specs.EngineLog.{Row, row_of}
-use Rattle.watch_hunt.specs.EngineAnswer.{IsFirstCrowded}
-use Rattle.watch_hits.specs.declared.crowded.Crowded.{Crowded}
-use Rattle.watch_hits.specs.Rows.{rows_over, rows_of}
-use Rattle.watch_hits.specs.Hits.{AreHits, AreNeverCrowded}
-use Rattle.watch_hits.specs.Lines.{skipped_text, hits_text}
-use Rattle.watch_hits.specs.Sights.{IsReport, TellsReport}
-use Rattle.watch_hits.specs.Hunting.{patterns_of}
+use Rattle.match_run.specs.Matching.{ReadsInput, BeginsSo, StopsIn, ReadsTaken}
+use Rattle.match_run.specs.Reading.{ReadsOnlyTo}
+use Rattle.match_run.specs.declared.watch_end.WatchEnd.{WatchEnd}
+use Rattle.match_run.specs.declared.watch_end.WatchEnd.TheVariants.{Done, Input, ReadFault, WriteFault, Stopped, NoMemory}
+use Rattle.hunt_feed.specs.declared.hunted.Hunt.{Hunt}
+use Rattle.hunt_feed.specs.Indicators.{IsHuntOf}
+use Rattle.hunt_engine.specs.declared.found.Found.{Found}
+use Rattle.hunt_engine.specs.EngineLog.{Row, row_of}
+use Rattle.hunt_engine.specs.EngineAnswer.{IsFirstCrowded}
+use Rattle.hunt_report.specs.declared.crowded.Crowded.{Crowded}
+use Rattle.hunt_report.specs.Rows.{rows_over, rows_of}
+use Rattle.hunt_report.specs.Hits.{AreHits, AreNeverCrowded}
+use Rattle.hunt_report.specs.Lines.{skipped_text, hits_text}
+use Rattle.hunt_report.specs.Sights.{IsReport, TellsReport}
+use Rattle.hunt_report.specs.Hunting.{patterns_of}
 use Rattle.command_hunt.specs.Tasks.{HuntTask}
 
 -- ---- the hunt

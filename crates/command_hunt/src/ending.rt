@@ -8,9 +8,9 @@ use command_reasons::{write_crowded, write_no_memory, write_read_fault, write_wr
 use flow_edges::{Sink, write_whole};
 use flow_values::Fault;
 use match_input::write_input_refusal;
-use watch_feed::{FeedEnd, write_feed_refusal};
-use watch_hits::Crowded;
-use watch_log::WatchEnd;
+use hunt_feed::{FeedEnd, write_feed_refusal};
+use hunt_report::Crowded;
+use match_run::WatchEnd;
 
 /// How the program ends.
 #[derive(Debug, Drop)]

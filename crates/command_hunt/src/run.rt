@@ -6,14 +6,14 @@ ghost use Rattle.stix_ids.specs.Kind.{IsKind};
 ghost use Rattle.stix_bundles.specs.Objects.{data_in};
 ghost use Rattle.match_input.specs.declared.mode.Mode.TheVariants.{Lines};
 ghost use Rattle.match_input.specs.Ahead.{reader_start};
-ghost use Rattle.watch_log.specs.Reading.{HasRead, MayFollow, bundle_of};
-ghost use Rattle.watch_indicators.specs.Indicators.{IsHuntOf};
-ghost use Rattle.watch_indicators.specs.Gathering.{GathersFor};
-ghost use Rattle.watch_feed.specs.declared.rule.FeedRule.{FeedRule};
-ghost use Rattle.watch_feed.specs.Feeds.{Refused, ReadsFeed, AreUnbroken, GathersFeed};
-ghost use Rattle.watch_hunt.specs.declared.found.Found.{Found};
-ghost use Rattle.watch_hunt.specs.EngineLog.{Row};
-ghost use Rattle.watch_hits.specs.Hunting.{HuntsOver, IsHuntable};
+ghost use Rattle.match_run.specs.Reading.{HasRead, MayFollow, bundle_of};
+ghost use Rattle.hunt_feed.specs.Indicators.{IsHuntOf};
+ghost use Rattle.hunt_feed.specs.Gathering.{GathersFor};
+ghost use Rattle.hunt_feed.specs.declared.rule.FeedRule.{FeedRule};
+ghost use Rattle.hunt_feed.specs.Feeds.{Refused, ReadsFeed, AreUnbroken, GathersFeed};
+ghost use Rattle.hunt_engine.specs.declared.found.Found.{Found};
+ghost use Rattle.hunt_engine.specs.EngineLog.{Row};
+ghost use Rattle.hunt_report.specs.Hunting.{HuntsOver, IsHuntable};
 ghost use Rattle.command_line.specs.CommandLines.{texts};
 ghost use Rattle.command_reasons.specs.Reasons.{WritesReason};
 ghost use Rattle.command_hunt.specs.Tasks.{AskForNothing, task_of};
@@ -26,17 +26,17 @@ ghost use Rattle.command_hunt.specs.inner.Begun.{IsUnread, IsBegun, HasSkipped, 
 use crate::ending::HuntEnding;
 use crate::words::{HuntRequest, read_request};
 use flow_edges::{Sink, Source};
-use flow_files::Files;
+use flow_edges::Files;
 use flow_values::{Fault, NoMemory};
 use std::alloc::Global;
 use stix_bundles::Bundle;
 use stix_times::Instant;
-use watch_feed::{FeedEnd, gather};
-use watch_hits::laws::{answers_are_the_hits, hunted_are_huntable, skipped_can_be_told};
-use watch_hits::{Crowded, Hunter, write_report, write_skipped};
-use watch_indicators::{Gathering, Hunt, Hunted, hunt};
-use watch_log::laws::{begins_with_none, read_bundles_come_first};
-use watch_log::{Batch, CutShort, Mode, Reader, WatchEnd, Watcher, follow, next_bundle};
+use hunt_feed::{FeedEnd, gather};
+use hunt_report::hit_laws::{answers_are_the_hits, hunted_are_huntable, skipped_can_be_told};
+use hunt_report::{Crowded, Hunter, write_report, write_skipped};
+use hunt_feed::{Gathering, Hunt, Hunted, hunt};
+use match_run::watch_laws::{begins_with_none, read_bundles_come_first};
+use match_run::{Batch, CutShort, Mode, Reader, WatchEnd, Watcher, follow, next_bundle};
 
 /// The hunt of a bundle: each indicator of it can be hunted and told.
 fn hunt_of(alloc: Global, bundle: &Bundle, moment: Instant) -> Result<Hunt, NoMemory>

@@ -11,8 +11,8 @@ use Rattle.match_input.specs.Texts.{IsInputRefusalText}
 use Rattle.match_bindings.specs.declared.log_entry.LogEntry.{LogEntry}
 use Rattle.match_bindings.specs.BindTree.{BindTree}
 use Rattle.match_generator.specs.GeneratedLog.{log_text}
-use Rattle.match_log.specs.Entries.{AreEntries}
-use Rattle.match_log.specs.Listing.{AreBindings, last_number}
+use Rattle.match_run.specs.Entries.{AreEntries}
+use Rattle.match_run.specs.Listing.{AreBindings, last_number}
 use Rattle.command_make.specs.declared.making.MakeEnding.{MakeEnding}
 use Rattle.command_make.specs.declared.making.MakeEnding.TheVariants.{Made, Refused, WriteFault, NoMemory}
 

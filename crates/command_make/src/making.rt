@@ -13,9 +13,9 @@ use flow_values::Fault;
 use itoa::Buffer;
 use match_generator::GeneratedLog;
 use match_input::write_input_refusal;
-use match_log::{InputRule, MatchEnd, Matcher, Mode, match_stream};
+use match_run::{InputRule, MatchEnd, Matcher, Mode, match_stream};
 use pattern_reader::{Pattern, read_pattern};
-use pattern_types::laws::leaves_are_brackets;
+use pattern_types::leaf_laws::leaves_are_brackets;
 use std::alloc::Global;
 
 /// The pattern that a generated log is matched with.

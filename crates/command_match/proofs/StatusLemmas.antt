@@ -1,7 +1,7 @@
 -- The statuses 5 and 6 of a `match` are the faults of its input and its output.
 use Rattle.std.proofs.Common.{◌≡◌, ◌↔◌, ap, refl, arith}
-use Rattle.match_log.specs.declared.end.MatchEnd.{MatchEnd}
-use Rattle.match_log.specs.declared.end.MatchEnd.TheVariants as end
+use Rattle.match_run.specs.declared.match_end.MatchEnd.{MatchEnd}
+use Rattle.match_run.specs.declared.match_end.MatchEnd.TheVariants as end
 use Rattle.command_match.specs.declared.matching.MatchEnding.TheVariants.{Ended}
 use Rattle.command_match.specs.MatchEndings.{match_status}
 

@@ -1,13 +1,13 @@
 -- What an ending of `match` says of its pattern, the log and what was written; its status, and its reason as a text.
 use Rattle.std.specs.Prelude.{◌≡◌, ℕ, List, [], codes}
-use Rattle.pattern_reader.specs.declared.refusal.PatternRefusal.{PatternRefusal}
+use Rattle.pattern_reader.specs.declared.pattern_refusal.PatternRefusal.{PatternRefusal}
 use Rattle.pattern_types.specs.declared.pattern.Pattern.{Pattern}
 use Rattle.pattern_reader.specs.Read.{IsReadAs}
 use Rattle.match_input.specs.Texts.{IsInputRefusalText}
-use Rattle.match_live.specs.MatcherState.{MatcherState}
-use Rattle.match_log.specs.Matching.{AnswersMatch}
-use Rattle.match_log.specs.declared.end.MatchEnd.{MatchEnd}
-use Rattle.match_log.specs.declared.end.MatchEnd.TheVariants as end
+use Rattle.match_stream.specs.MatcherState.{MatcherState}
+use Rattle.match_run.specs.Matching.{AnswersMatch}
+use Rattle.match_run.specs.declared.match_end.MatchEnd.{MatchEnd}
+use Rattle.match_run.specs.declared.match_end.MatchEnd.TheVariants as end
 use Rattle.command_match.specs.declared.matching.MatchEnding.{MatchEnding}
 use Rattle.command_match.specs.declared.matching.MatchEnding.TheVariants.{PatternRefused, Ended, NoMemory}
 use Rattle.command_reasons.specs.Reasons.{IsRefusedPattern, pattern_reason, crowded_reason}

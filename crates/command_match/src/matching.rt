@@ -14,10 +14,10 @@ use command_reasons::{
 use flow_edges::{Sink, Source, write_whole};
 use flow_values::{Fault, NoMemory};
 use match_input::write_input_refusal;
-use match_log::{MatchEnd, Matcher, Mode, match_stream};
-use pattern_reader::laws::none_refused;
+use match_run::{MatchEnd, Matcher, Mode, match_stream};
+use pattern_reader::reader_laws::none_refused;
 use pattern_reader::{Pattern, PatternRefusal, read_pattern};
-use pattern_types::laws::leaves_are_brackets;
+use pattern_types::leaf_laws::leaves_are_brackets;
 use std::alloc::Global;
 use std::mem;
 

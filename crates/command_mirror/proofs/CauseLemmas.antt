@@ -2,12 +2,12 @@
 use Rattle.std.proofs.Common.{◌≡◌, ◌≢◌, ◌↔◌, ℕ, List, Option, true, refl}
 use Rattle.flow_edges.specs.Faults.{Counted}
 use Rattle.taxii_store.specs.declared.load_refusal.LoadRefusal.TheVariants as Load
-use Rattle.taxii_mirror.specs.declared.refusal.StoreRefusal.TheVariants as Store
-use Rattle.taxii_copy.specs.declared.stop.CopyStop.{CopyStop}
-use Rattle.taxii_copy.specs.declared.stop.CopyStop.TheVariants.{NotLoaded, NotFetched, NotAbsorbed}
-use Rattle.taxii_copy.specs.declared.stop.FetchStop.TheVariants as Stop
-use Rattle.taxii_copy.specs.Endings.{is_store_fault}
-use Rattle.taxii_copy.specs.declared.totals.Totals.{Totals}
+use Rattle.taxii_client.specs.declared.store_refusal.StoreRefusal.TheVariants as Store
+use Rattle.taxii_client.specs.declared.stop.CopyStop.{CopyStop}
+use Rattle.taxii_client.specs.declared.stop.CopyStop.TheVariants.{NotLoaded, NotFetched, NotAbsorbed}
+use Rattle.taxii_client.specs.declared.stop.FetchStop.TheVariants as Stop
+use Rattle.taxii_client.specs.Endings.{is_store_fault}
+use Rattle.taxii_client.specs.declared.totals.Totals.{Totals}
 use Rattle.command_mirror.specs.declared.ending.MirrorEnding.{MirrorEnding}
 use Rattle.command_mirror.specs.declared.ending.MirrorEnding.TheVariants.{Usage, Done, WriteFault, Stopped, NoMemory}
 use Rattle.command_mirror.specs.Endings.{Concludes, stop_status, mirror_status}

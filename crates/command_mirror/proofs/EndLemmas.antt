@@ -11,23 +11,23 @@ use Rattle.taxii_client.specs.declared.fetch_end.FetchEnd.{FetchEnd}
 use Rattle.taxii_client.specs.declared.turn.Turn.{Turn}
 use Rattle.taxii_client.specs.declared.turn.Turn.TheVariants.{First}
 use Rattle.taxii_store.specs.declared.load_refusal.LoadRefusal.TheVariants as Load
-use Rattle.taxii_mirror.specs.declared.refusal.StoreRefusal.TheVariants as Store
+use Rattle.taxii_client.specs.declared.store_refusal.StoreRefusal.TheVariants as Store
 use Rattle.command_mirror.specs.declared.ending.MirrorEnding.{MirrorEnding}
 use Rattle.command_mirror.specs.declared.ending.MirrorEnding.TheVariants.{Usage, Done, WriteFault, Stopped, NoMemory}
-use Rattle.taxii_copy.specs.declared.stop.CopyStop.{CopyStop}
-use Rattle.taxii_copy.specs.declared.stop.CopyStop.TheVariants.{NotLoaded, NotFetched, NotAbsorbed}
-use Rattle.taxii_copy.specs.declared.stop.FetchStop.TheVariants as Stop
-use Rattle.taxii_copy.specs.Copying.{Copying}
+use Rattle.taxii_client.specs.declared.stop.CopyStop.{CopyStop}
+use Rattle.taxii_client.specs.declared.stop.CopyStop.TheVariants.{NotLoaded, NotFetched, NotAbsorbed}
+use Rattle.taxii_client.specs.declared.stop.FetchStop.TheVariants as Stop
+use Rattle.taxii_client.specs.Copying.{Copying}
 use Rattle.command_mirror.specs.Words.{AskForNothing}
-use Rattle.taxii_copy.specs.Attempts.{Attempt, InTurn, undialled, links_of, lost_links, pages_of, entries_of, CountsDials}
-use Rattle.taxii_copy.specs.Filling.{Outside}
-use Rattle.taxii_copy.specs.Endings.{Stops, StopsLost, StopsAt, StopsShort, StopsBefore, WhyNot, Copies}
-use Rattle.taxii_copy.specs.declared.totals.Totals.{Totals}
+use Rattle.taxii_client.specs.Attempts.{Attempt, InTurn, undialled, links_of, lost_links, pages_of, entries_of, CountsDials}
+use Rattle.taxii_client.specs.Filling.{Outside}
+use Rattle.taxii_client.specs.Endings.{Stops, StopsLost, StopsAt, StopsShort, StopsBefore, WhyNot, Copies}
+use Rattle.taxii_client.specs.declared.totals.Totals.{Totals}
 use Rattle.flow_edges.specs.Flow.{written_with, WritesPart}
 use Rattle.command_mirror.specs.Summary.{summary_text}
 use Rattle.command_mirror.specs.Endings.{EndsMirror, Concludes, AskSo, EndsWords, stop_status, mirror_status}
 use Rattle.command_mirror.specs.Runs.{CopiesAll, LosesAll, HoldsMirrored}
-use Rattle.taxii_copy.proofs.AttemptLemmas.{pages_turn, all_failed, lost_counts, undialled_lost, pages_same}
+use Rattle.taxii_client.proofs.AttemptLemmas.{pages_turn, all_failed, lost_counts, undialled_lost, pages_same}
 
 abbrev no_rows : StoreState
 no_rows = record { rows = []; mark = 0 }

@@ -3,15 +3,15 @@ use Rattle.std.specs.Prelude.{◌≡◌, ◌⊎◌, ℕ, List, [], codes, Option
 use Rattle.flow_edges.specs.Flow.{written_with, WritesPart}
 use Rattle.taxii_client.specs.Outside.{LinkView}
 use Rattle.taxii_store.specs.declared.load_refusal.LoadRefusal.TheVariants as Load
-use Rattle.taxii_mirror.specs.declared.refusal.StoreRefusal.TheVariants as Store
-use Rattle.taxii_copy.specs.Copying.{Copying}
-use Rattle.taxii_copy.specs.Filling.{Outside}
-use Rattle.taxii_copy.specs.Totals.{totals_of}
-use Rattle.taxii_copy.specs.Endings.{StopsBehind, EndsCopy}
-use Rattle.taxii_copy.specs.declared.stop.CopyStop.{CopyStop}
-use Rattle.taxii_copy.specs.declared.stop.CopyStop.TheVariants.{NotLoaded, NotFetched, NotAbsorbed}
-use Rattle.taxii_copy.specs.declared.stop.FetchStop.TheVariants as Stop
-use Rattle.taxii_copy.specs.declared.totals.Totals.{Totals}
+use Rattle.taxii_client.specs.declared.store_refusal.StoreRefusal.TheVariants as Store
+use Rattle.taxii_client.specs.Copying.{Copying}
+use Rattle.taxii_client.specs.Filling.{Outside}
+use Rattle.taxii_client.specs.Totals.{totals_of}
+use Rattle.taxii_client.specs.Endings.{StopsBehind, EndsCopy}
+use Rattle.taxii_client.specs.declared.stop.CopyStop.{CopyStop}
+use Rattle.taxii_client.specs.declared.stop.CopyStop.TheVariants.{NotLoaded, NotFetched, NotAbsorbed}
+use Rattle.taxii_client.specs.declared.stop.FetchStop.TheVariants as Stop
+use Rattle.taxii_client.specs.declared.totals.Totals.{Totals}
 use Rattle.command_peer.specs.Refusal.{peer_reason}
 use Rattle.taxii_rows.specs.declared.fault_cause.FaultCause.{FaultCause}
 use Rattle.taxii_rows.specs.Causes.{text_of}

@@ -8,13 +8,13 @@ use Rattle.taxii_client.specs.Outside.{LinkView}
 use Rattle.taxii_client.specs.Pulls.{Page, PassThrough, IsPull}
 use Rattle.taxii_client.specs.declared.turn.Turn.{Turn}
 use Rattle.taxii_client.specs.declared.turn.Turn.TheVariants.{First, Over}
-use Rattle.taxii_mirror.specs.Absorbing.{Absorbed}
-use Rattle.taxii_mirror.specs.Mirrored.{Mirrored}
+use Rattle.taxii_client.specs.Absorbing.{Absorbed}
+use Rattle.taxii_client.specs.Mirrored.{Mirrored}
 use Rattle.command_mirror.specs.declared.ending.MirrorEnding.{MirrorEnding}
-use Rattle.taxii_copy.specs.Copying.{Copying}
-use Rattle.taxii_copy.specs.Attempts.{Attempt, InTurn, losses, links_of, lost_links, pages_of, entries_of, LinkFailed}
-use Rattle.taxii_copy.specs.Filling.{Outside, Fills}
-use Rattle.taxii_copy.specs.Totals.{totals_of}
+use Rattle.taxii_client.specs.Copying.{Copying}
+use Rattle.taxii_client.specs.Attempts.{Attempt, InTurn, losses, links_of, lost_links, pages_of, entries_of, LinkFailed}
+use Rattle.taxii_client.specs.Filling.{Outside, Fills}
+use Rattle.taxii_client.specs.Totals.{totals_of}
 use Rattle.command_mirror.specs.Summary.{summary_text}
 use Rattle.command_mirror.specs.Endings.{EndsWords, mirror_status, reason_of}
 

@@ -1,6 +1,6 @@
 -- What is told of the pages that were absorbed.
 use Rattle.std.specs.Prelude.{ℕ, List, ◌++◌, codes, decimal}
-use Rattle.taxii_copy.specs.declared.totals.Totals.{Totals}
+use Rattle.taxii_client.specs.declared.totals.Totals.{Totals}
 
 -- pages P added A present B skipped S
 abbrev pub counts_text : List ℕ → List ℕ → List ℕ → List ℕ → List ℕ

@@ -2,7 +2,7 @@
 use Rattle.std.specs.Prelude.{◌≡◌, ◌≢◌, ℕ, ℤ, List, [], ◌∷◌, Option, Some, None, option_map, codes}
 use Rattle.stix_times.specs.Reading.{IsTextOf}
 use Rattle.command_line.specs.CommandLines.{IsNumberIn}
-use Rattle.taxii_copy.specs.Copying.{Copying}
+use Rattle.taxii_client.specs.Copying.{Copying}
 use Rattle.command_peer.specs.Words.{IsTargetOf, target_of}
 use Rattle.command_mirror.specs.declared.words.TheConstants.{LIMIT, MAX_TRIES}
 use Rattle.command_mirror.specs.declared.words.MirrorRequest.{MirrorRequest}

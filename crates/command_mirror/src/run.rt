@@ -5,7 +5,7 @@ ghost use Rattle.taxii_client.specs.Outside.{link_view};
 ghost use Rattle.command_reasons.specs.Reasons.{WritesReason};
 ghost use Rattle.command_peer.specs.Words.{IsHost};
 ghost use Rattle.command_mirror.specs.Words.{AskForNothing, copying_of};
-ghost use Rattle.taxii_copy.specs.Filling.{outside};
+ghost use Rattle.taxii_client.specs.Filling.{outside};
 ghost use Rattle.command_mirror.specs.Endings.{AskSo, Concludes, EndsMirror, EndsWords, mirror_status, reason_of};
 ghost use Rattle.command_mirror.specs.Runs.{Ends, CopiesAll, LosesAll, HoldsMirrored};
 
@@ -16,8 +16,8 @@ use flow_edges::Sink;
 use flow_links::{Clock, Dial};
 use flow_values::NoMemory;
 use std::alloc::Global;
-use taxii_client::laws::pulls_go_on;
-use taxii_copy::{Totals, copy};
+use taxii_client::pull_laws::pulls_go_on;
+use taxii_client::{Totals, copy};
 use taxii_rows::{FaultCause, Keeper};
 
 /// Tells what was absorbed.

@@ -6,7 +6,7 @@ ghost use Rattle.command_mirror.specs.Summary.{counts_text, summary_text};
 use flow_edges::{Sink, write_pieces};
 use flow_values::Fault;
 use itoa::Buffer;
-use taxii_copy::Totals;
+use taxii_client::Totals;
 
 /// Writes what was absorbed, as `pages 1 added 3 present 0 skipped 0` and a line feed. Takes no memory.
 pub(crate) fn write_summary<O: Sink>(totals: &Totals, output: &mut O) -> Result<(), Fault>

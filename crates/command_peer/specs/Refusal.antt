@@ -1,7 +1,7 @@
 -- What is told of a reply that is refused.
 use Rattle.std.specs.Prelude.{ℕ, List, ◌++◌, codes}
-use Rattle.taxii_client.specs.Refusals.{refusal_text}
-use Rattle.taxii_client.specs.declared.refusal.ReplyRefusal.{ReplyRefusal}
+use Rattle.taxii_client.specs.ReplyRefusals.{refusal_text}
+use Rattle.taxii_client.specs.declared.reply_refusal.ReplyRefusal.{ReplyRefusal}
 
 -- peer refused: NAME
 abbrev pub peer_reason : ReplyRefusal → List ℕ

@@ -1,7 +1,7 @@
 ghost use Rattle.std.specs.Prelude.{IsErr};
 ghost use Rattle.flow_edges.specs.Faults.{Counted};
 ghost use Rattle.flow_edges.specs.Flow.{WritesWhole};
-ghost use Rattle.taxii_client.specs.declared.refusal.ReplyRefusal.TheVariants.{Status};
+ghost use Rattle.taxii_client.specs.declared.reply_refusal.ReplyRefusal.TheVariants.{Status};
 ghost use Rattle.command_peer.specs.Refusal.{peer_reason};
 
 use flow_edges::{Sink, write_pieces, write_whole};

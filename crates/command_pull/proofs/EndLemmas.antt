@@ -1,7 +1,7 @@
 -- What an ending says of the words and of the dial's count.
 use Rattle.std.proofs.Common.{◌≡◌, ◌≢◌, ◌⊎◌, ◌↔◌, inl, inr, ℕ, ◌≤◌, List, [], ◌∷◌, ◌++◌, refl, sym, ap, subst, arith}
 use Rattle.flow_edges.specs.Faults.{Rose}
-use Rattle.watch_log.specs.declared.cut_short.CutShort.TheVariants as Cut
+use Rattle.match_run.specs.declared.cut_short.CutShort.TheVariants as Cut
 use Rattle.taxii_client.specs.Outside.{LinkView}
 use Rattle.taxii_client.specs.Pulls.{Lent, PassThrough}
 use Rattle.taxii_client.specs.declared.fetch_end.FetchEnd.{FetchEnd}

@@ -1,6 +1,6 @@
 -- What an ending says of what was asked for and of the outside; its status, and its reason.
 use Rattle.std.specs.Prelude.{◌≡◌, ◌≢◌, ◌⊎◌, ℕ, zero, suc, List, [], ◌++◌, codes, decimal, length}
-use Rattle.watch_log.specs.declared.cut_short.CutShort.TheVariants as Cut
+use Rattle.match_run.specs.declared.cut_short.CutShort.TheVariants as Cut
 use Rattle.taxii_client.specs.Outside.{LinkView}
 use Rattle.taxii_client.specs.Pulls.{Page}
 use Rattle.taxii_client.specs.declared.fetch_end.FetchEnd.TheVariants as Fetch

@@ -9,7 +9,7 @@ use flow_edges::{Sink, write_pieces, write_whole};
 use flow_values::Fault;
 use itoa::Buffer;
 use taxii_client::PageEnd;
-use watch_log::CutShort;
+use match_run::CutShort;
 
 /// How the program ends.
 #[derive(Debug, Drop)]

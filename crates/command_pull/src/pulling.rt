@@ -10,7 +10,7 @@ use crate::writing::{count_bad, write_page};
 use flow_edges::Sink;
 use flow_links::Dial;
 use std::alloc::Global;
-use taxii_client::laws::pulls_go_on;
+use taxii_client::pull_laws::pulls_go_on;
 use taxii_client::{Pull, Target};
 
 /// Fetches the pages of a collection in turn, and writes what is good of each before the next one is asked for.

@@ -1,15 +1,15 @@
 ghost use Rattle.std.specs.Prelude.{◌≡◌, ◌++◌, [], ℕ, List, Option, IfOk, OnOk, OnErr, All, Err};
 ghost use Rattle.flow_edges.specs.Faults.{Counted};
 ghost use Rattle.flow_edges.specs.Flow.{written_with, WritesPrefix};
-ghost use Rattle.watch_log.specs.OnItsWay.{IsOnItsWay};
+ghost use Rattle.match_run.specs.OnItsWay.{IsOnItsWay};
 ghost use Rattle.taxii_client.specs.Telling.{line_of, told_of, bad_in, IsWritable};
 
 use flow_edges::Sink;
 use flow_values::{NoMemory, Text};
 use std::alloc::Global;
 use stix_json::{Entry, write_json};
-use watch_log::laws::parts_on_their_way;
-use watch_log::{CutShort, Pending};
+use match_run::watch_laws::parts_on_their_way;
+use match_run::{CutShort, Pending};
 
 /// How many of a page's entries are bad.
 pub(crate) fn count_bad(entries: &[Entry]) -> usize

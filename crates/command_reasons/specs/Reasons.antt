@@ -3,7 +3,7 @@ use Rattle.std.specs.Prelude.{◌≡◌, ◌⊎◌, ℕ, List, ◌++◌, Option,
 use Rattle.flow_edges.specs.Faults.{Rose}
 use Rattle.flow_edges.specs.Flow.{written_with, WritesPrefix}
 use Rattle.pattern_types.specs.declared.pattern.Pattern.{Pattern}
-use Rattle.pattern_reader.specs.declared.refusal.PatternRefusal.{PatternRefusal}
+use Rattle.pattern_reader.specs.declared.pattern_refusal.PatternRefusal.{PatternRefusal}
 use Rattle.pattern_reader.specs.PatternRefusal.{refusal_text}
 use Rattle.pattern_reader.specs.Read.{IsReadAs, IsRefusedAs}
 

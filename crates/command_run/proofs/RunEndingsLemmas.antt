@@ -1,7 +1,7 @@
 -- What the status of a run says of its words and its streams.
 use Rattle.std.proofs.Common.{◌≡◌, ◌↔◌, ◌⊎◌, ◌≤◌, ℕ, List, [], Bool, false, inl, inr, refl, sym, ap, subst, ◌∙◌, arith}
 use Rattle.flow_edges.specs.Faults.{Counted}
-use Rattle.match_log.specs.declared.end.MatchEnd.TheVariants as end
+use Rattle.match_run.specs.declared.match_end.MatchEnd.TheVariants as end
 use Rattle.command_check.specs.declared.verdict.Verdict.TheVariants as verdict
 use Rattle.command_match.specs.declared.matching.MatchEnding.{MatchEnding}
 use Rattle.command_match.specs.declared.matching.MatchEnding.TheVariants as matching
@@ -13,10 +13,10 @@ use Rattle.command_make.specs.declared.making.MakeEnding.{MakeEnding}
 use Rattle.command_make.specs.declared.making.MakeEnding.TheVariants as making
 use Rattle.command_run.specs.declared.ending.Ending.{Ending}
 use Rattle.command_run.specs.declared.ending.Ending.TheVariants.{Match, Check, Show, Make, Serve, Usage, NoMemory}
-use Rattle.command_serve.specs.declared.ending.ServeEnding.{ServeEnding}
-use Rattle.command_serve.specs.declared.ending.ServeEnding.TheVariants as serving
-use Rattle.command_serve.specs.ServeEndings.{EndsServe, serve_status, IsEarly, IsStoreFault}
-use Rattle.command_serve.specs.Services.{Places}
+use Rattle.command_run.specs.declared.serve_ending.ServeEnding.{ServeEnding}
+use Rattle.command_run.specs.declared.serve_ending.ServeEnding.TheVariants as serving
+use Rattle.command_run.specs.ServeEndings.{EndsServe, serve_status, IsEarly, IsStoreFault}
+use Rattle.command_run.specs.Services.{Places}
 use Rattle.match_input.specs.declared.mode.Mode.{Mode}
 use Rattle.taxii_server.specs.Outside.{LinkView}
 use Rattle.command_line.specs.CommandLines.{PlainRequest, PlainService, IsCommandLine}

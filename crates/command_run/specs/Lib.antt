@@ -1,2 +1,4 @@
+pub mod Services
+pub mod ServeEndings
 pub mod Requests
 pub mod RunEndings

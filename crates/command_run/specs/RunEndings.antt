@@ -7,9 +7,9 @@ use Rattle.pattern_reader.specs.Read.{IsReadAs}
 use Rattle.match_input.specs.Reading.{BundleOf, Whole}
 use Rattle.match_bindings.specs.declared.log_entry.LogEntry.{LogEntry}
 use Rattle.match_bindings.specs.BindTree.{BindTree}
-use Rattle.match_log.specs.Entries.{AreEntries}
-use Rattle.match_log.specs.Listing.{AreBindings, listing_text}
-use Rattle.match_log.specs.Matching.{ReadsInput}
+use Rattle.match_run.specs.Entries.{AreEntries}
+use Rattle.match_run.specs.Listing.{AreBindings, listing_text}
+use Rattle.match_run.specs.Matching.{ReadsInput}
 use Rattle.command_match.specs.declared.matching.MatchEnding.{MatchEnding}
 use Rattle.command_check.specs.declared.checking.CheckEnding.{CheckEnding}
 use Rattle.command_show.specs.declared.showing.ShowEnding.{ShowEnding}
@@ -17,15 +17,15 @@ use Rattle.command_run.specs.declared.ending.Ending.{Ending}
 use Rattle.command_make.specs.declared.making.MakeEnding.{MakeEnding}
 use Rattle.command_run.specs.declared.ending.Ending.TheVariants.{Match, Check, Show, Make, Serve, Usage, NoMemory}
 use Rattle.command_line.specs.CommandLines.{PlainRequest, PlainService, IsCommandLine}
-use Rattle.command_serve.specs.declared.ending.ServeEnding.{ServeEnding}
-use Rattle.command_serve.specs.ServeEndings.{EndsServe, serve_status, serve_reason}
+use Rattle.command_run.specs.declared.serve_ending.ServeEnding.{ServeEnding}
+use Rattle.command_run.specs.ServeEndings.{EndsServe, serve_status, serve_reason}
 use Rattle.command_match.specs.Tasks.{MatchTask}
 use Rattle.command_run.specs.Requests.{IsMatchLine, IsShowLine, IsCheckLine, IsMakeLine, IsServeLine}
 use Rattle.flow_edges.specs.Streams.{Streams, streams}
 use Rattle.flow_links.specs.Doors.{DoorState}
 use Rattle.taxii_rows.specs.Keeper.{Kept}
 use Rattle.taxii_server.specs.Outside.{LinkView}
-use Rattle.command_serve.specs.Services.{Places}
+use Rattle.command_run.specs.Services.{Places}
 use Rattle.command_reasons.specs.Reasons.{IsUnread}
 use Rattle.command_match.specs.MatchEndings.{EndsMatch, match_status, IsMatchReason}
 use Rattle.command_check.specs.CheckEndings.{EndsCheck, check_status, IsCheckReason}

@@ -5,7 +5,7 @@ use command_check::CheckEnding;
 use command_make::MakeEnding;
 use command_match::MatchEnding;
 use command_reasons::write_no_memory;
-use command_serve::ServeEnding;
+use crate::ServeEnding;
 use command_show::ShowEnding;
 use flow_edges::{Sink, write_whole};
 use flow_values::Fault;

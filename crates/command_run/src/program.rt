@@ -13,7 +13,7 @@ use command_line::laws::one_request;
 use command_line::{Request, WordsRefusal, read_words};
 use command_make::make;
 use command_match::match_bindings;
-use command_serve::serve;
+use crate::serve;
 use command_show::show;
 use flow_edges::{Sink, Source};
 use flow_links::{Clock, Door};

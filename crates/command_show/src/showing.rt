@@ -1,7 +1,7 @@
 ghost use Rattle.std.specs.Prelude.{◌≡◌, ◌≢◌, ℕ, List, Option, IfOk, IfErr, IsErr};
 ghost use Rattle.flow_edges.specs.Faults.{Counted};
 ghost use Rattle.flow_edges.specs.Flow.{WritesWhole};
-ghost use Rattle.pattern_reader.specs.declared.refusal.PatternRefusal.TheVariants as PatternRefusal;
+ghost use Rattle.pattern_reader.specs.declared.pattern_refusal.PatternRefusal.TheVariants as PatternRefusal;
 ghost use Rattle.flow_edges.specs.Streams.{streams};
 ghost use Rattle.command_reasons.specs.Reasons.{IsRefusedPattern};
 ghost use Rattle.command_show.specs.ShowEndings.{IsLineOf, IsLineOfPattern, EndsShow, show_status};
@@ -9,7 +9,7 @@ ghost use Rattle.command_show.specs.ShowEndings.{IsLineOf, IsLineOfPattern, Ends
 use command_reasons::{write_no_memory, write_pattern_reason, write_write_fault};
 use flow_edges::{Sink, write_whole};
 use flow_values::{Fault, Text};
-use pattern_reader::laws::none_refused;
+use pattern_reader::reader_laws::none_refused;
 use pattern_reader::{Pattern, PatternRefusal, read_pattern};
 use pattern_writer::write_pattern;
 use std::alloc::Global;

@@ -1,7 +1,7 @@
 -- The steps of reading what is asked of a value.
 use Rattle.std.proofs.Common.{◌≡◌, List, [], ◌∷◌, ◌++◌, Some, None, refl, ap, ◌∙◌, append_assoc}
-use Rattle.pattern_tokens.specs.declared.token.Token.{Token}
-use Rattle.pattern_tokens.specs.declared.token.TokenKind.TheVariants as kind
+use Rattle.pattern_lexer.specs.declared.token.Token.{Token}
+use Rattle.pattern_lexer.specs.declared.token.TokenKind.TheVariants as kind
 use Rattle.pattern_grammar.specs.declared.class.TokenClass.TheVariants.{Only, Equality, Order, Textual, Ordered, Constant}
 use Rattle.pattern_grammar.specs.declared.comparison.CheckTree.TheVariants as check_tree
 use Rattle.pattern_grammar.specs.Grammar.{AreConstants, constants_one, constants_more, IsCheck, check_equality, check_order, check_among, check_textual}

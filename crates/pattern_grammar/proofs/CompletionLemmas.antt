@@ -1,8 +1,8 @@
 -- Tokens with which a line may go on.
 use Rattle.std.proofs.Common.{List, [], ◌∷◌, ◌++◌, refl, append_assoc, append-nil}
-use Rattle.pattern_tokens.specs.declared.token.Token.{Token}
-use Rattle.pattern_tokens.specs.declared.token.TokenKind.{TokenKind}
-use Rattle.pattern_tokens.specs.declared.token.TokenKind.TheVariants.{Word, Colon, Equal, Number, SquareOpen, SquareClose}
+use Rattle.pattern_lexer.specs.declared.token.Token.{Token}
+use Rattle.pattern_lexer.specs.declared.token.TokenKind.{TokenKind}
+use Rattle.pattern_lexer.specs.declared.token.TokenKind.TheVariants.{Word, Colon, Equal, Number, SquareOpen, SquareClose}
 use Rattle.pattern_grammar.specs.Grammar.{IsPath, path_first, IsCheck, check_equality, AreConstants, constants_one, IsTest, test_compare, cand_one, cor_one, IsStart, start_leaf}
 use Rattle.pattern_grammar.specs.inner.Machine.{Front}
 

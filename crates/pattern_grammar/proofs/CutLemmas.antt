@@ -1,6 +1,6 @@
 -- A list of tokens that is cut in two ways.
 use Rattle.std.proofs.Common.{◌≡◌, List, [], ◌∷◌, ◌++◌, ◌⊎◌, inl, inr, refl, sym}
-use Rattle.pattern_tokens.specs.declared.token.Token.{Token}
+use Rattle.pattern_lexer.specs.declared.token.Token.{Token}
 
 -- the first cut, into x and y, falls behind the second, into ts and more, or on it
 pub record Longer (x y ts more : List Token) : Type 0 where

@@ -1,7 +1,7 @@
 -- What is spelled is derived from the lines as they are written, and what is derived is spelled.
 use Rattle.std.proofs.Common.{◌≡◌, true, false, List, [], ◌∷◌, ◌++◌, refl, append_assoc, append-nil}
-use Rattle.pattern_tokens.specs.declared.token.Token.{Token}
-use Rattle.pattern_tokens.specs.declared.token.TokenKind.TheVariants as kind
+use Rattle.pattern_lexer.specs.declared.token.Token.{Token}
+use Rattle.pattern_lexer.specs.declared.token.TokenKind.TheVariants as kind
 use Rattle.pattern_grammar.specs.declared.class.TokenClass.TheVariants.{Only, Name, Index, Constant}
 use Rattle.pattern_grammar.specs.declared.path.StepTree.{StepTree}
 use Rattle.pattern_grammar.specs.declared.path.PathTree.{PathTree}

@@ -1,7 +1,7 @@
 -- Where reading ends, for a list of tokens as a whole.
 use Rattle.std.proofs.Common.{◌≡◌, true, false, List, [], ◌∷◌, ◌++◌, Option, Some, None, refl, sym, ap, ◌∙◌, append-nil, append_assoc, length, ◌==◌, arith}
 use Rattle.std.proofs.lemmas.Bool.{eqb-true}
-use Rattle.pattern_tokens.specs.declared.token.Token.{Token}
+use Rattle.pattern_lexer.specs.declared.token.Token.{Token}
 use Rattle.pattern_grammar.specs.declared.stop.Stop.{Stop}
 use Rattle.pattern_grammar.specs.declared.stop.Stop.TheVariants.{Memory, Syntax}
 use Rattle.pattern_grammar.specs.Tree.{Tree}

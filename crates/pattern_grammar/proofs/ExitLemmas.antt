@@ -1,6 +1,6 @@
 -- What a `?` passes on, and what `add` does.
 use Rattle.std.proofs.Common.{◌≡◌, ◌⊎◌, inl, inr, List, Result, Ok, Err, IfOk, IfErr, IsOkAnd, IsErrAnd, sym}
-use Rattle.pattern_tokens.specs.declared.token.Token.{Token}
+use Rattle.pattern_lexer.specs.declared.token.Token.{Token}
 use Rattle.pattern_grammar.specs.declared.stop.Stop.{Stop}
 use Rattle.pattern_grammar.specs.declared.stop.Stop.TheVariants.{Memory, Syntax}
 use Rattle.pattern_grammar.specs.inner.Machine.{Want}

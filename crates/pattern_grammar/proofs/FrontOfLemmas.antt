@@ -1,10 +1,10 @@
 -- What is a front goes on to something derived, and what begins something derived is a front.
 use Rattle.std.proofs.Common.{◌≡◌, true, List, [], ◌∷◌, ◌++◌, inl, inr, refl, append_assoc}
 use denote.Enum.Bare.{true_same}
-use Rattle.pattern_tokens.specs.contracts.token.TokenKind.{the_type}
-use Rattle.pattern_tokens.specs.declared.token.Token.{Token}
-use Rattle.pattern_tokens.specs.declared.token.TokenKind.{TokenKind}
-use Rattle.pattern_tokens.specs.declared.token.TokenKind.TheVariants.{Word, Number, Equal, Less, Like, Within, Dot, Colon, Seconds, SquareOpen, SquareClose}
+use Rattle.pattern_lexer.specs.contracts.token.TokenKind.{the_type}
+use Rattle.pattern_lexer.specs.declared.token.Token.{Token}
+use Rattle.pattern_lexer.specs.declared.token.TokenKind.{TokenKind}
+use Rattle.pattern_lexer.specs.declared.token.TokenKind.TheVariants.{Word, Number, Equal, Less, Like, Within, Dot, Colon, Seconds, SquareOpen, SquareClose}
 use Rattle.pattern_grammar.specs.declared.class.TokenClass.{TokenClass}
 use Rattle.pattern_grammar.specs.declared.class.TokenClass.TheVariants.{Only, Root, Name, Index, Equality, Order, Textual, Ordered, Constant, Qualifying, Stepping}
 use Rattle.pattern_grammar.specs.TokenClass.{is_in}

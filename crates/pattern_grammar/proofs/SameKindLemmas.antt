@@ -1,10 +1,10 @@
 -- A token of one kind is of no other.
 use Rattle.std.proofs.Common.{◌≡◌, ◌⊎◌, inl, inr, Bool, true, false, refl, sym, rules}
 use denote.Enum.Bare.{same_true}
-use Rattle.pattern_tokens.specs.contracts.token.TokenKind.{the_type}
-use Rattle.pattern_tokens.specs.declared.token.Token.{Token}
-use Rattle.pattern_tokens.specs.declared.token.TokenKind.{TokenKind}
-use Rattle.pattern_tokens.specs.declared.token.TokenKind.TheVariants.{SquareOpen, Dot, Equal, Differ, Less, LessEqual, Greater, GreaterEqual, Not}
+use Rattle.pattern_lexer.specs.contracts.token.TokenKind.{the_type}
+use Rattle.pattern_lexer.specs.declared.token.Token.{Token}
+use Rattle.pattern_lexer.specs.declared.token.TokenKind.{TokenKind}
+use Rattle.pattern_lexer.specs.declared.token.TokenKind.TheVariants.{SquareOpen, Dot, Equal, Differ, Less, LessEqual, Greater, GreaterEqual, Not}
 use Rattle.pattern_grammar.specs.declared.class.TokenClass.TheVariants.{Only, Equality, Order, Textual, Root, Stepping}
 use Rattle.pattern_grammar.specs.TokenClass.{same, is_in, IsA}
 

@@ -1,6 +1,6 @@
 -- What reading all of the tokens answers, and where in a text they are refused.
 use Rattle.std.specs.Prelude.{◌≡◌, List, [], ◌∷◌, ◌++◌, ℕ, Result, Ok, Err}
-use Rattle.pattern_tokens.specs.declared.token.Token.{Token}
+use Rattle.pattern_lexer.specs.declared.token.Token.{Token}
 use Rattle.pattern_grammar.specs.declared.stop.Stop.{Stop, TheVariants.Memory, TheVariants.Syntax}
 use Rattle.pattern_grammar.specs.{Tree.Tree, Tree.shape, Grammar.IsPattern, inner.Machine.Front, declared.pattern.PatternTree.PatternTree}
 use Rattle.pattern_grammar.specs.{Fronts.FrontOf, Fronts.line, Fronts.pattern, declared.refusal.SyntaxRefusal.SyntaxRefusal}

@@ -1,7 +1,7 @@
 -- Which token is one too many: a `(` while MAX_DEPTH parentheses are open, or the first of a qualifier behind MAX_DEPTH of them.
 use Rattle.std.specs.Prelude.{◌≡◌, ℕ, ◌+◌, ◌≤◌, ◌⊎◌, List, [], ◌∷◌, ◌++◌, count_by}
-use Rattle.pattern_tokens.specs.declared.token.Token.{Token}
-use Rattle.pattern_tokens.specs.declared.token.TokenKind.TheVariants.{RoundOpen, RoundClose, Among}
+use Rattle.pattern_lexer.specs.declared.token.Token.{Token}
+use Rattle.pattern_lexer.specs.declared.token.TokenKind.TheVariants.{RoundOpen, RoundClose, Among}
 use Rattle.pattern_grammar.specs.declared.class.TokenClass.{TokenClass, TheVariants.Only, TheVariants.Qualifying}
 use Rattle.pattern_grammar.specs.declared.depth.TheConstants.{MAX_DEPTH}
 use Rattle.pattern_grammar.specs.TokenClass.{is_in, IsA}

@@ -1,8 +1,8 @@
 -- The lines of the grammar (STIX 2.1, section 9) as they are written, what is derived from them, and
 -- what begins so: the fronts.
 use Rattle.std.specs.Prelude.{List, [], ◌∷◌, ◌++◌}
-use Rattle.pattern_tokens.specs.declared.token.{Token.Token, TokenKind.TokenKind}
-use Rattle.pattern_tokens.specs.declared.token.TokenKind.TheVariants.{SquareOpen, SquareClose, RoundOpen, RoundClose, Dot, Colon, Comma, And, Or, Not, FollowedBy, Within, Seconds, Repeats, Times, Start, Stop, Among, Exists, Number, String, Timestamp}
+use Rattle.pattern_lexer.specs.declared.token.{Token.Token, TokenKind.TokenKind}
+use Rattle.pattern_lexer.specs.declared.token.TokenKind.TheVariants.{SquareOpen, SquareClose, RoundOpen, RoundClose, Dot, Colon, Comma, And, Or, Not, FollowedBy, Within, Seconds, Repeats, Times, Start, Stop, Among, Exists, Number, String, Timestamp}
 use Rattle.pattern_grammar.specs.{declared.class.TokenClass.TokenClass, TokenClass.IsA}
 use Rattle.pattern_grammar.specs.declared.class.TokenClass.TheVariants.{Only, Root, Name, Index, Equality, Order, Textual, Ordered, Constant}
 

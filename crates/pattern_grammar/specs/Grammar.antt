@@ -1,8 +1,8 @@
 -- The grammar of patterns (STIX 2.1, section 9): which tokens spell what, one relation for each line
 -- and one rule for each way to write it.
 use Rattle.std.specs.Prelude.{List, [], ◌∷◌, ◌++◌, true, false}
-use Rattle.pattern_tokens.specs.declared.token.Token.{Token}
-use Rattle.pattern_tokens.specs.declared.token.TokenKind.TheVariants as kind
+use Rattle.pattern_lexer.specs.declared.token.Token.{Token}
+use Rattle.pattern_lexer.specs.declared.token.TokenKind.TheVariants as kind
 use Rattle.pattern_grammar.specs.declared.class.TokenClass.TheVariants.{Only, Root, Name, Index, Equality, Order, Textual, Ordered, Constant}
 use Rattle.pattern_grammar.specs.declared.{path.StepTree.StepTree, path.PathTree.PathTree, comparison.CheckTree.CheckTree}
 use Rattle.pattern_grammar.specs.declared.path.StepTree.TheVariants as step

@@ -1,8 +1,8 @@
 -- The kinds of tokens that may stand at a place of the grammar.
 use denote.Enum.Bare.{sameb}
 use Rattle.std.specs.Prelude.{◌≡◌, Bool, true, ◌||◌}
-use Rattle.pattern_tokens.specs.{contracts.token.TokenKind.the_type, declared.token.Token.Token, declared.token.TokenKind.TokenKind}
-use Rattle.pattern_tokens.specs.declared.token.TokenKind.TheVariants.{SquareOpen, Dot, Star, Equal, Differ, Less, LessEqual, Greater, GreaterEqual, Within, Repeats, Start, Like, Subset, Superset, TrueWord, FalseWord, Word, HyphenWord, Number, String, Hex, Binary, Timestamp}
+use Rattle.pattern_lexer.specs.{contracts.token.TokenKind.the_type, declared.token.Token.Token, declared.token.TokenKind.TokenKind}
+use Rattle.pattern_lexer.specs.declared.token.TokenKind.TheVariants.{SquareOpen, Dot, Star, Equal, Differ, Less, LessEqual, Greater, GreaterEqual, Within, Repeats, Start, Like, Subset, Superset, TrueWord, FalseWord, Word, HyphenWord, Number, String, Hex, Binary, Timestamp}
 use Rattle.pattern_grammar.specs.declared.class.TokenClass.{TokenClass}
 use Rattle.pattern_grammar.specs.declared.class.TokenClass.TheVariants.{Only, Root, Name, Index, Equality, Order, Textual, Ordered, Constant, Qualifying, Stepping}
 

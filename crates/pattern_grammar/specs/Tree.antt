@@ -1,6 +1,6 @@
 -- Syntax trees without where they lie in memory: chains of an operator go from the left.
 use Rattle.std.specs.Prelude.{List, [], ◌∷◌}
-use Rattle.pattern_tokens.specs.declared.token.Token.{Token}
+use Rattle.pattern_lexer.specs.declared.token.Token.{Token}
 use Rattle.pattern_grammar.specs.declared.{qualifier.Qualifier.Qualifier, comparison.TestTree.TestTree}
 use Rattle.pattern_grammar.specs.declared.comparison.ComparisonTree.{ComparisonTree, fold-ComparisonTree}
 use Rattle.pattern_grammar.specs.declared.comparison.Operand.TheOpen.{ComparisonTree-F, Conjunction-F, Operand-F}

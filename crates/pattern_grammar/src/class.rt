@@ -1,7 +1,7 @@
 ghost use Rattle.std.specs.Prelude.{◌≡◌};
 ghost use Rattle.pattern_grammar.specs.TokenClass.{is_in, is_ordered};
 
-use pattern_tokens::TokenKind;
+use pattern_lexer::TokenKind;
 
 /// The kinds of tokens that may stand at a place of the grammar.
 #[derive(Clone, Copy, Debug, PartialEq, Eq)]

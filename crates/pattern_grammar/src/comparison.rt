@@ -1,6 +1,6 @@
 use crate::PathTree;
 use flow_values::Items;
-use pattern_tokens::Token;
+use pattern_lexer::Token;
 
 /// What is asked of a value (STIX 2.1, section 9.6.1).
 #[derive(Debug, Drop)]

@@ -1,10 +1,10 @@
 ghost use Rattle.std.specs.Prelude.{◌≡◌, ◌<◌, ◌^◌, ◌↔◌, IsTrue, List, [], ◌∷◌, ◌++◌, length, IfSome, IfNone};
-ghost use Rattle.pattern_tokens.specs.declared.token.Token.{Token};
+ghost use Rattle.pattern_lexer.specs.declared.token.Token.{Token};
 ghost use Rattle.pattern_grammar.specs.Depth.{IsDeepOpen, IsDeepQualifier, IsTooMany, NoneTooMany};
 ghost use Rattle.pattern_grammar.specs.inner.Machine.{CountsOf, IsFirstAt};
 
 use crate::TokenClass;
-use pattern_tokens::{Token, TokenKind};
+use pattern_lexer::{Token, TokenKind};
 
 /// How many parentheses may be open, and how many qualifiers a pattern may have.
 pub const MAX_DEPTH: usize = 64;

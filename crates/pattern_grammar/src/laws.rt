@@ -1,7 +1,7 @@
 //! What follows from the grammar: the contracts are the laws, and the functions do nothing.
 
 ghost use Rattle.std.specs.Prelude.{◌≡◌, ◌++◌, ℕ, List};
-ghost use Rattle.pattern_tokens.specs.declared.token.Token.{Token};
+ghost use Rattle.pattern_lexer.specs.declared.token.Token.{Token};
 ghost use Rattle.pattern_grammar.specs.declared.refusal.SyntaxRefusal.{SyntaxRefusal};
 ghost use Rattle.pattern_grammar.specs.Answer.{BeginsPattern, Completes};
 ghost use Rattle.pattern_grammar.specs.Fronts.{Derives, line, pattern};

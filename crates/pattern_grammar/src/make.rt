@@ -3,7 +3,7 @@ ghost use Rattle.pattern_grammar.specs.Tree.{joined, compared, operand, group, s
 
 use crate::{ComparisonTree, Operand, PatternTree, Qualifier};
 use flow_values::{Items, NoMemory};
-use pattern_tokens::Token;
+use pattern_lexer::Token;
 use std::alloc::Global;
 
 /// A comparison in parentheses.

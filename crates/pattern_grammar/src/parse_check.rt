@@ -6,7 +6,7 @@ ghost use Rattle.pattern_grammar.specs.inner.Machine.{LacksOperator, Found, Refu
 use crate::take::eat;
 use crate::{CheckTree, Stop, TokenClass};
 use flow_values::Items;
-use pattern_tokens::{Token, TokenKind};
+use pattern_lexer::{Token, TokenKind};
 use std::alloc::Global;
 
 /// `constant { "," constant }`

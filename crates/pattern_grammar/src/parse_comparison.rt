@@ -10,7 +10,7 @@ use crate::parse_path::path;
 use crate::take::{add, eat};
 use crate::{CheckTree, ComparisonTree, Conjunction, Operand, Stop, TestTree, TokenClass};
 use flow_values::Items;
-use pattern_tokens::{Token, TokenKind};
+use pattern_lexer::{Token, TokenKind};
 use std::alloc::Global;
 
 /// `path [NOT] compare`

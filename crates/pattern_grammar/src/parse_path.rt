@@ -6,7 +6,7 @@ ghost use Rattle.pattern_grammar.specs.inner.Machine.{Found, Refused, done};
 use crate::take::eat;
 use crate::{PathTree, StepTree, Stop, TokenClass};
 use flow_values::Items;
-use pattern_tokens::{Token, TokenKind};
+use pattern_lexer::{Token, TokenKind};
 use std::alloc::Global;
 
 /// `step = "." name | "[" ( Number | "*" ) "]"`

@@ -11,7 +11,7 @@ use crate::parse_comparison::cor;
 use crate::take::{add, eat};
 use crate::{PatternTree, Qualifier, Stop, TokenClass};
 use flow_values::Items;
-use pattern_tokens::{Token, TokenKind};
+use pattern_lexer::{Token, TokenKind};
 use std::alloc::Global;
 
 /// `qualifier = WITHIN Number SECONDS | REPEATS Number TIMES | START Timestamp STOP Timestamp`

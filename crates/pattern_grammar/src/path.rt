@@ -1,5 +1,5 @@
 use flow_values::Items;
-use pattern_tokens::Token;
+use pattern_lexer::Token;
 
 /// One step of an object path.
 #[derive(Clone, Copy, Debug, PartialEq, Eq)]

@@ -1,4 +1,4 @@
-use pattern_tokens::Token;
+use pattern_lexer::Token;
 
 /// A qualifier: what limits the observations of a pattern (STIX 2.1, section 9.4).
 #[derive(Clone, Copy, Debug, PartialEq, Eq)]

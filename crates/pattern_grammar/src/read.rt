@@ -5,7 +5,7 @@ ghost use Rattle.pattern_grammar.specs.inner.Machine.{IsFirstAt};
 use crate::depth::first_too_many;
 use crate::{PatternTree, Stop, SyntaxRefusal, parse};
 use flow_values::NoMemory;
-use pattern_tokens::Token;
+use pattern_lexer::Token;
 use std::alloc::Global;
 
 /// The syntax tree that the tokens of a text spell, where `end` is the text's length; or Syntax or

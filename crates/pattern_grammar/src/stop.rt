@@ -2,7 +2,7 @@ ghost use Rattle.std.specs.Prelude.{◌≡◌};
 ghost use Rattle.pattern_grammar.specs.declared.stop.Stop.TheVariants.{Memory};
 
 use flow_values::NoMemory;
-use pattern_tokens::Token;
+use pattern_lexer::Token;
 
 /// Why tokens aren't read: the token that doesn't fit is the first of the rest, and where there is no
 /// rest, they end too early.

@@ -4,7 +4,7 @@ ghost use Rattle.pattern_grammar.specs.declared.stop.Stop.TheVariants.{Memory};
 
 use crate::{Stop, TokenClass};
 use flow_values::Items;
-use pattern_tokens::Token;
+use pattern_lexer::Token;
 
 /// The first token and those after it, where it is of the class.
 pub(crate) fn eat<'a>(tokens: &'a [Token], class: TokenClass) -> Option<(Token, &'a [Token])>

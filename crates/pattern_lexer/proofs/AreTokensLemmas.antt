@@ -3,14 +3,14 @@ use Rattle.std.proofs.Common.{◌≡◌, ◌↔◌, ℕ, Bool, false, IsTrue, �
 use Rattle.std.proofs.lemmas.List.{drop-drop, drop_at, take_at}
 use Rattle.std.proofs.lemmas.Bool.{false≢true}
 use Rattle.std.proofs.lemmas.Slice.{between_to_end}
-use Rattle.pattern_tokens.specs.declared.token.Token.{Token}
-use Rattle.pattern_tokens.specs.declared.token.TokenKind.{TokenKind}
-use Rattle.pattern_tokens.specs.declared.token.TokenKind.TheVariants.{Number, String, Hex, Binary, Timestamp}
-use Rattle.pattern_tokens.specs.declared.refusal.LeftWord.{LeftWord}
-use Rattle.pattern_tokens.specs.declared.refusal.TokenRefusal.{TokenRefusal}
-use Rattle.pattern_tokens.specs.Word.{HasAt}
-use Rattle.pattern_tokens.specs.Spans.{IsCut, text_at}
-use Rattle.pattern_tokens.specs.Values.{HasValue}
+use Rattle.pattern_lexer.specs.declared.token.Token.{Token}
+use Rattle.pattern_lexer.specs.declared.token.TokenKind.{TokenKind}
+use Rattle.pattern_lexer.specs.declared.token.TokenKind.TheVariants.{Number, String, Hex, Binary, Timestamp}
+use Rattle.pattern_lexer.specs.declared.refusal.LeftWord.{LeftWord}
+use Rattle.pattern_lexer.specs.declared.refusal.TokenRefusal.{TokenRefusal}
+use Rattle.pattern_lexer.specs.Word.{HasAt}
+use Rattle.pattern_lexer.specs.Spans.{IsCut, text_at}
+use Rattle.pattern_lexer.specs.Values.{HasValue}
 use Rattle.pattern_lexer.specs.Reading.{IsBlank, IsFirst, RunsOn, IsLeftOut, IsUsable, IsNext, AreTokens, IsRefusalAt, HasRefusal}
 use Rattle.pattern_lexer.specs.inner.Steps.{IsRun, BeginsToken, ArePassed, StandsAt, ReadUpTo, worthless_refusal}
 use Rattle.pattern_lexer.proofs.TokenEdgeLemmas.{cuts, token_edges}

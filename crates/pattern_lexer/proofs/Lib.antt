@@ -1,3 +1,9 @@
+mod QuotedLemmas
+mod EscapesLemmas
+mod SpansLemmas
+mod ContainsLemmas
+mod HasValueLemmas
+mod UnescapedLemmas
 mod TokenEdgeLemmas
 mod TokenShapeLemmas
 mod EscapedTextLemmas

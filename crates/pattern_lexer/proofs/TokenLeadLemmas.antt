@@ -1,11 +1,11 @@
 -- The bytes that begin the tokens of each shape.
 use Rattle.std.proofs.Common.{◌≡◌, ◌≢◌, ℕ, inl, inr, Bool, true, false, ◌&&◌, ◌||◌, ◌==◌, nat_le, nat_lt, if◌then◌else◌, List, [], ◌∷◌, Option, Some, None, IsSome, refl, sym, ap, ◌∙◌, subst, arith}
 use Rattle.std.proofs.lemmas.Bool.Decides.{nat_tests}
-use Rattle.pattern_tokens.specs.declared.token.TokenKind.{TokenKind}
-use Rattle.pattern_tokens.specs.declared.token.TokenKind.TheVariants.{SquareOpen, SquareClose, RoundOpen, RoundClose, Dot, Colon, Comma, Star, Equal, Differ, Less, LessEqual, Greater, GreaterEqual, Hex, Binary, Timestamp}
-use Rattle.pattern_tokens.specs.Word.{IsWordStart}
-use Rattle.pattern_tokens.specs.Values.{IsLetteredText}
-use Rattle.pattern_tokens.specs.Table.{IsToken}
+use Rattle.pattern_lexer.specs.declared.token.TokenKind.{TokenKind}
+use Rattle.pattern_lexer.specs.declared.token.TokenKind.TheVariants.{SquareOpen, SquareClose, RoundOpen, RoundClose, Dot, Colon, Comma, Star, Equal, Differ, Less, LessEqual, Greater, GreaterEqual, Hex, Binary, Timestamp}
+use Rattle.pattern_lexer.specs.Word.{IsWordStart}
+use Rattle.pattern_lexer.specs.Values.{IsLetteredText}
+use Rattle.pattern_lexer.specs.Table.{IsToken}
 use Rattle.pattern_lexer.specs.inner.Steps.{IsNumberStart, letter_kind, single_kind, double_kind}
 use Rattle.pattern_lexer.proofs.TokenShapeLemmas.{starts, start_by}
 

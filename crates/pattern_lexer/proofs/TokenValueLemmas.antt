@@ -1,10 +1,10 @@
 -- Whether a token stands for something, by what its value's call answers.
 use Rattle.std.proofs.Common.{◌≡◌, ◌↔◌, ℕ, List, Bool, Option, Some, None, IfSome, IfNone, MatchOption, Result, Ok, Err, IfOk, IsTrue, subst, sym}
 use Rattle.std.specs.Option.{is_some}
-use Rattle.pattern_tokens.specs.declared.token.Token.{Token}
-use Rattle.pattern_tokens.specs.declared.token.TokenKind.{TokenKind}
-use Rattle.pattern_tokens.specs.Values.{HasValue}
-use Rattle.pattern_tokens.specs.Spans.{IsCut, text_at, At}
+use Rattle.pattern_lexer.specs.declared.token.Token.{Token}
+use Rattle.pattern_lexer.specs.declared.token.TokenKind.{TokenKind}
+use Rattle.pattern_lexer.specs.Values.{HasValue}
+use Rattle.pattern_lexer.specs.Spans.{IsCut, text_at, At}
 
 pub has_one : {V : Type 0} (IsTextOf : List ℕ → V → Type 0) (text : List ℕ) (token : Token) (o : Option V) (b : Bool) → IsCut text token → IfSome o (At IsTextOf text token) → IfNone o ((v : V) → ¬ At IsTextOf text token v) → b ≡ is_some o → IsTrue b ↔ ((v : V) × IsTextOf (text_at text token) v)
 has_one T text token (Some v) b cut some none e = (λ _. (v, some.is), λ _. e)

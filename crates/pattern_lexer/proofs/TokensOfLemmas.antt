@@ -1,16 +1,16 @@
 -- A text is read in one way.
 use Rattle.std.proofs.Common.{◌≡◌, ℕ, ◌-◌, inl, inr, List, [], ◌∷◌, ◌++◌, length, All, Option, Some, None, Result, Ok, Err, refl, sym, ap, ◌∙◌, subst, arith, append_assoc}
 use Rattle.std.proofs.lemmas.List.Elements.{All-head, All-tail}
-use Rattle.pattern_tokens.specs.declared.token.Token.{Token}
-use Rattle.pattern_tokens.specs.declared.token.TokenKind.{TokenKind}
-use Rattle.pattern_tokens.specs.declared.token.TokenKind.TheVariants.{Word, Equal, Less, Number, Hex, Binary, Timestamp}
-use Rattle.pattern_tokens.specs.declared.refusal.LeftWord.{LeftWord}
-use Rattle.pattern_tokens.specs.declared.refusal.LeftWord.TheVariants.{Matches, Fraction, DoubleEqual, LessGreater}
-use Rattle.pattern_tokens.specs.declared.refusal.TokenRefusal.{TokenRefusal}
-use Rattle.pattern_tokens.specs.declared.refusal.TokenRefusal.TheVariants.{BadToken, LeftOut, BadNumber, BadTime, BadBytes}
-use Rattle.pattern_tokens.specs.Word.{HasAt}
-use Rattle.pattern_tokens.specs.Table.{IsToken}
-use Rattle.pattern_tokens.specs.Values.{HasValue}
+use Rattle.pattern_lexer.specs.declared.token.Token.{Token}
+use Rattle.pattern_lexer.specs.declared.token.TokenKind.{TokenKind}
+use Rattle.pattern_lexer.specs.declared.token.TokenKind.TheVariants.{Word, Equal, Less, Number, Hex, Binary, Timestamp}
+use Rattle.pattern_lexer.specs.declared.refusal.LeftWord.{LeftWord}
+use Rattle.pattern_lexer.specs.declared.refusal.LeftWord.TheVariants.{Matches, Fraction, DoubleEqual, LessGreater}
+use Rattle.pattern_lexer.specs.declared.refusal.TokenRefusal.{TokenRefusal}
+use Rattle.pattern_lexer.specs.declared.refusal.TokenRefusal.TheVariants.{BadToken, LeftOut, BadNumber, BadTime, BadBytes}
+use Rattle.pattern_lexer.specs.Word.{HasAt}
+use Rattle.pattern_lexer.specs.Table.{IsToken}
+use Rattle.pattern_lexer.specs.Values.{HasValue}
 use Rattle.pattern_lexer.specs.Reading.{IsBlank, IsFirst, RunsOn, IsLeftOut, IsUsable, IsNext, AreTokens, HasNoToken, IsEndless, IsUseless, IsWorthless, IsRefusalAt, HasRefusal, Reads}
 use Rattle.pattern_lexer.specs.inner.Steps.{worthless_refusal}
 use Rattle.pattern_lexer.proofs.OneKindLemmas.{kind_of, kind_is, one_first, carry, token_not_blank}

@@ -1,2 +1,7 @@
-pub mod Reading
+pub mod TokenRefusal
+pub mod Word
+pub mod Values
+pub mod Table
+pub mod Spans
 pub mod inner
+pub mod Reading

@@ -1,11 +1,11 @@
 -- What reading the tokens of a text answers: the tokens, or the first refusal from the left.
 use Rattle.std.specs.Prelude.{◌≡◌, ℕ, ◌+◌, ◌-◌, ◌≤◌, ◌⊎◌, List, [], ◌∷◌, ◌++◌, length, slice_get, Some, All, codes, Result, Ok, Err}
 use Rattle.std.specs.Char.{IsAsciiDigit}
-use Rattle.pattern_tokens.specs.declared.{token.Token.Token, token.TokenKind.TokenKind, refusal.LeftWord.LeftWord}
-use Rattle.pattern_tokens.specs.declared.token.TokenKind.TheVariants.{Equal, Less, Number, Hex, Binary, Timestamp}
-use Rattle.pattern_tokens.specs.declared.refusal.LeftWord.TheVariants.{Matches, Fraction, DoubleEqual, LessGreater}
-use Rattle.pattern_tokens.specs.{declared.refusal.TokenRefusal.TokenRefusal, Word.IsWordStart, Word.HasAt, Values.HasValue, Table.IsToken}
-use Rattle.pattern_tokens.specs.declared.refusal.TokenRefusal.TheVariants.{BadToken, LeftOut, BadNumber, BadTime, BadBytes}
+use Rattle.pattern_lexer.specs.declared.{token.Token.Token, token.TokenKind.TokenKind, refusal.LeftWord.LeftWord}
+use Rattle.pattern_lexer.specs.declared.token.TokenKind.TheVariants.{Equal, Less, Number, Hex, Binary, Timestamp}
+use Rattle.pattern_lexer.specs.declared.refusal.LeftWord.TheVariants.{Matches, Fraction, DoubleEqual, LessGreater}
+use Rattle.pattern_lexer.specs.{declared.refusal.TokenRefusal.TokenRefusal, Word.IsWordStart, Word.HasAt, Values.HasValue, Table.IsToken}
+use Rattle.pattern_lexer.specs.declared.refusal.TokenRefusal.TheVariants.{BadToken, LeftOut, BadNumber, BadTime, BadBytes}
 
 -- a space, a tab, a carriage return or a line feed, which belongs to no token
 abbrev pub IsBlank : ℕ → Type 0

@@ -4,9 +4,9 @@ ghost use Rattle.pattern_lexer.specs.inner.Steps.{BeginsToken};
 
 use crate::marks::first_mark;
 use crate::names::first_name;
-use crate::numbers::first_number;
+use crate::number_runs::first_number;
 use crate::quoted::first_words;
-use pattern_tokens::TokenKind;
+use crate::TokenKind;
 
 /// The token that begins some bytes: its kind, and what follows it.
 #[derive(Clone, Copy)]

@@ -6,7 +6,7 @@ use crate::first::first_of;
 use crate::refusals::{has_value, left_word, runs_on, worthless};
 use crate::runs::{CharacterClass, split_run};
 use flow_values::{Items, NoMemory};
-use pattern_tokens::{Token, TokenRefusal};
+use crate::{Token, TokenRefusal};
 use std::alloc::Global;
 
 /// The tokens of a text, each the longest at its place, with blanks between them; or the first refusal

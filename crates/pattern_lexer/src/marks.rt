@@ -4,7 +4,7 @@ ghost use Rattle.pattern_lexer.specs.inner.Steps.{BeginsToken, StartsAsMark, sin
 
 use crate::first::First;
 use crate::runs::behind;
-use pattern_tokens::TokenKind;
+use crate::TokenKind;
 
 /// The longest mark that begins the bytes.
 pub fn first_mark(bytes: &[u8]) -> Option<First<'_>>

@@ -1,12 +1,12 @@
 ghost use Rattle.std.specs.Prelude.{◌≡◌, IfSome, IfNone, Contains};
-ghost use Rattle.pattern_tokens.specs.Word.{IsWordStart, HasAt, keywords};
-ghost use Rattle.pattern_tokens.specs.Table.{IsToken};
+ghost use Rattle.pattern_lexer.specs.Word.{IsWordStart, HasAt, keywords};
+ghost use Rattle.pattern_lexer.specs.Table.{IsToken};
 ghost use Rattle.pattern_lexer.specs.inner.Steps.{BeginsToken, IsName};
 
 use crate::first::First;
 use crate::quoted::first_lettered;
 use crate::runs::{CharacterClass, split_run};
-use pattern_tokens::TokenKind;
+use crate::TokenKind;
 
 /// The token of the bytes that begin with a letter or `_`.
 pub fn first_name(bytes: &[u8]) -> First<'_>

@@ -1,12 +1,12 @@
 ghost use Rattle.std.specs.Prelude.{◌≡◌, ◌≢◌, ◌∷◌, ◌++◌, ℕ, List, IfSome, IfNone, All, flat_map};
-ghost use Rattle.pattern_tokens.specs.Word.{HasAt};
-ghost use Rattle.pattern_tokens.specs.Values.{escaped, IsSpecial};
+ghost use Rattle.pattern_lexer.specs.Word.{HasAt};
+ghost use Rattle.pattern_lexer.specs.Values.{escaped, IsSpecial};
 ghost use Rattle.pattern_lexer.specs.Reading.{HasNoToken};
 ghost use Rattle.pattern_lexer.specs.inner.Steps.{BeginsToken, HasNoLettered, letter_kind};
 
 use crate::first::First;
 use crate::runs::{CharacterClass, behind, split_run};
-use pattern_tokens::TokenKind;
+use crate::TokenKind;
 
 /// The text in quotes that begins with a `'`.
 pub fn first_words(bytes: &[u8]) -> Option<First<'_>>

@@ -1,13 +1,13 @@
 ghost use Rattle.std.specs.Prelude.{◌≡◌, ◌↔◌, ℕ, List, IsTrue, IfOk, IfSome, IfNone, Some};
-ghost use Rattle.pattern_tokens.specs.declared.refusal.LeftWord.{LeftWord};
-ghost use Rattle.pattern_tokens.specs.Values.{HasValue, IsHexText, IsBinaryText};
-ghost use Rattle.pattern_tokens.specs.Table.{IsToken};
-ghost use Rattle.pattern_tokens.specs.Spans.{IsCut, text_at};
+ghost use Rattle.pattern_lexer.specs.declared.refusal.LeftWord.{LeftWord};
+ghost use Rattle.pattern_lexer.specs.Values.{HasValue, IsHexText, IsBinaryText};
+ghost use Rattle.pattern_lexer.specs.Table.{IsToken};
+ghost use Rattle.pattern_lexer.specs.Spans.{IsCut, text_at};
 ghost use Rattle.pattern_lexer.specs.Reading.{RunsOn, IsLeftOut};
 ghost use Rattle.pattern_lexer.specs.inner.Steps.{worthless_refusal};
 
 use flow_values::NoMemory;
-use pattern_tokens::{
+use crate::{
     LeftWord, Token, TokenKind, TokenRefusal, binary_at, hex_at, integer_at, timestamp_at,
 };
 use std::alloc::Global;

@@ -1,3 +1,17 @@
+mod AllZipLemmas
+mod ConstantLemmas
+mod EarliestLemmas
+mod OutcomeLemmas
+mod PathLemmas
+mod CheckLemmas
+mod RootSetLemmas
+mod LeafRootLemmas
+mod ChainLemmas
+mod OneMeaningLemmas
+mod NoneRefusedLemmas
+mod LimitLemmas
+mod PartLemmas
+mod OperatorLemmas
 mod OneReadingLemmas
 mod TokenValueLemmas
 mod NoValueLemmas

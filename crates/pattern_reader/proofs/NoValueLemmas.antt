@@ -1,12 +1,12 @@
 -- In a tree that a text spells no value is refused as NoValue.
 use denote.Enum.Bare.{same_true, same_false}
 use Rattle.std.proofs.Common.{◌≡◌, ◌≢◌, ◌⊎◌, inl, inr, ℕ, Bool, true, false, ◌||◌, List, [], ◌∷◌, ◌++◌, refl, sym, ap, ◌∙◌, subst}
-use Rattle.pattern_tokens.specs.contracts.token.TokenKind.{the_type}
-use Rattle.pattern_tokens.specs.declared.token.Token.{Token}
-use Rattle.pattern_tokens.specs.declared.token.TokenKind.{TokenKind}
-use Rattle.pattern_tokens.specs.declared.token.TokenKind.TheVariants as kind
-use Rattle.pattern_tokens.specs.Values.{IsStringText, HasValue}
-use Rattle.pattern_tokens.specs.Spans.{IsCut, text_at, At}
+use Rattle.pattern_lexer.specs.contracts.token.TokenKind.{the_type}
+use Rattle.pattern_lexer.specs.declared.token.Token.{Token}
+use Rattle.pattern_lexer.specs.declared.token.TokenKind.{TokenKind}
+use Rattle.pattern_lexer.specs.declared.token.TokenKind.TheVariants as kind
+use Rattle.pattern_lexer.specs.Values.{IsStringText, HasValue}
+use Rattle.pattern_lexer.specs.Spans.{IsCut, text_at, At}
 use Rattle.pattern_grammar.specs.declared.class.TokenClass.TheVariants as class
 use Rattle.pattern_grammar.specs.TokenClass.{same, is_in}
 use Rattle.pattern_grammar.specs.declared.path.StepTree.{StepTree}
@@ -23,11 +23,11 @@ use Rattle.pattern_types.specs.declared.constant.Constant.{Constant}
 use Rattle.pattern_types.specs.declared.constant.Constant.TheVariants.{Integer, String, Boolean, Hex, Binary, Timestamp}
 use Rattle.pattern_types.specs.declared.check.Check.{Check}
 use Rattle.pattern_types.specs.declared.check.Check.TheVariants as check
-use Rattle.pattern_meaning.specs.declared.refusal.ValueRefusal.TheVariants.{NoValue, BadAddress}
-use Rattle.pattern_meaning.specs.Meaning.{IsNameOf, IsConstantOf, IsCheckOf}
+use Rattle.pattern_reader.specs.declared.value_refusal.ValueRefusal.TheVariants.{NoValue, BadAddress}
+use Rattle.pattern_reader.specs.Meaning.{IsNameOf, IsConstantOf, IsCheckOf}
 use Rattle.std.specs.List.{AllZip}
 use Rattle.std.proofs.lemmas.Slice.Zip.{all_zipped_more}
-use Rattle.pattern_meaning.specs.Refusals.{Lacks, RefusalOfSteps, RefusalOfPath, textual_refusal, check_refusal, RefusalOfComparison, limit_refusal, RefusalOf}
+use Rattle.pattern_reader.specs.Refusals.{Lacks, RefusalOfSteps, RefusalOfPath, textual_refusal, check_refusal, RefusalOfComparison, limit_refusal, RefusalOf}
 use Rattle.pattern_reader.specs.Read.{IsFaulty}
 use Rattle.pattern_reader.proofs.TokenValueLemmas.{HasWorth, AllWorth, worth_left, worth_right, tokens_worth}
 

@@ -1,7 +1,7 @@
 -- A text is read as one pattern, or has one refusal.
 use Rattle.std.proofs.Common.{◌≡◌, ℕ, ◌<◌, ◌≤◌, List, length, Result, Ok, Err, refl, sym, ap, subst, arith}
-use Rattle.pattern_tokens.specs.declared.token.Token.{Token}
-use Rattle.pattern_tokens.specs.declared.refusal.TokenRefusal.{TokenRefusal}
+use Rattle.pattern_lexer.specs.declared.token.Token.{Token}
+use Rattle.pattern_lexer.specs.declared.refusal.TokenRefusal.{TokenRefusal}
 use Rattle.pattern_lexer.specs.Reading.{TokensOf, HasRefusal, Reads}
 use Rattle.pattern_grammar.specs.declared.refusal.SyntaxRefusal.{SyntaxRefusal}
 use Rattle.pattern_grammar.specs.Tree.{Tree}
@@ -10,15 +10,15 @@ use Rattle.pattern_grammar.specs.Answer.{IsTreeOf, IsMisread}
 use Rattle.pattern_types.specs.declared.pattern.Pattern.{Pattern}
 use Rattle.pattern_types.specs.PlainPattern.{PlainPattern, plain_pattern}
 use Rattle.pattern_types.specs.Width.{IsTooWide}
-use Rattle.pattern_meaning.specs.declared.refusal.ValueRefusal.{ValueRefusal}
-use Rattle.pattern_meaning.specs.PatternMeaning.{MeansPattern}
+use Rattle.pattern_reader.specs.declared.value_refusal.ValueRefusal.{ValueRefusal}
+use Rattle.pattern_reader.specs.PatternMeaning.{MeansPattern}
 use Rattle.pattern_types.specs.Soundness.{IsSoundPattern}
-use Rattle.pattern_meaning.specs.ValueRefusal.{IsEarliest}
-use Rattle.pattern_meaning.specs.Refusals.{RefusalOf}
-use Rattle.pattern_meaning.specs.Answer.{IsMeant}
+use Rattle.pattern_reader.specs.ValueRefusal.{IsEarliest}
+use Rattle.pattern_reader.specs.Refusals.{RefusalOf}
+use Rattle.pattern_reader.specs.Answer.{IsMeant}
 use Rattle.pattern_reader.specs.declared.read.TheConstants.{MAX_TEXT}
-use Rattle.pattern_reader.specs.declared.refusal.PatternRefusal.{PatternRefusal}
-use Rattle.pattern_reader.specs.declared.refusal.PatternRefusal.TheVariants as refused
+use Rattle.pattern_reader.specs.declared.pattern_refusal.PatternRefusal.{PatternRefusal}
+use Rattle.pattern_reader.specs.declared.pattern_refusal.PatternRefusal.TheVariants as refused
 use Rattle.pattern_reader.specs.Read.{IsSpelled, IsReadAs, IsUnspelled, IsRefusedAs}
 
 -- the laws of the layers below

@@ -8,13 +8,13 @@ use Rattle.std.proofs.lemmas.List.{get_or-drop, drop-drop}
 use Rattle.std.proofs.lemmas.List.Elements.{All-head}
 use Rattle.std.proofs.lemmas.Str.Parse.{digit_at}
 use Rattle.std.proofs.Math.Seq.{drop-append_seam, take-append_seam}
-use Rattle.pattern_tokens.specs.declared.token.Token.{Token}
-use Rattle.pattern_tokens.specs.declared.token.TokenKind.{TokenKind}
-use Rattle.pattern_tokens.specs.declared.token.TokenKind.TheVariants as kind
-use Rattle.pattern_tokens.specs.Word.{IsWordStart, HasAt}
-use Rattle.pattern_tokens.specs.Values.{IsNumberText, HasValue}
-use Rattle.pattern_tokens.specs.Table.{IsToken}
-use Rattle.pattern_tokens.specs.Spans.{IsCut, text_at}
+use Rattle.pattern_lexer.specs.declared.token.Token.{Token}
+use Rattle.pattern_lexer.specs.declared.token.TokenKind.{TokenKind}
+use Rattle.pattern_lexer.specs.declared.token.TokenKind.TheVariants as kind
+use Rattle.pattern_lexer.specs.Word.{IsWordStart, HasAt}
+use Rattle.pattern_lexer.specs.Values.{IsNumberText, HasValue}
+use Rattle.pattern_lexer.specs.Table.{IsToken}
+use Rattle.pattern_lexer.specs.Spans.{IsCut, text_at}
 use Rattle.pattern_lexer.specs.Reading.{IsBlank, AreTokens, TokensOf}
 
 pub record HasWorth (whole : List ℕ) (t : Token) : Type 0 where

@@ -1,10 +1,10 @@
 -- The refusals of a pattern: their names, their places, and their texts.
 use Rattle.std.specs.Prelude.{ℕ, List, ◌++◌, codes, decimal, Option, Some, None}
-use Rattle.pattern_tokens.specs.TokenRefusal as token
+use Rattle.pattern_lexer.specs.TokenRefusal as token
 use Rattle.pattern_grammar.specs.SyntaxRefusal as syntax
-use Rattle.pattern_meaning.specs.ValueRefusal as value
-use Rattle.pattern_reader.specs.declared.refusal.PatternRefusal.{PatternRefusal}
-use Rattle.pattern_reader.specs.declared.refusal.PatternRefusal.TheVariants.{TooLong, Token, Syntax, Value, TooWide, NoMemory}
+use Rattle.pattern_reader.specs.ValueRefusal as value
+use Rattle.pattern_reader.specs.declared.pattern_refusal.PatternRefusal.{PatternRefusal}
+use Rattle.pattern_reader.specs.declared.pattern_refusal.PatternRefusal.TheVariants.{TooLong, Token, Syntax, Value, TooWide, NoMemory}
 
 abbrev pub name_of : PatternRefusal → List ℕ
 name_of TooLong = codes "TooLong"

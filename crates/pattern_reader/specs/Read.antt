@@ -1,13 +1,13 @@
 -- Which pattern a text is read as, and why the others are refused.
 use Rattle.std.specs.Prelude.{◌<◌, ◌≤◌, ℕ, List, length}
-use Rattle.pattern_tokens.specs.declared.token.Token.{Token}
+use Rattle.pattern_lexer.specs.declared.token.Token.{Token}
 use Rattle.pattern_lexer.specs.Reading.{TokensOf, HasRefusal}
 use Rattle.pattern_grammar.specs.{declared.refusal.SyntaxRefusal.SyntaxRefusal, Tree.Tree, Answer.IsTreeOf, Answer.IsMisread}
 use Rattle.pattern_types.specs.{declared.pattern.Pattern.Pattern, PlainPattern.plain_pattern}
-use Rattle.pattern_meaning.specs.{declared.refusal.ValueRefusal.ValueRefusal, ValueRefusal.IsEarliest, Refusals.RefusalOf}
-use Rattle.pattern_meaning.specs.Answer.{IsNarrowlyMeant, IsWidelyMeant}
-use Rattle.pattern_reader.specs.declared.{read.TheConstants.MAX_TEXT, refusal.PatternRefusal.PatternRefusal}
-use Rattle.pattern_reader.specs.declared.refusal.PatternRefusal.TheVariants.{TooLong, Token as TokenRefused, Syntax, Value, TooWide, NoMemory}
+use Rattle.pattern_reader.specs.{declared.value_refusal.ValueRefusal.ValueRefusal, ValueRefusal.IsEarliest, Refusals.RefusalOf}
+use Rattle.pattern_reader.specs.Answer.{IsNarrowlyMeant, IsWidelyMeant}
+use Rattle.pattern_reader.specs.declared.{read.TheConstants.MAX_TEXT, pattern_refusal.PatternRefusal.PatternRefusal}
+use Rattle.pattern_reader.specs.declared.pattern_refusal.PatternRefusal.TheVariants.{TooLong, Token as TokenRefused, Syntax, Value, TooWide, NoMemory}
 
 -- the text isn't too long
 abbrev pub IsShort : List ℕ → Type 0

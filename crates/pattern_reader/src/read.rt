@@ -1,12 +1,12 @@
 ghost use Rattle.std.specs.Prelude.{◌≡◌, ◌≢◌, ◌<◌, IfOk, IfErr, IsErrAnd, length};
 ghost use Rattle.pattern_reader.specs.declared.read.TheConstants.{MAX_TEXT};
 ghost use Rattle.pattern_reader.specs.Read.{IsReadAs, IsRefusedAs};
-ghost use Rattle.pattern_reader.specs.declared.refusal.PatternRefusal.TheVariants as PatternRefusal;
+ghost use Rattle.pattern_reader.specs.declared.pattern_refusal.PatternRefusal.TheVariants as PatternRefusal;
 
 use crate::PatternRefusal;
 use pattern_grammar::read_tree;
 use pattern_lexer::tokens;
-use pattern_meaning::{Meaning, meaning_of};
+use crate::{Meaning, meaning_of};
 use pattern_types::Pattern;
 use std::alloc::Global;
 

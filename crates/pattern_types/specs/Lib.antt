@@ -1,3 +1,9 @@
+pub mod Block
+pub mod BlockText
+pub mod Ipv4
+pub mod Ipv6
+pub mod PrefixLength
+pub mod Slash
 pub mod Leaves
 pub mod PlainLeaf
 pub mod PlainPattern

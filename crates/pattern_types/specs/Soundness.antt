@@ -1,7 +1,7 @@
 -- What a pattern has to keep besides its grammar (STIX 2.1, section 9, and limits of ours).
 use Rattle.std.specs.Prelude.{◌≡◌, ◌≤◌, ◌⊎◌, ◌<ℤ◌, ℕ, List, length}
-use Rattle.pattern_cidr.specs.Block.{IsValid}
-use Rattle.pattern_cidr.specs.BlockText.{IsBlockText}
+use Rattle.pattern_types.specs.Block.{IsValid}
+use Rattle.pattern_types.specs.BlockText.{IsBlockText}
 use Rattle.pattern_types.specs.declared.address_block.AddressBlock.{AddressBlock}
 use Rattle.pattern_types.specs.declared.path.Path.{Path}
 use Rattle.pattern_types.specs.declared.path.TheConstants.{MAX_STEPS}

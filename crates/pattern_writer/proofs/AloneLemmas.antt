@@ -5,11 +5,11 @@ use Rattle.std.specs.Prelude.{All, nat_le, flat_map}
 use Rattle.std.specs.Str.Parse.{IsNumeral, AllDigits}
 use Rattle.std.proofs.lemmas.Bool.Decides.{nat_tests}
 use Rattle.std.proofs.lemmas.Str.Parse.{digit_at}
-use Rattle.pattern_tokens.specs.declared.token.TokenKind.{TokenKind}
-use Rattle.pattern_tokens.specs.declared.token.TokenKind.TheVariants.{Word, HyphenWord, Number, String, Hex, Binary, Timestamp}
-use Rattle.pattern_tokens.specs.Word.{IsWordStart, IsHyphenWordPart, HasAt}
-use Rattle.pattern_tokens.specs.Values.{IsNumberText, quoted, escaped, string_text}
-use Rattle.pattern_tokens.specs.Table.{IsToken}
+use Rattle.pattern_lexer.specs.declared.token.TokenKind.{TokenKind}
+use Rattle.pattern_lexer.specs.declared.token.TokenKind.TheVariants.{Word, HyphenWord, Number, String, Hex, Binary, Timestamp}
+use Rattle.pattern_lexer.specs.Word.{IsWordStart, IsHyphenWordPart, HasAt}
+use Rattle.pattern_lexer.specs.Values.{IsNumberText, quoted, escaped, string_text}
+use Rattle.pattern_lexer.specs.Table.{IsToken}
 use Rattle.pattern_writer.proofs.LongestLemmas.{IsSigned, signed, rests}
 
 -- the marks that any token may follow: `(`, `.`, `:` and `[`

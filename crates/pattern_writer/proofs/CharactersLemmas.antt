@@ -6,7 +6,7 @@ use Rattle.std.specs.Str.{encode_utf8_all}
 use Rattle.std.proofs.lemmas.Str.{inside_one, encodes-append}
 use Rattle.std.proofs.lemmas.Grind.{flat_map-append}
 use Rattle.std.proofs.lemmas.Bool.Decides.{nat_tests}
-use Rattle.pattern_tokens.specs.Values.{escaped}
+use Rattle.pattern_lexer.specs.Values.{escaped}
 
 escaped_other : (c : ℕ) → c ≢ 39 → c ≢ 92 → escaped c ≡ c ∷ []
 escaped_other c h k = grind (arith, nat_tests)

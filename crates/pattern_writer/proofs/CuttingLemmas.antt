@@ -5,7 +5,7 @@ use Rattle.std.specs.Str.{IsCharBoundary}
 use Rattle.std.proofs.lemmas.List.Elements.{All-cons, All-nil}
 use Rattle.std.proofs.lemmas.List.{get_or-drop, drop-drop}
 use Rattle.std.proofs.Math.Seq.{drop-append_seam, take-append_seam}
-use Rattle.pattern_tokens.specs.declared.token.Token.{Token}
+use Rattle.pattern_lexer.specs.declared.token.Token.{Token}
 use Rattle.pattern_lexer.specs.Reading.{IsBlank, AreTokens}
 use Rattle.pattern_writer.proofs.PiecesLemmas.{Piece, space, piece, printed, Match}
 use Rattle.pattern_writer.proofs.WrittenLemmas.{Fits, AllFit}

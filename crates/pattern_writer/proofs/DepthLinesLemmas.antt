@@ -1,9 +1,9 @@
 -- How deep what spells a pattern nests: at least as deep as its canonical text.
 use Rattle.std.proofs.Common.{◌≡◌, ℕ, ◌+◌, ◌≤◌, Bool, true, false, List, [], ◌∷◌, ◌++◌, refl, arith, nat_le, max, if◌then◌else◌}
 use Rattle.std.proofs.lemmas.Bool.Decides.{nat_tests}
-use Rattle.pattern_tokens.specs.declared.token.Token.{Token}
-use Rattle.pattern_tokens.specs.declared.token.TokenKind.{TokenKind}
-use Rattle.pattern_tokens.specs.declared.token.TokenKind.TheVariants as kind
+use Rattle.pattern_lexer.specs.declared.token.Token.{Token}
+use Rattle.pattern_lexer.specs.declared.token.TokenKind.{TokenKind}
+use Rattle.pattern_lexer.specs.declared.token.TokenKind.TheVariants as kind
 use Rattle.pattern_grammar.specs.declared.class.TokenClass.{TokenClass}
 use Rattle.pattern_grammar.specs.declared.class.TokenClass.TheVariants.{Only, Root, Name, Index, Equality, Order, Textual, Ordered, Constant, Qualifying}
 use Rattle.pattern_grammar.specs.declared.path.StepTree.{StepTree}
@@ -14,9 +14,9 @@ use Rattle.pattern_grammar.specs.TokenClass.{IsA, is_in}
 use Rattle.pattern_grammar.specs.Tree.{Comparison, Tree, test}
 use Rattle.pattern_grammar.specs.Grammar.{IsStep, step_name, step_index, IsPath, path_first, path_further, AreConstants, constants_one, constants_more, IsCheck, check_equality, check_order, check_among, check_textual, IsTest, test_group, test_exists, test_not_exists, test_compare, test_not_compare, IsCand, cand_one, cand_more, IsCor, cor_one, cor_more, IsQualifier, qualifier_within, qualifier_repeats, qualifier_between, IsStart, start_leaf, start_group, IsUnit, unit_one, unit_more, IsAnds, ands_one, ands_more, IsOrs, ors_one, ors_more, IsPattern, pattern_one, pattern_more}
 use Rattle.pattern_types.specs.PlainLeaf.{PlainLeaf, one, every, some, PlainLeaves, none, more, put}
-use Rattle.pattern_meaning.specs.LeafMeaning.{IsNoAll, IsNoAny, Means, means_test, means_group, means_all, means_any, AllParts, all_first, all_more, AnyParts, any_first, any_more}
+use Rattle.pattern_reader.specs.LeafMeaning.{IsNoAll, IsNoAny, Means, means_test, means_group, means_all, means_any, AllParts, all_first, all_more, AnyParts, any_first, any_more}
 use Rattle.pattern_types.specs.PlainPattern.{PlainPattern, a_leaf, a_both, an_either, a_then, a_limited}
-use Rattle.pattern_meaning.specs.PatternMeaning.{MeansPattern, means_leaf, means_both, means_either, means_then, means_limited}
+use Rattle.pattern_reader.specs.PatternMeaning.{MeansPattern, means_leaf, means_both, means_either, means_then, means_limited}
 use Rattle.pattern_writer.specs.Leaf.{binds}
 use Rattle.pattern_writer.specs.Canonical.{level}
 use Rattle.pattern_writer.proofs.DepthsLemmas.{Measured, measured_is, is_flat, only_flat, Flat, flats, flat_join, first_flat, last_flat, mid_flat, joined, round, among, qualifying}

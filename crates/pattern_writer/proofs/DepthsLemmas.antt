@@ -6,10 +6,10 @@ use Rattle.std.proofs.lemmas.List.{same_from_push}
 use Rattle.std.proofs.lemmas.List.Sums.{sum_by-cons, sum_by-append, sum_by_push}
 use Rattle.std.specs.Prelude.{cond}
 use denote.Enum.Bare.{same_true}
-use Rattle.pattern_tokens.specs.contracts.token.TokenKind.{the_type}
-use Rattle.pattern_tokens.specs.declared.token.Token.{Token}
-use Rattle.pattern_tokens.specs.declared.token.TokenKind.{TokenKind}
-use Rattle.pattern_tokens.specs.declared.token.TokenKind.TheVariants as kind
+use Rattle.pattern_lexer.specs.contracts.token.TokenKind.{the_type}
+use Rattle.pattern_lexer.specs.declared.token.Token.{Token}
+use Rattle.pattern_lexer.specs.declared.token.TokenKind.{TokenKind}
+use Rattle.pattern_lexer.specs.declared.token.TokenKind.TheVariants as kind
 use Rattle.pattern_grammar.specs.declared.class.TokenClass.{TokenClass}
 use Rattle.pattern_grammar.specs.declared.class.TokenClass.TheVariants.{Only, Qualifying}
 use Rattle.pattern_grammar.specs.TokenClass.{same, is_in, IsA}

@@ -1,14 +1,14 @@
 -- Patterns of which the canonical text reads back, but for the limits of depth and of values: those with
 -- numbers in their ranges, and with the shapes that the grammar has (STIX 2.1, section 9).
 use Rattle.std.specs.Prelude.{◌≢◌, ◌⊎◌, ◌≤◌, true, false, List, [], ◌∷◌, All, codes}
-use Rattle.pattern_cidr.specs.BlockText.{IsBlockText}
+use Rattle.pattern_types.specs.BlockText.{IsBlockText}
 use Rattle.hex.specs.Hex.{IsBytes}
 use Rattle.base64.specs.Engines.{standard}
 use Rattle.base64.specs.GeneralPurpose.{encode_of}
-use Rattle.pattern_tokens.specs.declared.token.TokenKind.{TokenKind}
-use Rattle.pattern_tokens.specs.declared.token.TokenKind.TheVariants as kind
-use Rattle.pattern_tokens.specs.Word.{IsWord, IsHyphenWord}
-use Rattle.pattern_tokens.specs.Values.{FitsIn64Bits}
+use Rattle.pattern_lexer.specs.declared.token.TokenKind.{TokenKind}
+use Rattle.pattern_lexer.specs.declared.token.TokenKind.TheVariants as kind
+use Rattle.pattern_lexer.specs.Word.{IsWord, IsHyphenWord}
+use Rattle.pattern_lexer.specs.Values.{FitsIn64Bits}
 use Rattle.pattern_types.specs.declared.path.Step.{Step}
 use Rattle.pattern_types.specs.declared.path.Step.TheVariants as step
 use Rattle.pattern_types.specs.declared.path.Path.{Path}

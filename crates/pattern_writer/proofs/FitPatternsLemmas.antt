@@ -1,6 +1,6 @@
 -- What some text spells is fit: comparisons and patterns.
 use Rattle.std.proofs.Common.{ℕ, List, [], ◌∷◌}
-use Rattle.pattern_tokens.specs.declared.token.Token.{Token}
+use Rattle.pattern_lexer.specs.declared.token.Token.{Token}
 use Rattle.pattern_grammar.specs.declared.comparison.CheckTree.TheVariants as check_tree
 use Rattle.pattern_grammar.specs.declared.qualifier.Qualifier.{Qualifier}
 use Rattle.pattern_grammar.specs.declared.qualifier.Qualifier.TheVariants as qualifier
@@ -8,13 +8,13 @@ use Rattle.pattern_grammar.specs.Tree.{Comparison, Tree}
 use Rattle.pattern_grammar.specs.Grammar.{IsTest, test_group, test_exists, test_not_exists, test_compare, test_not_compare, IsCand, cand_one, cand_more, IsCor, cor_one, cor_more, IsStart, start_leaf, start_group, IsUnit, unit_one, unit_more, IsAnds, ands_one, ands_more, IsOrs, ors_one, ors_more, IsPattern, pattern_one, pattern_more}
 use Rattle.pattern_types.specs.declared.check.Check.{Check}
 use Rattle.pattern_types.specs.declared.check.Check.TheVariants as check
-use Rattle.pattern_meaning.specs.Meaning.{IsCheckOf}
+use Rattle.pattern_reader.specs.Meaning.{IsCheckOf}
 use Rattle.pattern_types.specs.PlainLeaf.{PlainLeaf, PlainLeaves, none, more, put}
-use Rattle.pattern_meaning.specs.LeafMeaning.{Means, means_test, means_group, means_all, means_any, AllParts, all_first, all_more, AnyParts, any_first, any_more}
+use Rattle.pattern_reader.specs.LeafMeaning.{Means, means_test, means_group, means_all, means_any, AllParts, all_first, all_more, AnyParts, any_first, any_more}
 use Rattle.pattern_types.specs.declared.limit.Limit.{Limit}
 use Rattle.pattern_types.specs.declared.limit.Limit.TheVariants.{Within, Repeats, Between}
 use Rattle.pattern_types.specs.PlainPattern.{PlainPattern}
-use Rattle.pattern_meaning.specs.PatternMeaning.{IsLimitOf, MeansPattern, means_leaf, means_both, means_either, means_then, means_limited}
+use Rattle.pattern_reader.specs.PatternMeaning.{IsLimitOf, MeansPattern, means_leaf, means_both, means_either, means_then, means_limited}
 use Rattle.pattern_writer.proofs.FitLemmas.{FitCheck, AreSome, FitFormula, FitFormulas, FitLimit, FitMeant}
 use Rattle.pattern_writer.proofs.LexedLemmas.{AllLexed, lexed_left, lexed_right}
 use Rattle.pattern_writer.proofs.FitnessLemmas.{fit_path, fit_check}

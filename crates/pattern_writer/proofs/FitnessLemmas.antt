@@ -5,12 +5,12 @@ use Rattle.std.proofs.lemmas.List.{append_cancel_right}
 use Rattle.hex.proofs.HexLemmas.{decode_of-ok}
 use Rattle.base64.specs.Engines.{standard}
 use Rattle.base64.specs.GeneralPurpose.{encode_of}
-use Rattle.pattern_tokens.specs.declared.token.Token.{Token}
-use Rattle.pattern_tokens.specs.declared.token.TokenKind.{TokenKind}
-use Rattle.pattern_tokens.specs.declared.token.TokenKind.TheVariants as kind
-use Rattle.pattern_tokens.specs.Values.{quoted}
-use Rattle.pattern_tokens.specs.Table.{IsToken}
-use Rattle.pattern_tokens.specs.Spans.{text_at}
+use Rattle.pattern_lexer.specs.declared.token.Token.{Token}
+use Rattle.pattern_lexer.specs.declared.token.TokenKind.{TokenKind}
+use Rattle.pattern_lexer.specs.declared.token.TokenKind.TheVariants as kind
+use Rattle.pattern_lexer.specs.Values.{quoted}
+use Rattle.pattern_lexer.specs.Table.{IsToken}
+use Rattle.pattern_lexer.specs.Spans.{text_at}
 use Rattle.pattern_grammar.specs.declared.class.TokenClass.TheVariants.{Root, Ordered, Equality}
 use Rattle.pattern_grammar.specs.TokenClass.{IsA, is_in}
 use Rattle.pattern_grammar.specs.declared.path.StepTree.{StepTree}
@@ -26,10 +26,10 @@ use Rattle.pattern_types.specs.declared.constant.Constant.{Constant}
 use Rattle.pattern_types.specs.declared.constant.Constant.TheVariants.{Integer, Boolean, Hex, Binary}
 use Rattle.pattern_types.specs.declared.check.Check.{Check}
 use Rattle.pattern_types.specs.declared.check.Check.TheVariants as check
-use Rattle.pattern_meaning.specs.Meaning.{IsStepOf, IsPathOf, IsConstantOf, IsCheckOf}
+use Rattle.pattern_reader.specs.Meaning.{IsStepOf, IsPathOf, IsConstantOf, IsCheckOf}
 use Rattle.std.specs.List.{AllZip}
 use Rattle.pattern_writer.proofs.FitLemmas.{FitStep, FitFurther, FitSteps, FitPath, FitConstant, FitOrdered, FitConstants, FitList, FitCheck}
-use Rattle.pattern_tokens.specs.Word.{IsWord, IsHyphenWord}
+use Rattle.pattern_lexer.specs.Word.{IsWord, IsHyphenWord}
 use Rattle.pattern_writer.proofs.LongestLemmas.{rests}
 use Rattle.pattern_writer.proofs.LexedLemmas.{Lexed, AllLexed, lexed_left, lexed_right, root_word}
 

@@ -2,13 +2,13 @@
 use Rattle.std.proofs.Common.{◌≡◌, ℕ, zero, suc, ◌+◌, ◌≤◌, true, false, Bool, List, [], ◌∷◌, ◌++◌, refl, sym, ap, subst, arith, append_assoc, append-nil, max}
 use Rattle.std.specs.Prelude.{codes, flat_map, nat_le, if◌then◌else◌}
 use Rattle.std.proofs.lemmas.Bool.Decides.{nat_tests}
-use Rattle.pattern_tokens.specs.declared.token.Token.{Token}
-use Rattle.pattern_tokens.specs.declared.token.TokenKind.TheVariants as kind
+use Rattle.pattern_lexer.specs.declared.token.Token.{Token}
+use Rattle.pattern_lexer.specs.declared.token.TokenKind.TheVariants as kind
 use Rattle.pattern_grammar.specs.declared.class.TokenClass.TheVariants.{Only}
 use Rattle.pattern_grammar.specs.Tree.{Comparison, group, all, any}
 use Rattle.pattern_grammar.specs.Grammar.{IsTest, test_group, IsCand, cand_one, cand_more, IsCor, cor_one, cor_more}
 use Rattle.pattern_types.specs.PlainLeaf.{PlainLeaf, one, every, some, PlainLeaves, none, more, put}
-use Rattle.pattern_meaning.specs.LeafMeaning.{Means, means_group, means_all, means_any, AllParts, all_first, all_more, AnyParts, any_first, any_more}
+use Rattle.pattern_reader.specs.LeafMeaning.{Means, means_group, means_all, means_any, AllParts, all_first, all_more, AnyParts, any_first, any_more}
 use Rattle.pattern_writer.specs.Parts.{joined, IsWithin}
 use Rattle.pattern_writer.specs.Leaf.{binds, IsFormulaText, AreTextsOf}
 use Rattle.pattern_writer.proofs.LongestLemmas.{Stops, Ends, ends_stops}

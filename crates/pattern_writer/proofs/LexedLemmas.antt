@@ -1,13 +1,13 @@
 -- The tokens of a text are tokens of the table, and none is the word MATCHES.
 use Rattle.std.proofs.Common.{◌≡◌, ◌≢◌, ◌⊎◌, inl, inr, ℕ, ◌+◌, ◌-◌, ◌≤◌, true, List, [], ◌∷◌, ◌++◌, length, drop, take, sym, ap, ◌∙◌, subst, append_assoc}
 use Rattle.std.specs.Prelude.{codes}
-use Rattle.pattern_tokens.specs.declared.token.Token.{Token}
-use Rattle.pattern_tokens.specs.declared.token.TokenKind.{TokenKind}
-use Rattle.pattern_tokens.specs.declared.token.TokenKind.TheVariants as kind
-use Rattle.pattern_tokens.specs.declared.refusal.LeftWord.TheVariants.{Matches}
-use Rattle.pattern_tokens.specs.Word.{IsWord, IsHyphenWord}
-use Rattle.pattern_tokens.specs.Table.{IsToken}
-use Rattle.pattern_tokens.specs.Spans.{text_at}
+use Rattle.pattern_lexer.specs.declared.token.Token.{Token}
+use Rattle.pattern_lexer.specs.declared.token.TokenKind.{TokenKind}
+use Rattle.pattern_lexer.specs.declared.token.TokenKind.TheVariants as kind
+use Rattle.pattern_lexer.specs.declared.refusal.LeftWord.TheVariants.{Matches}
+use Rattle.pattern_lexer.specs.Word.{IsWord, IsHyphenWord}
+use Rattle.pattern_lexer.specs.Table.{IsToken}
+use Rattle.pattern_lexer.specs.Spans.{text_at}
 use Rattle.pattern_lexer.specs.Reading.{AreTokens}
 use Rattle.pattern_grammar.specs.TokenClass.{is_in}
 use Rattle.pattern_grammar.specs.declared.class.TokenClass.TheVariants.{Root}

@@ -5,11 +5,11 @@ use Rattle.std.specs.Str.Parse.{IsNumeral, AllDigits}
 use Rattle.std.proofs.lemmas.Bool.{and_parts}
 use Rattle.std.proofs.lemmas.Bool.Decides.{nat_tests}
 use Rattle.std.proofs.lemmas.Str.Parse.{digit_at}
-use Rattle.pattern_tokens.specs.declared.token.TokenKind.{TokenKind}
-use Rattle.pattern_tokens.specs.declared.token.TokenKind.TheVariants.{Word, HyphenWord, Number, String, Hex, Binary, Timestamp}
-use Rattle.pattern_tokens.specs.Word.{IsWordPart, IsHyphenWordPart}
-use Rattle.pattern_tokens.specs.Values.{IsNumberText, IsLetteredText, string_text}
-use Rattle.pattern_tokens.specs.Table.{IsToken}
+use Rattle.pattern_lexer.specs.declared.token.TokenKind.{TokenKind}
+use Rattle.pattern_lexer.specs.declared.token.TokenKind.TheVariants.{Word, HyphenWord, Number, String, Hex, Binary, Timestamp}
+use Rattle.pattern_lexer.specs.Word.{IsWordPart, IsHyphenWordPart}
+use Rattle.pattern_lexer.specs.Values.{IsNumberText, IsLetteredText, string_text}
+use Rattle.pattern_lexer.specs.Table.{IsToken}
 
 -- a byte that goes on no token but one in quotes
 pub record IsStop (c : ℕ) : Type 0 where

@@ -9,7 +9,7 @@ use Rattle.std.proofs.lemmas.Bool.Decides.{nat_tests}
 use Rattle.std.proofs.lemmas.Int.{ints}
 use Rattle.std.proofs.lemmas.List.{get_or_default}
 use Rattle.std.proofs.lemmas.List.Elements.{All-cons}
-use Rattle.pattern_tokens.specs.Values.{HasNoLeadingZero, FitsIn64Bits, IsIntegerText}
+use Rattle.pattern_lexer.specs.Values.{HasNoLeadingZero, FitsIn64Bits, IsIntegerText}
 
 -- digits have no sign
 unsigned : (ds : List ℕ) → IsNumeral 10 ds → (starts_with_minus ds ≡ false) × (without_leading_sign ds ≡ ds)

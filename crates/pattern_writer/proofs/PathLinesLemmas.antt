@@ -1,11 +1,11 @@
 -- Paths of a canonical text read back.
 use Rattle.std.proofs.Common.{◌≡◌, ◌⊎◌, inl, inr, ℕ, ◌<◌, pos, List, [], ◌∷◌, ◌++◌, refl, sym, ap, ◌∙◌, subst, arith, append_assoc, append-nil}
 use Rattle.std.specs.Prelude.{codes, decimal, flat_map}
-use Rattle.pattern_tokens.specs.declared.token.Token.{Token}
-use Rattle.pattern_tokens.specs.declared.token.TokenKind.TheVariants as kind
-use Rattle.pattern_tokens.specs.Word.{IsHyphenWordPart}
-use Rattle.pattern_tokens.specs.Values.{IsIntegerText}
-use Rattle.pattern_tokens.specs.Spans.{At, IsItself}
+use Rattle.pattern_lexer.specs.declared.token.Token.{Token}
+use Rattle.pattern_lexer.specs.declared.token.TokenKind.TheVariants as kind
+use Rattle.pattern_lexer.specs.Word.{IsHyphenWordPart}
+use Rattle.pattern_lexer.specs.Values.{IsIntegerText}
+use Rattle.pattern_lexer.specs.Spans.{At, IsItself}
 use Rattle.pattern_grammar.specs.declared.class.TokenClass.TheVariants.{Only, Root, Name, Index}
 use Rattle.pattern_grammar.specs.declared.path.StepTree.{StepTree}
 use Rattle.pattern_grammar.specs.declared.path.StepTree.TheVariants as step_tree
@@ -14,7 +14,7 @@ use Rattle.pattern_grammar.specs.Grammar.{IsStep, step_name, step_index, IsPath,
 use Rattle.pattern_types.specs.declared.path.Step.{Step}
 use Rattle.pattern_types.specs.declared.path.Step.TheVariants as step
 use Rattle.pattern_types.specs.declared.path.Path.{Path}
-use Rattle.pattern_meaning.specs.Meaning.{IsNameOf, IsStepOf, IsPathOf}
+use Rattle.pattern_reader.specs.Meaning.{IsNameOf, IsStepOf, IsPathOf}
 use Rattle.std.specs.List.{AllZip}
 use Rattle.pattern_writer.specs.Parts.{joined}
 use Rattle.pattern_writer.specs.Path.{IsNameText, IsStepText, AreStepsText, IsPathText}

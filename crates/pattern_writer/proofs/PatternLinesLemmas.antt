@@ -1,12 +1,12 @@
 -- A canonical text reads back: the tokens of its pieces spell a pattern that means what was written.
 use Rattle.std.proofs.Common.{◌≡◌, ℕ, zero, suc, ◌+◌, ◌≤◌, pos, true, false, Bool, List, [], ◌∷◌, ◌++◌, refl, sym, ap, ◌∙◌, arith, append_assoc, max}
 use Rattle.std.specs.Prelude.{codes, decimal, nat_le, if◌then◌else◌}
-use Rattle.pattern_tokens.specs.declared.token.Token.{Token}
-use Rattle.pattern_tokens.specs.declared.token.TokenKind.{TokenKind}
-use Rattle.pattern_tokens.specs.declared.token.TokenKind.TheVariants as kind
-use Rattle.pattern_tokens.specs.Spans.{IsCount}
-use Rattle.pattern_tokens.specs.Values.{IsIntegerText, IsTimestampText}
-use Rattle.pattern_tokens.specs.Spans.{At}
+use Rattle.pattern_lexer.specs.declared.token.Token.{Token}
+use Rattle.pattern_lexer.specs.declared.token.TokenKind.{TokenKind}
+use Rattle.pattern_lexer.specs.declared.token.TokenKind.TheVariants as kind
+use Rattle.pattern_lexer.specs.Spans.{IsCount}
+use Rattle.pattern_lexer.specs.Values.{IsIntegerText, IsTimestampText}
+use Rattle.pattern_lexer.specs.Spans.{At}
 use Rattle.pattern_grammar.specs.declared.class.TokenClass.TheVariants.{Only}
 use Rattle.pattern_grammar.specs.declared.qualifier.Qualifier.{Qualifier}
 use Rattle.pattern_grammar.specs.declared.qualifier.Qualifier.TheVariants as qualifier
@@ -16,7 +16,7 @@ use Rattle.pattern_types.specs.declared.limit.Limit.{Limit}
 use Rattle.pattern_types.specs.declared.limit.Limit.TheVariants.{Within, Repeats, Between}
 use Rattle.pattern_types.specs.PlainLeaf.{PlainLeaf}
 use Rattle.pattern_types.specs.PlainPattern.{PlainPattern, a_leaf, a_both, an_either, a_then, a_limited}
-use Rattle.pattern_meaning.specs.PatternMeaning.{IsLimitOf, MeansPattern, means_leaf, means_both, means_either, means_then, means_limited}
+use Rattle.pattern_reader.specs.PatternMeaning.{IsLimitOf, MeansPattern, means_leaf, means_both, means_either, means_then, means_limited}
 use Rattle.pattern_writer.specs.Parts.{IsWithin}
 use Rattle.pattern_writer.specs.Leaf.{binds}
 use Rattle.pattern_writer.specs.Limit.{IsLimitText}

@@ -5,10 +5,10 @@ use Rattle.pattern_grammar.specs.Grammar.{IsPattern}
 use Rattle.pattern_grammar.specs.Tree.{Tree}
 use Rattle.pattern_types.specs.declared.pattern.Pattern.{Pattern}
 use Rattle.pattern_types.specs.PlainPattern.{PlainPattern, plain_pattern}
-use Rattle.pattern_meaning.specs.PatternMeaning.{MeansPattern}
+use Rattle.pattern_reader.specs.PatternMeaning.{MeansPattern}
 use Rattle.pattern_reader.specs.declared.read.TheConstants.{MAX_TEXT}
-use Rattle.pattern_reader.specs.declared.refusal.PatternRefusal.{PatternRefusal}
-use Rattle.pattern_reader.specs.declared.refusal.PatternRefusal.TheVariants as refused
+use Rattle.pattern_reader.specs.declared.pattern_refusal.PatternRefusal.{PatternRefusal}
+use Rattle.pattern_reader.specs.declared.pattern_refusal.PatternRefusal.TheVariants as refused
 use Rattle.pattern_reader.specs.Read.{IsSpelled, IsReadAs, IsRefusedAs}
 use Rattle.pattern_writer.specs.Canonical.{level, IsCanonical}
 use Rattle.pattern_writer.proofs.FitLemmas.{FitMeant}

@@ -1,12 +1,12 @@
 -- Tests of a canonical text read back.
 use Rattle.std.proofs.Common.{◌≡◌, ◌≢◌, inl, ℕ, true, false, Bool, List, [], ◌∷◌, ◌++◌, refl, sym, ap, ◌∙◌, subst, arith, append_assoc, append-nil}
 use Rattle.std.specs.Prelude.{codes, flat_map}
-use Rattle.pattern_tokens.specs.declared.token.Token.{Token}
-use Rattle.pattern_tokens.specs.declared.token.TokenKind.{TokenKind}
-use Rattle.pattern_tokens.specs.declared.token.TokenKind.TheVariants as kind
-use Rattle.pattern_tokens.specs.Values.{HasValue, IsStringText}
-use Rattle.pattern_tokens.specs.Table.{IsToken}
-use Rattle.pattern_tokens.specs.Spans.{At}
+use Rattle.pattern_lexer.specs.declared.token.Token.{Token}
+use Rattle.pattern_lexer.specs.declared.token.TokenKind.{TokenKind}
+use Rattle.pattern_lexer.specs.declared.token.TokenKind.TheVariants as kind
+use Rattle.pattern_lexer.specs.Values.{HasValue, IsStringText}
+use Rattle.pattern_lexer.specs.Table.{IsToken}
+use Rattle.pattern_lexer.specs.Spans.{At}
 use Rattle.pattern_grammar.specs.declared.class.TokenClass.{TokenClass}
 use Rattle.pattern_grammar.specs.declared.class.TokenClass.TheVariants.{Only, Equality, Order, Textual, Ordered, Constant}
 use Rattle.pattern_grammar.specs.TokenClass.{is_in}
@@ -21,10 +21,10 @@ use Rattle.pattern_types.specs.declared.constant.Constant.TheVariants.{Boolean}
 use Rattle.pattern_types.specs.declared.check.Check.{Check}
 use Rattle.pattern_types.specs.declared.check.Check.TheVariants as check
 use Rattle.pattern_types.specs.declared.leaf.Test.{Test}
-use Rattle.pattern_meaning.specs.Meaning.{IsConstantOf, IsCheckOf}
+use Rattle.pattern_reader.specs.Meaning.{IsConstantOf, IsCheckOf}
 use Rattle.std.specs.List.{AllZip}
 use Rattle.pattern_types.specs.PlainLeaf.{one}
-use Rattle.pattern_meaning.specs.LeafMeaning.{Means, means_test}
+use Rattle.pattern_reader.specs.LeafMeaning.{Means, means_test}
 use Rattle.pattern_writer.specs.Parts.{joined}
 use Rattle.pattern_writer.specs.Constant.{IsConstantText}
 use Rattle.pattern_writer.proofs.DepthLinesLemmas.{IsPlain}

@@ -4,19 +4,19 @@ use Rattle.std.specs.Prelude.{All, codes, slice_get, nat_lt}
 use Rattle.std.proofs.lemmas.Bool.{and_parts}
 use Rattle.std.proofs.lemmas.Bool.Decides.{nat_tests}
 use Rattle.std.proofs.lemmas.List.Elements.{All-cons}
-use Rattle.pattern_tokens.specs.declared.token.Token.{Token}
-use Rattle.pattern_tokens.specs.declared.token.TokenKind.{TokenKind}
-use Rattle.pattern_tokens.specs.declared.token.TokenKind.TheVariants as kind
-use Rattle.pattern_tokens.specs.Word.{IsWordStart, IsHyphenWordPart, HasAt, IsWord, IsHyphenWord}
-use Rattle.pattern_tokens.specs.Values.{HasValue, quoted, string_text, IsIntegerText}
-use Rattle.pattern_tokens.specs.Table.{IsToken}
+use Rattle.pattern_lexer.specs.declared.token.Token.{Token}
+use Rattle.pattern_lexer.specs.declared.token.TokenKind.{TokenKind}
+use Rattle.pattern_lexer.specs.declared.token.TokenKind.TheVariants as kind
+use Rattle.pattern_lexer.specs.Word.{IsWordStart, IsHyphenWordPart, HasAt, IsWord, IsHyphenWord}
+use Rattle.pattern_lexer.specs.Values.{HasValue, quoted, string_text, IsIntegerText}
+use Rattle.pattern_lexer.specs.Table.{IsToken}
 use Rattle.pattern_lexer.specs.Reading.{IsLeftOut, IsUsable}
-use Rattle.pattern_tokens.specs.declared.refusal.LeftWord.{LeftWord}
-use Rattle.pattern_tokens.specs.declared.refusal.LeftWord.TheVariants.{Matches, Fraction, DoubleEqual, LessGreater}
+use Rattle.pattern_lexer.specs.declared.refusal.LeftWord.{LeftWord}
+use Rattle.pattern_lexer.specs.declared.refusal.LeftWord.TheVariants.{Matches, Fraction, DoubleEqual, LessGreater}
 use Rattle.pattern_grammar.specs.declared.class.TokenClass.{TokenClass}
 use Rattle.pattern_grammar.specs.declared.class.TokenClass.TheVariants.{Root}
 use Rattle.pattern_grammar.specs.TokenClass.{is_in}
-use Rattle.pattern_tokens.specs.Spans.{At, IsItself}
+use Rattle.pattern_lexer.specs.Spans.{At, IsItself}
 use Rattle.pattern_writer.proofs.NumeralsLemmas.{IsNumeralShape}
 use Rattle.pattern_writer.proofs.LongestLemmas.{Stops, Ends, ends_stops, longest_plain}
 use Rattle.pattern_writer.proofs.AloneLemmas.{IsAlone, part_quote, longest_alone, longest_words, longest_lettered}

@@ -7,17 +7,17 @@ use Rattle.hex.specs.Hex.{encode_with, encode_lower, lower_digits}
 use Rattle.hex.proofs.HexLemmas.{decode_of-encode_lower}
 use Rattle.base64.specs.Engines.{standard}
 use Rattle.base64.specs.GeneralPurpose.{encode_of}
-use Rattle.pattern_tokens.specs.declared.token.Token.{Token}
-use Rattle.pattern_tokens.specs.declared.token.TokenKind.{TokenKind}
-use Rattle.pattern_tokens.specs.declared.token.TokenKind.TheVariants as kind
-use Rattle.pattern_tokens.specs.Values.{quoted, string_text, IsIntegerText, IsStringText, IsHexText, IsBinaryText, IsTimestampText}
-use Rattle.pattern_tokens.specs.Spans.{At}
+use Rattle.pattern_lexer.specs.declared.token.Token.{Token}
+use Rattle.pattern_lexer.specs.declared.token.TokenKind.{TokenKind}
+use Rattle.pattern_lexer.specs.declared.token.TokenKind.TheVariants as kind
+use Rattle.pattern_lexer.specs.Values.{quoted, string_text, IsIntegerText, IsStringText, IsHexText, IsBinaryText, IsTimestampText}
+use Rattle.pattern_lexer.specs.Spans.{At}
 use Rattle.pattern_grammar.specs.declared.class.TokenClass.{TokenClass}
 use Rattle.pattern_grammar.specs.declared.class.TokenClass.TheVariants.{Name}
 use Rattle.pattern_grammar.specs.TokenClass.{is_in}
 use Rattle.pattern_types.specs.declared.constant.Constant.{Constant}
 use Rattle.pattern_types.specs.declared.constant.Constant.TheVariants.{Integer, String, Boolean, Hex, Binary, Timestamp}
-use Rattle.pattern_meaning.specs.Meaning.{IsNameOf, IsConstantOf}
+use Rattle.pattern_reader.specs.Meaning.{IsNameOf, IsConstantOf}
 use Rattle.pattern_writer.specs.Path.{IsNameText}
 use Rattle.pattern_writer.specs.Constant.{IsTimeText, IsConstantText}
 use Rattle.pattern_writer.proofs.LongestLemmas.{Stops, Ends, ends_stops}

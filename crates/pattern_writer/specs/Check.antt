@@ -1,7 +1,7 @@
 -- How one comparison is written (STIX 2.1, section 9.6): a path, NOT where it is negated, an operator and
 -- what it compares with.
 use Rattle.std.specs.Prelude.{ℕ, Bool, if◌then◌else◌, List, [], ◌++◌, codes}
-use Rattle.pattern_tokens.specs.Values.{IsStringText}
+use Rattle.pattern_lexer.specs.Values.{IsStringText}
 use Rattle.pattern_types.specs.declared.path.Path.{Path}
 use Rattle.pattern_types.specs.declared.constant.Constant.{Constant}
 use Rattle.pattern_types.specs.declared.check.Check.{Check}

@@ -5,7 +5,7 @@ use Rattle.hex.specs.Hex.{encode_lower}
 use Rattle.base64.specs.Engines.{standard}
 use Rattle.base64.specs.GeneralPurpose.{encode_of}
 use Rattle.stix_times.specs.Writing.{IsCanonicalTextOf}
-use Rattle.pattern_tokens.specs.Values.{quoted, IsStringText}
+use Rattle.pattern_lexer.specs.Values.{quoted, IsStringText}
 use Rattle.pattern_types.specs.declared.constant.Constant.{Constant}
 use Rattle.pattern_types.specs.declared.constant.Constant.TheVariants.{Integer, String, Boolean, Hex, Binary, Timestamp}
 

@@ -1,7 +1,7 @@
 -- How object paths are written (STIX 2.1, section 9.7).
 use Rattle.std.specs.Prelude.{◌≡◌, ◌≢◌, ◌⊎◌, ℕ, List, [], ◌∷◌, ◌++◌, codes, decimal}
-use Rattle.pattern_tokens.specs.Word.{IsWord}
-use Rattle.pattern_tokens.specs.Values.{IsStringText}
+use Rattle.pattern_lexer.specs.Word.{IsWord}
+use Rattle.pattern_lexer.specs.Values.{IsStringText}
 use Rattle.pattern_types.specs.declared.path.Step.{Step}
 use Rattle.pattern_types.specs.declared.path.Step.TheVariants.{Name, Place, Each}
 use Rattle.pattern_types.specs.declared.path.Path.{Path}

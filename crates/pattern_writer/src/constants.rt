@@ -2,7 +2,7 @@ ghost use Rattle.std.specs.Prelude.{◌≡◌, ℕ, ◌++◌, List, OnOk, codes}
 ghost use Rattle.hex.specs.Hex.{encode_lower};
 ghost use Rattle.base64.specs.Engines.{standard};
 ghost use Rattle.base64.specs.GeneralPurpose.{encode_of};
-ghost use Rattle.pattern_tokens.specs.Values.{quoted};
+ghost use Rattle.pattern_lexer.specs.Values.{quoted};
 ghost use Rattle.pattern_writer.specs.Parts.{Adds, AreJoined};
 ghost use Rattle.pattern_writer.specs.Constant.{IsTimeText, IsConstantText};
 ghost use Rattle.pattern_writer.specs.Check.{AreAmong};

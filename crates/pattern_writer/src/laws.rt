@@ -2,8 +2,8 @@
 
 ghost use Rattle.std.specs.Prelude.{◌≡◌, ◌<◌, ◌≤◌, ℕ, List, length};
 ghost use Rattle.pattern_types.specs.PlainPattern.{PlainPattern, plain_pattern};
-ghost use Rattle.pattern_reader.specs.declared.refusal.PatternRefusal.{PatternRefusal};
-ghost use Rattle.pattern_reader.specs.declared.refusal.PatternRefusal.TheVariants as PatternRefusal;
+ghost use Rattle.pattern_reader.specs.declared.pattern_refusal.PatternRefusal.{PatternRefusal};
+ghost use Rattle.pattern_reader.specs.declared.pattern_refusal.PatternRefusal.TheVariants as PatternRefusal;
 ghost use Rattle.pattern_types.specs.declared.pattern.Pattern.{Pattern};
 ghost use Rattle.pattern_reader.specs.declared.read.TheConstants.{MAX_TEXT};
 ghost use Rattle.pattern_reader.specs.Read.{IsReadAs, IsRefusedAs};

@@ -4,7 +4,7 @@ ghost use Rattle.pattern_writer.specs.Path.{IsBare, IsNameText, IsStepText, IsFi
 
 use crate::words::write_words;
 use flow_values::{NoMemory, Text};
-use pattern_tokens::is_word;
+use pattern_lexer::is_word;
 use pattern_types::{Path, Step};
 
 /// Whether the name needs no quotes. Takes no memory.

@@ -1,6 +1,6 @@
 ghost use Rattle.std.specs.Prelude.{◌≡◌, ◌++◌, OnOk, flat_map};
 ghost use Rattle.std.specs.Char.{encode_utf8};
-ghost use Rattle.pattern_tokens.specs.Values.{escaped, IsStringText};
+ghost use Rattle.pattern_lexer.specs.Values.{escaped, IsStringText};
 ghost use Rattle.pattern_writer.specs.Parts.{Adds};
 ghost use Rattle.pattern_writer.specs.Check.{AreWords};
 

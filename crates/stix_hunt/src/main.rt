@@ -6,7 +6,7 @@ use command_hunt::run_hunt;
 use command_line::program_words;
 use command_reasons::write_no_memory;
 use flow_edges::{ReadSource, WriteSink};
-use flow_files::SystemFiles;
+use flow_edges::SystemFiles;
 use flow_values::NoMemory;
 use std::process::ExitCode;
 

@@ -1,4 +1,4 @@
-use stix_names::Name;
+use flow_values::Name;
 
 /// An identifier: the kind of the object that it names, and the number of its UUID.
 #[derive(Debug, Drop)]

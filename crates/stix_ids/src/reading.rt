@@ -8,7 +8,7 @@ ghost use Rattle.stix_ids.specs.Reading.{IsRefused};
 use crate::parts::Parts;
 use crate::{Id, IdRefusal};
 use std::alloc::Global;
-use stix_names::Name;
+use flow_values::Name;
 
 /// The identifier that the text is: a kind, `--` and a UUID in hyphenated form, with hex digits of
 /// either case. A text that is no identifier's is refused as such also without memory.

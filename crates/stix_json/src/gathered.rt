@@ -7,7 +7,7 @@ ghost use Rattle.stix_json.specs.inner.Judging.{name_of};
 use crate::judged::Judged;
 use flow_values::NoMemory;
 use std::alloc::Global;
-use stix_names::Name;
+use flow_values::Name;
 
 /// A member of an object as it came: its name, and its value judged.
 #[derive(Drop)]

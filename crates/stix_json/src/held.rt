@@ -22,7 +22,7 @@ use flow_values::{Items, NoMemory, Text};
 use json::{Reader, Scratch, Token};
 use std::alloc::Global;
 use std::rc::Rc;
-use stix_names::Name;
+use flow_values::Name;
 
 /// How many levels a text may nest below a list in an object.
 const LEFT: usize = MAX_TEXT_LEVELS - 2;

@@ -24,7 +24,7 @@ use flow_values::Text;
 use json::{Reader, Token};
 use std::alloc::Global;
 use std::rc::Rc;
-use stix_names::Name;
+use flow_values::Name;
 
 /// The next value of the whole text, judged. It may nest `left` levels to be read at all, and `levels` to be good.
 #[cycle(take)]

@@ -1,6 +1,6 @@
 use crate::JsonText;
 use flow_values::Items;
-use stix_names::Name;
+use flow_values::Name;
 
 /// A JSON value without fractions and null.
 #[derive(Drop)]

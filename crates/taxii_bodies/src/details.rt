@@ -14,7 +14,7 @@ use flow_values::{NoMemory, Text};
 use std::alloc::Global;
 use stix_ids::{Id, Parts, write_id};
 use stix_json::{Json, JsonRefusal};
-use stix_names::Name;
+use flow_values::Name;
 use stix_objects::{Break, Precision, object_id, timestamp_at};
 use stix_times::Instant;
 use taxii_rows::{LAST_DATE, StoredRow};

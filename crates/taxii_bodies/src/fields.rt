@@ -9,7 +9,7 @@ ghost use Rattle.taxii_bodies.specs.inner.Members.{members_in, list_member};
 use flow_values::{Items, NoMemory, Text};
 use std::alloc::Global;
 use stix_json::{Field, Json, JsonText, write_json};
-use stix_names::Name;
+use flow_values::Name;
 
 /// The fields of an object, in the order in which they are added.
 #[derive(Drop)]

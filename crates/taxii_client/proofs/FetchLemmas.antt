@@ -5,8 +5,8 @@ use Rattle.std.proofs.Math.Seq.{take-length}
 use Rattle.flow_edges.specs.Flow.{written_with, WritesPrefix, SinkSide, SourceSide}
 use Rattle.stix_json.specs.declared.envelope.Envelope.{Envelope}
 use Rattle.stix_json.specs.Envelopes.{IsEnvelopeOf}
-use Rattle.http_replies.specs.Replies.{IsReply, IsNeeded, Takes, ReadsReply}
-use Rattle.taxii_client.specs.declared.refusal.ReplyRefusal.TheVariants.{NotEnvelope}
+use Rattle.http_messages.specs.Replies.{IsReply, IsNeeded, Takes, ReadsReply}
+use Rattle.taxii_client.specs.declared.reply_refusal.ReplyRefusal.TheVariants.{NotEnvelope}
 use Rattle.taxii_client.specs.declared.target.Target.{Target}
 use Rattle.taxii_client.specs.declared.fetch_end.FetchEnd.{FetchEnd}
 use Rattle.taxii_client.specs.declared.fetch_end.FetchEnd.TheVariants.{Refused, NoMemory}

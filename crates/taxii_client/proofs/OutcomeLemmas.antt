@@ -4,10 +4,10 @@ use Rattle.stix_json.specs.declared.envelope.Envelope.{Envelope}
 use Rattle.stix_json.specs.declared.refusal.JsonRefusal.{JsonRefusal}
 use Rattle.stix_json.specs.declared.refusal.JsonRefusal.TheVariants as Json
 use Rattle.stix_json.specs.Envelopes.{IsEnvelopeOf, HasNoEnvelopeAs, IsNoPage, next_in}
-use Rattle.http_replies.specs.Replies.{Outcome as ReplyOutcome, IsOutcome as IsReplyOutcome}
-use Rattle.http_replies.specs.Replies.Outcome.{Whole, Fails as Refuses, Ends as Cuts}
-use Rattle.taxii_client.specs.declared.refusal.ReplyRefusal.{ReplyRefusal}
-use Rattle.taxii_client.specs.Refusals.{for_head}
+use Rattle.http_messages.specs.Replies.{Outcome as ReplyOutcome, IsOutcome as IsReplyOutcome}
+use Rattle.http_messages.specs.Replies.Outcome.{Whole, Fails as Refuses, Ends as Cuts}
+use Rattle.taxii_client.specs.declared.reply_refusal.ReplyRefusal.{ReplyRefusal}
+use Rattle.taxii_client.specs.ReplyRefusals.{for_head}
 use Rattle.taxii_client.specs.Fetches.{IsPage, IsRefusedAs, Outcome, IsOutcome}
 use Rattle.taxii_client.specs.Fetches.Outcome.{Comes, Fails, Ends}
 

@@ -7,7 +7,7 @@ use Rattle.taxii_client.specs.declared.target.Target.{Target}
 use Rattle.taxii_client.specs.declared.turn.Turn.{Turn}
 use Rattle.taxii_client.specs.declared.fetch_end.FetchEnd.{FetchEnd}
 use Rattle.taxii_client.specs.declared.fetch_end.FetchEnd.TheVariants as Fetch
-use Rattle.taxii_client.specs.Refusals.{for_fetch}
+use Rattle.taxii_client.specs.ReplyRefusals.{for_fetch}
 use Rattle.taxii_client.specs.Fetches.{Fetched}
 use Rattle.taxii_client.specs.Outside.{LinkView, DialView}
 use Rattle.taxii_client.specs.Pulls.{Asks, turn_of, turn_after, Lent, PassThrough, Page, IsPageAt, InTurn, IsPull, PullState, Dials, AsksFor, GivesPage, Answers}

@@ -5,15 +5,15 @@ use Rattle.stix_json.specs.declared.envelope.Envelope.{Envelope}
 use Rattle.stix_json.specs.declared.refusal.JsonRefusal.{JsonRefusal}
 use Rattle.stix_json.specs.declared.refusal.JsonRefusal.TheVariants as Json
 use Rattle.stix_json.specs.Envelopes.{IsEnvelopeOf, HasNoEnvelopeAs}
-use Rattle.http_replies.specs.declared.refusal.HeadRefusal.{HeadRefusal}
-use Rattle.http_replies.specs.Replies.{IsReply, IsRefused, IsCut, IsNeeded, Takes}
-use Rattle.taxii_client.specs.declared.refusal.ReplyRefusal.{ReplyRefusal}
-use Rattle.taxii_client.specs.declared.refusal.ReplyRefusal.TheVariants.{NotEnvelope}
+use Rattle.http_messages.specs.declared.reply_refusal.HeadRefusal.{HeadRefusal}
+use Rattle.http_messages.specs.Replies.{IsReply, IsRefused, IsCut, IsNeeded, Takes}
+use Rattle.taxii_client.specs.declared.reply_refusal.ReplyRefusal.{ReplyRefusal}
+use Rattle.taxii_client.specs.declared.reply_refusal.ReplyRefusal.TheVariants.{NotEnvelope}
 use Rattle.taxii_client.specs.declared.target.Target.{Target}
 use Rattle.taxii_client.specs.declared.fetch_end.FetchEnd.{FetchEnd}
 use Rattle.taxii_client.specs.declared.fetch_end.FetchEnd.TheVariants.{Fault, Cut, Refused, NoMemory}
 use Rattle.taxii_client.specs.Requests.{request_of}
-use Rattle.taxii_client.specs.Refusals.{for_head}
+use Rattle.taxii_client.specs.ReplyRefusals.{for_head}
 use Rattle.taxii_client.specs.Outside.{LinkView, CountsLink}
 
 -- a reply whose body is this page

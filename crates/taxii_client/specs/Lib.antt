@@ -1,6 +1,16 @@
 pub mod Requests
-pub mod Refusals
+pub mod ReplyRefusals
 pub mod Outside
 pub mod Fetches
 pub mod Pulls
 pub mod Telling
+pub mod Absorbing
+pub mod Mirrored
+pub mod StoreRefusals
+pub mod Standing
+pub mod inner
+pub mod Copying
+pub mod Attempts
+pub mod Filling
+pub mod Totals
+pub mod Endings

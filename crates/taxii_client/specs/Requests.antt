@@ -4,7 +4,7 @@
 use Rattle.std.specs.Prelude.{ℕ, List, [], ◌++◌, codes, decimal, Option, Some, None}
 use Rattle.form_urlencoded.specs.Form.{byte_serialize}
 use Rattle.stix_ids.specs.Uuid.{uuid_text}
-use Rattle.http_frames.specs.Lines.{field_line, line_end}
+use Rattle.http_messages.specs.Lines.{field_line, line_end}
 use Rattle.taxii_client.specs.declared.target.Target.{Target}
 
 -- the pair of a query that asks for what follows a page

@@ -1,6 +1,6 @@
 use crate::ReplyRefusal;
 use flow_values::{Fault, NoMemory};
-use http_replies::ReplyEnd;
+use http_messages::ReplyEnd;
 use thiserror::Error;
 
 /// Why a page wasn't fetched over a link.
@@ -42,7 +42,7 @@ impl From<NoMemory> for FetchEnd {
 
 impl From<ReplyEnd> for FetchEnd {
     ghost use Rattle.std.specs.Prelude.{◌≡◌};
-    ghost use Rattle.taxii_client.specs.Refusals.{for_reply};
+    ghost use Rattle.taxii_client.specs.ReplyRefusals.{for_reply};
 
     ghost from_gives = { λ reply end. end ≡ for_reply reply };
 

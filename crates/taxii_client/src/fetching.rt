@@ -2,15 +2,15 @@ ghost use Rattle.std.specs.Prelude.{◌≡◌, ◌⊎◌, option_map, IfOk, IfEr
 ghost use Rattle.stix_json.specs.Envelopes.{IsEnvelopeOf};
 ghost use Rattle.taxii_client.specs.Outside.{link_view};
 ghost use Rattle.taxii_client.specs.Fetches.{Fetched, IsNoEnvelope};
-ghost use Rattle.taxii_client.specs.Refusals.{for_body};
+ghost use Rattle.taxii_client.specs.ReplyRefusals.{for_body};
 ghost use Rattle.taxii_client.specs.declared.fetch_end.FetchEnd.TheVariants as FetchEnd;
-ghost use Rattle.taxii_client.specs.declared.refusal.ReplyRefusal.TheVariants.{NotEnvelope};
+ghost use Rattle.taxii_client.specs.declared.reply_refusal.ReplyRefusal.TheVariants.{NotEnvelope};
 
 use crate::{FetchEnd, ReplyRefusal, Target, request_text};
 use flow_edges::write_whole;
 use flow_links::Link;
-use http_replies::laws::all_are_needed;
-use http_replies::read_reply;
+use http_messages::reply_laws::all_are_needed;
+use http_messages::read_reply;
 use std::alloc::Global;
 use stix_json::{Envelope, JsonRefusal, read_envelope};
 

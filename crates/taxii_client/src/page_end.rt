@@ -22,7 +22,7 @@ pub enum PageEnd {
 
 impl From<FetchEnd> for PageEnd {
     ghost use Rattle.std.specs.Prelude.{◌≡◌};
-    ghost use Rattle.taxii_client.specs.Refusals.{for_fetch};
+    ghost use Rattle.taxii_client.specs.ReplyRefusals.{for_fetch};
 
     ghost from_gives = { λ fetch end. end ≡ for_fetch fetch };
 

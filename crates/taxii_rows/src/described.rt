@@ -12,7 +12,7 @@ use flow_values::{NoMemory, Text};
 use std::alloc::Global;
 use stix_ids::Id;
 use stix_json::{Json, write_json};
-use stix_names::Name;
+use flow_values::Name;
 use stix_objects::object_id;
 
 /// What a store keeps of an object.

@@ -1,13 +1,13 @@
 -- Requests that bytes begin with: bytes that come behind, and one request more at the end.
 use Rattle.std.proofs.Common.{◌≢◌, ℕ, List, [], ◌∷◌, ◌++◌, refl, ap}
-use Rattle.http_frames.specs.declared.frame.Frame.{Frame}
-use Rattle.http_frames.specs.declared.frame.Frame.TheVariants.{More, Request as Given}
-use Rattle.http_frames.specs.declared.request.Request.{Request}
-use Rattle.http_frames.specs.Frames.{IsFirstFrame}
+use Rattle.http_messages.specs.declared.frame.Frame.{Frame}
+use Rattle.http_messages.specs.declared.frame.Frame.TheVariants.{More, Request as Given}
+use Rattle.http_messages.specs.declared.request.Request.{Request}
+use Rattle.http_messages.specs.Frames.{IsFirstFrame}
 use Rattle.taxii_server.specs.declared.connection.TheConstants.{MAX_BODY}
 use Rattle.taxii_server.specs.Connections.{BeginWith}
 
--- the law of `http_frames`: a request and a refusal are the same whatever bytes follow
+-- the law of `http_messages`: a request and a refusal are the same whatever bytes follow
 abbrev pub LaterBytesChangeNothing : Type 0
 LaterBytesChangeNothing = (greatest : ℕ) (bytes more : List ℕ) (frame : Frame) (rest : List ℕ)
     → IsFirstFrame greatest bytes frame rest → frame ≢ More → IsFirstFrame greatest (bytes ++ more) frame (rest ++ more)

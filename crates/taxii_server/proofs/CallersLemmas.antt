@@ -5,9 +5,9 @@ use Rattle.std.proofs.lemmas.Grind.{flat_map-append}
 use Rattle.std.proofs.lemmas.List.{append-nil, map-append}
 use Rattle.std.proofs.lemmas.List.Elements.{All-append}
 use Rattle.flow_links.specs.Doors.{DoorState, Listens, GivesNext, Finishes}
-use Rattle.taxii_requests.specs.declared.config.Config.{Config}
-use Rattle.taxii_state.specs.declared.state.State.{State}
-use Rattle.taxii_histories.specs.Exchanges.{Exchange, IsExchange, Follow, HasServed}
+use Rattle.taxii_exchange.specs.declared.config.Config.{Config}
+use Rattle.taxii_service.specs.declared.state.State.{State}
+use Rattle.taxii_service.specs.Exchanges.{Exchange, IsExchange, Follow, HasServed}
 use Rattle.taxii_server.specs.declared.connection.TheConstants.{MAX_REQUESTS}
 use Rattle.taxii_server.specs.Outside.{LinkView, Outside, GivesMoments, RoseBy}
 use Rattle.taxii_server.specs.Connections.{Connection, Pass, keeper_faults}

@@ -2,10 +2,10 @@
 use Rattle.std.proofs.Common.{◌≡◌, ◌≢◌, ℕ, ◌+◌, List, [], ◌∷◌, ◌++◌, length, length-append, arith, Bool, true, Option, Some, None, inl, inr, Result, Ok, Err, IsErr, MatchResult, refl, sym, ◌∙◌}
 use Rattle.std.proofs.lemmas.List.{append-nil}
 use Rattle.flow_edges.specs.Faults.{Rose}
-use Rattle.taxii_headers.specs.declared.answer.Answer.{Answer}
-use Rattle.taxii_requests.specs.declared.config.Config.{Config}
-use Rattle.taxii_state.specs.declared.state.State.{State}
-use Rattle.taxii_histories.specs.Exchanges.{Exchange}
+use Rattle.taxii_exchange.specs.declared.answer.Answer.{Answer}
+use Rattle.taxii_exchange.specs.declared.config.Config.{Config}
+use Rattle.taxii_service.specs.declared.state.State.{State}
+use Rattle.taxii_service.specs.Exchanges.{Exchange}
 use Rattle.taxii_server.specs.declared.link_end.LinkEnd.{LinkEnd}
 use Rattle.taxii_server.specs.declared.link_end.LinkEnd.TheVariants.{Closed, LinkFault}
 use Rattle.taxii_server.specs.declared.pause.Pause.{Pause}

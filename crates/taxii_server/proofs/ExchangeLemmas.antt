@@ -4,16 +4,16 @@ use Rattle.std.specs.Prelude.{slice_get}
 use Rattle.flow_edges.specs.Faults.{Counted}
 use Rattle.flow_edges.specs.Flow.{written_with, WritesPart}
 use Rattle.flow_links.specs.Moments.{IsNext, GoesOn}
-use Rattle.http_frames.specs.declared.request.Request.{Request}
-use Rattle.http_frames.specs.declared.status.Status.TheVariants.{InternalServerError}
-use Rattle.taxii_headers.specs.declared.answer.Answer.{Answer}
-use Rattle.taxii_headers.specs.Answers.{IsAnswerText, no_memory_answer}
-use Rattle.taxii_requests.specs.declared.config.Config.{Config}
-use Rattle.taxii_state.specs.declared.state.State.{State}
-use Rattle.taxii_requests.proofs.AnswerLemmas.{told_fault}
-use Rattle.taxii_step.specs.Step.{Step, FailsToKeep}
-use Rattle.taxii_histories.specs.Exchanges.{Course, IsExchange}
-use Rattle.taxii_histories.specs.Exchanges.Course.{Stepped, KeeperFailed, OutOfMemory}
+use Rattle.http_messages.specs.declared.request.Request.{Request}
+use Rattle.http_messages.specs.declared.status.Status.TheVariants.{InternalServerError}
+use Rattle.taxii_exchange.specs.declared.answer.Answer.{Answer}
+use Rattle.taxii_exchange.specs.Answers.{IsAnswerText, no_memory_answer}
+use Rattle.taxii_exchange.specs.declared.config.Config.{Config}
+use Rattle.taxii_service.specs.declared.state.State.{State}
+use Rattle.taxii_exchange.proofs.AnswersToRequestsLemmas.{told_fault}
+use Rattle.taxii_service.specs.Step.{Step, FailsToKeep}
+use Rattle.taxii_service.specs.Exchanges.{Course, IsExchange}
+use Rattle.taxii_service.specs.Exchanges.Course.{Stepped, KeeperFailed, OutOfMemory}
 use Rattle.taxii_server.specs.Outside.{Outside, GivesMoments}
 use Rattle.taxii_server.specs.Connections.{Pass, is_out_of_memory}
 use Rattle.taxii_server.specs.inner.Answering.{Answers}

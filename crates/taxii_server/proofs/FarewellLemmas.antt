@@ -1,7 +1,7 @@
 -- What is said before a connection ends.
 use Rattle.std.proofs.Common.{ℕ, List, Option, Some, Result, Ok, Err, true}
-use Rattle.taxii_headers.specs.declared.answer.Answer.{Answer}
-use Rattle.taxii_headers.specs.Answers.{WritesAnswer}
+use Rattle.taxii_exchange.specs.declared.answer.Answer.{Answer}
+use Rattle.taxii_exchange.specs.Answers.{WritesAnswer}
 use Rattle.taxii_server.specs.declared.pause.Pause.{Pause}
 use Rattle.taxii_server.specs.inner.Answering.{IsLeave, TakesLeave}
 

@@ -3,7 +3,7 @@ use Rattle.std.proofs.Common.{◌≡◌, ℕ, zero, suc, ◌+◌, List, [], ◌�
 use Rattle.std.proofs.lemmas.List.{map-append}
 use Rattle.std.specs.Prelude.{slice_get}
 use Rattle.flow_edges.specs.Flow.{SinkSide, SourceSide}
-use Rattle.taxii_histories.specs.Exchanges.{Exchange}
+use Rattle.taxii_service.specs.Exchanges.{Exchange}
 use Rattle.taxii_server.specs.Outside.{Outside, GivesMoments, RoseBy}
 use Rattle.taxii_server.specs.Connections.{Pass, keeper_faults}
 

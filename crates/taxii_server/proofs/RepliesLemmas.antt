@@ -3,8 +3,8 @@ use Rattle.std.proofs.Common.{◌≡◌, ℕ, suc, ◌+◌, ◌-◌, ◌<◌, Li
 use Rattle.std.proofs.lemmas.Bool.Decides.{nat_tests}
 use Rattle.std.proofs.lemmas.List.{append-nil}
 use Rattle.flow_edges.specs.Flow.{written_with, WritesPart}
-use Rattle.taxii_headers.specs.Answers.{IsAnswerText}
-use Rattle.taxii_histories.specs.Exchanges.{Exchange}
+use Rattle.taxii_exchange.specs.Answers.{IsAnswerText}
+use Rattle.taxii_service.specs.Exchanges.{Exchange}
 use Rattle.taxii_server.specs.Connections.{Reply, is_out_of_memory, replies_within, GoOn, End, AreTexts, WritesReplies, CutsReplies}
 
 -- the reply to an exchange before which so many may be given

@@ -3,12 +3,12 @@ use Rattle.std.proofs.Common.{◌≡◌, ◌⊎◌, inl, inr, IfSome, ℕ, ◌+�
 use Rattle.std.proofs.lemmas.Bool.Decides.{nat_tests}
 use Rattle.std.proofs.lemmas.List.{map-append, length-map}
 use Rattle.std.proofs.lemmas.List.Elements.{All-nil, All-push}
-use Rattle.http_frames.specs.declared.frame.Frame.TheVariants.{Request as Given}
-use Rattle.http_frames.specs.declared.request.Request.{Request}
-use Rattle.http_frames.specs.Frames.{IsFirstFrame}
-use Rattle.taxii_requests.specs.declared.config.Config.{Config}
-use Rattle.taxii_state.specs.declared.state.State.{State}
-use Rattle.taxii_histories.specs.Exchanges.{Exchange, IsExchange, Follow, HasServed}
+use Rattle.http_messages.specs.declared.frame.Frame.TheVariants.{Request as Given}
+use Rattle.http_messages.specs.declared.request.Request.{Request}
+use Rattle.http_messages.specs.Frames.{IsFirstFrame}
+use Rattle.taxii_exchange.specs.declared.config.Config.{Config}
+use Rattle.taxii_service.specs.declared.state.State.{State}
+use Rattle.taxii_service.specs.Exchanges.{Exchange, IsExchange, Follow, HasServed}
 use Rattle.taxii_server.specs.declared.connection.TheConstants.{MAX_BODY, MAX_REQUESTS}
 use Rattle.taxii_server.specs.declared.pause.Pause.{Pause}
 use Rattle.taxii_server.specs.Connections.{BeginWith, Reply, is_out_of_memory, replies_within, GoOn, WritesReplies, Pass}

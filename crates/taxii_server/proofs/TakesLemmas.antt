@@ -2,10 +2,10 @@
 use Rattle.std.proofs.Common.{◌≡◌, ◌⊎◌, inl, inr, IfSome, ℕ, ◌-◌, ◌<◌, ◌≤◌, List, [], ◌++◌, length, take, drop, Option, Some, None, Result, Ok, Err, IsErrAnd, refl, sym, ap, ◌∙◌, subst, append_assoc, length-append, arith}
 use Rattle.std.proofs.lemmas.List.{append-nil, take-append-drop, length-take-le}
 use Rattle.flow_edges.specs.Flow.{left_after, IsNextOf}
-use Rattle.http_frames.specs.declared.frame.Frame.TheVariants.{More, Refused as Bad}
-use Rattle.http_frames.specs.declared.refusal.Refusal.{Refusal}
-use Rattle.http_frames.specs.declared.request.Request.{Request}
-use Rattle.http_frames.specs.Frames.{IsFirstFrame}
+use Rattle.http_messages.specs.declared.frame.Frame.TheVariants.{More, Refused as Bad}
+use Rattle.http_messages.specs.declared.request_refusal.Refusal.{Refusal}
+use Rattle.http_messages.specs.declared.request.Request.{Request}
+use Rattle.http_messages.specs.Frames.{IsFirstFrame}
 use Rattle.taxii_server.specs.declared.connection.TheConstants.{MAX_BODY}
 use Rattle.taxii_server.specs.declared.pause.Pause.{Pause}
 use Rattle.taxii_server.specs.declared.pause.Pause.TheVariants.{AtEnd, Refused, NoMemory, Failed}

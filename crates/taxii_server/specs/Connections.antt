@@ -2,16 +2,16 @@
 use Rattle.std.specs.Prelude.{◌≡◌, ◌⊎◌, ⊤, ℕ, ◌+◌, ◌-◌, ◌<◌, List, [], ◌∷◌, ◌++◌, length, map, Bool, true, false, ◌||◌, if◌then◌else◌, nat_eq, Option, Some, None, IfSome}
 use Rattle.flow_edges.specs.Faults.{Rose}
 use Rattle.flow_edges.specs.Flow.{written_with, WritesPart, IsAtEnd}
-use Rattle.http_frames.specs.declared.frame.Frame.TheVariants.{More, Request as Given, Refused}
-use Rattle.http_frames.specs.declared.refusal.Refusal.{Refusal}
-use Rattle.http_frames.specs.declared.request.Request.{Request}
-use Rattle.http_frames.specs.Frames.{IsFirstFrame}
-use Rattle.taxii_headers.specs.declared.answer.Answer.{Answer}
-use Rattle.taxii_headers.specs.Answers.{IsAnswerText, answer_to, no_memory_answer}
-use Rattle.taxii_requests.specs.declared.config.Config.{Config}
-use Rattle.taxii_state.specs.declared.state.State.{State}
-use Rattle.taxii_histories.specs.Exchanges.{Course, Exchange, HasServed}
-use Rattle.taxii_histories.specs.Exchanges.Course.{Stepped, KeeperFailed, OutOfMemory}
+use Rattle.http_messages.specs.declared.frame.Frame.TheVariants.{More, Request as Given, Refused}
+use Rattle.http_messages.specs.declared.request_refusal.Refusal.{Refusal}
+use Rattle.http_messages.specs.declared.request.Request.{Request}
+use Rattle.http_messages.specs.Frames.{IsFirstFrame}
+use Rattle.taxii_exchange.specs.declared.answer.Answer.{Answer}
+use Rattle.taxii_exchange.specs.Answers.{IsAnswerText, answer_to, no_memory_answer}
+use Rattle.taxii_exchange.specs.declared.config.Config.{Config}
+use Rattle.taxii_service.specs.declared.state.State.{State}
+use Rattle.taxii_service.specs.Exchanges.{Course, Exchange, HasServed}
+use Rattle.taxii_service.specs.Exchanges.Course.{Stepped, KeeperFailed, OutOfMemory}
 use Rattle.taxii_server.specs.declared.connection.TheConstants.{MAX_BODY, MAX_REQUESTS}
 use Rattle.taxii_server.specs.declared.link_end.LinkEnd.{LinkEnd}
 use Rattle.taxii_server.specs.declared.link_end.LinkEnd.TheVariants.{Closed, LinkFault}

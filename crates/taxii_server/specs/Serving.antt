@@ -3,9 +3,9 @@ use Rattle.std.specs.Prelude.{◌≡◌, ◌⊎◌, ℕ, List, [], ◌∷◌, �
 use Rattle.std.specs.List.{flat_map}
 use Rattle.flow_edges.specs.Faults.{counted}
 use Rattle.flow_links.specs.Doors.{DoorState, Changes}
-use Rattle.taxii_requests.specs.declared.config.Config.{Config}
-use Rattle.taxii_state.specs.declared.state.State.{State}
-use Rattle.taxii_histories.specs.Exchanges.{Exchange}
+use Rattle.taxii_exchange.specs.declared.config.Config.{Config}
+use Rattle.taxii_service.specs.declared.state.State.{State}
+use Rattle.taxii_service.specs.Exchanges.{Exchange}
 use Rattle.taxii_server.specs.declared.link_end.LinkEnd.{LinkEnd}
 use Rattle.taxii_server.specs.Outside.{LinkView}
 use Rattle.taxii_server.specs.Connections.{Connection}

@@ -6,11 +6,11 @@ ghost use Rattle.taxii_server.specs.inner.Answering.{Answers};
 use crate::Server;
 use flow_links::{Clock, Link};
 use flow_values::{Fault, NoMemory};
-use http_frames::Request;
-use taxii_headers::{write_answer, write_no_memory};
+use http_messages::Request;
+use taxii_exchange::{write_answer, write_no_memory};
 use taxii_rows::Keeper;
-use taxii_step::laws::no_step_tells_a_store_fault;
-use taxii_step::respond;
+use taxii_service::step_laws::no_step_tells_a_store_fault;
+use taxii_service::respond;
 
 /// Answers a request at the clock's next moment, and whether the connection ends then. Where memory ran
 /// out it says so and ends.

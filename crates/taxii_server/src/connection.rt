@@ -1,6 +1,6 @@
 ghost use Rattle.std.specs.Prelude.{◌≡◌, ◌≤◌, List};
 ghost use Rattle.taxii_store.specs.Agreement.{Agrees, without_rows};
-ghost use Rattle.taxii_histories.specs.Exchanges.{Exchange};
+ghost use Rattle.taxii_service.specs.Exchanges.{Exchange};
 ghost use Rattle.taxii_server.specs.Connections.{Connection, Pass, requests_of};
 ghost use Rattle.taxii_server.specs.Outside.{link_view};
 
@@ -11,7 +11,7 @@ use crate::receiver::Receiver;
 use crate::{LinkEnd, Server};
 use flow_links::{Clock, Link};
 use flow_values::{Fault, NoMemory};
-use http_frames::laws::later_bytes_change_nothing;
+use http_messages::request_laws::later_bytes_change_nothing;
 use taxii_rows::Keeper;
 
 /// The most bytes that the body of a request may have.

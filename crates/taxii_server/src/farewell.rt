@@ -5,9 +5,9 @@ ghost use Rattle.taxii_server.specs.inner.Answering.{TakesLeave};
 use crate::pause::Pause;
 use flow_links::Link;
 use flow_values::{Fault, NoMemory};
-use http_frames::Refusal;
+use http_messages::Refusal;
 use std::alloc::Global;
-use taxii_headers::{refusal_answer, write_answer, write_no_memory};
+use taxii_exchange::{refusal_answer, write_answer, write_no_memory};
 
 /// Says why the connection ends, where that is to be said. A read that failed is handed on.
 pub(crate) fn take_leave<L: Link>(alloc: Global, pause: Pause, link: &mut L) -> Result<(), Fault>

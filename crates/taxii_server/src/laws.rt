@@ -1,9 +1,9 @@
 //! What follows from the definitions: the contracts are the laws, and the functions do nothing.
 
 ghost use Rattle.std.specs.Prelude.{List};
-ghost use Rattle.taxii_requests.specs.declared.config.Config.{Config};
-ghost use Rattle.taxii_state.specs.declared.state.State.{State};
-ghost use Rattle.taxii_histories.specs.Exchanges.{HasServed};
+ghost use Rattle.taxii_exchange.specs.declared.config.Config.{Config};
+ghost use Rattle.taxii_service.specs.declared.state.State.{State};
+ghost use Rattle.taxii_service.specs.Exchanges.{HasServed};
 ghost use Rattle.taxii_server.specs.Outside.{LinkView};
 ghost use Rattle.taxii_server.specs.Serving.{Caller, exchanges_of, HaveConnections};
 

@@ -1,5 +1,5 @@
 use flow_values::{Fault, NoMemory};
-use http_frames::Refusal;
+use http_messages::Refusal;
 
 /// Why a link gives no further request.
 #[derive(Debug)]

@@ -6,8 +6,8 @@ use crate::pause::Pause;
 use flow_edges::MAX_READ;
 use flow_links::Link;
 use flow_values::NoMemory;
-use http_frames::laws::few_bytes_want_more;
-use http_frames::{Frame, Request, Session};
+use http_messages::request_laws::few_bytes_want_more;
+use http_messages::{Frame, Request, Session};
 use std::alloc::Global;
 use std::marker::Model;
 

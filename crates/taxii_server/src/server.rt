@@ -1,5 +1,5 @@
-use taxii_requests::Config;
-use taxii_state::State;
+use taxii_exchange::Config;
+use taxii_service::State;
 
 /// A server: what it serves, and what it has.
 #[derive(Drop)]

@@ -14,7 +14,7 @@ use sqlite::Row;
 use sqlite::types::ValueRef;
 use std::alloc::Global;
 use stix_ids::Id;
-use stix_names::Name;
+use flow_values::Name;
 use taxii_rows::{FaultCause, StoredRow};
 
 /// What isn't as a store writes it.

@@ -5,3 +5,7 @@ pub mod Loading
 pub mod Deleting
 pub mod Picks
 pub mod inner
+pub mod Meeting
+pub mod Page
+pub mod History
+pub mod Walk

@@ -5,7 +5,7 @@ ghost use Rattle.pattern_types.specs.Leaves.{leaves};
 
 use flow_values::{Items, NoMemory};
 use match_bindings::{Bind, Log, check_binding, flat, listing};
-use match_windows::windows;
+use match_pruning::windows;
 use pattern_types::{Leaf, Pattern};
 use std::alloc::Global;
 use std::process::Abort;

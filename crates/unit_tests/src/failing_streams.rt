@@ -5,9 +5,9 @@ ghost use Rattle.pattern_reader.specs.Read.{IsReadAs};
 
 use crate::lists::listed;
 use flow_memory::{MemorySink, MemorySource};
-use match_log::{MatchEnd, Matcher, Mode, match_stream};
+use match_run::{MatchEnd, Matcher, Mode, match_stream};
 use pattern_reader::{Pattern, read_pattern};
-use pattern_types::laws::leaves_are_brackets;
+use pattern_types::leaf_laws::leaves_are_brackets;
 use std::alloc::Global;
 use std::test::Fail;
 

@@ -1,6 +1,6 @@
 //! Requests out of bytes, however they are cut.
 
-use http_frames::{Frame, Method, Request, Session};
+use http_messages::{Frame, Method, Request, Session};
 use std::alloc::Global;
 use std::process::Abort;
 

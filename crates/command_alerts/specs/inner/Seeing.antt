@@ -9,10 +9,10 @@ use Rattle.pattern_types.specs.Soundness.{IsSoundPattern}
 use Rattle.match_bindings.specs.declared.log_entry.LogEntry.{LogEntry}
 use Rattle.match_bindings.specs.Log.{IsInOrder}
 use Rattle.match_input.specs.Reading.{BundleOf}
-use Rattle.match_log.specs.Entries.{AreEntriesOf}
-use Rattle.watch_alerts.specs.Alert.{IsAlert}
-use Rattle.watch_alerts.specs.WatchState.{WatchState, StandsFor}
-use Rattle.watch_log.specs.OnItsWay.{IsOnItsWay}
+use Rattle.match_run.specs.Entries.{AreEntriesOf}
+use Rattle.alert_window.specs.Alert.{IsAlert}
+use Rattle.alert_window.specs.WatchState.{WatchState, StandsFor}
+use Rattle.match_run.specs.OnItsWay.{IsOnItsWay}
 use Rattle.command_alerts.specs.Alerts.{TellsRows}
 use Rattle.command_alerts.specs.Tasks.{IsOneLeaf}
 

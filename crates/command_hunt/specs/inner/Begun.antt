@@ -5,18 +5,18 @@ use Rattle.flow_edges.specs.Streams.{Streams}
 use Rattle.serde_json.specs.Data.{Data}
 use Rattle.match_input.specs.declared.mode.Mode.TheVariants.{Lines}
 use Rattle.match_input.specs.Reading.{BundleOf}
-use Rattle.match_log.specs.Matching.{BeginsSo}
-use Rattle.watch_log.specs.Reading.{ReadsOnlyTo}
-use Rattle.watch_log.specs.declared.end.WatchEnd.{WatchEnd}
-use Rattle.watch_log.specs.declared.end.WatchEnd.TheVariants.{Done, Input, ReadFault, WriteFault, Stopped, NoMemory}
-use Rattle.watch_indicators.specs.declared.hunted.Hunted.{Hunted}
-use Rattle.watch_indicators.specs.declared.hunted.Hunt.{Hunt}
-use Rattle.watch_indicators.specs.Indicators.{IsHuntOf}
-use Rattle.watch_hunt.specs.declared.found.Found.{Found}
-use Rattle.watch_hunt.specs.EngineLog.{Row}
-use Rattle.watch_hits.specs.declared.crowded.Crowded.{Crowded}
-use Rattle.watch_hits.specs.Lines.{skipped_text}
-use Rattle.watch_hits.specs.Sights.{IsReport, TellsReport}
+use Rattle.match_run.specs.Matching.{BeginsSo}
+use Rattle.match_run.specs.Reading.{ReadsOnlyTo}
+use Rattle.match_run.specs.declared.watch_end.WatchEnd.{WatchEnd}
+use Rattle.match_run.specs.declared.watch_end.WatchEnd.TheVariants.{Done, Input, ReadFault, WriteFault, Stopped, NoMemory}
+use Rattle.hunt_feed.specs.declared.hunted.Hunted.{Hunted}
+use Rattle.hunt_feed.specs.declared.hunted.Hunt.{Hunt}
+use Rattle.hunt_feed.specs.Indicators.{IsHuntOf}
+use Rattle.hunt_engine.specs.declared.found.Found.{Found}
+use Rattle.hunt_engine.specs.EngineLog.{Row}
+use Rattle.hunt_report.specs.declared.crowded.Crowded.{Crowded}
+use Rattle.hunt_report.specs.Lines.{skipped_text}
+use Rattle.hunt_report.specs.Sights.{IsReport, TellsReport}
 use Rattle.command_hunt.specs.Tasks.{HuntTask}
 
 -- nothing was read

@@ -1,7 +1,7 @@
 -- What private functions answer. What may follow tokens is a stack of what is wanted, the nearest first.
 use Rattle.std.specs.Prelude.{Bool, true, false, List, [], ◌∷◌, Option, Some, None, option_and_then, if◌then◌else◌, ◌≡◌, ◌++◌, ◌↔◌, IsTrue, ℕ, length}
-use Rattle.pattern_tokens.specs.declared.token.{Token.Token, TokenKind.TokenKind, TokenKind.TheVariants.RoundOpen, TokenKind.TheVariants.RoundClose}
-use Rattle.pattern_tokens.specs.declared.token.TokenKind.TheVariants as kind
+use Rattle.pattern_lexer.specs.declared.token.{Token.Token, TokenKind.TokenKind, TokenKind.TheVariants.RoundOpen, TokenKind.TheVariants.RoundClose}
+use Rattle.pattern_lexer.specs.declared.token.TokenKind.TheVariants as kind
 use Rattle.pattern_grammar.specs.{declared.class.TokenClass.TokenClass, TokenClass.is_in, declared.stop.Stop.Stop, TokenClass.IsA}
 use Rattle.pattern_grammar.specs.declared.class.TokenClass.TheVariants.{Only, Root, Name, Index, Equality, Order, Textual, Ordered, Constant, Qualifying, Stepping}
 use Rattle.pattern_grammar.specs.declared.{depth.Counts.Counts, stop.Stop.TheVariants.Memory, stop.Stop.TheVariants.Syntax}

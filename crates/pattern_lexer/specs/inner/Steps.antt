@@ -1,10 +1,10 @@
 -- Steps of the lexer: they serve its private functions alone.
 use Rattle.std.specs.Prelude.{◌≡◌, ◌≢◌, ℕ, ◌<◌, ◌≤◌, ◌⊎◌, ◌==◌, if◌then◌else◌, List, ◌∷◌, ◌++◌, length, drop, slice_range, All, Option, Some, None, IsSome, Result, Ok, Err}
 use Rattle.std.specs.Char.{IsAsciiDigit}
-use Rattle.pattern_tokens.specs.declared.{token.Token.Token, token.TokenKind.TokenKind, refusal.TokenRefusal.TokenRefusal}
-use Rattle.pattern_tokens.specs.declared.token.TokenKind.TheVariants.{SquareOpen, SquareClose, RoundOpen, RoundClose, Dot, Colon, Comma, Star, Equal, Differ, Less, LessEqual, Greater, GreaterEqual, Number, Hex, Binary, Timestamp}
-use Rattle.pattern_tokens.specs.declared.refusal.TokenRefusal.TheVariants.{BadNumber, BadTime, BadBytes}
-use Rattle.pattern_tokens.specs.{Word.IsWordStart, Word.IsHyphenWordPart, Word.HasAt, Values.HasValue, Spans.text_at}
+use Rattle.pattern_lexer.specs.declared.{token.Token.Token, token.TokenKind.TokenKind, refusal.TokenRefusal.TokenRefusal}
+use Rattle.pattern_lexer.specs.declared.token.TokenKind.TheVariants.{SquareOpen, SquareClose, RoundOpen, RoundClose, Dot, Colon, Comma, Star, Equal, Differ, Less, LessEqual, Greater, GreaterEqual, Number, Hex, Binary, Timestamp}
+use Rattle.pattern_lexer.specs.declared.refusal.TokenRefusal.TheVariants.{BadNumber, BadTime, BadBytes}
+use Rattle.pattern_lexer.specs.{Word.IsWordStart, Word.IsHyphenWordPart, Word.HasAt, Values.HasValue, Spans.text_at}
 use Rattle.pattern_lexer.specs.Reading.{IsBlank, IsFirst, IsUsable, AreTokens, IsRefusalAt}
 use Rattle.pattern_lexer.specs.declared.runs.CharacterClass.{CharacterClass}
 use Rattle.pattern_lexer.specs.declared.runs.CharacterClass.TheVariants.{Blank, Digit, NamePart, Unquoted}

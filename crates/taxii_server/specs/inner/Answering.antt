@@ -1,12 +1,12 @@
 -- What one request gets, and what is said where there is none.
 use Rattle.std.specs.Prelude.{◌≡◌, ◌⊎◌, ℕ, List, [], ◌∷◌, Bool, true, ◌||◌, Option, Some, None, Result, MatchResult}
 use Rattle.flow_edges.specs.Flow.{written_with, WritesPart}
-use Rattle.http_frames.specs.declared.request.Request.{Request}
-use Rattle.taxii_headers.specs.declared.answer.Answer.{Answer}
-use Rattle.taxii_headers.specs.Answers.{IsAnswerText, answer_to, no_memory_answer}
-use Rattle.taxii_requests.specs.declared.config.Config.{Config}
-use Rattle.taxii_state.specs.declared.state.State.{State}
-use Rattle.taxii_histories.specs.Exchanges.{Exchange, IsExchange}
+use Rattle.http_messages.specs.declared.request.Request.{Request}
+use Rattle.taxii_exchange.specs.declared.answer.Answer.{Answer}
+use Rattle.taxii_exchange.specs.Answers.{IsAnswerText, answer_to, no_memory_answer}
+use Rattle.taxii_exchange.specs.declared.config.Config.{Config}
+use Rattle.taxii_service.specs.declared.state.State.{State}
+use Rattle.taxii_service.specs.Exchanges.{Exchange, IsExchange}
 use Rattle.taxii_server.specs.declared.pause.Pause.{Pause}
 use Rattle.taxii_server.specs.declared.pause.Pause.TheVariants.{AtEnd, Refused, NoMemory, Failed}
 use Rattle.taxii_server.specs.Outside.{Outside}

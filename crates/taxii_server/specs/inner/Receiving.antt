@@ -2,9 +2,9 @@
 use Rattle.std.specs.Prelude.{◌≡◌, ◌⊎◌, ◌<◌, ◌≤◌, ⊤, ℕ, List, [], ◌++◌, length, Option, Some, IfSome, Result, MatchResult}
 use Rattle.flow_edges.specs.Faults.{Rose}
 use Rattle.flow_edges.specs.Flow.{IsAtEnd}
-use Rattle.http_frames.specs.declared.frame.Frame.TheVariants.{More, Request as Given, Refused as Bad}
-use Rattle.http_frames.specs.declared.request.Request.{Request}
-use Rattle.http_frames.specs.Frames.{IsFirstFrame}
+use Rattle.http_messages.specs.declared.frame.Frame.TheVariants.{More, Request as Given, Refused as Bad}
+use Rattle.http_messages.specs.declared.request.Request.{Request}
+use Rattle.http_messages.specs.Frames.{IsFirstFrame}
 use Rattle.taxii_server.specs.declared.connection.TheConstants.{MAX_BODY}
 use Rattle.taxii_server.specs.declared.pause.Pause.{Pause}
 use Rattle.taxii_server.specs.declared.pause.Pause.TheVariants.{AtEnd, Refused, NoMemory, Failed}

@@ -1,8 +1,8 @@
 -- What one caller gets, and what some callers got.
 use Rattle.std.specs.Prelude.{◌≡◌, ◌≤◌, ◌*◌, ℕ, List, length, Option}
 use Rattle.flow_links.specs.Doors.{DoorState, Finishes}
-use Rattle.taxii_requests.specs.declared.config.Config.{Config}
-use Rattle.taxii_state.specs.declared.state.State.{State}
+use Rattle.taxii_exchange.specs.declared.config.Config.{Config}
+use Rattle.taxii_service.specs.declared.state.State.{State}
 use Rattle.taxii_server.specs.Outside.{LinkView, Outside}
 use Rattle.taxii_server.specs.Connections.{Connection, Pass}
 use Rattle.taxii_server.specs.declared.connection.TheConstants.{MAX_REQUESTS}

@@ -1,5 +1,5 @@
 use Rattle.std.proofs.Common.{rules, ◌≢◌, refl}
-use Rattle.pattern_reader.specs.declared.refusal.PatternRefusal.TheVariants as refused
+use Rattle.pattern_reader.specs.declared.pattern_refusal.PatternRefusal.TheVariants as refused
 use Rattle.command_alerts.proofs.run.answer.Goals as goal
 
 pub returns-in-Err : goal.returns-in-Err

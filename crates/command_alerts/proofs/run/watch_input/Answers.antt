@@ -1,8 +1,8 @@
 use Rattle.std.proofs.Common.{ℕ, [], sym, subst}
 use Rattle.flow_edges.specs.Streams.{streams}
 use Rattle.match_input.specs.Ahead.{ReaderState}
-use Rattle.watch_alerts.specs.WatchState.{StandsFor}
-use Rattle.watch_log.specs.Reading.{HasRead}
+use Rattle.alert_window.specs.WatchState.{StandsFor}
+use Rattle.match_run.specs.Reading.{HasRead}
 use Rattle.command_alerts.specs.Telling.{AnswersAlerts}
 use Rattle.command_alerts.specs.inner.Seeing.{AlerterState}
 use Rattle.command_alerts.proofs.EndLemmas.{end-told}

@@ -2,9 +2,9 @@ use Rattle.std.proofs.Common.{◌≡◌, List, All, inl, inr, refl, sym, subst}
 use Rattle.flow_edges.specs.Flow.{WritesPrefix, written_with}
 use Rattle.flow_edges.specs.Streams.{streams}
 use Rattle.stix_ids.specs.Kind.{IsKind}
-use Rattle.watch_indicators.specs.declared.hunted.Skipped.{Skipped}
-use Rattle.watch_hits.specs.Lines.{skipped_text}
-use Rattle.watch_hits.specs.Hunting.{IsHuntable}
+use Rattle.hunt_feed.specs.declared.hunted.Skipped.{Skipped}
+use Rattle.hunt_report.specs.Lines.{skipped_text}
+use Rattle.hunt_report.specs.Hunting.{IsHuntable}
 use Rattle.command_hunt.specs.Tasks.{task_of}
 use Rattle.command_hunt.proofs.HuntLemmas.{ends-unread}
 use Rattle.command_hunt.proofs.run.hunt_feed.Goals as goal

@@ -1,8 +1,8 @@
 use Rattle.std.proofs.Common.{rules, [], ◌∷◌, All, None, inl, inr, refl, sym, subst, ◌∙◌}
 use Rattle.flow_edges.specs.Streams.{streams}
-use Rattle.watch_log.specs.Reading.{bundle_of}
-use Rattle.watch_hits.specs.Rows.{rows_of}
-use Rattle.watch_hits.specs.Hunting.{IsHuntable}
+use Rattle.match_run.specs.Reading.{bundle_of}
+use Rattle.hunt_report.specs.Rows.{rows_of}
+use Rattle.hunt_report.specs.Hunting.{IsHuntable}
 use Rattle.command_hunt.specs.Tasks.{task_of}
 use Rattle.command_hunt.specs.Telling.{AnswersHunt}
 use Rattle.command_hunt.proofs.HuntLemmas.{ends-skipping, prefix-whole, first-ends, seen-behind, later-ends, report-ends, same-hunted-behind, takes-first}

@@ -1,8 +1,8 @@
 use Rattle.std.proofs.Common.{List, inl, inr, subst}
 use Rattle.flow_edges.specs.Flow.{WritesPrefix}
-use Rattle.watch_log.specs.Reading.{bundle_of}
-use Rattle.watch_indicators.specs.declared.hunted.Skipped.{Skipped}
-use Rattle.watch_hits.specs.Lines.{skipped_text}
+use Rattle.match_run.specs.Reading.{bundle_of}
+use Rattle.hunt_feed.specs.declared.hunted.Skipped.{Skipped}
+use Rattle.hunt_report.specs.Lines.{skipped_text}
 use Rattle.command_hunt.specs.Tasks.{task_of}
 use Rattle.command_hunt.proofs.HuntLemmas.{ends-skipping}
 use Rattle.command_hunt.proofs.run.hunt_from.Goals as goal

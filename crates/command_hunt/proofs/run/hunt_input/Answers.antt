@@ -2,8 +2,8 @@ use Rattle.std.proofs.Common.{Option, Ok, None, [], ◌∷◌, refl, sym, subst}
 use Rattle.flow_edges.specs.Streams.{streams}
 use Rattle.match_input.specs.Ahead.{ReaderState, next_number}
 use Rattle.match_input.specs.declared.batch.Batch.{Batch}
-use Rattle.watch_log.specs.Reading.{HasRead, MayFollow, NextAnswers, bundle_of}
-use Rattle.watch_log.proofs.WatchLemmas.{given}
+use Rattle.match_run.specs.Reading.{HasRead, MayFollow, NextAnswers, bundle_of}
+use Rattle.match_run.proofs.WatchLemmas.{given}
 use Rattle.command_hunt.specs.Tasks.{task_of}
 use Rattle.command_hunt.specs.Telling.{AnswersHunt}
 use Rattle.command_hunt.proofs.HuntLemmas.{reads-none, read-ends}

@@ -1,9 +1,9 @@
 use Rattle.std.proofs.Common.{rules, [], All, Some, inl, inr, refl, sym, ap, subst, ◌∙◌}
 use Rattle.flow_edges.specs.Streams.{streams}
 use Rattle.match_input.specs.Ahead.{ReaderState}
-use Rattle.match_log.proofs.PendingLemmas.{written_with-nil}
-use Rattle.watch_hits.specs.Rows.{rows_of}
-use Rattle.watch_hits.specs.Hunting.{IsHuntable}
+use Rattle.match_run.proofs.PendingLemmas.{written_with-nil}
+use Rattle.hunt_report.specs.Rows.{rows_of}
+use Rattle.hunt_report.specs.Hunting.{IsHuntable}
 use Rattle.command_hunt.specs.Tasks.{task_of}
 use Rattle.command_hunt.proofs.HuntLemmas.{takes-none, prefix-whole, ends-unread, read-nothing, seen-behind, later-ends, report-ends, same-hunted-all}
 use Rattle.command_hunt.proofs.run.hunt_log.Goals as goal

@@ -1,5 +1,5 @@
 use Rattle.std.proofs.Common.{rules, ◌≢◌, refl}
-use Rattle.pattern_reader.specs.declared.refusal.PatternRefusal.TheVariants as refused
+use Rattle.pattern_reader.specs.declared.pattern_refusal.PatternRefusal.TheVariants as refused
 use Rattle.command_match.proofs.matching.match_bindings.Goals as goal
 
 pub returns-in-Err-clause-end : goal.returns-in-Err-clause-end

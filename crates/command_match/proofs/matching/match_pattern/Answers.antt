@@ -1,7 +1,7 @@
 use Rattle.std.proofs.Common.{ℕ, subst}
 use Rattle.pattern_types.specs.declared.pattern.Pattern.{Pattern}
 use Rattle.match_input.specs.declared.mode.Mode.{Mode}
-use Rattle.match_log.specs.Matching.{AnswersMatch}
+use Rattle.match_run.specs.Matching.{AnswersMatch}
 use Rattle.command_match.specs.Tasks.{mode_of}
 use Rattle.flow_edges.specs.Streams.{streams}
 use Rattle.command_reasons.proofs.CountedLemmas.{counted-when}

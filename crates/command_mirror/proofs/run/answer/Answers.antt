@@ -1,8 +1,8 @@
 use Rattle.std.proofs.Common.{Ok, refl, subst, arith}
 use Rattle.taxii_client.specs.Outside.{link_view}
 use Rattle.taxii_client.specs.declared.target.Target.{Target}
-use Rattle.taxii_copy.specs.Filling.{outside}
-use Rattle.taxii_copy.specs.Endings.{Copies, EndsCopy}
+use Rattle.taxii_client.specs.Filling.{outside}
+use Rattle.taxii_client.specs.Endings.{Copies, EndsCopy}
 use Rattle.command_mirror.specs.Words.{copying_of}
 use Rattle.command_mirror.proofs.EndLemmas.{concluded, stop_never_six}
 use Rattle.command_mirror.proofs.CauseLemmas.{counted_when, nine_exactly, told_never_nine}

@@ -1,5 +1,5 @@
 use Rattle.taxii_client.specs.Outside.{link_view}
-use Rattle.taxii_copy.specs.Filling.{outside}
+use Rattle.taxii_client.specs.Filling.{outside}
 use Rattle.command_mirror.specs.Words.{copying_of}
 use Rattle.command_mirror.proofs.EndLemmas.{no_usage}
 use Rattle.command_mirror.proofs.WordLemmas.{tries_least}

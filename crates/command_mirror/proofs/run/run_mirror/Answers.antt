@@ -2,7 +2,7 @@ use Rattle.std.proofs.Common.{◌≡◌, ◌↔◌, ℕ, sym, subst, ◌∙◌}
 use Rattle.command_line.specs.CommandLines.{texts}
 use Rattle.taxii_client.specs.Outside.{link_view}
 use Rattle.command_mirror.specs.Words.{AskForNothing}
-use Rattle.taxii_copy.specs.Filling.{outside}
+use Rattle.taxii_client.specs.Filling.{outside}
 use Rattle.command_mirror.specs.Endings.{AskSo, mirror_status}
 use Rattle.command_mirror.specs.Runs.{CopiesAll, LosesAll, HoldsMirrored}
 use Rattle.command_mirror.proofs.EndLemmas.{usage_exactly, of_copy, copies_all, loses_all, holds_mirrored}

@@ -1,5 +1,5 @@
 use Rattle.std.proofs.Common.{◌≡◌, take}
-use Rattle.watch_log.specs.OnItsWay.{IsOnItsWay}
+use Rattle.match_run.specs.OnItsWay.{IsOnItsWay}
 use Rattle.taxii_client.specs.Telling.{told_of}
 use Rattle.command_pull.proofs.writing.add_page.Given as goal
 

@@ -1,7 +1,7 @@
 use Rattle.std.proofs.Common.{◌↔◌, IsTrue, subst, sym}
-use Rattle.pattern_tokens.specs.declared.token.TokenKind.TheVariants.{Hex, Binary}
-use Rattle.pattern_tokens.specs.Values.{HasValue, IsTimestampText}
-use Rattle.pattern_tokens.specs.Spans.{text_at}
+use Rattle.pattern_lexer.specs.declared.token.TokenKind.TheVariants.{Hex, Binary}
+use Rattle.pattern_lexer.specs.Values.{HasValue, IsTimestampText}
+use Rattle.pattern_lexer.specs.Spans.{text_at}
 use Rattle.pattern_lexer.proofs.TokenValueLemmas.{has_one, at_kind}
 use Rattle.pattern_lexer.proofs.refusals.has_value.Goals as goal
 

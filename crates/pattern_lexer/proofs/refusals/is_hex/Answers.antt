@@ -1,4 +1,4 @@
-use Rattle.pattern_tokens.specs.Values.{IsHexText}
+use Rattle.pattern_lexer.specs.Values.{IsHexText}
 use Rattle.pattern_lexer.proofs.TokenValueLemmas.{has_found}
 use Rattle.pattern_lexer.proofs.refusals.is_hex.Goals as goal
 

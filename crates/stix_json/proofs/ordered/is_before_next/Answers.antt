@@ -1,5 +1,5 @@
 use Rattle.std.proofs.Common.{◌≡◌, true, nat_lt, ◌+◌, ◌<◌, length}
-use Rattle.stix_names.proofs.TestLemmas.{lt_from_test}
+use Rattle.flow_values.proofs.TestLemmas.{lt_from_test}
 use Rattle.stix_json.proofs.FieldsLemmas.{before_next}
 use Rattle.stix_json.proofs.ordered.is_before_next.Goals as goal
 

@@ -1,7 +1,7 @@
 use Rattle.std.proofs.Common.{◌∙◌, ap, option_map, List, ℕ, ◌≡◌, ◌⊎◌, subst, IfOk, IfErr}
 use Rattle.flow_edges.specs.Flow.{written_with}
 use Rattle.stix_json.specs.Envelopes.{IsEnvelopeOf}
-use Rattle.taxii_client.specs.declared.refusal.ReplyRefusal.TheVariants.{NotEnvelope}
+use Rattle.taxii_client.specs.declared.reply_refusal.ReplyRefusal.TheVariants.{NotEnvelope}
 use Rattle.taxii_client.specs.declared.fetch_end.FetchEnd.TheVariants.{Refused, NoMemory}
 use Rattle.taxii_client.specs.Outside.{link_view}
 use Rattle.taxii_client.specs.Fetches.{Fetched, IsNoEnvelope}

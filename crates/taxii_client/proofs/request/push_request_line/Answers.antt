@@ -1,5 +1,5 @@
 use Rattle.std.proofs.Common.{codes, option_map}
-use Rattle.http_frames.specs.Lines.{line_end}
+use Rattle.http_messages.specs.Lines.{line_end}
 use Rattle.taxii_client.specs.Requests.{path_of, query_of}
 use Rattle.taxii_client.proofs.RequestLemmas.{pushed5}
 use Rattle.taxii_client.proofs.request.push_request_line.Goals as goal

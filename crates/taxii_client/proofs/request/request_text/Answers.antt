@@ -1,5 +1,5 @@
 use Rattle.std.proofs.Common.{codes, option_map, List, ℕ, ◌++◌, ◌∙◌, ap, []}
-use Rattle.http_frames.specs.Lines.{field_line, line_end}
+use Rattle.http_messages.specs.Lines.{field_line, line_end}
 use Rattle.taxii_client.specs.Requests.{request_of, request_line, host_of}
 use Rattle.taxii_client.proofs.RequestLemmas.{pushed5}
 use Rattle.taxii_client.proofs.request.request_text.Goals as goal

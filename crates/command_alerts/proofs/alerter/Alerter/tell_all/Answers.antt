@@ -4,11 +4,11 @@ use Rattle.flow_edges.specs.Flow.{WritesPrefix}
 use Rattle.stix_bundles.specs.Objects.{data_in}
 use Rattle.stix_bundles.specs.declared.observation.Observation.{Observation}
 use Rattle.pattern_types.specs.PlainPattern.{plain_pattern}
-use Rattle.match_tests.specs.Truths.{AreTruths}
-use Rattle.match_log.proofs.PendingLemmas.{fails_so}
-use Rattle.match_log.proofs.RowsLemmas.{found_in, truths_of, row_below, drop_here, take_here, all_here}
-use Rattle.watch_log.specs.Reading.{MayFollow}
-use Rattle.watch_log.specs.OnItsWay.{IsOnItsWay}
+use Rattle.match_comparisons.specs.Truths.{AreTruths}
+use Rattle.match_run.proofs.PendingLemmas.{fails_so}
+use Rattle.match_run.proofs.RowsLemmas.{found_in, truths_of, row_below, drop_here, take_here, all_here}
+use Rattle.match_run.specs.Reading.{MayFollow}
+use Rattle.match_run.specs.OnItsWay.{IsOnItsWay}
 use Rattle.command_alerts.specs.Tasks.{IsOneLeaf}
 use Rattle.command_alerts.specs.inner.Seeing.{AlerterState, Sees}
 use Rattle.command_alerts.proofs.SeeingLemmas.{sees-none, sees-more, ready-after, follow-after, one-truth}

@@ -1,6 +1,6 @@
 use Rattle.std.proofs.Common.{◌≡◌, ◌+◌, take, drop}
 use Rattle.stix_bundles.specs.Objects.{data_in}
-use Rattle.watch_log.specs.Reading.{MayFollow}
+use Rattle.match_run.specs.Reading.{MayFollow}
 use Rattle.command_alerts.specs.inner.Seeing.{IsReady, SeesSoFar}
 use Rattle.command_alerts.proofs.alerter.Alerter.tell_all.Given as goal
 

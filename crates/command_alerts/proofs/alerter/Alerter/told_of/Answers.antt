@@ -1,6 +1,6 @@
 use Rattle.std.proofs.Common.{◌≡◌, ◌+◌, Bool, [], ◌∷◌, Vec, ℕ, Global, Result, Err, IfOk, refl, sym, ap, subst, ◌∙◌}
 use Rattle.flow_values.specs.declared.no_memory.NoMemory.{NoMemory}
-use Rattle.watch_alerts.specs.WatchState.{AnswersRow, with_row}
+use Rattle.alert_window.specs.WatchState.{AnswersRow, with_row}
 use Rattle.command_alerts.specs.inner.Seeing.{AlerterState, TakesRows, row_of}
 use Rattle.command_alerts.proofs.SeeingLemmas.{if_ok, no-fall, takes-alert, takes-other}
 use Rattle.command_alerts.proofs.alerter.Alerter.told_of.Goals.{in-Ok-true, in-Ok-false, in-Err-NoMemory}

@@ -1,5 +1,5 @@
 use Rattle.stix_bundles.specs.Objects.{data_in}
-use Rattle.watch_log.specs.Reading.{bundle_of}
+use Rattle.match_run.specs.Reading.{bundle_of}
 use Rattle.command_alerts.specs.inner.Seeing.{BeginsBundle}
 use Rattle.command_alerts.proofs.SeeingLemmas.{all-seen, ends-fault, rows-after, last-after}
 use Rattle.command_alerts.proofs.alerter.AlerterWatcher.see.Goals as goal

@@ -1,7 +1,7 @@
 use Rattle.std.proofs.Common.{inr, ◌≡◌, ◌<◌, ◌+◌, List, ℕ, ◌++◌, length, ap, ◌∙◌, arith}
-use Rattle.http_frames.specs.declared.frame.TheConstants.{MAX_HEAD}
-use Rattle.http_frames.specs.declared.frame.Frame.TheVariants.{More, Refused as Bad}
-use Rattle.http_frames.specs.Frames.{IsFirstFrame}
+use Rattle.http_messages.specs.declared.frame.TheConstants.{MAX_HEAD}
+use Rattle.http_messages.specs.declared.frame.Frame.TheVariants.{More, Refused as Bad}
+use Rattle.http_messages.specs.Frames.{IsFirstFrame}
 use Rattle.taxii_server.specs.declared.connection.TheConstants.{MAX_BODY}
 use Rattle.taxii_server.proofs.TakesLemmas.{fed-falls, receives-pause, receives-refused, taken-more, wanted-more}
 use Rattle.taxii_server.proofs.receiver.Receiver.receive.Goals as goal

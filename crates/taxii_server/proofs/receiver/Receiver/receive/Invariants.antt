@@ -1,5 +1,5 @@
 use Rattle.std.proofs.Common.{◌≡◌, ◌⊎◌, IfSome, ◌-◌, ◌+◌, length}
-use Rattle.http_frames.specs.declared.frame.TheConstants.{MAX_HEAD}
+use Rattle.http_messages.specs.declared.frame.TheConstants.{MAX_HEAD}
 use Rattle.taxii_server.specs.declared.connection.TheConstants.{MAX_BODY}
 use Rattle.taxii_server.specs.inner.Receiving.{WantedMore}
 use Rattle.taxii_server.proofs.TakesLemmas.{HasTaken}

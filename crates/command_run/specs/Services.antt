@@ -1,0 +1,63 @@
+-- What a server is that a command line asks for, and how callers are served by it.
+use Rattle.std.specs.Prelude.{◌≡◌, ◌≤◌, ℕ, List, [], length, map, Option, Some, None, option_map, IfSome}
+use Rattle.flow_links.specs.Doors.{DoorState}
+use Rattle.taxii_rows.specs.StoreState.{StoreState}
+use Rattle.taxii_rows.specs.Keeper.{Kept}
+use Rattle.taxii_rows.specs.SoundRow.{IsSoundState}
+use Rattle.taxii_bodies.specs.declared.collections.CollectionInfo.{CollectionInfo}
+use Rattle.taxii_exchange.specs.declared.config.Config.{Config}
+use Rattle.taxii_exchange.specs.Statuses.{no_statuses}
+use Rattle.taxii_store.specs.Loading.{IsLoaded}
+use Rattle.taxii_service.specs.declared.state.State.{State}
+use Rattle.taxii_service.specs.Starting.{starting_with}
+use Rattle.taxii_service.specs.Visits.{WalksSkipNoRow}
+use Rattle.taxii_server.specs.declared.server.Server.{Server}
+use Rattle.taxii_server.specs.Outside.{LinkView, Outside}
+use Rattle.taxii_server.specs.Connections.{Pass}
+use Rattle.taxii_server.specs.Serving.{Caller, exchanges_of, HaveConnections}
+use Rattle.command_line.specs.CommandLines.{PlainCollection, PlainService}
+
+-- what the server says of a collection that is asked for
+abbrev pub info_of : PlainCollection → CollectionInfo
+info_of asked = record { id = asked.id; title = asked.title; can_read = asked.can_read; can_write = asked.can_write }
+
+-- the server serves what is asked for
+pub record IsConfigOf (service : PlainService) (config : Config) : Type 0 where
+  pub base : config.base ≡ service.base
+  pub collections : config.collections ≡ map info_of service.collections
+
+-- the name under which a store is opened: nothing, where it is in memory
+abbrev pub store_name : Option (List ℕ) → List ℕ
+store_name None = []
+store_name (Some file) = file
+
+-- the server that is asked for, as it begins: with the rows that the keeper has under the name of its store, and no statuses
+pub record Begins (service : PlainService) (kept : Kept) (server : Server) : Type 0 where
+  pub config_is : IsConfigOf service server.config
+  pub loaded : IsLoaded (store_name service.store) kept server.state.library
+  pub statuses : server.state.statuses ≡ no_statuses
+
+-- what stands around a server at one moment: its door, what contracts see of the keeper, what is written on the output, and the clock and
+-- the keeper's count of faults
+pub record Places (L : Type 0) : Type 0 where
+  pub door : Option (DoorState L)
+  pub kept : Kept
+  pub written : Option (List ℕ)
+  pub around : Outside
+
+-- these callers were served: the server that is asked for began with the keeper's rows and no statuses; each caller had its connection, from
+-- what the one before left, and no more were served than asked for; where the keeper told its rows, it tells those of the last state; and no
+-- walk among the requests skips a row
+pub record Serves {L : Type 0} (view : L → LinkView) (service : PlainService) (before after : Places L) (callers : List (Caller L)) : Type 0 where
+  pub config : Config
+  pub config_is : IsConfigOf service config
+  pub store : StoreState
+  pub loaded : IfSome before.kept.told (λ rows. store ≡ rows)
+  pub sound : IsSoundState store
+  pub named : IfSome before.kept.told (λ _. after.kept.name ≡ Some (store_name service.store))
+  pub last : State
+  pub connections : HaveConnections view config (starting_with store) callers last
+  pub kept : after.kept.told ≡ option_map (λ _. last.library) before.kept.told
+  pub few : length callers ≤ service.connections
+  pub pass : Pass (exchanges_of callers) before.around after.around
+  pub walks : WalksSkipNoRow config (exchanges_of callers)

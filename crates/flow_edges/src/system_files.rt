@@ -1,0 +1,71 @@
+ghost use Rattle.std.specs.Prelude.{◌≡◌, None};
+
+use crate::Files;
+use crate::{Source, counted_fault};
+use flow_values::Fault;
+use std::io::Read;
+use std::marker::Model;
+use std::{fs, rt};
+
+/// The files of the system, by their paths. They tell no content, and each error of a call is counted;
+/// contracts see the count.
+#[derive(Drop)]
+pub struct SystemFiles<'r, R: rt::Files> {
+    rt: &'r R,
+    /// The file that is open, if one is.
+    file: Option<R::File>,
+    faults: u64,
+}
+
+impl<'r, R: rt::Files> Model for SystemFiles<'r, R> {
+    ghost use Rattle.std.specs.Prelude.{ℕ};
+
+    ghost Value = { ℕ };
+
+    ghost view = { λ files. files.faults };
+}
+
+impl<'r, R: rt::Files> SystemFiles<'r, R> {
+    /// No file is open yet, and no call has failed.
+    pub fn new(rt: &'r R) -> SystemFiles<'r, R>
+        ensures { result ≡ 0 }
+    {
+        SystemFiles {
+            rt,
+            file: None,
+            faults: 0,
+        }
+    }
+}
+
+impl<'r, R: rt::Files> Source for SystemFiles<'r, R> {
+    ghost left = { λ _. None };
+
+    ghost faults = { λ files. files };
+
+    /// One read of the open file; an error is a `Fault`. Where none is open, there are no bytes.
+    fn read(&mut self, buffer: &mut [u8]) -> Result<usize, Fault> {
+        let Some(file) = self.file.as_mut() else {
+            return Ok(0);
+        };
+        match file.read(buffer) {
+            Ok(count) => Ok(count),
+            Err(_) => Err(counted_fault(&mut self.faults)),
+        }
+    }
+}
+
+impl<'r, R: rt::Files> Files for SystemFiles<'r, R> {
+    ghost contents = { λ _ _. None };
+
+    /// Opens the file at this path to be read, and closes the one that was open; an error is a `Fault`.
+    fn open(&mut self, name: &str) -> Result<(), Fault> {
+        match fs::open(self.rt, name) {
+            Ok(file) => {
+                self.file = Some(file);
+                Ok(())
+            }
+            Err(_) => Err(counted_fault(&mut self.faults)),
+        }
+    }
+}

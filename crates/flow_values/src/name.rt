@@ -1,0 +1,217 @@
+ghost use Rattle.std.specs.Prelude.{◌≡◌, IfOk, IfSome, map, unwrap_or, slice_get, []};
+ghost use Rattle.flow_values.specs.inner.GivenNames.{given_names};
+
+use crate::{NoMemory, Text};
+use std::alloc::Global;
+use std::marker::Model;
+
+/// The name of a field or of a type, which contracts see as the list of its bytes. One that the standards give lies in a table and
+/// takes no memory: nearly all names that come are such.
+#[derive(Debug, Drop)]
+pub struct Name {
+    form: NameForm,
+}
+
+#[derive(Debug, Drop)]
+enum NameForm {
+    /// The one at this place of those that are given.
+    Given(u8),
+    Own(Box<Text>),
+}
+
+impl Model for Name {
+    ghost use Rattle.std.specs.Prelude.{List, ℕ};
+    ghost use Rattle.flow_values.specs.inner.GivenNames.{name_of};
+
+    ghost Value = { List ℕ };
+
+    ghost view = { λ name. name_of name.form };
+}
+
+impl Name {
+    /// The name that is this text.
+    pub fn from_text(alloc: Global, text: &str) -> Result<Name, NoMemory>
+        ensures { IfOk result (λ name. name ≡ text.now) }
+    {
+        let form = match place_of(text) {
+            Some(place) => NameForm::Given(place),
+            None => NameForm::Own(Box::new(alloc, Text::from_text(alloc, text)?)?),
+        };
+        Ok(Name { form })
+    }
+
+    /// The name, lent.
+    pub fn as_str(&self) -> &str
+        ensures { result.now ≡ self.now }
+    {
+        match &self.form {
+            NameForm::Given(place) => given_at(*place),
+            NameForm::Own(text) => text.as_str(),
+        }
+    }
+}
+
+/// The given name at the place.
+fn given_at(place: u8) -> &'static str
+    ensures { result.now ≡ unwrap_or (slice_get given_names place) [] }
+{
+    match given().get(usize::from(place)) {
+        Some(name) => *name,
+        None => "",
+    }
+}
+
+/// Where the text stands among the names that are given, if it does. Those of its length follow one another.
+fn place_of(text: &str) -> Option<u8>
+    ensures { IfSome result (λ place. unwrap_or (slice_get given_names place) [] ≡ text.now) }
+{
+    let first = *FIRSTS.get(text.len())?;
+    let end = *FIRSTS.get(text.len() + 1)?;
+    for place in first..end {
+        if given_at(place) == text {
+            return Some(place);
+        }
+    }
+    None
+}
+
+/// All names that are given.
+fn given() -> &'static [&'static str]
+    ensures { map (λ name. name.now) result.now ≡ given_names }
+{
+    GIVEN
+}
+
+/// The names that STIX 2.1 gives most objects and TAXII 2.1 its resources, and those of the types of objects (STIX 2.1, sections 3.2
+/// and 4 to 7), by their length; of one length fields stand first, and those that come most.
+const GIVEN: &[&str] = &[
+    "id",
+    "pid",
+    "url",
+    "key",
+    "cwd",
+    "type",
+    "name",
+    "lang",
+    "path",
+    "size",
+    "body",
+    "more",
+    "next",
+    "date",
+    "file",
+    "note",
+    "tool",
+    "value",
+    "roles",
+    "title",
+    "mutex",
+    "labels",
+    "hashes",
+    "number",
+    "region",
+    "report",
+    "bundle",
+    "objects",
+    "created",
+    "revoked",
+    "pattern",
+    "to_refs",
+    "src_ref",
+    "dst_ref",
+    "user_id",
+    "content",
+    "version",
+    "subject",
+    "malware",
+    "opinion",
+    "process",
+    "modified",
+    "defanged",
+    "src_port",
+    "dst_port",
+    "from_ref",
+    "path_enc",
+    "identity",
+    "campaign",
+    "grouping",
+    "incident",
+    "location",
+    "sighting",
+    "artifact",
+    "mac-addr",
+    "software",
+    "last_seen",
+    "protocols",
+    "mime_type",
+    "is_active",
+    "is_hidden",
+    "image_ref",
+    "indicator",
+    "ipv4-addr",
+    "directory",
+    "ipv6-addr",
+    "confidence",
+    "extensions",
+    "first_seen",
+    "valid_from",
+    "source_ref",
+    "target_ref",
+    "parent_ref",
+    "date_added",
+    "media_type",
+    "phase_name",
+    "email-addr",
+    "object_refs",
+    "description",
+    "valid_until",
+    "source_name",
+    "external_id",
+    "domain-name",
+    "spec_version",
+    "pattern_type",
+    "command_line",
+    "created_time",
+    "display_name",
+    "account_type",
+    "is_multipart",
+    "relationship",
+    "threat-actor",
+    "user-account",
+    "account_login",
+    "last_observed",
+    "observed-data",
+    "intrusion-set",
+    "vulnerability",
+    "email-message",
+    "created_by_ref",
+    "first_observed",
+    "attack-pattern",
+    "infrastructure",
+    "number_observed",
+    "kill_chain_name",
+    "indicator_types",
+    "network-traffic",
+    "resolves_to_refs",
+    "course-of-action",
+    "malware-analysis",
+    "x509-certificate",
+    "language-content",
+    "kill_chain_phases",
+    "relationship_type",
+    "granular_markings",
+    "autonomous-system",
+    "marking-definition",
+    "external_references",
+    "object_marking_refs",
+    "parent_directory_ref",
+    "windows-registry-key",
+    "extension-definition",
+    "opened_connection_refs",
+];
+
+/// Where the names of each length begin.
+const FIRSTS: &[u8] = &[
+    0, 0, 0, 1, 5, 17, 21, 27, 41, 56, 66, 77, 83, 93, 99, 103, 107, 112, 116, 117, 119, 122, 122,
+    123,
+];

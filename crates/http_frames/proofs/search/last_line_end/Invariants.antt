@@ -1,5 +1,0 @@
-use Rattle.http_frames.specs.Heads.{HasNoEnd}
-use Rattle.http_frames.proofs.search.last_line_end.Given as goal
-
-abbrev pub invariant-loop-place : goal.invariant-loop-place
-invariant-loop-place l = HasNoEnd l.bytes l.from l.place

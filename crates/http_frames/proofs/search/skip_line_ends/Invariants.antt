@@ -1,6 +1,0 @@
-use Rattle.std.proofs.Common.{◌≡◌, ℕ, ◌<◌, ◌≤◌, true, get_or}
-use Rattle.http_frames.specs.Heads.{is_line_byte}
-use Rattle.http_frames.proofs.search.skip_line_ends.Given as goal
-
-abbrev pub invariant-loop-place : goal.invariant-loop-place
-invariant-loop-place l = (k : ℕ) → l.from ≤ k → k < l.place → is_line_byte (get_or l.bytes k 0) ≡ true

@@ -1,6 +1,0 @@
-pub mod Fields
-pub mod Frames
-pub mod Heads
-pub mod Lines
-pub mod Statuses
-pub mod inner

@@ -1,3 +1,0 @@
-pub mod Parsing
-pub mod Searching
-pub mod Sessions

@@ -1,0 +1,13 @@
+pub mod FrameLemmas
+pub mod RequestGrammarLemmas
+pub mod RequestHeadLemmas
+pub mod RequestJudgeLemmas
+pub mod LengthLemmas
+pub mod MethodLemmas
+pub mod SearchLemmas
+pub mod ValueLemmas
+mod ReplyGrammarLemmas
+mod ReplyHeadLemmas
+mod OutcomeLemmas
+mod ReadLemmas
+mod ReplyJudgeLemmas

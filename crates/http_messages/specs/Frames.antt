@@ -1,0 +1,115 @@
+-- The bytes of a connection as requests (RFC 9112): its first frame is that more is wanted, a request, or a refusal. It is a
+-- statement on all bytes that came; how they were cut has no part in it.
+use Rattle.std.specs.Prelude.{◌≡◌, ℕ, ◌+◌, ◌<◌, ◌≤◌, ◌⊎◌, ◌||◌, if◌then◌else◌, nat_lt, List, [], length, drop, slice_range, codes, Option, Some, None}
+use Rattle.httparse.specs.Grammar.{RequestHead, ReadsRequest}
+use Rattle.http_messages.specs.declared.frame.TheConstants.{MAX_HEAD}
+use Rattle.http_messages.specs.declared.frame.Frame.{Frame}
+use Rattle.http_messages.specs.declared.frame.Frame.TheVariants.{More, Request as Given, Refused}
+use Rattle.http_messages.specs.declared.request_refusal.Refusal.{Refusal}
+use Rattle.http_messages.specs.declared.request_refusal.Refusal.TheVariants.{BadRequest, LengthRequired, BodyTooLarge, HeadTooLarge, TransferCoding}
+use Rattle.http_messages.specs.declared.request.Request.{Request}
+use Rattle.http_messages.specs.RequestHeads.{IsHeadAt, HasNoHeadIn}
+use Rattle.http_messages.specs.Fields.{HeadParts, parts_of, values, method_of, joined, first_of, closes, body_length, has_bad_host, has_bad_text, has_coding, has_bad_length, lacks_length}
+
+-- why a head that is read is refused, where it is: the first of the conditions that holds
+abbrev pub refusal_of : ℕ → HeadParts → Option Refusal
+refusal_of greatest h =
+    if has_bad_host h || has_bad_text h then Some BadRequest
+    else if has_coding h then Some TransferCoding
+    else if has_bad_length h then Some BadRequest
+    else if lacks_length h then Some LengthRequired
+    else if nat_lt greatest (body_length h) then Some BodyTooLarge
+    else None
+
+-- the request of a head and a body
+abbrev pub request_of : HeadParts → List ℕ → Request
+request_of h body = record {
+  method = method_of h.method;
+  target = h.target;
+  accept = joined (values (codes "accept") h);
+  content_type = first_of (values (codes "content-type") h);
+  body = body;
+  close = closes h;
+}
+
+-- the head that stands there, with what was dropped before it no longer than a head may be
+pub record HoldsHead (bytes : List ℕ) (start end : ℕ) : Type 0 where
+  pub at : IsHeadAt bytes start end
+  pub fits : end ≤ MAX_HEAD
+
+-- the bytes of a head are one by the grammar, with these parts
+pub record IsReadAs (head : List ℕ) (parts : HeadParts) : Type 0 where
+  pub tree : RequestHead
+  pub reads : ReadsRequest head tree []
+  pub parts_are : parts ≡ parts_of tree
+
+-- the bytes of a head are none by the grammar
+abbrev pub IsUnreadable : List ℕ → Type 0
+IsUnreadable head = (tree : RequestHead) → ¬ (ReadsRequest head tree [])
+
+-- the bytes begin with a head that isn't refused
+pub record Accepts (greatest : ℕ) (bytes : List ℕ) (start end : ℕ) (parts : HeadParts) : Type 0 where
+  pub head : HoldsHead bytes start end
+  pub read : IsReadAs (slice_range bytes start end) parts
+  pub fine : refusal_of greatest parts ≡ None
+
+-- no head has ended, and there is room for one yet
+pub record WantsHead (bytes : List ℕ) : Type 0 where
+  pub room : length bytes < MAX_HEAD
+  pub none : HasNoHeadIn (length bytes) bytes
+
+-- the head is fine, and its body isn't whole
+pub record WantsBody (greatest : ℕ) (bytes : List ℕ) : Type 0 where
+  pub start : ℕ
+  pub end : ℕ
+  pub parts : HeadParts
+  pub accepts : Accepts greatest bytes start end parts
+  pub short : length bytes < end + body_length parts
+
+-- the head is fine, its body is whole, and the rest follows it
+pub record GivesRequest (greatest : ℕ) (bytes : List ℕ) (request : Request) (rest : List ℕ) : Type 0 where
+  pub start : ℕ
+  pub end : ℕ
+  pub parts : HeadParts
+  pub accepts : Accepts greatest bytes start end parts
+  pub whole : end + body_length parts ≤ length bytes
+  pub request_is : request ≡ request_of parts (slice_range bytes end (end + body_length parts))
+  pub rest_is : rest ≡ drop (end + body_length parts) bytes
+
+-- so many bytes came as a head may have, and among them none has ended
+pub record HasLongHead (bytes : List ℕ) : Type 0 where
+  pub full : MAX_HEAD ≤ length bytes
+  pub none : HasNoHeadIn MAX_HEAD bytes
+
+-- the head is none by the grammar
+pub record HasBadHead (bytes : List ℕ) : Type 0 where
+  pub start : ℕ
+  pub end : ℕ
+  pub head : HoldsHead bytes start end
+  pub bad : IsUnreadable (slice_range bytes start end)
+
+-- the head is one by the grammar, and is refused for what it says
+pub record HasRefusedHead (greatest : ℕ) (bytes : List ℕ) (refusal : Refusal) : Type 0 where
+  pub start : ℕ
+  pub end : ℕ
+  pub parts : HeadParts
+  pub head : HoldsHead bytes start end
+  pub read : IsReadAs (slice_range bytes start end) parts
+  pub refused : refusal_of greatest parts ≡ Some refusal
+
+-- the bytes are refused so
+abbrev pub IsRefused : ℕ → List ℕ → Refusal → Type 0
+IsRefused greatest bytes refusal =
+    (HasLongHead bytes × (refusal ≡ HeadTooLarge))
+    ⊎ ((HasBadHead bytes × (refusal ≡ BadRequest)) ⊎ HasRefusedHead greatest bytes refusal)
+
+-- the first frame of the bytes, and what is left of them after it
+abbrev pub IsFirstFrame : ℕ → List ℕ → Frame → List ℕ → Type 0
+IsFirstFrame greatest bytes More rest = (WantsHead bytes ⊎ WantsBody greatest bytes) × (rest ≡ bytes)
+IsFirstFrame greatest bytes (Given request) rest = GivesRequest greatest bytes request rest
+IsFirstFrame greatest bytes (Refused refusal) rest = IsRefused greatest bytes refusal × (rest ≡ bytes)
+
+-- what contracts see of a session: the greatest body that it takes, and the bytes that were fed and not yet given
+pub record SessionState : Type 0 where
+  pub greatest_body : ℕ
+  pub fed : List ℕ

@@ -1,0 +1,96 @@
+-- What the bytes of a link begin with, to which one request was made: a reply, a response that is refused, or less than it takes to
+-- decide. It is a statement on all bytes; how they were cut into reads has no part in it.
+use Rattle.std.specs.Prelude.{◌≡◌, ◌⊎◌, ℕ, ◌<◌, ◌≤◌, List, ◌++◌, length, Option, Some, None, option_map, Result, Ok, Err}
+use Rattle.flow_edges.specs.Flow.{IsAtEnd}
+use Rattle.http_messages.specs.declared.frame.TheConstants.{MAX_HEAD}
+use Rattle.http_messages.specs.declared.reply_refusal.HeadRefusal.{HeadRefusal}
+use Rattle.http_messages.specs.declared.reply_refusal.HeadRefusal.TheVariants.{BadHead}
+use Rattle.http_messages.specs.declared.reply_end.ReplyEnd.{ReplyEnd}
+use Rattle.http_messages.specs.declared.reply_end.ReplyEnd.TheVariants.{Fault, Cut, Refused, NoMemory}
+use Rattle.http_messages.specs.ReplyHeads.{IsHead, HoldNoHead, HeadParts, IsReadAs, IsUnreadable, body_length, refusal_of}
+
+-- a head that says how many bytes follow it, and isn't refused
+pub record Announces (head : List ℕ) (count : ℕ) : Type 0 where
+  pub is_head : IsHead head
+  pub fits : length head ≤ MAX_HEAD
+  pub parts : HeadParts
+  pub read : IsReadAs head parts
+  pub fine : refusal_of parts ≡ None
+  pub count_is : count ≡ body_length parts
+
+-- a reply: a head, and the body that it announces
+pub record IsReply (reply body : List ℕ) : Type 0 where
+  pub head : List ℕ
+  pub announces : Announces head (length body)
+  pub bytes : reply ≡ head ++ body
+
+-- so many bytes as a head may have, and among them none has ended
+pub record IsLong (bytes : List ℕ) : Type 0 where
+  pub full : length bytes ≡ MAX_HEAD
+  pub none : HoldNoHead bytes
+
+-- why the bytes of a head are refused: they are none by the grammar, or for what they say
+abbrev pub IsRefusedFor : List ℕ → HeadRefusal → Type 0
+IsRefusedFor head refusal = (IsUnreadable head × (refusal ≡ BadHead)) ⊎ ((parts : HeadParts) × IsReadAs head parts × (refusal_of parts ≡ Some refusal))
+
+-- a head that is refused
+pub record IsRefusedHead (head : List ℕ) (refusal : HeadRefusal) : Type 0 where
+  pub is_head : IsHead head
+  pub fits : length head ≤ MAX_HEAD
+  pub refused : IsRefusedFor head refusal
+
+-- bytes that are refused: a head, or more bytes than one may have
+abbrev pub IsRefused : List ℕ → HeadRefusal → Type 0
+IsRefused bytes refusal = (IsLong bytes × (refusal ≡ BadHead)) ⊎ IsRefusedHead bytes refusal
+
+-- no head has ended, and there is room for one yet
+pub record LacksHead (bytes : List ℕ) : Type 0 where
+  pub room : length bytes < MAX_HEAD
+  pub none : HoldNoHead bytes
+
+-- a head is there, and less than the body that it announces
+pub record LacksBody (bytes : List ℕ) : Type 0 where
+  pub head : List ℕ
+  pub count : ℕ
+  pub announces : Announces head count
+  pub some : List ℕ
+  pub bytes_are : bytes ≡ head ++ some
+  pub short : length some < count
+
+-- the bytes end before they are a reply or refused
+abbrev pub IsCut : List ℕ → Type 0
+IsCut bytes = LacksHead bytes ⊎ LacksBody bytes
+
+-- all of these bytes were needed to decide: each shorter beginning of them is cut
+abbrev pub IsNeeded : List ℕ → Type 0
+IsNeeded bytes = (front back : List ℕ) → bytes ≡ front ++ back → 0 < length back → IsCut front
+
+-- these bytes were taken from those that were left, as far as the link tells
+abbrev pub Takes : List ℕ → Option (List ℕ) → Option (List ℕ) → Type 0
+Takes taken left now = left ≡ option_map (λ rest. taken ++ rest) now
+
+-- what was taken, by the answer; where it is that the bytes are cut, none is left
+abbrev pub IsTakenFor : List ℕ → Option (List ℕ) → Result (List ℕ) ReplyEnd → Type 0
+IsTakenFor taken now (Ok body) = IsReply taken body
+IsTakenFor taken now (Err Fault) = IsCut taken
+IsTakenFor taken now (Err Cut) = IsCut taken × IsAtEnd now
+IsTakenFor taken now (Err (Refused refusal)) = IsRefused taken refusal
+IsTakenFor taken now (Err NoMemory) = IsNeeded taken
+
+-- the answer to a read of what was left, of which this is left now
+pub record ReadsReply (left now : Option (List ℕ)) (answer : Result (List ℕ) ReplyEnd) : Type 0 where
+  pub taken : List ℕ
+  pub takes : Takes taken left now
+  pub answers : IsTakenFor taken now answer
+
+-- what bytes are, of which one thing holds at most
+pub data Outcome : Type 0 where
+  Whole : List ℕ → Outcome
+  Fails : HeadRefusal → Outcome
+  Ends : Outcome
+
+-- the bytes begin with a reply that has this body, or with bytes that are refused so, or they are cut
+abbrev pub IsOutcome : List ℕ → Outcome → Type 0
+IsOutcome bytes (Whole body) = (reply rest : List ℕ) × (bytes ≡ reply ++ rest) × IsReply reply body
+IsOutcome bytes (Fails refusal) = (front rest : List ℕ) × (bytes ≡ front ++ rest) × IsRefused front refusal
+IsOutcome bytes Ends = IsCut bytes

@@ -1,0 +1,52 @@
+-- What the parts of a read give. No public contract cites these.
+use Rattle.std.specs.Prelude.{◌≡◌, ◌≤◌, ◌<◌, ℕ, List, length, take, Option, Some, None, Result, Ok, Err}
+use Rattle.flow_edges.specs.Flow.{IsAtEnd}
+use Rattle.http_messages.specs.declared.frame.TheConstants.{MAX_HEAD}
+use Rattle.http_messages.specs.declared.reply_refusal.HeadRefusal.{HeadRefusal}
+use Rattle.http_messages.specs.declared.reply_refusal.HeadRefusal.TheVariants.{BadHead}
+use Rattle.http_messages.specs.declared.reply_end.ReplyEnd.{ReplyEnd}
+use Rattle.http_messages.specs.declared.reply_end.ReplyEnd.TheVariants.{Fault, Cut, Refused, NoMemory}
+use Rattle.http_messages.specs.declared.reply_judging.Judged.{Judged}
+use Rattle.http_messages.specs.ReplyHeads.{IsHead, HeadParts, body_length, refusal_of}
+use Rattle.http_messages.specs.Replies.{Announces, IsRefusedHead, IsLong, LacksHead, Takes}
+
+-- what was taken of a head, by the answer
+abbrev pub IsHeadTaken : List ℕ → List ℕ → Option (List ℕ) → Result ℕ ReplyEnd → Type 0
+IsHeadTaken buffer taken now (Ok end) = IsHead taken × (length taken ≤ MAX_HEAD) × (taken ≡ take end buffer) × (end ≡ length taken)
+IsHeadTaken buffer taken now (Err Fault) = LacksHead taken
+IsHeadTaken buffer taken now (Err Cut) = LacksHead taken × IsAtEnd now
+IsHeadTaken buffer taken now (Err (Refused refusal)) = IsLong taken × (refusal ≡ BadHead)
+IsHeadTaken buffer taken now (Err NoMemory) = ⊥
+
+-- a head was read into the front of the buffer
+pub record ReadsHead (buffer : List ℕ) (left now : Option (List ℕ)) (answer : Result ℕ ReplyEnd) : Type 0 where
+  pub taken : List ℕ
+  pub takes : Takes taken left now
+  pub answers : IsHeadTaken buffer taken now answer
+
+-- what was taken of a body of so many bytes, by the answer
+abbrev pub IsBodyTaken : ℕ → List ℕ → Option (List ℕ) → Result (List ℕ) ReplyEnd → Type 0
+IsBodyTaken count taken now (Ok body) = (taken ≡ body) × (length body ≡ count)
+IsBodyTaken count taken now (Err Fault) = length taken < count
+IsBodyTaken count taken now (Err Cut) = (length taken < count) × IsAtEnd now
+IsBodyTaken count taken now (Err (Refused refusal)) = ⊥
+IsBodyTaken count taken now (Err NoMemory) = length taken ≤ count
+
+-- a body was read
+pub record ReadsBody (count : ℕ) (left now : Option (List ℕ)) (answer : Result (List ℕ) ReplyEnd) : Type 0 where
+  pub taken : List ℕ
+  pub takes : Takes taken left now
+  pub answers : IsBodyTaken count taken now answer
+
+-- what a head is found to be by its parts
+abbrev pub judged_by : Option HeadRefusal → ℕ → Judged
+judged_by (Some refusal) count = Judged.Refused refusal
+judged_by None count = Judged.Announces count
+
+abbrev pub refusal_or_length : HeadParts → Judged
+refusal_or_length h = judged_by (refusal_of h) (body_length h)
+
+-- what was judged of a head
+abbrev pub JudgesHead : List ℕ → Judged → Type 0
+JudgesHead head (Judged.Announces count) = Announces head count
+JudgesHead head (Judged.Refused refusal) = IsRefusedHead head refusal

@@ -1,0 +1,45 @@
+ghost use Rattle.std.specs.Prelude.{◌≡◌, ℕ, ◌≤◌, length, IfOk};
+ghost use Rattle.http_messages.specs.declared.request_grammar.TheConstants.{MAX_FIELDS};
+ghost use Rattle.http_messages.specs.inner.Searching.{IsSearched, IsFound, HasNoHead};
+
+use crate::Refusal;
+use crate::frame::MAX_HEAD;
+use crate::request_judging::{Found, judge};
+use crate::search::HeadSearch;
+use flow_values::NoMemory;
+use httparse::spans::HeaderSpan;
+use std::alloc::Global;
+
+/// Finds what the bytes begin with.
+pub(crate) fn find_frame(
+    alloc: Global,
+    greatest_body: u64,
+    bytes: &[u8],
+    search: &mut HeadSearch,
+    spans: &mut [HeaderSpan],
+) -> Result<Found, NoMemory>
+    requires searched { IsSearched bytes.now search.old }
+    requires room { MAX_FIELDS ≤ length spans.now }
+    ensures found { IfOk result (IsFound greatest_body bytes.now) }
+    ensures searched { IsSearched bytes.now search.new }
+{
+    let Some(end) = search.find(bytes) else {
+        return Ok(without_head(bytes));
+    };
+    if end > MAX_HEAD {
+        return Ok(Found::Refused(Refusal::HeadTooLarge));
+    }
+    judge(alloc, greatest_body, bytes, search.start, end, spans)
+}
+
+/// What bytes begin with that hold no head.
+fn without_head(bytes: &[u8]) -> Found
+    requires { HasNoHead bytes.now }
+    ensures { (greatest : ℕ) → IsFound greatest bytes.now result }
+{
+    if bytes.len() < MAX_HEAD {
+        Found::More(0)
+    } else {
+        Found::Refused(Refusal::HeadTooLarge)
+    }
+}

@@ -1,0 +1,34 @@
+ghost use Rattle.std.specs.Prelude.{◌≡◌, Err, IfOk, length};
+ghost use Rattle.flow_edges.specs.Faults.{Counted};
+ghost use Rattle.flow_edges.specs.declared.source.TheConstants.{MAX_READ};
+ghost use Rattle.http_messages.specs.Replies.{ReadsReply};
+
+use crate::ReplyEnd;
+use crate::reply_body::read_body;
+use crate::reply_judging::{Judged, judge};
+use crate::searching::read_head;
+use flow_edges::{MAX_READ, Source};
+use flow_values::{Items, NoMemory};
+use std::alloc::Global;
+
+/// The body of the reply that a link's bytes begin with. No byte is read past what decides: each read
+/// asks for no more than must come yet. The memory that a body takes grows with what has come.
+pub fn read_reply<S: Source>(alloc: Global, link: &mut S) -> Result<Items<u8>, ReplyEnd>
+    ensures reads { ReadsReply (S.left link.old) (S.left link.new) result }
+    ensures causes { Counted (result ≡ Err ReplyEnd.Fault) (S.faults link.old) (S.faults link.new) }
+    ensures unwritten { S.other link.new ≡ S.other link.old }
+{
+    let mut buffer = room(alloc)?;
+    let end = read_head(link, &mut buffer)?;
+    match judge(alloc, &buffer[..end])? {
+        Judged::Announces(count) => read_body(alloc, link, count, &mut buffer),
+        Judged::Refused(refusal) => Err(ReplyEnd::Refused(refusal)),
+    }
+}
+
+/// Room for a read, and for a head.
+fn room(alloc: Global) -> Result<Vec<u8>, NoMemory>
+    ensures { IfOk result (λ buffer. length buffer.items ≡ MAX_READ) }
+{
+    Ok(vec![in alloc; 0u8; MAX_READ]?)
+}

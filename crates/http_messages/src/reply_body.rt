@@ -1,0 +1,41 @@
+ghost use Rattle.std.specs.Prelude.{◌≡◌, ◌++◌, Err, length, OnOk};
+ghost use Rattle.flow_edges.specs.declared.source.TheConstants.{MAX_READ};
+ghost use Rattle.flow_edges.specs.Faults.{Counted};
+ghost use Rattle.http_messages.specs.inner.Reading.{ReadsBody};
+
+use crate::ReplyEnd;
+use flow_edges::{MAX_READ, Source};
+use flow_values::{Items, NoMemory};
+use std::alloc::Global;
+
+/// Reads so many bytes, by way of the buffer, into memory that grows with what has come.
+pub(crate) fn read_body<S: Source>(
+    alloc: Global,
+    link: &mut S,
+    count: usize,
+    buffer: &mut [u8],
+) -> Result<Items<u8>, ReplyEnd>
+    requires room { length buffer.now ≡ MAX_READ }
+    ensures reads { ReadsBody count (S.left link.old) (S.left link.new) result }
+    ensures causes { Counted (result ≡ Err ReplyEnd.Fault) (S.faults link.old) (S.faults link.new) }
+    ensures unwritten { S.other link.new ≡ S.other link.old }
+{
+    let mut body = Vec::new(alloc);
+    while body.len() < count {
+        let wanted = (count - body.len()).min(MAX_READ);
+        let taken = link.read(&mut buffer[..wanted])?;
+        if taken == 0 {
+            return Err(ReplyEnd::Cut);
+        }
+        add(&mut body, &buffer[..taken])?;
+    }
+    Ok(Items::from_vec(body))
+}
+
+/// Adds some bytes at the end.
+fn add(bytes: &mut Vec<u8>, more: &[u8]) -> Result<(), NoMemory>
+    ensures { OnOk result (bytes.new.items ≡ bytes.old.items ++ more.now) }
+{
+    bytes.extend_from_slice(more)?;
+    Ok(())
+}

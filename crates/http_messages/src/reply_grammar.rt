@@ -1,0 +1,30 @@
+ghost use Rattle.std.specs.Prelude.{◌≡◌, ◌≤◌, None, length, IfSome};
+ghost use Rattle.http_messages.specs.declared.frame.TheConstants.{MAX_HEAD};
+ghost use Rattle.http_messages.specs.ReplyHeads.{IsUnreadable};
+ghost use Rattle.http_messages.specs.inner.ReplyParsing.{IsParsed};
+
+use httparse::Status;
+use httparse::spans::{HeaderSpan, ResponseSpans, parse_response};
+
+/// How many fields a head of `MAX_HEAD` bytes has at most, each of which takes three.
+pub(crate) const MAX_FIELDS: usize = 5461;
+
+/// Where the parts of a head stand, where the bytes are one and no more.
+pub(crate) fn parse(head: &[u8], spans: &mut [HeaderSpan]) -> Option<ResponseSpans>
+    requires size { length head.now ≤ MAX_HEAD }
+    requires room { MAX_FIELDS ≤ length spans.now }
+    ensures some { IfSome result (IsParsed head.now spans.new) }
+    ensures none { result ≡ None → IsUnreadable head.now }
+{
+    match parse_response(head, spans) {
+        Ok(Status::Complete(read)) => {
+            if read.len == head.len() {
+                Some(read)
+            } else {
+                None
+            }
+        }
+        Ok(Status::Partial) => None,
+        Err(_) => None,
+    }
+}

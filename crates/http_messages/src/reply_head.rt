@@ -1,0 +1,64 @@
+ghost use Rattle.std.specs.Prelude.{◌≡◌, ◌≤◌, length, map, IfOk};
+ghost use Rattle.http_messages.specs.Fields.{values_among};
+ghost use Rattle.http_messages.specs.ReplyHeads.{IsReadAs};
+ghost use Rattle.http_messages.specs.inner.ReplyParsing.{IsParsed};
+
+use flow_values::NoMemory;
+use crate::same_name;
+use httparse::spans::{HeaderSpan, ResponseSpans};
+use std::alloc::Global;
+use std::marker::Model;
+
+/// The head of a response, as httparse cuts it. Contracts see its parts.
+#[derive(Drop)]
+pub(crate) struct Head<'a> {
+    bytes: &'a [u8],
+    status: u16,
+    spans: &'a [HeaderSpan],
+}
+
+impl<'a> Model for Head<'a> {
+    ghost use Rattle.std.specs.Prelude.{map, length, All};
+    ghost use Rattle.httparse.specs.Spans.{header_bytes, IsHeaderWithin};
+    ghost use Rattle.http_messages.specs.ReplyHeads.{HeadParts};
+
+    ghost Value = { HeadParts };
+
+    ghost view = { λ head. record { status = head.status; fields = map (header_bytes head.bytes.now) head.spans.now } };
+
+    ghost invariant = { λ head. All (IsHeaderWithin (length head.bytes.now)) head.spans.now };
+}
+
+impl<'a> Head<'a> {
+    /// The head whose parts stand there.
+    pub(crate) fn new(bytes: &'a [u8], spans: &'a [HeaderSpan], read: ResponseSpans) -> Head<'a>
+        requires { IsParsed bytes.now spans.now read }
+        ensures { IsReadAs bytes.now result }
+    {
+        Head {
+            bytes,
+            status: read.code,
+            spans: &spans[..read.headers],
+        }
+    }
+
+    /// The status.
+    pub(crate) fn status(&self) -> u16
+        ensures { result ≡ self.now.status }
+    {
+        self.status
+    }
+
+    /// The values of all fields of a name, in order.
+    pub(crate) fn values(&self, alloc: Global, name: &[u8]) -> Result<Vec<&'a [u8]>, NoMemory>
+        ensures { IfOk result (λ found. map (λ value. value.now) found.items ≡ values_among name.now self.now.fields) }
+    {
+        let mut found = Vec::new(alloc);
+        for span in self.spans {
+            if same_name(span.name.of(self.bytes), name) {
+                found.push(span.value.of(self.bytes))?;
+            }
+        }
+        Ok(found)
+    }
+}

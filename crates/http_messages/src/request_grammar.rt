@@ -1,0 +1,32 @@
+ghost use Rattle.std.specs.Prelude.{◌≡◌, ◌≤◌, [], None, length, IfSome};
+ghost use Rattle.httparse.specs.Grammar.{RequestHead, ReadsRequest};
+ghost use Rattle.httparse.specs.Spans.{IsRequestWithin};
+ghost use Rattle.http_messages.specs.declared.frame.TheConstants.{MAX_HEAD};
+ghost use Rattle.http_messages.specs.Frames.{IsUnreadable};
+ghost use Rattle.http_messages.specs.inner.RequestParsing.{IsParsed};
+
+use httparse::Status;
+use httparse::spans::{HeaderSpan, RequestSpans, parse_request};
+
+/// How many fields a head of `MAX_HEAD` bytes has at most, each of which takes three.
+pub(crate) const MAX_FIELDS: usize = 5461;
+
+/// Where the parts of a head stand, where the bytes are one and no more.
+pub(crate) fn parse(head: &[u8], spans: &mut [HeaderSpan]) -> Option<RequestSpans>
+    requires size { length head.now ≤ MAX_HEAD }
+    requires room { MAX_FIELDS ≤ length spans.now }
+    ensures some { IfSome result (IsParsed head.now spans.new) }
+    ensures none { result ≡ None → IsUnreadable head.now }
+{
+    match parse_request(head, spans) {
+        Ok(Status::Complete(read)) => {
+            if read.len == head.len() {
+                Some(read)
+            } else {
+                None
+            }
+        }
+        Ok(Status::Partial) => None,
+        Err(_) => None,
+    }
+}

@@ -1,0 +1,54 @@
+ghost use Rattle.std.specs.Prelude.{◌≡◌};
+ghost use Rattle.http_messages.specs.Statuses.{status_of, title_of};
+
+use crate::Status;
+use std::fmt;
+
+/// Why the bytes of a connection are refused. After a refusal the connection ends.
+#[derive(Clone, Copy, Debug, PartialEq, Eq, Hash)]
+pub enum Refusal {
+    /// The head isn't one by the grammar, lacks its Host, or says what nobody can read.
+    BadRequest,
+    /// A POST states no length.
+    LengthRequired,
+    /// The body is larger than the session takes.
+    BodyTooLarge,
+    /// The head doesn't end within `MAX_HEAD` bytes.
+    HeadTooLarge,
+    /// The body has a transfer coding.
+    TransferCoding,
+}
+
+impl Refusal {
+    /// The status of the answer.
+    pub fn status(self) -> Status
+        ensures { result ≡ status_of self }
+    {
+        match self {
+            Refusal::BadRequest => Status::BadRequest,
+            Refusal::LengthRequired => Status::LengthRequired,
+            Refusal::BodyTooLarge => Status::PayloadTooLarge,
+            Refusal::HeadTooLarge => Status::HeadTooLarge,
+            Refusal::TransferCoding => Status::NotImplemented,
+        }
+    }
+
+    /// The title of the answer.
+    pub fn title(self) -> &'static str
+        ensures { result.now ≡ title_of self }
+    {
+        match self {
+            Refusal::BadRequest => "bad request",
+            Refusal::LengthRequired => "length required",
+            Refusal::BodyTooLarge => "body too large",
+            Refusal::HeadTooLarge => "head too large",
+            Refusal::TransferCoding => "transfer coding",
+        }
+    }
+}
+
+impl fmt::Display for Refusal {
+    fn fmt<W: fmt::Write>(&self, f: &mut fmt::Formatter<W>) -> fmt::Result {
+        write!(f, "{}", self.title())
+    }
+}

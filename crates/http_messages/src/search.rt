@@ -1,0 +1,108 @@
+ghost use Rattle.std.specs.Prelude.{◌≡◌, ◌-◌, ◌≤◌, ◌<◌, None, length, max, slice_index, IfSome, MatchOption};
+ghost use Rattle.http_messages.specs.RequestHeads.{is_last_line_end, after_empty_line, HasNoEnd, IsFirstEnd, IsHeadAt};
+ghost use Rattle.http_messages.specs.inner.Searching.{IsSearched, SkipsTo, HasNoHead};
+
+/// The search for the end of a head in bytes that grow. What it has passed it doesn't look at again.
+#[derive(Clone, Copy)]
+pub(crate) struct HeadSearch {
+    /// Where the head begins, as far as is known: the bytes before are CR and LF.
+    pub(crate) start: usize,
+    /// Where the search goes on: no head ends before it.
+    pub(crate) next: usize,
+}
+
+impl HeadSearch {
+    /// The search that has passed nothing yet.
+    pub(crate) fn new() -> HeadSearch
+        ensures { (result.start ≡ 0) × (result.next ≡ 0) }
+    {
+        HeadSearch { start: 0, next: 0 }
+    }
+
+    /// Where the head ends that the bytes begin with, where it does. It begins at `start`.
+    pub(crate) fn find(&mut self, bytes: &[u8]) -> Option<usize>
+        requires { IsSearched bytes.now self.old }
+        ensures found { IfSome result (IsHeadAt bytes.now self.new.start) }
+        ensures none { result ≡ None → HasNoHead bytes.now }
+        ensures searched { IsSearched bytes.now self.new }
+    {
+        let start = skip_line_ends(bytes, self.start);
+        let from = self.next.max(start);
+        let end = last_line_end(bytes, from);
+        let next = passed(bytes, from, end);
+        *self = HeadSearch { start, next };
+        match end {
+            Some(place) => Some(end_of_head(bytes, place)),
+            None => None,
+        }
+    }
+}
+
+/// How far the search got: to the line end that it found, or so far that bytes to come can't change what
+/// was passed.
+fn passed(bytes: &[u8], from: usize, end: Option<usize>) -> usize
+    ensures { MatchOption end (result ≡ max from (length bytes.now - 2)) (λ place. result ≡ place) }
+{
+    match end {
+        Some(place) => place,
+        None => from.max(bytes.len().saturating_sub(2)),
+    }
+}
+
+/// The place from `from` on where there is neither CR nor LF, or the end of the bytes.
+fn skip_line_ends(bytes: &[u8], from: usize) -> usize
+    requires { from ≤ length bytes.now }
+    ensures { SkipsTo bytes.now from result }
+{
+    for place in from..bytes.len() {
+        if bytes[place] != b'\r' && bytes[place] != b'\n' {
+            return place;
+        }
+    }
+    bytes.len()
+}
+
+/// The first LF from `from` on with an empty line behind it.
+pub fn last_line_end(bytes: &[u8], from: usize) -> Option<usize>
+    ensures some { IfSome result (IsFirstEnd bytes.now from) }
+    ensures none { result ≡ None → HasNoEnd bytes.now from (length bytes.now) }
+{
+    for place in from..bytes.len() {
+        if is_last_line_end(bytes, place) {
+            return Some(place);
+        }
+    }
+    None
+}
+
+/// Whether an LF with an empty line behind it stands there.
+fn is_last_line_end(bytes: &[u8], place: usize) -> bool
+    requires { place < length bytes.now }
+    ensures { result ≡ is_last_line_end bytes.now place }
+{
+    let second = byte_at(bytes, place + 1);
+    byte_at(bytes, place) == b'\n'
+        && (second == b'\n' || (second == b'\r' && byte_at(bytes, place + 2) == b'\n'))
+}
+
+/// Where the empty line behind the LF ends.
+fn end_of_head(bytes: &[u8], place: usize) -> usize
+    requires { place < length bytes.now }
+    ensures { result ≡ after_empty_line bytes.now place }
+{
+    if byte_at(bytes, place + 1) == b'\n' {
+        place + 2
+    } else {
+        place + 3
+    }
+}
+
+/// The byte at a place, or 0 behind the last.
+fn byte_at(bytes: &[u8], place: usize) -> u8
+    ensures { result ≡ slice_index bytes.now place }
+{
+    match bytes.get(place) {
+        Some(byte) => *byte,
+        None => 0,
+    }
+}

@@ -1,5 +1,0 @@
-mod GrammarLemmas
-mod HeadLemmas
-mod OutcomeLemmas
-mod ReadLemmas
-mod JudgeLemmas

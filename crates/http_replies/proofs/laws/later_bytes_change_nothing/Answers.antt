@@ -1,5 +1,0 @@
-use Rattle.http_replies.proofs.OutcomeLemmas.{later_outcome}
-use Rattle.http_replies.proofs.laws.later_bytes_change_nothing.Goals as goal
-
-pub returns : goal.returns
-returns c = later_outcome

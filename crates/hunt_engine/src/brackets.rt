@@ -1,0 +1,116 @@
+//! The brackets of all patterns.
+
+ghost use Rattle.std.specs.Prelude.{◌≡◌, ◌≤◌, ◌<◌, ◌+◌, ◌^◌, ◌++◌, List, [], ◌∷◌, Some, length, map, slice_get, OnOk};
+ghost use Rattle.pattern_types.specs.PlainLeaf.{plain_leaf};
+ghost use Rattle.pattern_types.specs.PlainPattern.{PlainPattern, plain_pattern};
+ghost use Rattle.hunt_engine.specs.declared.brackets.Stretch.{Stretch};
+ghost use Rattle.hunt_engine.specs.Known.{leaf_list};
+ghost use Rattle.hunt_engine.specs.inner.Table.{part_of, repeated, IsTable};
+
+use flow_values::NoMemory;
+use pattern_types::{Leaf, Pattern};
+use std::alloc::Global;
+
+/// So many brackets are counted by a u32.
+const MAX_BRACKETS: usize = 4_294_967_295;
+
+/// Where the brackets of one pattern stand among those of all.
+#[derive(Clone, Copy, Debug)]
+pub(crate) struct Stretch {
+    /// The first of them.
+    pub(crate) first: u32,
+    /// How many there are.
+    pub(crate) count: u32,
+}
+
+/// The brackets of all patterns, pattern after pattern.
+#[derive(Drop)]
+pub(crate) struct Brackets<'p> {
+    /// The brackets.
+    pub(crate) leaves: Vec<&'p Leaf>,
+    /// For each bracket the place of its pattern.
+    pub(crate) owners: Vec<u32>,
+    /// For each pattern where its brackets stand.
+    pub(crate) stretches: Vec<Stretch>,
+}
+
+impl<'p> Brackets<'p> {
+    /// The brackets of no pattern. Takes no memory.
+    pub(crate) fn new(alloc: Global) -> Brackets<'p>
+        ensures table { IsTable [] (map plain_leaf (map (λ leaf. leaf.now) result.leaves.items)) result.owners.items result.stretches.items }
+        ensures none { result.leaves.items ≡ [] }
+    {
+        Brackets {
+            leaves: Vec::new(alloc),
+            owners: Vec::new(alloc),
+            stretches: Vec::new(alloc),
+        }
+    }
+
+    /// Adds those of a pattern, whose place is the next one. No more than a u32 counts fit.
+    pub(crate) fn add(&mut self, pattern: &'p Pattern) -> Result<(), NoMemory>
+        requires room { length self.old.stretches.items < 2 ^ 32 }
+        ensures table { (patterns : List PlainPattern) → IsTable patterns (map plain_leaf (map (λ leaf. leaf.now) self.old.leaves.items)) self.old.owners.items self.old.stretches.items
+            → OnOk result (IsTable (patterns ++ plain_pattern pattern.now ∷ []) (map plain_leaf (map (λ leaf. leaf.now) self.new.leaves.items)) self.new.owners.items self.new.stretches.items) }
+        ensures leaves { OnOk result (map plain_leaf (map (λ leaf. leaf.now) self.new.leaves.items)
+            ≡ map plain_leaf (map (λ leaf. leaf.now) self.old.leaves.items) ++ leaf_list (plain_pattern pattern.now)) }
+        ensures few { OnOk result (length self.new.leaves.items < 2 ^ 32) }
+    {
+        let place = self.stretches.len() as u32;
+        let first = self.leaves.len();
+        add_leaves(&mut self.leaves, pattern)?;
+        let end = self.leaves.len();
+        if end > MAX_BRACKETS {
+            return Err(NoMemory);
+        }
+        let count = end - first;
+        add_owner(&mut self.owners, place, count)?;
+        self.stretches.push(Stretch {
+            first: first as u32,
+            count: count as u32,
+        })?;
+        Ok(())
+    }
+
+    /// The truths of a pattern's brackets, by the marks of all.
+    pub(crate) fn truths<'m>(&self, place: usize, marks: &'m [bool]) -> &'m [bool]
+        requires there { place < length self.now.stretches.items }
+        requires inside { (stretch : Stretch) → slice_get self.now.stretches.items place ≡ Some stretch → stretch.first + stretch.count ≤ length marks.now }
+        ensures { (stretch : Stretch) → slice_get self.now.stretches.items place ≡ Some stretch → result.now ≡ part_of stretch marks.now }
+    {
+        let stretch = &self.stretches[place];
+        let first = stretch.first as usize;
+        let count = stretch.count as usize;
+        &marks[first..first + count]
+    }
+}
+
+/// Adds the brackets of a pattern, from left to right.
+fn add_leaves<'p>(leaves: &mut Vec<&'p Leaf>, pattern: &'p Pattern) -> Result<(), NoMemory>
+    ensures { OnOk result (map plain_leaf (map (λ leaf. leaf.now) leaves.new.items)
+        ≡ map plain_leaf (map (λ leaf. leaf.now) leaves.old.items) ++ leaf_list (plain_pattern pattern.now)) }
+{
+    match pattern {
+        Pattern::Leaf(leaf) => {
+            leaves.push(leaf)?;
+            Ok(())
+        }
+        Pattern::Both(left, right) | Pattern::Either(left, right) | Pattern::Then(left, right) => {
+            add_leaves(leaves, left)?;
+            add_leaves(leaves, right)
+        }
+        Pattern::Within(part, _) | Pattern::Between(part, _, _) | Pattern::Repeats(part, _) => {
+            add_leaves(leaves, part)
+        }
+    }
+}
+
+/// Makes a place the owner of so many brackets more.
+fn add_owner(owners: &mut Vec<u32>, place: u32, count: usize) -> Result<(), NoMemory>
+    ensures { OnOk result (owners.new.items ≡ owners.old.items ++ repeated place count) }
+{
+    for _ in 0..count {
+        owners.push(place)?;
+    }
+    Ok(())
+}

@@ -1,0 +1,54 @@
+-- What a feed is read as: its objects, a line each, up to the first line that is refused, and why that is. Lines are those of any
+-- input: blank ones are passed over.
+use Rattle.std.specs.Prelude.{◌≡◌, ℕ, List, [], ◌∷◌, All, Option, IfSome}
+use Rattle.serde_json.specs.Data.{Data}
+use Rattle.flow_lines.specs.Lines.{Lined, ended, refused, line_then, lines_of}
+use Rattle.flow_lines.specs.declared.refusal.LineRefusal.{LineRefusal}
+use Rattle.flow_lines.specs.declared.refusal.LineRefusal.TheVariants as line_refusal
+use Rattle.stix_objects.specs.Breaks.{AreBreaksOf}
+use Rattle.hunt_feed.specs.Gathering.{Gathered, GathersFor}
+use Rattle.hunt_feed.specs.declared.rule.FeedRule.{FeedRule}
+use Rattle.hunt_feed.specs.declared.rule.FeedRule.TheVariants as rule
+use Rattle.hunt_feed.specs.Line.{IsObjectOf, IsRefusedFor}
+
+-- how a feed ends: whole, or at the first line that is refused
+pub data FeedClose : Type 0 where
+  Whole : FeedClose
+  Refused : (line : ℕ) → FeedRule → FeedClose
+
+-- why a line is refused that is too long, or with which the feed is
+abbrev pub IsTooLong : LineRefusal → ℕ → FeedRule → Type 0
+IsTooLong line_refusal.Fault line why = ⊥
+IsTooLong (line_refusal.LineTooLong number) line why = (line ≡ number) × (why ≡ rule.LineTooLong)
+IsTooLong (line_refusal.InputTooLong number) line why = (line ≡ number) × (why ≡ rule.InputTooLong)
+IsTooLong line_refusal.NoMemory line why = ⊥
+
+-- the first of these lines is refused
+abbrev pub IsRefusedAt : Lined → ℕ → FeedRule → Type 0
+IsRefusedAt ended line why = ⊥
+IsRefusedAt (refused refusal) line why = IsTooLong refusal line why
+IsRefusedAt (line_then number bytes later) line why = (line ≡ number) × IsRefusedFor bytes why
+
+-- The lines that come are these objects, and end so.
+pub data Reads : Lined → List Data → FeedClose → Type 0 where
+  -- the feed ends
+  at_end : Reads ended [] Whole
+  -- the first line is refused
+  at_refusal : {lines : Lined} {line : ℕ} {why : FeedRule} → IsRefusedAt lines line why → Reads lines [] (Refused line why)
+  -- the first line is an object
+  one_object : {number : ℕ} {bytes : List ℕ} {later : Lined} {object : Data} {objects : List Data} {close : FeedClose}
+      → IsObjectOf bytes object → Reads later objects close → Reads (line_then number bytes later) (object ∷ objects) close
+
+-- these bytes are a feed of these objects, and end so, where they are told
+abbrev pub ReadsFeed : Option (List ℕ) → List Data → FeedClose → Type 0
+ReadsFeed left objects close = IfSome left (λ bytes. Reads (lines_of bytes) objects close)
+
+-- none of the objects breaks a rule of its type
+abbrev pub AreUnbroken : List Data → Type 0
+AreUnbroken objects = All (λ object. AreBreaksOf object []) objects
+
+-- the whole feed was read, and what is kept of it is kept of these objects
+pub record GathersFeed (left : Option (List ℕ)) (gathered : Gathered) (objects : List Data) : Type 0 where
+  pub reading : ReadsFeed left objects Whole
+  pub unbroken : AreUnbroken objects
+  pub gathers : GathersFor gathered objects

@@ -1,0 +1,67 @@
+-- What is kept of objects that come one by one, so that those to hunt are known at the end.
+use Rattle.std.specs.Prelude.{◌≡◌, ◌↔◌, ℕ, List, map, length, All, Contains, IsTrue, slice_get, Option, Some, None, codes}
+use Rattle.std.specs.Ordering.{nat_cmp}
+use Rattle.std.specs.BTreeMap.{is_at}
+use Rattle.std.specs.Map.{lookup}
+use Rattle.flow_values.specs.Answers.{FindsExactly}
+use Rattle.serde_json.specs.Data.{Data}
+use Rattle.stix_ids.specs.declared.id.Id.{Id}
+use Rattle.stix_json.specs.Properties.{text_at}
+use Rattle.stix_objects.specs.declared.form.Precision.TheVariants.{Any, Millis}
+use Rattle.stix_objects.specs.Properties.{IsTimestampAt, HasId}
+use Rattle.stix_bundles.specs.Lookup.{IsOf, IsLatest}
+use Rattle.hunt_feed.specs.declared.kept.Kept.{Kept}
+use Rattle.hunt_feed.specs.declared.version.Version.{Version}
+use Rattle.hunt_feed.specs.Indicators.{IsStixIndicator, IsRevoked, IsCurrent, IsRising}
+
+pub record Gathered : Type 0 where
+  -- how many objects came
+  pub count : ℕ
+  -- what a hunt asks of the indicators that may be hunted, in the order in which they came
+  pub kept : List Kept
+  -- of each indicator, by the number of its identifier, what is known of its versions
+  pub versions : List (ℕ × Version)
+
+-- the identifier of an indicator
+abbrev pub indicator_id : ℕ → Id
+indicator_id number = record { kind = codes "indicator"; number = number }
+
+-- what is known of the versions of the indicator with that number
+abbrev pub known_in : List (ℕ × Version) → ℕ → Option Version
+known_in versions number = lookup (is_at (nat_cmp number)) versions
+
+-- where the latest version stands, when it was modified, and whether one of the versions is revoked
+pub record IsVersionAs (objects : List Data) (id : Id) (version : Version) : Type 0 where
+  pub latest : IsLatest objects id version.at
+  pub modified : latest.modified ≡ Some version.modified
+  pub revoked : IsTrue version.revoked ↔ IsRevoked objects id
+
+-- the same, and that nothing is known where the objects have no version
+abbrev pub IsKnown : List Data → Id → Option Version → Type 0
+IsKnown objects id None = (at : ℕ) → ¬ IsOf objects id at
+IsKnown objects id (Some version) = IsVersionAs objects id version
+
+-- the indicator that this was kept of: its identifier, its times and the text of its pattern
+pub record IsKeptAs (object : Data) (kept : Kept) : Type 0 where
+  pub has : HasId object (indicator_id kept.number)
+  pub indicator : IsStixIndicator object
+  pub created : IsTimestampAt Millis (codes "created") object kept.created
+  pub from : IsTimestampAt Any (codes "valid_from") object kept.from
+  pub until : FindsExactly (IsTimestampAt Any (codes "valid_until") object) kept.until
+  pub told : text_at (codes "pattern") object ≡ Some kept.pattern
+
+-- it was kept of the object at its place
+abbrev pub IsKeptOf : List Data → Kept → Type 0
+IsKeptOf objects kept = (object : Data) × (slice_get objects kept.at ≡ Some object) × IsKeptAs object kept
+
+-- the places of the kept indicators
+abbrev pub kept_places : List Kept → List ℕ
+kept_places kept = map (λ k. k.at) kept
+
+-- these are the objects that came
+pub record GathersFor (gathered : Gathered) (objects : List Data) : Type 0 where
+  pub counted : gathered.count ≡ length objects
+  pub versions : (number : ℕ) → IsKnown objects (indicator_id number) (known_in gathered.versions number)
+  pub kept : All (IsKeptOf objects) gathered.kept
+  pub all : (at : ℕ) (id : Id) (object : Data) → IsCurrent objects at id object → Contains (kept_places gathered.kept) at
+  pub rise : IsRising (kept_places gathered.kept)

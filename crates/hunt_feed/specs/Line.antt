@@ -1,0 +1,32 @@
+-- What the bytes of a line of a feed are: an object of STIX, or why the line is refused.
+use Rattle.std.specs.Prelude.{◌≡◌, ◌≢◌, ℕ, List, []}
+use Rattle.serde_json.specs.Data.{Data}
+use Rattle.stix_json.specs.declared.value.Json.{Json}
+use Rattle.stix_json.specs.declared.refusal.JsonRefusal.TheVariants as json_refusal
+use Rattle.stix_json.specs.DataOf.{data_of}
+use Rattle.stix_json.specs.Reading.{IsJsonOf, IsJsonRefusedAs}
+use Rattle.stix_objects.specs.declared.rule_break.Break.{Break}
+use Rattle.stix_objects.specs.Breaks.{AreBreaksOf}
+use Rattle.hunt_feed.specs.declared.rule.FeedRule.{FeedRule}
+use Rattle.hunt_feed.specs.declared.rule.FeedRule.TheVariants.{LineTooLong, InputTooLong, Json as NoJson, Breaks}
+
+-- the bytes are a JSON value: this object, which breaks no rule of its type
+pub record IsObjectOf (bytes : List ℕ) (object : Data) : Type 0 where
+  pub value : Json
+  pub json : IsJsonOf bytes value
+  pub object_is : object ≡ data_of value
+  pub unbroken : AreBreaksOf object []
+
+-- the bytes are a JSON value that breaks these rules
+pub record IsBroken (bytes : List ℕ) (breaks : List Break) : Type 0 where
+  pub value : Json
+  pub json : IsJsonOf bytes value
+  pub some : breaks ≢ []
+  pub are : AreBreaksOf (data_of value) breaks
+
+-- why the bytes are refused, of which there aren't too many: the first cause in this order
+abbrev pub IsRefusedFor : List ℕ → FeedRule → Type 0
+IsRefusedFor bytes LineTooLong = ⊥
+IsRefusedFor bytes InputTooLong = ⊥
+IsRefusedFor bytes (NoJson refusal) = (refusal ≢ json_refusal.NoMemory) × IsJsonRefusedAs bytes refusal
+IsRefusedFor bytes (Breaks breaks) = IsBroken bytes breaks

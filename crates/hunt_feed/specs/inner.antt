@@ -1,0 +1,4 @@
+pub mod Adding
+pub mod Hunting
+pub mod Ends
+pub mod Reasons

@@ -1,0 +1,63 @@
+-- For private clauses: what is known once one more object came.
+use Rattle.std.specs.Prelude.{◌≡◌, ◌⊎◌, ◌↔◌, ℕ, ℤ, ◌<ℤ◌, List, ◌++◌, ◌==◌, ◌||◌, IsTrue, Option, Some, None, option_to_list, if◌then◌else◌, codes}
+use Rattle.serde_json.specs.Data.{Data}
+use Rattle.stix_json.specs.Properties.{text_at}
+use Rattle.stix_objects.specs.declared.form.Precision.TheVariants.{Any, Millis}
+use Rattle.stix_objects.specs.Properties.{IsTimestampAt, HasId}
+use Rattle.hunt_feed.specs.declared.kept.Kept.{Kept}
+use Rattle.hunt_feed.specs.declared.version.Version.{Version}
+use Rattle.hunt_feed.specs.Indicators.{Revokes, IsStixIndicator}
+use Rattle.hunt_feed.specs.Gathering.{Gathered, IsKeptAs, indicator_id, known_in}
+
+-- its type is `indicator`
+abbrev pub IsIndicator : Data → Type 0
+IsIndicator d = text_at (codes "type") d ≡ Some (codes "indicator")
+
+-- what an indicator that breaks no rule tells
+pub record IsTold (d : Data) : Type 0 where
+  pub number : ℕ
+  pub has : HasId d (indicator_id number)
+  pub created : ℤ
+  pub created_is : IsTimestampAt Millis (codes "created") d created
+  pub modified : ℤ
+  pub modified_is : IsTimestampAt Millis (codes "modified") d modified
+  pub from : ℤ
+  pub from_is : IsTimestampAt Any (codes "valid_from") d from
+  pub pattern : List ℕ
+  pub pattern_is : text_at (codes "pattern") d ≡ Some pattern
+
+-- what an indicator tells of itself as a version
+pub record IsVersionOf (d : Data) (version : Version) : Type 0 where
+  pub modified : IsTimestampAt Millis (codes "modified") d version.modified
+  pub revoked : IsTrue version.revoked ↔ Revokes d
+
+-- what is known of the versions, with one more: the later one, and of equally late ones the new one, is the latest
+abbrev pub IsNextVersion : Option Version → Version → Version → Type 0
+IsNextVersion None new next = next ≡ new
+IsNextVersion (Some known) new next = (next.revoked ≡ (known.revoked || new.revoked))
+    × (((new.modified <ℤ known.modified) × (next.at ≡ known.at) × (next.modified ≡ known.modified))
+    ⊎ ((¬ (new.modified <ℤ known.modified)) × (next.at ≡ new.at) × (next.modified ≡ new.modified)))
+
+-- one is kept where the new version is the latest, none is revoked, and its pattern is one of STIX
+abbrev pub IsToKeep : Data → ℕ → ℕ → Version → Option Kept → Type 0
+IsToKeep d at number next None = ¬ ((next.at ≡ at) × (¬ IsTrue next.revoked) × IsStixIndicator d)
+IsToKeep d at number next (Some kept) = IsKeptAs d kept × (kept.at ≡ at)
+
+-- these are now the versions of the indicator with that number, and perhaps one more is kept
+pub record Puts (before after : Gathered) (number : ℕ) (next : Version) (kept : Option Kept) : Type 0 where
+  pub count : after.count ≡ before.count
+  pub kept_are : after.kept ≡ before.kept ++ option_to_list kept
+  pub versions : (other : ℕ) → known_in after.versions other ≡ (if number == other then Some next else known_in before.versions other)
+
+-- what an indicator changes
+pub record AddsIndicator (before after : Gathered) (d : Data) : Type 0 where
+  pub number : ℕ
+  pub has : HasId d (indicator_id number)
+  pub new : Version
+  pub at : new.at ≡ before.count
+  pub version : IsVersionOf d new
+  pub next : Version
+  pub next_is : IsNextVersion (known_in before.versions number) new next
+  pub kept : Option Kept
+  pub to_keep : IsToKeep d before.count number next kept
+  pub puts : Puts before after number next kept

@@ -1,0 +1,45 @@
+ghost use Rattle.std.specs.Prelude.{◌≡◌};
+ghost use Rattle.hunt_feed.specs.declared.end.FeedEnd.TheVariants.{NoMemory as OutOfMemory};
+ghost use Rattle.hunt_feed.specs.inner.Ends.{end_of_line};
+
+use crate::FeedRule;
+use flow_lines::LineRefusal;
+use flow_values::NoMemory;
+
+/// Why a feed isn't read to its end.
+#[derive(Debug, Drop)]
+pub enum FeedEnd {
+    /// The line of that number is the first that is refused.
+    Refused { line: u64, rule: FeedRule },
+    /// The source failed, and counted it.
+    Fault,
+    /// Memory ran out.
+    NoMemory,
+}
+
+impl From<NoMemory> for FeedEnd {
+    ghost from_gives = { λ _ end. end ≡ OutOfMemory };
+
+    fn from(_error: NoMemory) -> FeedEnd {
+        FeedEnd::NoMemory
+    }
+}
+
+impl From<LineRefusal> for FeedEnd {
+    ghost from_gives = { λ refusal end. end ≡ end_of_line refusal };
+
+    fn from(refusal: LineRefusal) -> FeedEnd {
+        match refusal {
+            LineRefusal::Fault => FeedEnd::Fault,
+            LineRefusal::LineTooLong { number } => FeedEnd::Refused {
+                line: number,
+                rule: FeedRule::LineTooLong,
+            },
+            LineRefusal::InputTooLong { number } => FeedEnd::Refused {
+                line: number,
+                rule: FeedRule::InputTooLong,
+            },
+            LineRefusal::NoMemory => FeedEnd::NoMemory,
+        }
+    }
+}

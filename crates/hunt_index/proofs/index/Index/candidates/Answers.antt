@@ -1,0 +1,24 @@
+use Rattle.std.proofs.Common.{◌↔◌, ℕ, List, map, sym, subst}
+use Rattle.std.specs.Prelude.{Contains}
+use Rattle.stix_bundles.specs.Objects.{data_in}
+use Rattle.pattern_types.specs.declared.leaf.Leaf.{Leaf}
+use Rattle.pattern_types.specs.PlainLeaf.{plain_leaf}
+use Rattle.hunt_index.specs.Candidates.{AreCandidates}
+use Rattle.hunt_index.specs.inner.Finding.{FindsPlaces}
+use Rattle.hunt_index.proofs.PlacesLemmas.{are_candidates}
+use Rattle.hunt_index.proofs.index.Index.candidates.Goals as goal
+
+pub returns : goal.returns
+returns c =
+    let objects = data_in c.args.bundle.now in
+    let roots = c.args.roots.now in
+    let brackets = map (λ leaf. leaf.now) c.self.inside.brackets.items in
+    let finder = c.self.inside.finder in
+    let own = c.each_once-roots.result.items in
+    let places = c.in_ok-places.places.items in
+    let result = c.each_once.result.items in
+    let same_roots = λ (n : ℕ). subst (λ (l : List ℕ). Contains own n ↔ Contains l n) c.in_ok-roots.ensures.items (c.each_once-roots.ensures.same n) in
+    let found = subst (λ (l : List ℕ). FindsPlaces finder objects l places) c.as_slice.ensures.value c.in_ok-places.ensures in
+    let all = are_candidates brackets finder objects roots own places result c.self.invariant same_roots found c.each_once.ensures.same c.each_once.ensures.rise in
+    let seen = subst (λ (leaves : List Leaf). AreCandidates objects roots (map plain_leaf leaves) result) c.self.view_is all in
+    subst (λ (l : List ℕ). AreCandidates objects roots (map plain_leaf c.args.self.now) l) (sym c.from_vec.ensures) seen

@@ -1,0 +1,27 @@
+-- For private clauses: the values that a key stands for, and the keys that find one another.
+use Rattle.std.specs.Prelude.{◌≡◌, ⊤, Option, Some, None}
+use Rattle.serde_json.specs.Data.{Data, number}
+use Rattle.serde_json.specs.Find.{as_str, of_integer}
+use Rattle.hunt_index.specs.declared.key.Key.{Key}
+use Rattle.hunt_index.specs.declared.key.Key.TheVariants.{Any, Integer, Text}
+
+-- the value is one that the key stands for
+abbrev pub Fits : Key → Data → Type 0
+Fits Any value = ⊤
+Fits (Integer whole) value = value ≡ number (of_integer whole)
+Fits (Text text) value = as_str value ≡ Some text.now
+
+-- the keys stand for the same values, wherever their texts lie
+abbrev pub AreSame : Key → Key → Type 0
+AreSame Any Any = ⊤
+AreSame (Integer whole) (Integer other) = whole ≡ other
+AreSame (Text text) (Text other) = text.now ≡ other.now
+AreSame _ _ = ⊥
+
+-- a key is `Any`, or the same as the one that is found
+abbrev pub IsAsked : Option Key → Key → Type 0
+IsAsked found Any = ⊤
+IsAsked None (Integer whole) = ⊥
+IsAsked None (Text text) = ⊥
+IsAsked (Some key) (Integer whole) = AreSame (Integer whole) key
+IsAsked (Some key) (Text text) = AreSame (Text text) key

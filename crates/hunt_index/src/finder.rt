@@ -1,0 +1,200 @@
+//! What finds brackets by what the roots of an observation say.
+
+ghost use Rattle.std.specs.Prelude.{◌≡◌, ◌<◌, ◌^◌, ◌++◌, All, Contains, map, length, IfOk, OnOk};
+ghost use Rattle.stix_bundles.specs.Objects.{data_in};
+ghost use Rattle.stix_json.specs.DataOf.{data_of};
+ghost use Rattle.stix_json.specs.Ordered.{IsOrdered};
+ghost use Rattle.hunt_index.specs.declared.paths.Lookup.{Lookup};
+ghost use Rattle.hunt_index.specs.inner.Indexed.{IsSeenFrom, IsSeen, IsOfKind, IsFinderOf};
+ghost use Rattle.hunt_index.specs.inner.Finding.{Keeps, AreAsked, AsksFor, AsksByPath, AskByPaths, AddsOnly, IsSeenBy, AreSeen, FindsPlaces, AddsFound, AreKinds};
+
+use crate::guard::Guard;
+use crate::key::{Key, key_in};
+use crate::paths::{Lookup, file_rows};
+use crate::rows::rows_of;
+use crate::table::Table;
+use crate::walk::{kind_of, value_behind};
+use flow_values::NoMemory;
+use match_comparisons::object_at;
+use pattern_types::Leaf;
+use std::alloc::Global;
+use stix_bundles::Bundle;
+use stix_json::Json;
+
+/// Finds brackets by the guards that they have.
+#[derive(Drop)]
+pub(crate) struct Finder<'p> {
+    /// The numbers of the paths of the guards, by the types of the roots at which they begin.
+    pub(crate) kinds: Table<&'p str, usize>,
+    /// Of each path a guard that has it.
+    pub(crate) paths: Vec<Guard<'p>>,
+    /// The places of the brackets that have guards, by what is looked up.
+    pub(crate) places: Table<Lookup<'p>, u32>,
+    /// The places of the others.
+    pub(crate) always: Vec<u32>,
+}
+
+impl<'p> Finder<'p> {
+    /// A finder of these brackets. It costs their number times its logarithm.
+    pub(crate) fn new(alloc: Global, brackets: &[&'p Leaf]) -> Result<Finder<'p>, NoMemory>
+        requires { length brackets.now < 2 ^ 32 }
+        ensures { IfOk result (IsFinderOf (map (λ leaf. leaf.now) brackets.now)) }
+    {
+        let rows = rows_of(alloc, brackets)?;
+        let filed = file_rows(alloc, rows.guarded)?;
+        let kinds = kinds_of(alloc, filed.paths.as_slice())?;
+        Ok(Finder {
+            kinds: Table::new(kinds),
+            paths: filed.paths,
+            places: Table::new(filed.entries),
+            always: rows.always,
+        })
+    }
+
+    /// The places of the brackets of which a guard is met at one of the roots, and of those without one.
+    pub(crate) fn places_for(
+        &self,
+        alloc: Global,
+        bundle: &Bundle,
+        roots: &[u32],
+    ) -> Result<Vec<u32>, NoMemory>
+        requires { All (IsOfKind self.now.paths.items) self.now.kinds.entries.items }
+        ensures { IfOk result (λ places. FindsPlaces self.now (data_in bundle.now) roots.now places.items) }
+    {
+        let lookups = self.lookups(alloc, bundle, roots)?;
+        let mut places = Vec::from_slice(alloc, self.always.as_slice())?;
+        self.add_found(lookups.as_slice(), &mut places)?;
+        Ok(places)
+    }
+
+    /// Adds the places of the brackets that have a guard by one of the look-ups.
+    fn add_found(&self, lookups: &[Lookup<'_>], places: &mut Vec<u32>) -> Result<(), NoMemory>
+        ensures { OnOk result (AddsFound self.now.places.entries.items lookups.now places.old.items places.new.items) }
+    {
+        for lookup in lookups {
+            add_places(self.places.find(lookup), places)?;
+        }
+        Ok(())
+    }
+
+    /// What is looked up for some roots, each once.
+    fn lookups<'b>(
+        &self,
+        alloc: Global,
+        bundle: &'b Bundle,
+        roots: &[u32],
+    ) -> Result<Vec<Lookup<'b>>, NoMemory>
+        requires { All (IsOfKind self.now.paths.items) self.now.kinds.entries.items }
+        ensures asks { IfOk result (λ lookups. AreAsked self.now (data_in bundle.now) roots.now lookups.items) }
+        ensures seen { IfOk result (λ lookups. AreSeen self.now.paths.items (data_in bundle.now) roots.now lookups.items) }
+    {
+        let mut lookups = Vec::new(alloc);
+        for root in roots {
+            self.add_lookups(bundle, *root, &mut lookups)?;
+        }
+        Ok(each_lookup_once(lookups))
+    }
+
+    /// Adds what is looked up for a root: by each of the paths for its type the value there.
+    fn add_lookups<'b>(
+        &self,
+        bundle: &'b Bundle,
+        root: u32,
+        lookups: &mut Vec<Lookup<'b>>,
+    ) -> Result<(), NoMemory>
+        requires { All (IsOfKind self.now.paths.items) self.now.kinds.entries.items }
+        ensures keeps { OnOk result (Keeps lookups.old.items lookups.new.items) }
+        ensures asks { OnOk result (AsksFor self.now (data_in bundle.now) root lookups.new.items) }
+        ensures only { OnOk result (AddsOnly (IsSeen self.now.paths.items (data_in bundle.now) root) lookups.old.items lookups.new.items) }
+    {
+        let Some(object) = object_at(bundle, root) else {
+            return Ok(());
+        };
+        let Some(kind) = kind_of(object) else {
+            return Ok(());
+        };
+        let paths = self.kinds.find(&kind);
+        self.add_by_paths(bundle, object, paths, lookups)
+    }
+
+    /// Adds what is looked up by some paths.
+    fn add_by_paths<'b>(
+        &self,
+        bundle: &'b Bundle,
+        object: &'b Json,
+        paths: &[(&str, usize)],
+        lookups: &mut Vec<Lookup<'b>>,
+    ) -> Result<(), NoMemory>
+        requires { IsOrdered (data_of object.now) }
+        ensures keeps { OnOk result (Keeps lookups.old.items lookups.new.items) }
+        ensures asks { OnOk result (AskByPaths self.now.paths.items (data_in bundle.now) (data_of object.now) paths.now lookups.new.items) }
+        ensures only { OnOk result (AddsOnly (IsSeenBy self.now.paths.items (data_in bundle.now) (data_of object.now) paths.now) lookups.old.items lookups.new.items) }
+    {
+        for (_, number) in paths {
+            self.add_by_path(bundle, object, *number, lookups)?;
+        }
+        Ok(())
+    }
+
+    /// Adds what is looked up by one path: that there is a value, and the value.
+    fn add_by_path<'b>(
+        &self,
+        bundle: &'b Bundle,
+        object: &'b Json,
+        path: usize,
+        lookups: &mut Vec<Lookup<'b>>,
+    ) -> Result<(), NoMemory>
+        requires { IsOrdered (data_of object.now) }
+        ensures keeps { OnOk result (Keeps lookups.old.items lookups.new.items) }
+        ensures asks { OnOk result (AsksByPath self.now.paths.items (data_in bundle.now) (data_of object.now) path lookups.new.items) }
+        ensures only { OnOk result (AddsOnly (λ lookup. (lookup.path ≡ path) × IsSeenFrom self.now.paths.items (data_in bundle.now) (data_of object.now) lookup)
+            lookups.old.items lookups.new.items) }
+    {
+        let Some(guard) = self.paths.get(path) else {
+            return Ok(());
+        };
+        let Some(value) = value_behind(bundle, object, guard.steps) else {
+            return Ok(());
+        };
+        lookups.push(Lookup {
+            path,
+            key: Key::Any,
+        })?;
+        if let Some(key) = key_in(value) {
+            lookups.push(Lookup { path, key })?;
+        }
+        Ok(())
+    }
+}
+
+/// The same look-ups, each once.
+fn each_lookup_once(mut lookups: Vec<Lookup<'_>>) -> Vec<Lookup<'_>>
+    ensures keeps { Keeps lookups.entry.items result.items }
+    ensures only { (lookup : Lookup) → Contains result.items lookup → Contains lookups.entry.items lookup }
+{
+    lookups.sort_unstable();
+    lookups.dedup();
+    lookups
+}
+
+/// Adds the places of some entries.
+fn add_places(entries: &[(Lookup<'_>, u32)], places: &mut Vec<u32>) -> Result<(), NoMemory>
+    ensures { OnOk result (places.new.items ≡ places.old.items ++ map (λ entry. entry.1) entries.now) }
+{
+    for (_, place) in entries {
+        places.push(*place)?;
+    }
+    Ok(())
+}
+
+/// The numbers of paths, by the types of their roots.
+fn kinds_of<'p>(alloc: Global, paths: &[Guard<'p>]) -> Result<Vec<(&'p str, usize)>, NoMemory>
+    ensures all { IfOk result (λ kinds. AreKinds paths.now kinds.items) }
+    ensures only { IfOk result (λ kinds. All (IsOfKind paths.now) kinds.items) }
+{
+    let mut kinds = Vec::with_capacity(alloc, paths.len())?;
+    for (number, path) in paths.iter().enumerate() {
+        kinds.push((path.kind, number))?;
+    }
+    Ok(kinds)
+}

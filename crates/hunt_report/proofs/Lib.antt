@@ -1,0 +1,14 @@
+mod AnswerLemmas
+mod BreakLemmas
+mod SightingKindLemmas
+mod SightingLemmas
+mod EnvelopeLemmas
+mod PlaceLemmas
+mod HitsLemmas
+mod SightLemmas
+mod HunterLemmas
+mod TellingLemmas
+mod LinesLemmas
+mod ReportLemmas
+mod HuntableLemmas
+mod IndicatorKindLemmas

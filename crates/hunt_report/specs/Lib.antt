@@ -1,0 +1,8 @@
+pub mod Sightings
+pub mod Envelope
+pub mod inner
+pub mod Rows
+pub mod Hits
+pub mod Lines
+pub mod Sights
+pub mod Hunting

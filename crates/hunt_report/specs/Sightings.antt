@@ -1,0 +1,87 @@
+-- The sighting of what was seen of an indicator (STIX 2.1, section 5.2): it has the indicator's UUID and is created when
+-- the indicator was, so that each run of a hunt tells a version of one object.
+use Rattle.std.specs.Prelude.{◌≡◌, ◌⊎◌, ℕ, ◌%◌, ◌==◌, min, ℤ, pos, ◌≤ℤ◌, ◌<ℤ◌, ◌+ℤ◌, unsigned_abs, List, [], ◌∷◌, codes, if◌then◌else◌}
+use Rattle.serde_json.specs.Data.{Data, number, string, object}
+use Rattle.serde_json.specs.Find.{of_integer}
+use Rattle.serde_json.specs.Written.{compact_text}
+use Rattle.stix_ids.specs.declared.id.Id.{Id}
+use Rattle.stix_ids.specs.Identifier.{IsCanonicalTextOf as IsCanonicalIdOf}
+use Rattle.stix_json.specs.DataOf.{Member, members_of}
+use Rattle.stix_times.specs.Writing.{IsCanonicalTextOf, IsTextOfDigits, IsWhole}
+use Rattle.hunt_report.specs.declared.seen.Seen.{Seen}
+use Rattle.hunt_report.specs.declared.seen.TheConstants.{MAX_COUNT}
+
+-- what may be told of an indicator: it was created at a whole number of microseconds, and the last binding didn't end
+-- before the first
+pub record IsSeen (seen : Seen) : Type 0 where
+  pub kind : seen.indicator.now.kind ≡ codes "indicator"
+  pub created : IsWhole 1000 seen.created
+  pub in_order : seen.first ≤ℤ seen.last
+
+-- the digits of a second of a version: three where nothing is lost, else six
+abbrev pub version_digits : ℤ → ℕ
+version_digits instant = if unsigned_abs instant % 1_000_000 == 0 then 3 else 6
+
+-- the text of a version's instant
+abbrev pub IsVersionText : ℤ → List ℕ → Type 0
+IsVersionText instant text = IsTextOfDigits (version_digits instant) text instant
+
+-- the last whole number of milliseconds that isn't later than the moment
+pub record IsRoundedDown (moment rounded : ℤ) : Type 0 where
+  pub whole : IsWhole 1_000_000 rounded
+  pub not_later : rounded ≤ℤ moment
+  pub near : moment <ℤ (rounded +ℤ pos 1_000_000)
+
+-- the later of when it was created and the moment, rounded down
+pub record IsModifiedAt (created moment modified : ℤ) : Type 0 where
+  pub rounded : ℤ
+  pub is_rounded : IsRoundedDown moment rounded
+  pub after_created : created ≤ℤ modified
+  pub after_rounded : rounded ≤ℤ modified
+  pub one_of_both : (modified ≡ created) ⊎ (modified ≡ rounded)
+
+-- a property that is a text
+abbrev pub text_member : List ℕ → List ℕ → Member
+text_member name text = record { name = name; value = string text }
+
+-- a sighting with that count, and these texts of its times, its identifier and the indicator's
+abbrev pub sighting_data : ℕ → List ℕ → List ℕ → List ℕ → List ℕ → List ℕ → List ℕ → Data
+sighting_data count created first id last modified of = object (members_of (
+    record { name = codes "count"; value = number (of_integer (pos count)) }
+    ∷ text_member (codes "created") created
+    ∷ text_member (codes "first_seen") first
+    ∷ text_member (codes "id") id
+    ∷ text_member (codes "last_seen") last
+    ∷ text_member (codes "modified") modified
+    ∷ text_member (codes "sighting_of_ref") of
+    ∷ text_member (codes "spec_version") (codes "2.1")
+    ∷ text_member (codes "type") (codes "sighting")
+    ∷ []))
+
+-- the identifier of the sighting of an indicator
+abbrev pub sighting_id : Id → Id
+sighting_id indicator = record { kind = codes "sighting"; number = indicator.number }
+
+-- the sighting that is made at the moment of what was seen
+pub record IsSightingOf (moment : ℤ) (seen : Seen) (d : Data) : Type 0 where
+  pub created : List ℕ
+  pub created_is : IsVersionText seen.created created
+  pub instant : ℤ
+  pub modified_at : IsModifiedAt seen.created moment instant
+  pub modified : List ℕ
+  pub modified_is : IsVersionText instant modified
+  pub first : List ℕ
+  pub first_is : IsCanonicalTextOf first seen.first
+  pub last : List ℕ
+  pub last_is : IsCanonicalTextOf last seen.last
+  pub id : List ℕ
+  pub id_is : IsCanonicalIdOf id (sighting_id seen.indicator.now)
+  pub of : List ℕ
+  pub of_is : IsCanonicalIdOf of seen.indicator.now
+  pub is : d ≡ sighting_data (min seen.count MAX_COUNT) created first id last modified of
+
+-- its text
+pub record IsSightingText (moment : ℤ) (seen : Seen) (text : List ℕ) : Type 0 where
+  pub data_is : Data
+  pub sighting : IsSightingOf moment seen data_is
+  pub written : text ≡ compact_text data_is

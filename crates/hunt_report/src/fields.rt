@@ -1,0 +1,118 @@
+//! The fields of a sighting, added one by one.
+
+ghost use Rattle.std.specs.Prelude.{◌≡◌, ℕ, ◌<◌, ◌^◌, [], ◌++◌, ◌∷◌, List, OnOk, map, pos};
+ghost use Rattle.serde_json.specs.Data.{number as whole, object};
+ghost use Rattle.serde_json.specs.Find.{of_integer};
+ghost use Rattle.stix_json.specs.DataOf.{data_of, field_data, members_of};
+ghost use Rattle.stix_ids.specs.Kind.{IsKind};
+ghost use Rattle.stix_ids.specs.Identifier.{IsCanonicalTextOf as IsCanonicalIdOf};
+ghost use Rattle.stix_times.specs.Writing.{IsCanonicalTextOf, IsWhole};
+ghost use Rattle.hunt_report.specs.Sightings.{IsVersionText, text_member};
+ghost use Rattle.hunt_report.specs.inner.Adding.{AddsText};
+
+use crate::times::{time_text, version_text};
+use flow_values::{Items, NoMemory, Text};
+use std::alloc::Global;
+use stix_ids::{Id, write_id};
+use stix_json::{Field, Json, JsonText};
+use flow_values::Name;
+use stix_times::Instant;
+
+/// Fields that come one by one.
+#[derive(Drop)]
+pub(crate) struct Fields {
+    pub(crate) fields: Vec<Field>,
+}
+
+impl Fields {
+    /// No fields yet.
+    pub(crate) fn new(alloc: Global) -> Fields
+        ensures { map field_data result.fields.items ≡ [] }
+    {
+        Fields {
+            fields: Vec::new(alloc),
+        }
+    }
+
+    /// The object of the fields.
+    pub(crate) fn into_object(self) -> Json
+        ensures { data_of result ≡ object (members_of (map field_data self.fields.items)) }
+    {
+        Json::Object(Items::from_vec(self.fields))
+    }
+
+    /// Adds a field.
+    fn add(&mut self, alloc: Global, name: &str, value: Json) -> Result<(), NoMemory>
+        ensures { OnOk result (map field_data self.new.fields.items
+            ≡ map field_data self.old.fields.items ++ record { name = name.now; value = data_of value } ∷ []) }
+    {
+        let name = Name::from_text(alloc, name)?;
+        self.fields.push(Field { name, value })?;
+        Ok(())
+    }
+
+    /// Adds a field of a whole number.
+    pub(crate) fn add_count(
+        &mut self,
+        alloc: Global,
+        name: &str,
+        count: u32,
+    ) -> Result<(), NoMemory>
+        ensures { OnOk result (map field_data self.new.fields.items
+            ≡ map field_data self.old.fields.items ++ record { name = name.now; value = whole (of_integer (pos count)) } ∷ []) }
+    {
+        self.add(alloc, name, Json::Integer(i64::from(count)))
+    }
+
+    /// Adds a field of a text.
+    fn add_text(&mut self, alloc: Global, name: &str, text: Text) -> Result<(), NoMemory>
+        ensures { OnOk result (map field_data self.new.fields.items ≡ map field_data self.old.fields.items ++ text_member name.now text ∷ []) }
+    {
+        let text = JsonText::from_text(alloc, text)?;
+        self.add(alloc, name, Json::String(text))
+    }
+
+    /// Adds a field of a text that is known.
+    pub(crate) fn add_word(&mut self, alloc: Global, name: &str, word: &str) -> Result<(), NoMemory>
+        ensures { OnOk result (map field_data self.new.fields.items ≡ map field_data self.old.fields.items ++ text_member name.now word.now ∷ []) }
+    {
+        let text = Text::from_text(alloc, word)?;
+        self.add_text(alloc, name, text)
+    }
+
+    /// Adds a field of an identifier.
+    pub(crate) fn add_id(&mut self, alloc: Global, name: &str, id: &Id) -> Result<(), NoMemory>
+        requires { IsKind id.now.kind }
+        ensures { OnOk result (AddsText (λ text. IsCanonicalIdOf text id.now) name.now (map field_data self.old.fields.items) (map field_data self.new.fields.items)) }
+    {
+        let text = write_id(alloc, id)?;
+        self.add_text(alloc, name, text)
+    }
+
+    /// Adds a field of the time of a version.
+    pub(crate) fn add_version(
+        &mut self,
+        alloc: Global,
+        name: &str,
+        instant: Instant,
+    ) -> Result<(), NoMemory>
+        requires { IsWhole 1000 instant }
+        ensures { OnOk result (AddsText (IsVersionText instant) name.now (map field_data self.old.fields.items) (map field_data self.new.fields.items)) }
+    {
+        let text = version_text(alloc, instant)?;
+        self.add_text(alloc, name, text)
+    }
+
+    /// Adds a field of a time.
+    pub(crate) fn add_time(
+        &mut self,
+        alloc: Global,
+        name: &str,
+        instant: Instant,
+    ) -> Result<(), NoMemory>
+        ensures { OnOk result (AddsText (λ text. IsCanonicalTextOf text instant) name.now (map field_data self.old.fields.items) (map field_data self.new.fields.items)) }
+    {
+        let text = time_text(alloc, instant)?;
+        self.add_text(alloc, name, text)
+    }
+}

@@ -1,0 +1,47 @@
+//! What follows from the definitions: the contracts are the laws, and the functions do nothing.
+
+ghost use Rattle.std.specs.Prelude.{List, [], All, ℤ};
+ghost use Rattle.serde_json.specs.Data.{Data};
+ghost use Rattle.stix_ids.specs.Kind.{IsKind};
+ghost use Rattle.stix_objects.specs.Breaks.{AreBreaksOf};
+ghost use Rattle.pattern_types.specs.declared.pattern.Pattern.{Pattern};
+ghost use Rattle.hunt_feed.specs.declared.hunted.Hunt.{Hunt};
+ghost use Rattle.hunt_feed.specs.Indicators.{IsHuntOf};
+ghost use Rattle.hunt_engine.specs.declared.found.Found.{Found};
+ghost use Rattle.hunt_engine.specs.EngineLog.{Row};
+ghost use Rattle.hunt_report.specs.Hits.{AnswerRows, AreHits};
+ghost use Rattle.hunt_report.specs.Hunting.{IsHuntable};
+
+use match_stream::laws::answers_are_the_listing;
+use pattern_types::leaf_laws::leaves_are_brackets;
+use stix_objects::laws::{no_breaks, one_id};
+use stix_times::laws::millis_are_whole;
+use hunt_engine::laws::one_log;
+
+/// The answers to the rows of a log, one after another, are its hits.
+pub fn answers_are_the_hits()
+    ensures { (patterns : List Pattern) (rows : List Row) (hits : List Found) → AnswerRows patterns [] rows hits → AreHits patterns rows hits }
+{
+    answers_are_the_listing();
+    one_log();
+}
+
+/// Each indicator that is hunted can be, and a sighting of it can be told.
+pub fn hunted_are_huntable()
+    ensures { (objects : List Data) (moment : ℤ) (hunt : Hunt) → All (λ object. AreBreaksOf object []) objects
+        → IsHuntOf objects moment hunt → All IsHuntable hunt.hunted }
+{
+    no_breaks();
+    one_id();
+    millis_are_whole();
+    leaves_are_brackets();
+}
+
+/// Each indicator that is skipped can be told: its identifier is of a kind.
+pub fn skipped_can_be_told()
+    ensures { (objects : List Data) (moment : ℤ) (hunt : Hunt) → All (λ object. AreBreaksOf object []) objects
+        → IsHuntOf objects moment hunt → All (λ s. IsKind s.id.kind) hunt.skipped }
+{
+    no_breaks();
+    one_id();
+}

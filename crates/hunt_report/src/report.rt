@@ -1,0 +1,159 @@
+ghost use Rattle.std.specs.Prelude.{◌≡◌, ◌++◌, ◌≤ℤ◌, [], ℕ, List, Option, Err, All, length, IfOk, OnOk, OnErr};
+ghost use Rattle.flow_edges.specs.Faults.{Counted};
+ghost use Rattle.flow_edges.specs.Flow.{written_with, WritesPrefix};
+ghost use Rattle.match_run.specs.OnItsWay.{IsOnItsWay};
+ghost use Rattle.match_run.specs.declared.cut_short.CutShort.TheVariants as cut;
+ghost use Rattle.hunt_engine.specs.declared.found.Found.{Found};
+ghost use Rattle.hunt_engine.specs.EngineLog.{Row};
+ghost use Rattle.hunt_report.specs.Hunting.{IsHuntable, HuntsOver};
+ghost use Rattle.hunt_report.specs.Sights.{IsReport, TellsReport, begun_by};
+ghost use Rattle.hunt_report.specs.inner.Reporting.{IsTextOf, TellsSoFar, TellsPart, AddsSight, BreaksAtSight, is_begun, mark_of, end_of, IsSightInOrder};
+
+use crate::{Hunter, Sight};
+use flow_edges::Sink;
+use flow_values::{NoMemory, Text};
+use std::alloc::Global;
+use stix_times::Instant;
+use hunt_feed::Hunted;
+use match_run::watch_laws::parts_on_their_way;
+use match_run::{CutShort, Pending};
+use crate::sighting_laws::one_text_more;
+use crate::{Seen, sighting_text};
+
+/// Writes the line that tells, at a moment, what was seen of the hunted indicators: an envelope of their sightings. Where there is
+/// no hit, nothing is written. After an `Err` a prefix of the line was.
+pub fn write_report<O: Sink>(
+    alloc: Global,
+    hunter: &Hunter<'_>,
+    moment: Instant,
+    output: &mut O,
+) -> Result<(), CutShort>
+    requires { All IsHuntable hunter.now.hunted }
+    ensures ok { (rows : List Row) (hits : List Found) → HuntsOver hunter.now rows hits → OnOk result ((text : List ℕ)
+        × IsReport moment rows hits hunter.now.hunted text × (O.written output.new ≡ written_with text (O.written output.old))) }
+    ensures err { (rows : List Row) (hits : List Found) → HuntsOver hunter.now rows hits → OnErr result ((text : List ℕ)
+        × TellsReport moment rows hits hunter.now.hunted text × WritesPrefix text (O.written output.old) (O.written output.new)) }
+    ensures causes { Counted (result ≡ Err CutShort.WriteFault) (O.faults output.old) (O.faults output.new) }
+{
+    parts_on_their_way();
+    let mut pending = Pending::new(alloc);
+    let begun = add_sightings(alloc, hunter, moment, &mut pending, output)?;
+    let end = end_of(begun);
+    pending.add(end.as_bytes(), output)?;
+    pending.write(output)?;
+    Ok(())
+}
+
+/// Adds the sightings of the indicators up to the last of them, and answers whether there is one.
+fn add_sightings<O: Sink>(
+    alloc: Global,
+    hunter: &Hunter<'_>,
+    moment: Instant,
+    pending: &mut Pending,
+    output: &mut O,
+) -> Result<bool, CutShort>
+    requires huntable { All IsHuntable hunter.now.hunted }
+    ensures ok { (first : Option (List ℕ)) → IsOnItsWay [] pending.old first (O.written output.old)
+        → IfOk result (λ begun. TellsSoFar moment hunter.now.hunted hunter.now.sights begun pending.new first (O.written output.new)) }
+    ensures err { (first : Option (List ℕ)) → IsOnItsWay [] pending.old first (O.written output.old)
+        → OnErr result (TellsPart moment hunter.now.hunted hunter.now.sights first (O.written output.new)) }
+    ensures causes { Counted (result ≡ Err CutShort.WriteFault) (O.faults output.old) (O.faults output.new) }
+{
+    let hunted = hunter.hunted;
+    let sights = hunter.sights.as_slice();
+    let mut begun = false;
+    for at in 0..hunted.len() {
+        begun = add_sighting(
+            alloc,
+            &hunted[at],
+            sights[at],
+            moment,
+            begun,
+            pending,
+            output,
+        )?;
+    }
+    Ok(begun)
+}
+
+/// Adds the sighting of an indicator, where it has one, and answers whether there is one now.
+fn add_sighting<O: Sink>(
+    alloc: Global,
+    indicator: &Hunted,
+    sight: Option<Sight>,
+    moment: Instant,
+    begun: bool,
+    pending: &mut Pending,
+    output: &mut O,
+) -> Result<bool, CutShort>
+    requires huntable { IsHuntable indicator.now }
+    requires order { IsSightInOrder sight }
+    ensures ok { (texts : List (List ℕ)) (first : Option (List ℕ)) → begun ≡ is_begun texts → IsOnItsWay (begun_by texts) pending.old first (O.written output.old)
+        → IfOk result (λ begun. AddsSight moment indicator.now sight texts begun pending.new first (O.written output.new)) }
+    ensures err { (texts : List (List ℕ)) (first : Option (List ℕ)) → begun ≡ is_begun texts → IsOnItsWay (begun_by texts) pending.old first (O.written output.old)
+        → OnErr result (BreaksAtSight moment indicator.now sight texts first (O.written output.new)) }
+    ensures causes { Counted (result ≡ Err CutShort.WriteFault) (O.faults output.old) (O.faults output.new) }
+{
+    parts_on_their_way();
+    one_text_more();
+    let Some(sight) = sight else {
+        return Ok(begun);
+    };
+    let text = text_of(alloc, indicator, sight, moment)?;
+    add_text(text.as_str(), begun, pending, output)?;
+    Ok(true)
+}
+
+/// The text of the sighting of an indicator of which this is kept.
+fn text_of(
+    alloc: Global,
+    indicator: &Hunted,
+    sight: Sight,
+    moment: Instant,
+) -> Result<Text, NoMemory>
+    requires huntable { IsHuntable indicator.now }
+    requires order { sight.first ≤ℤ sight.last }
+    ensures { IfOk result (IsTextOf moment indicator.now sight) }
+{
+    let seen = Seen {
+        indicator: &indicator.id,
+        created: indicator.created,
+        count: sight.count,
+        first: sight.first,
+        last: sight.last,
+    };
+    sighting_text(alloc, moment, &seen)
+}
+
+/// Adds a text to an envelope, of which it is the first where none is begun.
+fn add_text<O: Sink>(
+    text: &str,
+    begun: bool,
+    pending: &mut Pending,
+    output: &mut O,
+) -> Result<(), CutShort>
+    ensures ok { (before : List ℕ) (first : Option (List ℕ)) → IsOnItsWay before pending.old first (O.written output.old)
+        → OnOk result (IsOnItsWay (before ++ (mark_of begun ++ text.now)) pending.new first (O.written output.new)) }
+    ensures err { (before : List ℕ) (first : Option (List ℕ)) → IsOnItsWay before pending.old first (O.written output.old)
+        → OnErr result (WritesPrefix (before ++ (mark_of begun ++ text.now)) first (O.written output.new)) }
+    ensures causes { Counted (result ≡ Err CutShort.WriteFault) (O.faults output.old) (O.faults output.new) }
+{
+    let mark = mark_of(begun);
+    pending.add(mark.as_bytes(), output)?;
+    pending.add(text.as_bytes(), output)?;
+    Ok(())
+}
+
+/// What stands ahead of a text in an envelope.
+fn mark_of(begun: bool) -> &'static str
+    ensures { result.now ≡ mark_of begun }
+{
+    if begun { "," } else { "{\"objects\":[" }
+}
+
+/// What stands behind the texts in an envelope, where one is begun.
+fn end_of(begun: bool) -> &'static str
+    ensures { result.now ≡ end_of begun }
+{
+    if begun { "]}\n" } else { "" }
+}

@@ -1,0 +1,18 @@
+//! What follows from the definitions: the contracts are the laws, and the functions do nothing.
+
+ghost use Rattle.std.specs.Prelude.{◌≡◌, ℕ, List, [], ◌∷◌, ◌++◌, map, codes};
+ghost use Rattle.serde_json.specs.Data.{Data};
+ghost use Rattle.serde_json.specs.Written.{compact_text};
+ghost use Rattle.hunt_report.specs.Envelope.{opened, envelope_text, envelope_data};
+
+/// An envelope goes on with the first text as it is, and with each other one behind a comma.
+pub fn one_text_more()
+    ensures first { (text : List ℕ) → opened (text ∷ []) ≡ opened [] ++ text }
+    ensures other { (before text : List ℕ) (texts : List (List ℕ))
+        → opened (before ∷ texts ++ text ∷ []) ≡ opened (before ∷ texts) ++ (codes "," ++ text) }
+{}
+
+/// The envelope of the texts of some objects is the text of the object whose `objects` they are.
+pub fn envelope_is_an_object()
+    ensures { (objects : List Data) → envelope_text (map compact_text objects) ≡ compact_text (envelope_data objects) }
+{}

@@ -1,0 +1,60 @@
+ghost use Rattle.std.specs.Prelude.{◌≡◌, IfOk};
+ghost use Rattle.stix_times.specs.Writing.{IsCanonicalTextOf, IsTextOfDigits, IsWhole};
+ghost use Rattle.hunt_report.specs.Sightings.{IsVersionText};
+
+use flow_values::{NoMemory, Text};
+use std::alloc::Global;
+use stix_times::{Instant, nanos, write, write_micros, write_millis};
+
+const NANOS_PER_MILLI: i128 = 1_000_000;
+
+/// The text of an instant.
+pub(crate) fn time_text(alloc: Global, instant: Instant) -> Result<Text, NoMemory>
+    ensures { IfOk result (λ text. IsCanonicalTextOf text instant) }
+{
+    let mut buffer = [0; 32];
+    let length = write(instant, &mut buffer);
+    text_in(alloc, &buffer[..length])
+}
+
+/// The text of a version's instant, with three digits of a second where nothing is lost, else six.
+pub(crate) fn version_text(alloc: Global, instant: Instant) -> Result<Text, NoMemory>
+    requires { IsWhole 1000 instant }
+    ensures { IfOk result (IsVersionText instant) }
+{
+    if nanos(instant) % NANOS_PER_MILLI == 0 {
+        millis_text(alloc, instant)
+    } else {
+        micros_text(alloc, instant)
+    }
+}
+
+/// Its text with three digits of a second.
+fn millis_text(alloc: Global, instant: Instant) -> Result<Text, NoMemory>
+    requires { IsWhole 1_000_000 instant }
+    ensures { IfOk result (λ text. IsTextOfDigits 3 text instant) }
+{
+    let mut buffer = [0; 32];
+    let length = write_millis(instant, &mut buffer);
+    text_in(alloc, &buffer[..length])
+}
+
+/// Its text with six digits of a second.
+fn micros_text(alloc: Global, instant: Instant) -> Result<Text, NoMemory>
+    requires { IsWhole 1000 instant }
+    ensures { IfOk result (λ text. IsTextOfDigits 6 text instant) }
+{
+    let mut buffer = [0; 32];
+    let length = write_micros(instant, &mut buffer);
+    text_in(alloc, &buffer[..length])
+}
+
+/// The text that bytes are, which are those of a time.
+fn text_in(alloc: Global, bytes: &[u8]) -> Result<Text, NoMemory>
+    ensures { IfOk result (λ text. text ≡ bytes.now) }
+{
+    match std::str::from_utf8(bytes) {
+        Ok(text) => Text::from_text(alloc, text),
+        Err(_) => Err(NoMemory),
+    }
+}

@@ -1,0 +1,10 @@
+pub mod Pieces
+pub mod Frames
+pub mod PropertyOf
+pub mod Bytes
+pub mod Places
+pub mod Search
+pub mod Positions
+pub mod Roots
+pub mod Splits
+pub mod Rows

@@ -1,0 +1,60 @@
+-- For private clauses: a search for a value that a path reaches and that meets a check, and that its findings are right.
+use Rattle.std.specs.Prelude.{◌≡◌, false, ℕ, List, ◌∷◌, ◌++◌, length, Contains, Option, Some, None, slice_get, option_map}
+use Rattle.std.specs.Borrow.{Bor}
+use Rattle.serde_json.specs.Data.{Data}
+use Rattle.stix_bundles.specs.Objects.{data_in}
+use Rattle.pattern_types.specs.declared.path.Step.{Step}
+use Rattle.pattern_types.specs.Soundness.{IsSoundCheck}
+use Rattle.match_comparisons.specs.Selection.{Reaches}
+use Rattle.pattern_types.specs.declared.leaf.Test.{Test}
+use Rattle.match_comparisons.specs.Tests.{Turned, Meets, IsAbsence, last_of}
+use Rattle.match_comparisons.specs.declared.search.Search.{Search}
+use Rattle.match_comparisons.specs.declared.findings.Findings.{Findings}
+use Rattle.match_comparisons.specs.inner.Places.{Has}
+
+-- the name that a lent text is
+abbrev pub name_of : Option (Bor (List ℕ)) → Option (List ℕ)
+name_of last = option_map (λ (name : Bor (List ℕ)). name.now) last
+
+-- the value is one that is searched for
+abbrev pub IsWanted : Search → Data → Type 0
+IsWanted search value = Turned search.negated (Meets (name_of search.last) value search.check.now)
+
+-- the steps reach such a value
+abbrev pub Finds : Search → Option (List ℕ) → List Step → Data → Type 0
+Finds search last steps value = (found : Data) × Reaches (data_in search.bundle.now) last steps value found × IsWanted search found
+
+-- from one of the values
+abbrev pub SomeFinds : Search → Option (List ℕ) → List Step → List Data → Type 0
+SomeFinds search last steps values = (value : Data) × Contains values value × Finds search last steps value
+
+-- from the object at the place
+abbrev pub FindsAt : Search → List Step → ℕ → Type 0
+FindsAt search steps at = (object : Data) × (slice_get (data_in search.bundle.now) at ≡ Some object) × Finds search None steps object
+
+-- these are the last steps of the path
+abbrev pub AreLast : Search → List Step → Type 0
+AreLast search steps = (front : List Step) × (search.steps.now ≡ front ++ steps)
+
+-- from the object of each dead end, a step and those that are left behind it reach no value that is searched for, and from
+-- that of each live one they do
+pub record AreRight (search : Search) (findings : Findings) : Type 0 where
+  pub dead : (step : Step) (rest : List Step) (at : ℕ) → AreLast search (step ∷ rest)
+      → Has findings.dead (length rest) at → ¬ FindsAt search (step ∷ rest) at
+  pub live : (step : Step) (rest : List Step) (at : ℕ) → AreLast search (step ∷ rest)
+      → Has findings.live (length rest) at → FindsAt search (step ∷ rest) at
+
+-- the search stands before these last steps of its path, and its findings are right
+pub record StandsBefore (search : Search) (steps : List Step) (findings : Findings) : Type 0 where
+  pub sound : IsSoundCheck search.check.now
+  pub last : AreLast search steps
+  pub right : AreRight search findings
+
+-- it is the search that a test asks for: NOT EXISTS searches for any value, and another test with NOT for one that doesn't meet
+-- its check
+pub record IsSearchOf (test : Test) (search : Search) : Type 0 where
+  pub steps : search.steps.now ≡ test.path.steps
+  pub last : name_of search.last ≡ last_of test.path
+  pub check : search.check.now ≡ test.check
+  pub absence : IsAbsence test → search.negated ≡ false
+  pub negated : (¬ IsAbsence test) → search.negated ≡ test.negated

@@ -1,0 +1,41 @@
+ghost use Rattle.std.specs.Prelude.{◌≡◌, ◌↔◌, Some, IfSome, IsTrue};
+ghost use Rattle.pattern_types.specs.Block.{IsValid, IsWithin};
+ghost use Rattle.pattern_types.specs.declared.block.Block.{Block};
+ghost use Rattle.stix_json.specs.DataOf.{data_of};
+ghost use Rattle.match_comparisons.specs.Tests.{IsBlockOf};
+
+use pattern_types::{Block, read_block, within};
+use stix_json::{Json, text_of};
+
+/// The block whose text a value is.
+fn block_of(value: &Json) -> Option<Block>
+    ensures exact { (block : Block) → (result ≡ Some block) ↔ IsBlockOf (data_of value.now) block }
+    ensures valid { IfSome result IsValid }
+{
+    match text_of(value) {
+        Some(text) => read_block(text),
+        None => None,
+    }
+}
+
+/// Whether a value is the text of a block that lies in that one.
+pub(crate) fn lies_in(value: &Json, outer: &Block) -> bool
+    requires { IsValid outer.now }
+    ensures { IsTrue result ↔ ((block : Block) × IsBlockOf (data_of value.now) block × IsWithin block outer.now) }
+{
+    match block_of(value) {
+        Some(block) => within(&block, outer),
+        None => false,
+    }
+}
+
+/// Whether a value is the text of a block in which that one lies.
+pub(crate) fn holds_block(value: &Json, inner: &Block) -> bool
+    requires { IsValid inner.now }
+    ensures { IsTrue result ↔ ((block : Block) × IsBlockOf (data_of value.now) block × IsWithin inner.now block) }
+{
+    match block_of(value) {
+        Some(block) => within(inner, &block),
+        None => false,
+    }
+}

@@ -1,0 +1,126 @@
+ghost use Rattle.std.specs.Prelude.{◌↔◌, ◌⊎◌, List, ℕ, Option, IfOk, IsTrue, option_map};
+ghost use Rattle.std.specs.declared.cmp.Ordering.TheVariants.{Equal};
+ghost use Rattle.stix_json.specs.DataOf.{data_of};
+ghost use Rattle.pattern_types.specs.declared.check.Check.TheVariants.{Among, Like};
+ghost use Rattle.pattern_types.specs.Soundness.{IsSoundCheck};
+ghost use Rattle.match_comparisons.specs.Tests.{Compares, Meets, Turned};
+ghost use Rattle.match_comparisons.specs.inner.Bytes.{StandsFor};
+
+use crate::block::{holds_block, lies_in};
+use crate::bytes::bytes_in;
+use crate::compare::compared;
+use flow_values::{Items, NoMemory};
+use crate::like;
+use pattern_types::{Check, Constant};
+use std::alloc::Global;
+use std::cmp::Ordering;
+use stix_json::{Json, text_of};
+
+/// Whether a value meets a check, behind that last name; of a negated one, whether it doesn't.
+pub(crate) fn meets_turned(
+    alloc: Global,
+    last: Option<&str>,
+    value: &Json,
+    check: &Check,
+    negated: bool,
+) -> Result<bool, NoMemory>
+    requires { IsSoundCheck check.now }
+    ensures { IfOk result (λ met. IsTrue met ↔ Turned negated (Meets (option_map (λ name. name.now) last.entry) (data_of value.now) check.now)) }
+{
+    let met = meets(alloc, last, value, check)?;
+    if negated { Ok(!met) } else { Ok(met) }
+}
+
+/// Whether a value meets a check, behind that last name.
+fn meets(alloc: Global, last: Option<&str>, value: &Json, check: &Check) -> Result<bool, NoMemory>
+    requires { IsSoundCheck check.now }
+    ensures { IfOk result (λ met. IsTrue met ↔ Meets (option_map (λ name. name.now) last.entry) (data_of value.now) check.now) }
+{
+    match check {
+        Check::Equal(constant) => compares(alloc, last, value, constant, Ordering::Equal),
+        Check::Differ(constant) => Ok(!compares(alloc, last, value, constant, Ordering::Equal)?),
+        Check::Less(constant) => compares(alloc, last, value, constant, Ordering::Less),
+        Check::LessEqual(constant) => reaches(alloc, last, value, constant, Ordering::Less),
+        Check::Greater(constant) => compares(alloc, last, value, constant, Ordering::Greater),
+        Check::GreaterEqual(constant) => reaches(alloc, last, value, constant, Ordering::Greater),
+        Check::Among(constants) => equals_some(alloc, last, value, constants.as_slice()),
+        Check::Like(pattern) => Ok(is_like(value, pattern.as_str())),
+        Check::Subset(address) => Ok(lies_in(value, &address.block)),
+        Check::Superset(address) => Ok(holds_block(value, &address.block)),
+        Check::Exists => Ok(true),
+    }
+}
+
+/// Whether a value compares so with the constant.
+fn compares(
+    alloc: Global,
+    last: Option<&str>,
+    value: &Json,
+    constant: &Constant,
+    wanted: Ordering,
+) -> Result<bool, NoMemory>
+    ensures { IfOk result (λ so. IsTrue so ↔ Compares (option_map (λ name. name.now) last.entry) (data_of value.now) constant.now wanted) }
+{
+    let own = bytes_in(alloc, last, value)?;
+    Ok(compares_so(value, &own, constant, wanted))
+}
+
+/// The same, where the value stands for those bytes.
+fn compares_so(value: &Json, own: &Option<Items<u8>>, constant: &Constant, wanted: Ordering) -> bool
+    ensures { (last : Option (List ℕ)) → StandsFor last (data_of value.now) own.now
+        → IsTrue result ↔ Compares last (data_of value.now) constant.now wanted }
+{
+    compared(value, own, constant) == Some(wanted)
+}
+
+/// Whether a value compares so with the constant, or equals it.
+fn reaches(
+    alloc: Global,
+    last: Option<&str>,
+    value: &Json,
+    constant: &Constant,
+    wanted: Ordering,
+) -> Result<bool, NoMemory>
+    ensures { IfOk result (λ so. IsTrue so ↔ Compares (option_map (λ name. name.now) last.entry) (data_of value.now) constant.now wanted
+        ⊎ Compares (option_map (λ name. name.now) last.entry) (data_of value.now) constant.now Equal) }
+{
+    let own = bytes_in(alloc, last, value)?;
+    let found = compared(value, &own, constant);
+    Ok(found == Some(wanted) || found == Some(Ordering::Equal))
+}
+
+/// Whether a value equals one of the constants. Its bytes are decoded once for all of them.
+fn equals_some(
+    alloc: Global,
+    last: Option<&str>,
+    value: &Json,
+    constants: &[Constant],
+) -> Result<bool, NoMemory>
+    ensures { IfOk result (λ met. IsTrue met ↔ Meets (option_map (λ name. name.now) last.entry) (data_of value.now) (Among constants.now)) }
+{
+    let own = bytes_in(alloc, last, value)?;
+    Ok(is_among(value, &own, constants))
+}
+
+/// The same, where the value stands for those bytes.
+fn is_among(value: &Json, own: &Option<Items<u8>>, constants: &[Constant]) -> bool
+    ensures { (last : Option (List ℕ)) → StandsFor last (data_of value.now) own.now
+        → IsTrue result ↔ Meets last (data_of value.now) (Among constants.now) }
+{
+    for constant in constants {
+        if compares_so(value, own, constant, Ordering::Equal) {
+            return true;
+        }
+    }
+    false
+}
+
+/// Whether a value is a text that is like the pattern.
+fn is_like(value: &Json, pattern: &str) -> bool
+    ensures { (last : Option (List ℕ)) → IsTrue result ↔ Meets last (data_of value.now) (Like pattern.now) }
+{
+    match text_of(value) {
+        Some(text) => like(text, pattern),
+        None => false,
+    }
+}

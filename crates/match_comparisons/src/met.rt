@@ -1,0 +1,75 @@
+ghost use Rattle.std.specs.Prelude.{◌↔◌, None, IfOk, OnOk, IsTrue};
+ghost use Rattle.serde_json.specs.Data.{Data};
+ghost use Rattle.stix_json.specs.DataOf.{data_of};
+ghost use Rattle.stix_json.specs.Ordered.{IsOrdered};
+ghost use Rattle.stix_bundles.specs.Objects.{data_in};
+ghost use Rattle.pattern_types.specs.Soundness.{IsSoundTest};
+ghost use Rattle.match_comparisons.specs.Selection.{Reaches};
+ghost use Rattle.match_comparisons.specs.Tests.{TestHolds, Turned, Meets, last_of};
+ghost use Rattle.match_comparisons.specs.inner.Search.{AreRight, IsSearchOf};
+
+use crate::findings::Findings;
+use crate::search::{Search, finds, is_absence};
+use flow_values::NoMemory;
+use crate::root_of;
+use pattern_types::Test;
+use std::alloc::Global;
+use stix_bundles::Bundle;
+use stix_json::Json;
+
+/// Whether the object at a position has the type of a test's path, and what the path selects from it
+/// meets the test. The search stops at the first value that does, and goes to no object by a reference
+/// twice for one step: so it costs at most the number of steps times the size of the bundle, however
+/// many ways there are. It takes memory where a text that stands for bytes is compared, and where the path
+/// has a `[*]`.
+pub fn holds(alloc: Global, test: &Test, bundle: &Bundle, root: u32) -> Result<bool, NoMemory>
+    requires { IsSoundTest test.now }
+    ensures { IfOk result (λ holds. IsTrue holds ↔ TestHolds (data_in bundle.now) root test.now) }
+{
+    let search = Search::new(alloc, bundle, test, 1);
+    let mut findings = Findings::new(alloc);
+    meets_test(&search, &mut findings, test, root)
+}
+
+/// The same, by the search that the test asks for, which knows what it found out from other positions.
+pub(crate) fn meets_test(
+    search: &Search<'_>,
+    findings: &mut Findings,
+    test: &Test,
+    root: u32,
+) -> Result<bool, NoMemory>
+    requires sound { IsSoundTest test.now }
+    requires is { IsSearchOf test.now search.now }
+    requires right { AreRight search.now findings.old }
+    ensures holds { IfOk result (λ holds. IsTrue holds ↔ TestHolds (data_in search.now.bundle.now) root test.now) }
+    ensures right { OnOk result (AreRight search.now findings.new) }
+{
+    let Some(object) = root_of(search.bundle, root, test.path.kind.as_str()) else {
+        return Ok(false);
+    };
+    let found = is_reached(search, findings, test, object)?;
+    if is_absence(test) {
+        Ok(!found)
+    } else {
+        Ok(found)
+    }
+}
+
+/// Whether the steps of a test's path reach, from an object, a value that is searched for.
+fn is_reached(
+    search: &Search<'_>,
+    findings: &mut Findings,
+    test: &Test,
+    object: &Json,
+) -> Result<bool, NoMemory>
+    requires sound { IsSoundTest test.now }
+    requires is { IsSearchOf test.now search.now }
+    requires right { AreRight search.now findings.old }
+    requires ordered { IsOrdered (data_of object.now) }
+    ensures found { IfOk result (λ found. IsTrue found
+        ↔ ((value : Data) × Reaches (data_in search.now.bundle.now) None test.now.path.steps (data_of object.now) value
+        × Turned search.now.negated (Meets (last_of test.now.path) value test.now.check))) }
+    ensures right { OnOk result (AreRight search.now findings.new) }
+{
+    finds(search, findings, None, search.steps, object)
+}

@@ -1,0 +1,152 @@
+ghost use Rattle.std.specs.Prelude.{◌≡◌, ◌↔◌, ◌∷◌, List, IfOk, OnOk, IfSome, IsTrue, All};
+ghost use Rattle.stix_json.specs.DataOf.{data_of};
+ghost use Rattle.stix_json.specs.Ordered.{IsOrdered};
+ghost use Rattle.stix_bundles.specs.Objects.{data_in};
+ghost use Rattle.pattern_types.specs.declared.path.Step.{Step};
+ghost use Rattle.match_comparisons.specs.Tests.{IsAbsence};
+ghost use Rattle.match_comparisons.specs.inner.Search.{name_of, Finds, SomeFinds, FindsAt, AreRight, StandsBefore, IsSearchOf};
+
+use crate::check::meets_turned;
+use crate::findings::Findings;
+use crate::last::last_name;
+use flow_values::NoMemory;
+use crate::laws::same_lead;
+use crate::{name_behind, object_at, reference, selected};
+use pattern_types::{Check, Step, Test};
+use std::alloc::Global;
+use stix_bundles::Bundle;
+use stix_json::Json;
+
+/// What is searched for, and by which steps: a value that meets a check, or where it is negated one
+/// that doesn't.
+#[derive(Clone, Copy)]
+pub(crate) struct Search<'a> {
+    pub(crate) alloc: Global,
+    pub(crate) bundle: &'a Bundle,
+    pub(crate) steps: &'a [Step],
+    /// The last name of the path.
+    pub(crate) last: Option<&'a str>,
+    pub(crate) check: &'a Check,
+    pub(crate) negated: bool,
+    /// Whether it may come to an object again, so that what is found out of it is kept.
+    pub(crate) revisits: bool,
+}
+
+impl<'a> Search<'a> {
+    /// The search that a test asks for, from so many roots. From one root and by a path with no `[*]` there is
+    /// one way at most, and it comes to no object again.
+    pub(crate) fn new(alloc: Global, bundle: &'a Bundle, test: &'a Test, roots: usize) -> Search<'a>
+        ensures is { IsSearchOf test.entry.now result }
+        ensures bundle { result.bundle ≡ bundle.entry }
+    {
+        let steps = test.path.steps.as_slice();
+        Search {
+            alloc,
+            bundle,
+            steps,
+            last: last_name(&test.path),
+            check: &test.check,
+            negated: test.negated && !is_absence(test),
+            revisits: roots > 1 || steps.iter().any(|step| matches!(step, Step::Each)),
+        }
+    }
+}
+
+/// Whether a test is NOT EXISTS.
+pub(crate) fn is_absence(test: &Test) -> bool
+    ensures { IsTrue result ↔ IsAbsence test.now }
+{
+    test.negated && matches!(&test.check, Check::Exists)
+}
+
+/// Whether the steps reach such a value from that one, behind that last name.
+#[cycle(search)]
+pub(crate) fn finds(
+    search: &Search<'_>,
+    findings: &mut Findings,
+    last: Option<&str>,
+    steps: &[Step],
+    value: &Json,
+) -> Result<bool, NoMemory>
+    requires before { StandsBefore search.now steps.now findings.old }
+    requires ordered { IsOrdered (data_of value.now) }
+    ensures found { IfOk result (λ found. IsTrue found ↔ Finds search.now (name_of last.entry) steps.now (data_of value.now)) }
+    ensures right { OnOk result (AreRight search.now findings.new) }
+{
+    let Some((step, rest)) = steps.split_first() else {
+        return meets_turned(
+            search.alloc,
+            search.last,
+            value,
+            search.check,
+            search.negated,
+        );
+    };
+    if let Some(at) = referred(search, last, step, value) {
+        return finds_at(search, findings, step, rest, at);
+    }
+    let values = selected(search.bundle, last, step, value);
+    some_finds(search, findings, name_behind(last, step), rest, values)
+}
+
+/// The position of the object from which a step goes on, where it leads through a reference.
+fn referred(search: &Search<'_>, last: Option<&str>, step: &Step, value: &Json) -> Option<u32>
+    ensures { IfSome result (λ at. (rest : List Step) → Finds search.now (name_of last.entry) (step.now ∷ rest) (data_of value.now)
+        ↔ FindsAt search.now (step.now ∷ rest) at) }
+{
+    same_lead();
+    match step {
+        Step::Name(_) => reference(search.bundle, last, value),
+        Step::Place(_) | Step::Each => None,
+    }
+}
+
+/// Whether they reach one from some of the values.
+#[cycle(search)]
+fn some_finds(
+    search: &Search<'_>,
+    findings: &mut Findings,
+    last: Option<&str>,
+    steps: &[Step],
+    values: &[Json],
+) -> Result<bool, NoMemory>
+    requires before { StandsBefore search.now steps.now findings.old }
+    requires ordered { All IsOrdered (data_in values.now) }
+    ensures found { IfOk result (λ found. IsTrue found ↔ SomeFinds search.now (name_of last.entry) steps.now (data_in values.now)) }
+    ensures right { OnOk result (AreRight search.now findings.new) }
+{
+    for value in values {
+        if finds(search, findings, last, steps, value)? {
+            return Ok(true);
+        }
+    }
+    Ok(false)
+}
+
+/// Whether they reach one from the object at a position. What is found out is kept: so each object is
+/// searched once for each step, and not once for each way there.
+#[cycle(search)]
+fn finds_at(
+    search: &Search<'_>,
+    findings: &mut Findings,
+    step: &Step,
+    rest: &[Step],
+    at: u32,
+) -> Result<bool, NoMemory>
+    requires { StandsBefore search.now (step.now ∷ rest.now) findings.old }
+    ensures found { IfOk result (λ found. IsTrue found ↔ FindsAt search.now (step.now ∷ rest.now) at) }
+    ensures right { OnOk result (AreRight search.now findings.new) }
+{
+    if let Some(found) = findings.known(rest.len(), at) {
+        return Ok(found);
+    }
+    let Some(object) = object_at(search.bundle, at) else {
+        return Ok(false);
+    };
+    let values = selected(search.bundle, None, step, object);
+    let found = some_finds(search, findings, name_behind(None, step), rest, values)?;
+    if search.revisits {
+        findings.add(rest.len(), at, found)?;
+    }
+    Ok(found)
+}

@@ -1,5 +1,0 @@
-pub mod CharactersLemmas
-pub mod IsLikeLemmas
-pub mod PiecesLemmas
-pub mod PlainPieceLemmas
-pub mod RunsLemmas

@@ -1,2 +1,0 @@
-pub mod Like
-pub mod inner

@@ -1,9 +1,0 @@
-pub mod LogLemmas
-pub mod RowsLemmas
-pub mod EndLemmas
-pub mod FollowLemmas
-pub mod StageLemmas
-pub mod ReadLemmas
-pub mod RunsLemmas
-pub mod PendingLemmas
-pub mod OneLogLemmas

@@ -1,5 +1,0 @@
-use Rattle.match_log.proofs.OneLogLemmas.{one_text}
-use Rattle.match_log.proofs.laws.one_output.Goals as goal
-
-pub returns : goal.returns
-returns c = one_text c.one_reading.ensures c.one_listing.ensures

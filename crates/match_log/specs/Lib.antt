@@ -1,5 +1,0 @@
-pub mod Entries
-pub mod Listing
-pub mod Matching
-pub mod Output
-pub mod inner

@@ -1,8 +1,0 @@
-use Rattle.match_paths.proofs.TakenLemmas.{taken_before, taken_whole}
-use Rattle.match_paths.proofs.laws.taken_first.Goals as goal
-
-pub returns-clause-before : goal.returns-clause-before
-returns-clause-before c = taken_before
-
-pub returns-clause-whole : goal.returns-clause-whole
-returns-clause-whole c = taken_whole

@@ -1,3 +1,0 @@
-pub mod Selection
-pub mod Remaining
-pub mod inner

@@ -1,0 +1,51 @@
+-- How a run ends where the matcher does.
+use Rattle.std.proofs.Common.{◌≡◌, ℕ, ℤ, ◌<ℤ◌, Bool, List, [], ◌∷◌, ◌++◌, Option, None, Some, Result, Err, refl, sym, subst, arith, length-append}
+use Rattle.serde_json.specs.Data.{Data}
+use Rattle.stix_bundles.specs.declared.observation.Observation.{Observation}
+use Rattle.pattern_types.specs.PlainPattern.{plain_pattern}
+use Rattle.match_comparisons.specs.Truths.{AreTruths}
+use Rattle.match_bindings.specs.declared.bind.Bind.{Bind}
+use Rattle.match_bindings.specs.declared.log_entry.LogEntry.{LogEntry}
+use Rattle.match_bindings.specs.NumberedPattern.{numbered_pattern}
+use Rattle.match_stream.specs.declared.ending.Ending.{Ending}
+use Rattle.match_stream.specs.declared.ending.Ending.TheVariants as ending
+use Rattle.match_stream.specs.declared.ending.MatchRefusal.{MatchRefusal}
+use Rattle.match_stream.specs.declared.ending.MatchRefusal.TheVariants as refusal
+use Rattle.match_stream.specs.MatcherState.{MatcherState, Falls}
+use Rattle.match_stream.specs.Answer.{IsCrowded, IsCrowdedAtRow}
+use Rattle.match_run.specs.inner.MatchEnds.{MayEnd, end_of_match}
+use Rattle.match_run.specs.inner.Rows.{row_of, EndsAtRow}
+
+-- the matcher answered so
+abbrev Answers : MatchRefusal → MatchRefusal → Type 0
+Answers one other = ◌≡◌ {A = Result (List Bind) MatchRefusal} (Err one) (Err other)
+
+pub may_end : (why : MatchRefusal) (state : MatcherState) (now : ℤ) → state.ended ≡ None → ¬ (Falls state.last now)
+    → ((before time : ℤ) → Answers why (refusal.Stopped (ending.OutOfOrder before time)) → (state.ended ≡ None) × (state.last ≡ Some before) × (time ≡ now) × (time <ℤ before))
+    → ((e : Ending) → Answers why (refusal.Ended e) → state.ended ≡ Some e) → MayEnd why
+may_end (refusal.Stopped (ending.Crowded number cap)) state now runs order fallen ended = tt
+may_end (refusal.Stopped (ending.OutOfOrder before time)) state now runs order fallen ended =
+    let is = fallen before time refl in
+    order (subst (λ (l : Option ℤ). Falls l now) (sym is.1) (subst (λ (t : ℤ). t <ℤ before) is.2 is.3))
+may_end (refusal.Stopped ending.NoMemory) state now runs order fallen ended = tt
+may_end (refusal.Ended e) state now runs order fallen ended = let some = ended e refl in cc
+
+pub ends_row : (objects : List Data) (o : Observation) (log : List LogEntry) (state after : MatcherState)
+    (truths : List Bool) (why : MatchRefusal) → AreTruths objects o.roots (plain_pattern state.pattern) truths
+    → ((number named : ℕ) → Answers why (refusal.Stopped (ending.Crowded number named)) → IsCrowdedAtRow state (log ++ row_of o truths ∷ []) number named)
+    → ((e : Ending) → Answers why (refusal.Stopped e) → (state.ended ≡ None) × (after.ended ≡ Some e))
+    → EndsAtRow state.pattern state.cap objects o log after (end_of_match why)
+ends_row objects o log state after truths (refusal.Stopped (ending.Crowded number named)) are crowded stopped =
+    let is = crowded number named refl in
+    let end = stopped (ending.Crowded number named) refl in
+    record {
+      truths = truths;
+      are = are;
+      numbered = omega (arith, is.numbered, length-append log (row_of o truths ∷ []));
+      cap_is = is.cap_is;
+      crowded = subst (λ (n : ℕ). IsCrowded (numbered_pattern state.pattern) (log ++ row_of o truths ∷ []) n) is.cap_is is.crowded;
+      ended = subst (λ (n : ℕ). after.ended ≡ Some (ending.Crowded number n)) is.cap_is end.1;
+    }
+ends_row objects o log state after truths (refusal.Stopped (ending.OutOfOrder before time)) are crowded stopped = tt
+ends_row objects o log state after truths (refusal.Stopped ending.NoMemory) are crowded stopped = tt
+ends_row objects o log state after truths (refusal.Ended e) are crowded stopped = tt

@@ -1,0 +1,12 @@
+pub mod LogLemmas
+pub mod RowsLemmas
+pub mod EndLemmas
+pub mod FollowLemmas
+pub mod StageLemmas
+pub mod ReadLemmas
+pub mod RunsLemmas
+pub mod PendingLemmas
+pub mod OneLogLemmas
+pub mod WayLemmas
+pub mod ReadingLemmas
+pub mod WatchLemmas

@@ -1,0 +1,8 @@
+pub mod Entries
+pub mod Listing
+pub mod Matching
+pub mod Output
+pub mod inner
+pub mod Reading
+pub mod Watching
+pub mod OnItsWay

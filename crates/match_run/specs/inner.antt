@@ -1,0 +1,5 @@
+pub mod MatchEnds
+pub mod Rows
+pub mod MatchRuns
+pub mod WatchEnds
+pub mod WatchRuns

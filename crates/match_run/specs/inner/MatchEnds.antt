@@ -1,0 +1,35 @@
+-- For private clauses: how a run ends where the reader does, and where the matcher does.
+use Rattle.std.specs.Prelude.{◌≡◌, ◌⊎◌, ⊤, Result, Ok, Err}
+use Rattle.match_stream.specs.declared.ending.Ending.TheVariants as ending
+use Rattle.match_stream.specs.declared.ending.MatchRefusal.{MatchRefusal}
+use Rattle.match_stream.specs.declared.ending.MatchRefusal.TheVariants as refusal
+use Rattle.match_input.specs.declared.read_end.ReadEnd.{ReadEnd}
+use Rattle.match_input.specs.declared.read_end.ReadEnd.TheVariants as read
+use Rattle.match_run.specs.declared.match_end.MatchEnd.{MatchEnd}
+use Rattle.match_run.specs.declared.match_end.MatchEnd.TheVariants.{Input, ReadFault, WriteFault, Crowded, NoMemory}
+
+abbrev pub end_of_read : ReadEnd → MatchEnd
+end_of_read (read.Input line why) = Input line why
+end_of_read read.ReadFault = ReadFault
+end_of_read read.Ended = NoMemory
+end_of_read read.NoMemory = NoMemory
+
+-- what a matcher may answer that hasn't ended, where times don't fall
+abbrev pub MayEnd : MatchRefusal → Type 0
+MayEnd (refusal.Stopped (ending.Crowded number cap)) = ⊤
+MayEnd (refusal.Stopped (ending.OutOfOrder last now)) = ⊥
+MayEnd (refusal.Stopped ending.NoMemory) = ⊤
+MayEnd (refusal.Ended before) = ⊥
+
+abbrev pub end_of_match : MatchRefusal → MatchEnd
+end_of_match (refusal.Stopped (ending.Crowded number cap)) = Crowded number cap
+end_of_match (refusal.Stopped (ending.OutOfOrder last now)) = NoMemory
+end_of_match (refusal.Stopped ending.NoMemory) = NoMemory
+end_of_match (refusal.Ended before) = NoMemory
+
+-- memory ran out, or a write failed: such an end comes in the middle of lines
+abbrev pub CutsLines : MatchEnd → Type 0
+CutsLines end = (end ≡ NoMemory) ⊎ (end ≡ WriteFault)
+
+abbrev pub HasCutLines : Result (Unit {0}) MatchEnd → Type 0
+HasCutLines ended = (ended ≡ Err NoMemory) ⊎ (ended ≡ Err WriteFault)

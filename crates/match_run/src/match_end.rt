@@ -1,0 +1,54 @@
+ghost use Rattle.std.specs.Prelude.{◌≡◌};
+ghost use Rattle.match_run.specs.declared.match_end.MatchEnd.TheVariants.{NoMemory as OutOfMemory};
+ghost use Rattle.match_run.specs.inner.MatchEnds.{end_of_read};
+
+use flow_values::NoMemory;
+use match_input::{InputRule, ReadEnd};
+
+/// How a run over a log ended.
+#[derive(Debug, Drop)]
+pub enum MatchEnd {
+    /// The input was read to its end and all was written: how many observations there were, how many
+    /// bindings, and the greatest number of the last binding, or 0.
+    Done {
+        observations: u64,
+        bindings: u128,
+        last: u64,
+    },
+    /// The line of that number is the first that is refused.
+    Input {
+        line: u64,
+        rule: InputRule,
+    },
+    /// The input failed, and counted it.
+    ReadFault,
+    /// The output failed, and counted it.
+    WriteFault,
+    /// More is live after the observation of that number than the cap allows.
+    Crowded {
+        number: u64,
+        cap: u64,
+    },
+    /// Memory ran out.
+    NoMemory,
+}
+
+impl From<NoMemory> for MatchEnd {
+    ghost from_gives = { λ _ end. end ≡ OutOfMemory };
+
+    fn from(_error: NoMemory) -> MatchEnd {
+        MatchEnd::NoMemory
+    }
+}
+
+impl From<ReadEnd> for MatchEnd {
+    ghost from_gives = { λ read end. end ≡ end_of_read read };
+
+    fn from(end: ReadEnd) -> MatchEnd {
+        match end {
+            ReadEnd::Input { line, rule } => MatchEnd::Input { line, rule },
+            ReadEnd::ReadFault => MatchEnd::ReadFault,
+            ReadEnd::Ended | ReadEnd::NoMemory => MatchEnd::NoMemory,
+        }
+    }
+}

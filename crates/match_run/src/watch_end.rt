@@ -1,0 +1,46 @@
+ghost use Rattle.std.specs.Prelude.{◌≡◌};
+ghost use Rattle.match_run.specs.inner.WatchEnds.{end_of_read, end_of_see};
+
+use crate::{InputRule, SeeEnd};
+use match_input::ReadEnd;
+
+/// How an input was followed to an end.
+#[derive(Debug, Drop)]
+pub enum WatchEnd<S> {
+    /// The input was read to its end.
+    Done,
+    /// The line of that number is the first that is refused.
+    Input { line: u64, rule: InputRule },
+    /// The input failed, and counted it.
+    ReadFault,
+    /// The output failed, and counted it.
+    WriteFault,
+    /// The watcher stopped by itself.
+    Stopped(S),
+    /// Memory ran out.
+    NoMemory,
+}
+
+impl<S> From<ReadEnd> for WatchEnd<S> {
+    ghost from_gives = { λ read end. end ≡ end_of_read read };
+
+    fn from(end: ReadEnd) -> WatchEnd<S> {
+        match end {
+            ReadEnd::Input { line, rule } => WatchEnd::Input { line, rule },
+            ReadEnd::ReadFault => WatchEnd::ReadFault,
+            ReadEnd::Ended | ReadEnd::NoMemory => WatchEnd::NoMemory,
+        }
+    }
+}
+
+impl<S> From<SeeEnd<S>> for WatchEnd<S> {
+    ghost from_gives = { λ see end. end ≡ end_of_see see };
+
+    fn from(end: SeeEnd<S>) -> WatchEnd<S> {
+        match end {
+            SeeEnd::Stopped(why) => WatchEnd::Stopped(why),
+            SeeEnd::WriteFault => WatchEnd::WriteFault,
+            SeeEnd::NoMemory => WatchEnd::NoMemory,
+        }
+    }
+}

@@ -1,0 +1,35 @@
+//! What follows from the definitions: the contracts are the laws, and the functions do nothing.
+
+ghost use Rattle.std.specs.Prelude.{◌≡◌, ℕ, ◌+◌, ℤ, List, [], ◌++◌, Option, Some, slice_get};
+ghost use Rattle.flow_edges.specs.Flow.{WritesPrefix};
+ghost use Rattle.stix_bundles.specs.declared.observation.Observation.{Observation};
+ghost use Rattle.match_input.specs.declared.mode.Mode.TheVariants.{Lines};
+ghost use Rattle.match_input.specs.Reading.{BundleOf};
+ghost use Rattle.match_input.specs.Ahead.{ReaderState, reader_start};
+ghost use Rattle.match_run.specs.Matching.{BeginsSo};
+ghost use Rattle.match_run.specs.OnItsWay.{IsOnItsWay};
+ghost use Rattle.match_run.specs.Reading.{HasRead, MayFollow};
+
+/// Of any input a new reader has read no bundles.
+pub fn begins_with_none()
+    ensures { (first began : Option (List ℕ)) → HasRead first (reader_start Lines) first began [] }
+{}
+
+/// The bundles that were read of an input come first, whatever it is read as.
+pub fn read_bundles_come_first()
+    ensures { (first left began : Option (List ℕ)) (reader : ReaderState) (bundles : List BundleOf) → HasRead first reader left began bundles
+        → BeginsSo Lines first bundles }
+{}
+
+/// Observations that may follow have the numbers that come next.
+pub fn numbers_follow()
+    ensures { (last : Option ℤ) (next k : ℕ) (observations : List Observation) (observation : Observation) → MayFollow last next observations
+        → slice_get observations k ≡ Some observation → observation.number ≡ next + k }
+{}
+
+/// Of a text that is on its way a prefix is written; and where nothing is pending, nothing is on its way.
+pub fn parts_on_their_way()
+    ensures none { (written : Option (List ℕ)) → IsOnItsWay [] [] written written }
+    ensures prefix { (text pending more : List ℕ) (before now : Option (List ℕ)) → IsOnItsWay text pending before now
+        → WritesPrefix (text ++ more) before now }
+{}

@@ -1,0 +1,14 @@
+use Rattle.std.proofs.Common.{◌≡◌, length}
+use Rattle.match_stream.specs.inner.Pieces.{piece_trees}
+use Rattle.match_stream.specs.inner.Steps.{kept}
+use Rattle.match_stream.specs.inner.Arranged.{AreSame}
+use Rattle.match_stream.proofs.store.Store.clear.Given as goal
+
+abbrev pub invariant-loop-first : goal.invariant-loop-first
+invariant-loop-first l = record {
+  heaped : l.self.heaped ≡ length l.self.held.items;
+  same : AreSame (kept l.window l.now (piece_trees l.fn.self.held.items)) (kept l.window l.now (piece_trees l.self.held.items));
+}
+
+abbrev pub decreases-loop-first : goal.decreases-loop-first
+decreases-loop-first l = length l.self.held.items

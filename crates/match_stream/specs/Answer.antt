@@ -1,0 +1,68 @@
+-- What a matcher answers to a row: the bindings that end there.
+use Rattle.std.specs.Prelude.{◌≡◌, ℕ, ◌+◌, ◌≤◌, ◌<◌, ⊤, List, [], ◌∷◌, ◌++◌, length}
+use Rattle.match_bindings.specs.declared.log_entry.LogEntry.{LogEntry}
+use Rattle.match_bindings.specs.NumberedPattern.{NumberedPattern, numbered_pattern}
+use Rattle.match_bindings.specs.BindTree.{BindTree, greatest}
+use Rattle.match_bindings.specs.Log.{IsInOrder, observed_in}
+use Rattle.match_bindings.specs.Binding.{IsBinding}
+use Rattle.match_bindings.specs.Once.{count}
+use Rattle.match_bindings.specs.Flat.{Rises}
+use Rattle.match_stream.specs.PieceTree.{PieceTree}
+use Rattle.match_stream.specs.LivePart.{IsLivePart, held_count}
+use Rattle.match_stream.specs.MatcherState.{MatcherState, StandsFor}
+
+-- a binding whose greatest number is that of the last row
+abbrev pub EndsAtLast : NumberedPattern → List LogEntry → BindTree → Type 0
+EndsAtLast p log x = IsBinding (observed_in log) p x × (greatest x ≡ length log)
+
+-- each of these once and nothing else, by flat list
+pub record IsAnswer (p : NumberedPattern) (log : List LogEntry) (xs : List BindTree) : Type 0 where
+  pub each_once : (x : BindTree) → EndsAtLast p log x → count x xs ≡ 1
+  pub no_other : (x : BindTree) → ¬ (EndsAtLast p log x) → count x xs ≡ 0
+  pub rises : Rises xs
+
+-- the live count: so many things are in the live part, and so many bindings end at the last row
+pub record IsLiveCount (p : NumberedPattern) (log : List LogEntry) (n : ℕ) : Type 0 where
+  pub contents : List (List PieceTree)
+  pub answer : List BindTree
+  pub live : IsLivePart p log contents
+  pub ending : IsAnswer p log answer
+  pub sum : n ≡ held_count contents + length answer
+
+-- the live count passes the cap
+abbrev pub IsCrowded : NumberedPattern → List LogEntry → ℕ → Type 0
+IsCrowded p log cap = (n : ℕ) × IsLiveCount p log n × (cap < n)
+
+-- it doesn't
+abbrev pub IsRoomy : NumberedPattern → List LogEntry → ℕ → Type 0
+IsRoomy p log cap = (n : ℕ) × IsLiveCount p log n × (n ≤ cap)
+
+-- a matcher answers the last row of a log: it then stands for the log, whose rows are in order, and no more is live there than
+-- its cap allows
+pub record AnswersRow (before after : MatcherState) (log : List LogEntry) (answer : List BindTree) : Type 0 where
+  pub stands : StandsFor after log
+  pub order : IsInOrder log
+  pub answers : IsAnswer (numbered_pattern before.pattern) log answer
+  pub roomy : IsRoomy (numbered_pattern before.pattern) log before.cap
+
+-- it is crowded at that row, whose number it names: more is live there than its cap allows
+pub record IsCrowdedAtRow (before : MatcherState) (log : List LogEntry) (number cap : ℕ) : Type 0 where
+  pub order : IsInOrder log
+  pub numbered : number ≡ length log
+  pub cap_is : cap ≡ before.cap
+  pub crowded : IsCrowded (numbered_pattern before.pattern) log cap
+
+-- an answer for each row of a log, where these rows were taken before
+abbrev pub AnswersAfter : NumberedPattern → List LogEntry → List LogEntry → List (List BindTree) → Type 0
+AnswersAfter p before [] [] = ⊤
+AnswersAfter p before (row ∷ log) (xs ∷ answers) = IsAnswer p (before ++ row ∷ []) xs × AnswersAfter p (before ++ row ∷ []) log answers
+AnswersAfter p before _ _ = ⊥
+
+-- the answers to all rows of a log
+abbrev pub AreAnswers : NumberedPattern → List LogEntry → List (List BindTree) → Type 0
+AreAnswers p log answers = AnswersAfter p [] log answers
+
+-- answers one after another
+abbrev pub joined_answers : List (List BindTree) → List BindTree
+joined_answers [] = []
+joined_answers (xs ∷ answers) = xs ++ joined_answers answers

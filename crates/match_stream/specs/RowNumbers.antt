@@ -1,0 +1,21 @@
+-- The rows that a matcher keeps: those of what it holds.
+use Rattle.std.specs.Prelude.{◌≡◌, ◌↔◌, ℕ, Bool, true, false, ◌||◌, List, [], ◌∷◌}
+use Rattle.std.specs.List.{Contains}
+use Rattle.std.specs.List.Sorted.{IsStrictlyIncreasing}
+use Rattle.match_bindings.specs.BindTree.{has}
+use Rattle.match_stream.specs.PieceTree.{PieceTree}
+
+-- whether one of the things has a number
+abbrev pub any_has : ℕ → List PieceTree → Bool
+any_has n [] = false
+any_has n (h ∷ held) = has n h.tree || any_has n held
+
+-- whether something in a store has it
+abbrev pub is_kept : ℕ → List (List PieceTree) → Bool
+is_kept n [] = false
+is_kept n (held ∷ contents) = any_has n held || is_kept n contents
+
+-- these numbers, rising, each once
+pub record AreKept (contents : List (List PieceTree)) (numbers : List ℕ) : Type 0 where
+  pub rises : IsStrictlyIncreasing numbers
+  pub each : (n : ℕ) → Contains numbers n ↔ (is_kept n contents ≡ true)

@@ -1,0 +1,42 @@
+-- For private clauses: whether what a matcher keeps is made for a pattern, whatever its stores hold.
+use Rattle.std.specs.Prelude.{ℕ, ◌-◌, nat_eq, ℤ, int_le, Bool, true, false, ◌&&◌, Option, Some, None, length}
+use Rattle.match_bindings.specs.declared.bounds.Bounds.{Bounds}
+use Rattle.match_bindings.specs.Bounds.{within, between}
+use Rattle.match_bindings.specs.NumberedPattern.{NumberedPattern, Leaf, Both, Then, Either, Within, Between, Repeats}
+use Rattle.match_pruning.specs.declared.window.Window.{Window}
+use Rattle.match_pruning.specs.Stores.{window_of}
+use Rattle.match_stream.specs.declared.join.Join.TheVariants as join
+use Rattle.match_stream.specs.inner.Steps.{SideStores, State, a_leaf, a_join, a_choice, a_limit, a_chain}
+
+abbrev pub same_bool : Bool → Bool → Bool
+same_bool true true = true
+same_bool false false = true
+same_bool _ _ = false
+
+abbrev pub same_count : Option ℕ → Option ℕ → Bool
+same_count None None = true
+same_count (Some a) (Some b) = nat_eq a b
+same_count _ _ = false
+
+abbrev pub same_time : Option ℤ → Option ℤ → Bool
+same_time None None = true
+same_time (Some a) (Some b) = int_le a b && int_le b a
+same_time _ _ = false
+
+abbrev pub same_window : Window → Window → Bool
+same_window a b = (same_count a.seconds b.seconds && same_time a.start b.start) && (same_time a.stop b.stop && same_bool a.behind b.behind)
+
+abbrev pub have_windows : SideStores → Window → Window → Bool
+have_windows sides left right = same_window sides.left_window left && same_window sides.right_window right
+
+-- for this pattern under these bounds
+abbrev pub fits : Bounds → NumberedPattern → State → Bool
+fits above (Leaf k) (a_leaf leaf window) = nat_eq leaf k && same_window window (window_of above false)
+fits above (Both p q) (a_join join.Both l r sides) = (fits above p l && fits above q r) && have_windows sides (window_of above false) (window_of above false)
+fits above (Then p q) (a_join join.Then l r sides) = (fits above p l && fits above q r) && have_windows sides (window_of above false) (window_of above true)
+fits above (Either p q) (a_choice l r) = fits above p l && fits above q r
+fits above (Within p x) (a_limit part) = fits (within above x) p part
+fits above (Between p x y) (a_limit part) = fits (between above x y) p part
+fits above (Repeats p n) (a_chain part count window levels) =
+    (fits above p part && same_window window (window_of above false)) && (nat_eq count n && nat_eq (length levels) (n - 1))
+fits above _ _ = false

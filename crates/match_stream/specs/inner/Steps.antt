@@ -1,0 +1,209 @@
+-- For private clauses: what a matcher keeps as plain lists, and one row of it.
+use Rattle.std.specs.Prelude.{◌≡◌, ℕ, zero, suc, ◌+◌, ◌-◌, ℤ, int_le, Bool, true, false, ◌&&◌, cond, unwrap_or, slice_get, List, [], ◌∷◌, ◌++◌, map, filter, length}
+use Rattle.std.specs.Int.{int_min, int_max}
+use Rattle.std.specs.List.{flat_map}
+use Rattle.match_bindings.specs.declared.bounds.Bounds.{Bounds}
+use Rattle.match_bindings.specs.Bounds.{within, between}
+use Rattle.match_bindings.specs.NumberedPattern.{NumberedPattern, Leaf, Both, Then, Either, Within, Between, Repeats}
+use Rattle.match_bindings.specs.BindTree.{BindTree, One, Pair, First, Second, Single, add_part, disjoint}
+use Rattle.match_pruning.specs.declared.window.Window.{Window}
+use Rattle.match_pruning.specs.Stores.{window_of}
+use Rattle.match_stream.specs.declared.join.Join.{Join}
+use Rattle.match_stream.specs.declared.join.Join.TheVariants as join
+use Rattle.match_stream.specs.declared.row.Row.{Row}
+use Rattle.match_stream.specs.PieceTree.{PieceTree}
+use Rattle.match_stream.specs.inner.Lives.{lives}
+
+-- the same thing under one constructor
+abbrev pub held_with : (BindTree → BindTree) → PieceTree → PieceTree
+held_with f a = record { tree = f a.tree; earliest = a.earliest; latest = a.latest }
+
+-- two trees as one
+abbrev pub joined_tree : Join → BindTree → BindTree → BindTree
+joined_tree join.Both a b = Pair a b
+joined_tree join.Then a b = Pair a b
+joined_tree join.Repeats a b = add_part a b
+
+abbrev pub joined : Join → PieceTree → PieceTree → PieceTree
+joined j a b = record { tree = joined_tree j a.tree b.tree; earliest = int_min a.earliest b.earliest; latest = int_max a.latest b.latest }
+
+-- whether two things are joined
+abbrev pub may_join : Join → PieceTree → PieceTree → Bool
+may_join join.Both a b = disjoint a.tree b.tree
+may_join join.Then a b = int_le a.latest b.earliest && disjoint a.tree b.tree
+may_join join.Repeats a b = disjoint a.tree b.tree
+
+-- a thing with each of ys that it is joined with
+abbrev pub join_row : Join → PieceTree → List PieceTree → List PieceTree
+join_row j x ys = map (joined j x) (filter (may_join j x) ys)
+
+-- each of xs with each of ys that it is joined with
+abbrev pub joins : Join → List PieceTree → List PieceTree → List PieceTree
+joins j xs ys = flat_map (λ x. join_row j x ys) xs
+
+-- what a store still holds
+abbrev pub kept : Window → ℤ → List PieceTree → List PieceTree
+kept window now held = filter (λ h. lives window h.earliest now) held
+
+-- what a store holds after a row
+abbrev pub stored : Window → ℤ → List PieceTree → List PieceTree → List PieceTree
+stored window now held new = kept window now held ++ kept window now new
+
+-- the stores of a node that joins two sides, each with its window
+pub record SideStores : Type 0 where
+  pub left : List PieceTree
+  pub right : List PieceTree
+  pub left_window : Window
+  pub right_window : Window
+
+-- what a matcher keeps for a pattern
+pub data State : Type 0 where
+  a_leaf : (leaf : ℕ) (window : Window) → State
+  a_join : (how : Join) (left right : State) (sides : SideStores) → State
+  a_choice : (left right : State) → State
+  a_limit : (part : State) → State
+  a_chain : (part : State) (count : ℕ) (window : Window) (levels : List (List PieceTree)) → State
+
+abbrev pub truth_at : List Bool → ℕ → Bool
+truth_at truths leaf = unwrap_or (slice_get truths leaf) false
+
+-- a row alone
+abbrev pub row_alone : Row → PieceTree
+row_alone row = record { tree = One row.number; earliest = row.first; latest = row.last }
+
+-- what is new at a leaf
+abbrev pub new_at_leaf : Row → List Bool → ℕ → Window → List PieceTree
+new_at_leaf row truths leaf window = cond (truth_at truths leaf && lives window row.first row.last) (row_alone row ∷ []) []
+
+-- a leaf, and so many that follow it, each on the right of an OR of all before it
+abbrev pub leaves_state : ℕ → ℕ → Window → State
+leaves_state first zero window = a_leaf first window
+leaves_state first (suc more) window = a_choice (leaves_state first more window) (a_leaf (first + more + 1) window)
+
+-- the sides without what has expired, and how much they hold
+abbrev pub sides_kept : ℤ → SideStores → SideStores
+sides_kept now sides = record {
+  left = kept sides.left_window now sides.left;
+  right = kept sides.right_window now sides.right;
+  left_window = sides.left_window;
+  right_window = sides.right_window;
+}
+
+abbrev pub sides_count : SideStores → ℕ
+sides_count sides = length sides.left + length sides.right
+
+-- what is new where two sides are joined: the new on the left with what the right holds, and what the left holds with the new on
+-- the right
+abbrev pub joins_both : Join → SideStores → List PieceTree → List PieceTree → List PieceTree
+joins_both j sides left right = joins j left sides.right ++ joins j sides.left right
+
+-- the sides with what they admit
+abbrev pub sides_stored : ℤ → SideStores → List PieceTree → List PieceTree → SideStores
+sides_stored now sides left right = record {
+  left = sides.left ++ kept sides.left_window now left;
+  right = sides.right ++ kept sides.right_window now right;
+  left_window = sides.left_window;
+  right_window = sides.right_window;
+}
+
+-- the same at a row
+abbrev pub joins_new : Join → ℤ → SideStores → List PieceTree → List PieceTree → List PieceTree
+joins_new j now sides left right = joins_both j (sides_kept now sides) left right
+
+abbrev pub sides_after : ℤ → SideStores → List PieceTree → List PieceTree → SideStores
+sides_after now sides left right = sides_stored now (sides_kept now sides) left right
+
+-- what is new at the last level, where first is new at the level of the first store, and new at the operand
+abbrev pub levels_new : Window → ℤ → List PieceTree → List PieceTree → List (List PieceTree) → List PieceTree
+levels_new window now first new [] = first
+levels_new window now first new (held ∷ levels) = levels_new window now (joins join.Repeats (kept window now held) new) new levels
+
+-- the levels after it
+abbrev pub levels_after : Window → ℤ → List PieceTree → List PieceTree → List (List PieceTree) → List (List PieceTree)
+levels_after window now first new [] = []
+levels_after window now first new (held ∷ levels) =
+    stored window now held first ∷ levels_after window now (joins join.Repeats (kept window now held) new) new levels
+
+-- nothing at so many levels
+abbrev pub no_levels : ℕ → List (List PieceTree)
+no_levels zero = []
+no_levels (suc k) = [] ∷ no_levels k
+
+-- how many levels below the count aren't made
+abbrev pub levels_above : ℕ → List (List PieceTree) → ℕ
+levels_above count made = count - 1 - length made
+
+-- all levels below the count, of which those that aren't made hold nothing
+abbrev pub all_levels : ℕ → List (List PieceTree) → List (List PieceTree)
+all_levels count made = made ++ no_levels (levels_above count made)
+
+-- what is new above the levels that are made is an answer only where no level is above them
+abbrev pub risen : ℕ → List PieceTree → List PieceTree
+risen zero sets = sets
+risen (suc above) sets = []
+
+-- and is held in the first of those else
+abbrev pub raised : Window → ℤ → ℕ → List PieceTree → List (List PieceTree)
+raised window now zero sets = []
+raised window now (suc above) sets = kept window now sets ∷ no_levels above
+
+-- the sets of a REPEATS, of which none has no part
+abbrev pub counted : ℕ → List PieceTree → List PieceTree
+counted zero held = []
+counted (suc n) held = held
+
+-- what ends at a row
+abbrev pub step_new : Row → List Bool → State → List PieceTree
+step_new row truths (a_leaf leaf window) = new_at_leaf row truths leaf window
+step_new row truths (a_join j l r sides) = joins_new j row.last sides (step_new row truths l) (step_new row truths r)
+step_new row truths (a_choice l r) = map (held_with First) (step_new row truths l) ++ map (held_with Second) (step_new row truths r)
+step_new row truths (a_limit part) = step_new row truths part
+step_new row truths (a_chain part count window levels) =
+    counted count (levels_new window row.last (map (held_with Single) (step_new row truths part)) (step_new row truths part) levels)
+
+-- what is kept after it
+abbrev pub step_state : Row → List Bool → State → State
+step_state row truths (a_leaf leaf window) = a_leaf leaf window
+step_state row truths (a_join j l r sides) =
+    a_join j (step_state row truths l) (step_state row truths r) (sides_after row.last sides (step_new row truths l) (step_new row truths r))
+step_state row truths (a_choice l r) = a_choice (step_state row truths l) (step_state row truths r)
+step_state row truths (a_limit part) = a_limit (step_state row truths part)
+step_state row truths (a_chain part count window levels) =
+    a_chain (step_state row truths part) count window
+    (levels_after window row.last (map (held_with Single) (step_new row truths part)) (step_new row truths part) levels)
+
+-- leaves in ORs, of which none holds
+abbrev pub IsQuiet : List Bool → State → Type 0
+IsQuiet truths (a_leaf leaf window) = truth_at truths leaf ≡ false
+IsQuiet truths (a_choice l r) = IsQuiet truths l × IsQuiet truths r
+IsQuiet truths _ = ⊥
+
+-- the sides of a node without rows
+abbrev pub empty_sides : Window → Window → SideStores
+empty_sides left right = record { left = []; right = []; left_window = left; right_window = right }
+
+-- what is kept without rows
+abbrev pub empty_state : Bounds → NumberedPattern → State
+empty_state above (Leaf k) = a_leaf k (window_of above false)
+empty_state above (Both p q) = a_join join.Both (empty_state above p) (empty_state above q) (empty_sides (window_of above false) (window_of above false))
+empty_state above (Then p q) = a_join join.Then (empty_state above p) (empty_state above q) (empty_sides (window_of above false) (window_of above true))
+empty_state above (Either p q) = a_choice (empty_state above p) (empty_state above q)
+empty_state above (Within p x) = a_limit (empty_state (within above x) p)
+empty_state above (Between p x y) = a_limit (empty_state (between above x y) p)
+empty_state above (Repeats p n) = a_chain (empty_state above p) n (window_of above false) (no_levels (n - 1))
+
+-- what the stores hold, in the order of stores_of
+abbrev pub contents_of : State → List (List PieceTree)
+contents_of (a_leaf leaf window) = []
+contents_of (a_join j l r sides) = sides.left ∷ sides.right ∷ (contents_of l ++ contents_of r)
+contents_of (a_choice l r) = contents_of l ++ contents_of r
+contents_of (a_limit part) = contents_of part
+contents_of (a_chain part count window levels) = levels ++ contents_of part
+
+-- what is kept of it at a time
+abbrev pub expired : ℤ → State → State
+expired now (a_leaf leaf window) = a_leaf leaf window
+expired now (a_join j l r sides) = a_join j (expired now l) (expired now r) (sides_kept now sides)
+expired now (a_choice l r) = a_choice (expired now l) (expired now r)
+expired now (a_limit part) = a_limit (expired now part)
+expired now (a_chain part count window levels) = a_chain (expired now part) count window (map (kept window now) levels)

@@ -1,0 +1,59 @@
+//! What a node holds once what has expired is taken out.
+
+ghost use Rattle.std.specs.Prelude.{◌≡◌, map, length};
+ghost use Rattle.match_stream.specs.inner.Steps.{kept, all_levels, expired};
+ghost use Rattle.match_stream.specs.inner.Nodes.{store_lists, state_of};
+ghost use Rattle.match_stream.specs.inner.Arranged.{AreSameLevels, IsArranged};
+
+use crate::levels::Levels;
+use crate::node::Node;
+use crate::store::Store;
+use match_pruning::Window;
+use stix_times::Instant;
+
+/// Takes out of all stores of a node what has expired, and leaves the rest of each in any order. Takes
+/// no memory. What is done to the stores of one node stands in functions of their own, so that little of
+/// the stack is taken at each of 1,024 brackets.
+pub(crate) fn clear(node: &mut Node, now: Instant)
+    ensures { IsArranged (expired now (state_of node.old)) (state_of node.new) }
+{
+    match node {
+        Node::Leaves(_) => {}
+        Node::Sides(_, left, right, sides) => {
+            sides.clear(now);
+            clear(left, now);
+            clear(right, now);
+        }
+        Node::Either(left, right) => {
+            clear(left, now);
+            clear(right, now);
+        }
+        Node::Under(part) => clear(part, now),
+        Node::Repeats(part, levels) => {
+            clear_levels(levels, now);
+            clear(part, now);
+        }
+    }
+}
+
+/// The same of all levels.
+#[inline(never)]
+fn clear_levels(levels: &mut Levels, now: Instant)
+    ensures same { AreSameLevels (map (kept levels.old.window now) (all_levels levels.old.count (store_lists levels.old.stores.items)))
+        (all_levels levels.new.count (store_lists levels.new.stores.items)) }
+    ensures count { levels.new.count ≡ levels.old.count }
+    ensures window { levels.new.window ≡ levels.old.window }
+{
+    let window = levels.window;
+    clear_stores(&mut levels.stores, &window, now);
+}
+
+/// The same of stores.
+fn clear_stores(stores: &mut Vec<Store>, window: &Window, now: Instant)
+    ensures same { AreSameLevels (map (kept window.now now) (store_lists stores.old.items)) (store_lists stores.new.items) }
+    ensures length { length stores.new.items ≡ length stores.old.items }
+{
+    for store in stores.iter_mut() {
+        store.clear(window, now);
+    }
+}

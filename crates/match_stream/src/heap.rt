@@ -1,0 +1,79 @@
+//! The order in which a store holds things: a heap, so that what expires first stands first.
+
+ghost use Rattle.std.specs.Prelude.{◌≡◌, ◌<◌, ◌≤◌, ◌+◌, ◌*◌, int_lt, length, IfSome, IfNone};
+ghost use Rattle.match_stream.specs.declared.piece.Piece.{Piece};
+ghost use Rattle.match_stream.specs.inner.Pieces.{piece_trees};
+ghost use Rattle.match_stream.specs.inner.Arranged.{AreSame};
+ghost use Rattle.match_stream.specs.inner.Heaps.{IsHeap, IsHeapBelow, IsEarliestChild, time_at};
+
+use crate::piece::Piece;
+
+/// How many children a thing has.
+const WIDTH: usize = 4;
+
+/// Lets the thing at a place rise among those before it, which are a heap.
+pub(crate) fn rise(held: &mut [Piece], place: usize)
+    requires inside { place < length held.old }
+    requires heap { IsHeap held.old place }
+    ensures heap { IsHeap held.new (place + 1) }
+    ensures same { AreSame (piece_trees held.old) (piece_trees held.new) }
+    ensures length { length held.new ≡ length held.old }
+{
+    let mut at = place;
+    while at > 0 {
+        let parent = (at - 1) / WIDTH;
+        if !is_earlier(held, at, parent) {
+            return;
+        }
+        held.swap(parent, at);
+        at = parent;
+    }
+}
+
+/// Lets the first thing sink among the others, which are a heap but for it.
+pub(crate) fn sink(held: &mut [Piece])
+    requires { IsHeapBelow held.old (length held.old) }
+    ensures heap { IsHeap held.new (length held.new) }
+    ensures same { AreSame (piece_trees held.old) (piece_trees held.new) }
+    ensures length { length held.new ≡ length held.old }
+{
+    let mut at = 0;
+    while let Some(child) = earliest_child(held, at) {
+        if !is_earlier(held, child, at) {
+            return;
+        }
+        held.swap(at, child);
+        at = child;
+    }
+}
+
+/// The earliest of the children of the thing at a place.
+fn earliest_child(held: &[Piece], at: usize) -> Option<usize>
+    ensures some { IfSome result (λ child. IsEarliestChild held.now at child (length held.now)) }
+    ensures none { IfNone result (length held.now ≤ 4 * at + 1) }
+{
+    if at > held.len() / WIDTH {
+        return None;
+    }
+    let first = WIDTH * at + 1;
+    if first >= held.len() {
+        return None;
+    }
+    let end = held.len().min(first + WIDTH);
+    let mut earliest = first;
+    for child in first + 1..end {
+        if held[child].earliest < held[earliest].earliest {
+            earliest = child;
+        }
+    }
+    Some(earliest)
+}
+
+/// Whether the thing at a place is earlier than that at another.
+fn is_earlier(held: &[Piece], place: usize, other: usize) -> bool
+    requires place { place < length held.now }
+    requires other { other < length held.now }
+    ensures { (d : Piece) → result ≡ int_lt (time_at held.now d place) (time_at held.now d other) }
+{
+    held[place].earliest < held[other].earliest
+}

@@ -1,0 +1,118 @@
+ghost use Rattle.std.specs.Prelude.{◌≡◌, ◌≤ℤ◌, true, false, IfOk, OnOk, Err};
+ghost use Rattle.std.specs.Int.{int_min, int_max};
+ghost use Rattle.match_bindings.specs.BindTree.{tree_of, disjoint};
+ghost use Rattle.match_stream.specs.PieceTree.{PieceTree};
+ghost use Rattle.match_stream.specs.inner.Demands.{AreAdded, AreTooMany};
+ghost use Rattle.match_stream.specs.inner.Pieces.{piece_tree, piece_trees};
+ghost use Rattle.match_stream.specs.inner.Steps.{joined_tree, joined, may_join, joins};
+ghost use Rattle.match_stream.specs.declared.stop.Stop.TheVariants as stop;
+
+use crate::demand::Demand;
+use crate::joining::Joining;
+use crate::piece::Piece;
+use crate::sieve::Sieve;
+use crate::stop::Stop;
+use flow_values::NoMemory;
+use match_bindings::{Bind, are_disjoint, with_part, with_sides};
+use std::alloc::Global;
+use stix_times::Instant;
+
+/// How two things are joined.
+#[derive(Clone, Copy)]
+pub(crate) enum Join {
+    /// As the sides of an `AND`.
+    Both,
+    /// As the sides of a `FOLLOWEDBY`.
+    Then,
+    /// As the parts of a `REPEATS` so far, and the next one.
+    Repeats,
+}
+
+impl Join {
+    /// The bind of two binds.
+    fn bind(self, alloc: Global, first: &Bind, second: &Bind) -> Result<Bind, NoMemory>
+        ensures { IfOk result (λ bind. tree_of bind ≡ joined_tree self (tree_of first.now) (tree_of second.now)) }
+    {
+        match self {
+            Join::Both | Join::Then => with_sides(alloc, first, second),
+            Join::Repeats => with_part(alloc, first, second),
+        }
+    }
+
+    /// Whether two things are joined.
+    pub fn may_join(self, first: &Piece, second: &Piece) -> bool
+        ensures { result ≡ may_join self (piece_tree first.now) (piece_tree second.now) }
+    {
+        match self {
+            Join::Both | Join::Repeats => are_disjoint(&first.bind, &second.bind),
+            Join::Then => {
+                first.latest <= second.earliest && are_disjoint(&first.bind, &second.bind)
+            }
+        }
+    }
+
+    /// Two things as one, which share no observation.
+    pub fn joined(self, alloc: Global, first: &Piece, second: &Piece) -> Result<Piece, NoMemory>
+        requires { disjoint (tree_of first.now.bind) (tree_of second.now.bind) ≡ true }
+        ensures { IfOk result (λ held. piece_tree held ≡ joined self (piece_tree first.now) (piece_tree second.now)) }
+    {
+        let bind = self.bind(alloc, &first.bind, &second.bind)?;
+        Ok(Piece {
+            bind,
+            earliest: earlier(first.earliest, second.earliest),
+            latest: later(first.latest, second.latest),
+        })
+    }
+
+    /// Whether nothing that begins at this time or before is joined with what ends then, whatever they bind.
+    pub fn is_late(self, end: Instant, begin: Instant) -> bool
+        ensures { result ≡ true → (first second : PieceTree) → first.latest ≡ end → second.earliest ≤ℤ begin
+            → may_join self first second ≡ false }
+    {
+        match self {
+            Join::Then => begin < end,
+            Join::Both | Join::Repeats => false,
+        }
+    }
+
+    /// Adds each of the first things joined with each of the second ones that it is joined with, as far as
+    /// what comes of it is wanted, up to the thing that there is no room for. Where there is nothing on a side
+    /// it doesn't look ahead.
+    pub fn join(
+        self,
+        alloc: Global,
+        firsts: &[Piece],
+        seconds: &[Piece],
+        demand: &Demand<'_>,
+        out: &mut Vec<Piece>,
+    ) -> Result<(), Stop>
+        ensures joined { OnOk result (AreAdded demand.now (joins self (piece_trees firsts.now) (piece_trees seconds.now)) out.old.items out.new.items) }
+        ensures crowded { result ≡ Err stop.Crowded → AreTooMany demand.now (joins self (piece_trees firsts.now) (piece_trees seconds.now)) out.old.items }
+    {
+        if seconds.is_empty() {
+            return Ok(());
+        }
+        if firsts.is_empty() {
+            return Ok(());
+        }
+        let sieve = Sieve::new(alloc, firsts.len(), seconds)?;
+        let joining = Joining::new(self, demand);
+        let joined = joining.rows(alloc, firsts, seconds, &sieve, out);
+        drop(sieve);
+        joined
+    }
+}
+
+/// The earlier of two instants.
+fn earlier(one: Instant, other: Instant) -> Instant
+    ensures { result ≡ int_min one other }
+{
+    if other < one { other } else { one }
+}
+
+/// The later of two instants.
+fn later(one: Instant, other: Instant) -> Instant
+    ensures { result ≡ int_max one other }
+{
+    if other < one { one } else { other }
+}

@@ -1,0 +1,244 @@
+//! One row at the levels of a `REPEATS`.
+
+ghost use Rattle.std.specs.Prelude.{◌≡◌, ◌∷◌, ◌++◌, ◌+◌, ◌-◌, ◌<◌, ◌≤◌, [], map, length, IfOk, OnOk, Err, IfSome, IfNone};
+ghost use Rattle.match_bindings.specs.BindTree.{Single};
+ghost use Rattle.match_stream.specs.declared.join.Join.TheVariants as join;
+ghost use Rattle.match_stream.specs.declared.stop.Stop.TheVariants as stop;
+ghost use Rattle.match_stream.specs.LivePart.{held_count};
+ghost use Rattle.match_stream.specs.inner.Pieces.{piece_tree, piece_trees};
+ghost use Rattle.match_stream.specs.inner.Steps.{held_with, kept, stored, joins, levels_new, levels_after, levels_above, all_levels, risen, raised, counted};
+ghost use Rattle.match_stream.specs.inner.Wanted.{wanted, chosen};
+ghost use Rattle.match_stream.specs.inner.Leads.{leads_of};
+ghost use Rattle.match_stream.specs.inner.Totals.{AdmitLevels};
+ghost use Rattle.match_stream.specs.inner.Nodes.{store_list, store_lists};
+
+use crate::demand::Demand;
+use crate::join::Join;
+use crate::lead::Lead;
+use crate::levels::Levels;
+use crate::piece::Piece;
+use crate::room::Room;
+use crate::stop::Stop;
+use crate::store::Store;
+use flow_values::NoMemory;
+use match_bindings::alone;
+use match_pruning::Window;
+use std::alloc::Global;
+use std::mem;
+use stix_times::Instant;
+
+impl Levels {
+    /// One row, given what is new at what is repeated: what is new at the last level, and wanted.
+    pub fn step(
+        &mut self,
+        alloc: Global,
+        now: Instant,
+        new: &[Piece],
+        leads: &[Lead],
+        room: &mut Room,
+    ) -> Result<Vec<Piece>, Stop>
+        ensures new { IfOk result (λ sets. piece_trees sets.items ≡ chosen self.old.count now (leads_of leads.now)
+            (levels_new self.old.window now (map (held_with Single) (piece_trees new.now)) (piece_trees new.now)
+            (all_levels self.old.count (store_lists self.old.stores.items)))) }
+        ensures kept { OnOk result (all_levels self.new.count (store_lists self.new.stores.items)
+            ≡ levels_after self.old.window now (map (held_with Single) (piece_trees new.now)) (piece_trees new.now)
+            (all_levels self.old.count (store_lists self.old.stores.items))) }
+        ensures count { OnOk result (self.new.count ≡ self.old.count) }
+        ensures window { OnOk result (self.new.window ≡ self.old.window) }
+        ensures counted { OnOk result (room.new.left
+            + held_count (levels_after self.old.window now (map (held_with Single) (piece_trees new.now)) (piece_trees new.now)
+            (all_levels self.old.count (store_lists self.old.stores.items))) ≡ room.old.left) }
+        ensures crowded { result ≡ Err stop.Crowded
+            → AdmitLevels self.old.window now (map (held_with Single) (piece_trees new.now)) (piece_trees new.now)
+            (all_levels self.old.count (store_lists self.old.stores.items))
+            → room.old.left < held_count (levels_after self.old.window now (map (held_with Single) (piece_trees new.now)) (piece_trees new.now)
+            (all_levels self.old.count (store_lists self.old.stores.items)))
+            + length (chosen self.old.count now (leads_of leads.now)
+            (levels_new self.old.window now (map (held_with Single) (piece_trees new.now)) (piece_trees new.now)
+            (all_levels self.old.count (store_lists self.old.stores.items)))) }
+    {
+        let first = singles(alloc, new)?;
+        let mut stores = mem::replace(&mut self.stores, Vec::new(alloc));
+        let last = last_made(&mut stores, self.count);
+        let (made, sets) = step_made(alloc, stores, &self.window, now, first, new, room)?;
+        self.stores = made;
+        match last {
+            Some(store) => {
+                let answer = self.step_last(alloc, store, now, sets, new, leads, room)?;
+                Ok(answer)
+            }
+            None => {
+                let answer = self.raise(alloc, sets, now, room)?;
+                Ok(answer)
+            }
+        }
+    }
+
+    /// The last level, given what is new there and at what is repeated: what is new and wanted above it.
+    fn step_last(
+        &mut self,
+        alloc: Global,
+        level: Store,
+        now: Instant,
+        sets: Vec<Piece>,
+        new: &[Piece],
+        leads: &[Lead],
+        room: &mut Room,
+    ) -> Result<Vec<Piece>, Stop>
+        requires { length self.old.stores.items + 1 ≤ self.old.count - 1 }
+        ensures new { IfOk result (λ answer. piece_trees answer.items
+            ≡ wanted now (leads_of leads.now) (joins join.Repeats (kept self.old.window now (store_list level)) (piece_trees new.now))) }
+        ensures kept { OnOk result (store_lists self.new.stores.items
+            ≡ store_lists self.old.stores.items ++ stored self.old.window now (store_list level) (piece_trees sets.items) ∷ []) }
+        ensures count { OnOk result (self.new.count ≡ self.old.count) }
+        ensures window { OnOk result (self.new.window ≡ self.old.window) }
+        ensures counted { OnOk result (room.new.left + length (stored self.old.window now (store_list level) (piece_trees sets.items)) ≡ room.old.left) }
+        ensures crowded { result ≡ Err stop.Crowded → room.old.left < length (stored self.old.window now (store_list level) (piece_trees sets.items))
+            + length (wanted now (leads_of leads.now) (joins join.Repeats (kept self.old.window now (store_list level)) (piece_trees new.now))) }
+    {
+        let mut store = level;
+        let answer = step_level(alloc, &mut store, &self.window, now, sets, new, leads, room)?;
+        self.stores.push(store)?;
+        Ok(answer)
+    }
+
+    /// What is new above the levels that are made: it is the answer where there is no level above, and is
+    /// held in the next one else.
+    fn raise(
+        &mut self,
+        alloc: Global,
+        sets: Vec<Piece>,
+        now: Instant,
+        room: &mut Room,
+    ) -> Result<Vec<Piece>, Stop>
+        ensures new { IfOk result (λ answer. piece_trees answer.items
+            ≡ counted self.old.count (risen (levels_above self.old.count (store_lists self.old.stores.items)) (piece_trees sets.items))) }
+        ensures kept { OnOk result (all_levels self.new.count (store_lists self.new.stores.items)
+            ≡ store_lists self.old.stores.items
+            ++ raised self.old.window now (levels_above self.old.count (store_lists self.old.stores.items)) (piece_trees sets.items)) }
+        ensures count { OnOk result (self.new.count ≡ self.old.count) }
+        ensures window { OnOk result (self.new.window ≡ self.old.window) }
+        ensures counted { OnOk result (room.new.left
+            + held_count (raised self.old.window now (levels_above self.old.count (store_lists self.old.stores.items)) (piece_trees sets.items)) ≡ room.old.left) }
+        ensures crowded { result ≡ Err stop.Crowded → room.old.left
+            < held_count (raised self.old.window now (levels_above self.old.count (store_lists self.old.stores.items)) (piece_trees sets.items)) }
+    {
+        if self.count == 0 {
+            return Ok(Vec::new(alloc));
+        }
+        if self.stores.len() >= (self.count - 1) as usize {
+            return Ok(sets);
+        }
+        if sets.is_empty() {
+            return Ok(sets);
+        }
+        room.take_admitted(&sets, &self.window, now)?;
+        let mut store = Store::new(alloc);
+        store.admit(sets, &self.window, now)?;
+        self.stores.push(store)?;
+        Ok(Vec::new(alloc))
+    }
+}
+
+/// The last level, taken out, where all are made.
+fn last_made(stores: &mut Vec<Store>, count: u32) -> Option<Store>
+    requires { length stores.old.items ≤ count - 1 }
+    ensures last { IfSome result (λ last. (stores.old.items ≡ stores.new.items ++ last ∷ []) × (length stores.new.items + 2 ≡ count)) }
+    ensures none { IfNone result ((stores.new.items ≡ stores.old.items) × (2 ≤ count → length stores.old.items + 1 < count)) }
+{
+    if count >= 2 && stores.len() >= (count - 1) as usize {
+        stores.pop()
+    } else {
+        None
+    }
+}
+
+/// One row at the levels that are made: these levels after it, and what is new above them.
+fn step_made(
+    alloc: Global,
+    stores: Vec<Store>,
+    window: &Window,
+    now: Instant,
+    first: Vec<Piece>,
+    new: &[Piece],
+    room: &mut Room,
+) -> Result<(Vec<Store>, Vec<Piece>), Stop>
+    ensures kept { IfOk result (λ after. store_lists after.0.items
+        ≡ levels_after window.now now (piece_trees first.items) (piece_trees new.now) (store_lists stores.items)) }
+    ensures new { IfOk result (λ after. piece_trees after.1.items
+        ≡ levels_new window.now now (piece_trees first.items) (piece_trees new.now) (store_lists stores.items)) }
+    ensures counted { OnOk result (room.new.left
+        + held_count (levels_after window.now now (piece_trees first.items) (piece_trees new.now) (store_lists stores.items)) ≡ room.old.left) }
+    ensures crowded { result ≡ Err stop.Crowded
+        → AdmitLevels window.now now (piece_trees first.items) (piece_trees new.now) (store_lists stores.items)
+        → room.old.left < held_count (levels_after window.now now (piece_trees first.items) (piece_trees new.now) (store_lists stores.items))
+        + length (levels_new window.now now (piece_trees first.items) (piece_trees new.now) (store_lists stores.items)) }
+    ensures some { result ≡ Err stop.Crowded → 0 < length stores.items }
+{
+    let mut made = Vec::new(alloc);
+    let mut sets = first;
+    for store in stores {
+        let mut level = store;
+        let above = step_level(alloc, &mut level, window, now, sets, new, &[], room)?;
+        made.push(level)?;
+        sets = above;
+    }
+    Ok((made, sets))
+}
+
+/// One row at one level, given what is new there and at what is repeated: what is new at the level above,
+/// and wanted.
+fn step_level(
+    alloc: Global,
+    level: &mut Store,
+    window: &Window,
+    now: Instant,
+    sets: Vec<Piece>,
+    new: &[Piece],
+    leads: &[Lead],
+    room: &mut Room,
+) -> Result<Vec<Piece>, Stop>
+    ensures new { IfOk result (λ above. piece_trees above.items
+        ≡ wanted now (leads_of leads.now) (joins join.Repeats (kept window.now now (store_list level.old)) (piece_trees new.now))) }
+    ensures kept { OnOk result (store_list level.new ≡ stored window.now now (store_list level.old) (piece_trees sets.items)) }
+    ensures counted { OnOk result (room.new.left + length (stored window.now now (store_list level.old) (piece_trees sets.items)) ≡ room.old.left) }
+    ensures crowded { result ≡ Err stop.Crowded → room.old.left < length (stored window.now now (store_list level.old) (piece_trees sets.items))
+        + length (wanted now (leads_of leads.now) (joins join.Repeats (kept window.now now (store_list level.old)) (piece_trees new.now))) }
+{
+    level.expire(window, now);
+    room.take(level.held.len())?;
+    room.take_admitted(&sets, window, now)?;
+    let mut above = Vec::new(alloc);
+    let demand = Demand {
+        time: now,
+        leads,
+        room: room.left,
+    };
+    Join::Repeats.join(alloc, &level.held, new, &demand, &mut above)?;
+    level.admit(sets, window, now)?;
+    Ok(above)
+}
+
+/// Each thing alone in a set.
+fn singles(alloc: Global, new: &[Piece]) -> Result<Vec<Piece>, NoMemory>
+    ensures { IfOk result (λ sets. piece_trees sets.items ≡ map (held_with Single) (piece_trees new.now)) }
+{
+    let mut sets = Vec::new(alloc);
+    for part in new {
+        let held = single(alloc, part)?;
+        sets.push(held)?;
+    }
+    Ok(sets)
+}
+
+/// A thing alone in a set.
+fn single(alloc: Global, part: &Piece) -> Result<Piece, NoMemory>
+    ensures { IfOk result (λ set. piece_tree set ≡ held_with Single (piece_tree part.now)) }
+{
+    let bind = alone(alloc, &part.bind)?;
+    Ok(Piece {
+        bind,
+        earliest: part.earliest,
+        latest: part.latest,
+    })
+}

@@ -1,0 +1,169 @@
+ghost use Rattle.std.specs.Prelude.{◌≡◌, ◌<◌, ◌≤◌, ◌+◌, ◌++◌, ◌^◌, ◌↔◌, ◌≤ℤ◌, ◌<ℤ◌, ℕ, ℤ, Some, None, Err, List, [], map, IfOk, OnOk};
+ghost use Rattle.pattern_types.specs.Leaves.{leaves};
+ghost use Rattle.match_bindings.specs.declared.log_entry.LogEntry.{LogEntry};
+ghost use Rattle.match_bindings.specs.BindTree.{tree_of};
+ghost use Rattle.match_bindings.specs.Log.{IsInOrder};
+ghost use Rattle.match_stream.specs.declared.ending.Ending.{Ending};
+ghost use Rattle.match_stream.specs.declared.ending.Ending.TheVariants as ending;
+ghost use Rattle.match_stream.specs.declared.ending.MatchRefusal.TheVariants as refusal;
+ghost use Rattle.match_stream.specs.MatcherState.{StandsFor, with_row};
+ghost use Rattle.match_stream.specs.Answer.{AnswersRow, IsCrowdedAtRow, AnswersAfter};
+ghost use Rattle.match_stream.specs.Passing.{GoesOnQuietly, no_answers};
+ghost use Rattle.match_bindings.specs.NumberedPattern.{numbered_pattern};
+ghost use Rattle.match_stream.specs.RowNumbers.{AreKept};
+
+use crate::node::empty_node;
+use crate::row_numbers::kept_numbers;
+use crate::run::Run;
+use crate::{Ending, MatchRefusal};
+use flow_values::{Items, NoMemory};
+use match_bindings::{Bind, Bounds, laws};
+use pattern_types::Pattern;
+use std::alloc::Global;
+use std::marker::Model;
+use stix_times::Instant;
+
+/// A matcher of a pattern, which it borrows. Contracts see its pattern, its cap, how it ended, how many rows it took,
+/// the last time of the last of them, and what its stores hold.
+#[derive(Drop)]
+pub struct Matcher<'p> {
+    pattern: &'p Pattern,
+    ended: Option<Ending>,
+    run: Run,
+}
+
+impl<'p> Model for Matcher<'p> {
+    ghost use Rattle.std.specs.Coded.{codes};
+    ghost use Rattle.pattern_types.specs.contracts.pattern.Pattern as held;
+    ghost use Rattle.match_stream.specs.MatcherState.{MatcherState};
+    ghost use Rattle.match_stream.specs.inner.TreeCode.{tree_code};
+
+    ghost Value = { MatcherState };
+
+    ghost coded = { Prim.hlevel (codes, held.the_row.coded, tree_code) };
+
+    ghost use Rattle.match_stream.specs.inner.Seen.{seen, IsMade};
+
+    ghost view = { seen };
+
+    ghost invariant = { IsMade };
+}
+
+impl<'p> Matcher<'p> {
+    /// A matcher of a pattern that took no row yet. More than `cap` may never be live: so much, held or
+    /// ending at the last row, is kept in memory at once.
+    pub fn new(alloc: Global, pattern: &'p Pattern, cap: u64) -> Result<Matcher<'p>, NoMemory>
+        requires { leaves pattern.now < 2 ^ 32 }
+        ensures stands { IfOk result (λ matcher. StandsFor matcher []) }
+        ensures pattern { IfOk result (λ matcher. matcher.pattern ≡ pattern.now) }
+        ensures cap { IfOk result (λ matcher. matcher.cap ≡ cap) }
+    {
+        laws::test_is_the_rule();
+        let boxed = empty_node(alloc, pattern, 0, &Bounds::open())?;
+        let node = Box::into_inner(boxed);
+        let run = Run {
+            alloc,
+            cap,
+            rows: 0,
+            last: None,
+            node,
+        };
+        Ok(Matcher {
+            pattern,
+            ended: None,
+            run,
+        })
+    }
+
+    /// Takes the next row of a log: its first and last time, and for each leaf of the pattern whether it
+    /// holds. The answer is every binding that ends at the row, each once, by flat list.
+    pub fn take(
+        &mut self,
+        first: Instant,
+        last: Instant,
+        truths: &[bool],
+    ) -> Result<Items<Bind>, MatchRefusal>
+        requires span { first ≤ℤ last }
+        requires room { self.old.ended ≡ None → self.old.rows + 1 < 2 ^ 64 }
+        ensures answers { (log : List LogEntry) → StandsFor self.old log → IsInOrder log
+            → IfOk result (λ binds. AnswersRow self.old self.new (with_row log first last truths.now) (map tree_of binds)) }
+        ensures crowded { (log : List LogEntry) → StandsFor self.old log → IsInOrder log → (number cap : ℕ)
+            → result ≡ Err (refusal.Stopped (ending.Crowded number cap)) → IsCrowdedAtRow self.old (with_row log first last truths.now) number cap }
+        ensures out_of_order { (before now : ℤ) → (result ≡ Err (refusal.Stopped (ending.OutOfOrder before now)))
+            ↔ ((self.old.ended ≡ None) × (self.old.last ≡ Some before) × (now ≡ last) × (now <ℤ before)) }
+        ensures stopped { (ending : Ending) → result ≡ Err (refusal.Stopped ending) → (self.old.ended ≡ None) × (self.new.ended ≡ Some ending) }
+        ensures ended { (ending : Ending) → (result ≡ Err (refusal.Ended ending)) ↔ (self.old.ended ≡ Some ending) }
+        ensures unchanged { (ending : Ending) → self.old.ended ≡ Some ending → self.new ≡ self.old }
+        ensures kept { (self.new.pattern ≡ self.old.pattern) × (self.new.cap ≡ self.old.cap) }
+    {
+        laws::test_is_the_rule();
+        laws::sorted_bindings_rise();
+        laws::listing_is_by_the_test();
+        laws::rising_lists_are_ordered();
+        laws::listings_exist();
+        if let Some(ending) = &self.ended {
+            return Err(MatchRefusal::Ended(ending.copied()));
+        }
+        if let Err(ending) = self.run.clear(last) {
+            self.ended = Some(ending.copied());
+            return Err(MatchRefusal::Stopped(ending));
+        }
+        match self.run.take(first, last, truths) {
+            Ok(binds) => Ok(binds),
+            Err(ending) => {
+                self.ended = Some(ending.copied());
+                Err(MatchRefusal::Stopped(ending))
+            }
+        }
+    }
+
+    /// Takes the next rows of a log, so many at once, at which no bracket of the pattern holds; the last of
+    /// them has this last time. That is what as many calls of `take` without truths would do: nothing ends
+    /// at these rows. It costs one look at each store, and takes no memory.
+    pub fn pass(&mut self, rows: u64, last: Instant) -> Result<(), MatchRefusal>
+        requires some { 1 ≤ rows }
+        requires room { self.old.ended ≡ None → self.old.rows + rows < 2 ^ 64 }
+        ensures stands { (log quiet : List LogEntry) → StandsFor self.old log → GoesOnQuietly log quiet rows last
+            → OnOk result (StandsFor self.new (log ++ quiet)) }
+        ensures nothing_ends { (log quiet : List LogEntry) → StandsFor self.old log → GoesOnQuietly log quiet rows last
+            → OnOk result (AnswersAfter (numbered_pattern self.old.pattern) log quiet (no_answers quiet)) }
+        ensures out_of_order { (before now : ℤ) → (result ≡ Err (refusal.Stopped (ending.OutOfOrder before now)))
+            ↔ ((self.old.ended ≡ None) × (self.old.last ≡ Some before) × (now ≡ last) × (now <ℤ before)) }
+        ensures stopped { (ending : Ending) → result ≡ Err (refusal.Stopped ending) → (self.old.ended ≡ None) × (self.new.ended ≡ Some ending) }
+        ensures ended { (ending : Ending) → (result ≡ Err (refusal.Ended ending)) ↔ (self.old.ended ≡ Some ending) }
+        ensures unchanged { (ending : Ending) → self.old.ended ≡ Some ending → self.new ≡ self.old }
+        ensures kept { (self.new.pattern ≡ self.old.pattern) × (self.new.cap ≡ self.old.cap) }
+    {
+        laws::test_is_the_rule();
+        laws::sorted_bindings_rise();
+        if let Some(ending) = &self.ended {
+            return Err(MatchRefusal::Ended(ending.copied()));
+        }
+        match self.run.pass(rows, last) {
+            Ok(()) => Ok(()),
+            Err(ending) => {
+                self.ended = Some(ending.copied());
+                Err(MatchRefusal::Stopped(ending))
+            }
+        }
+    }
+
+    /// The numbers of the rows that the stores hold, rising, each once; none where the matcher ended.
+    pub fn kept(&self) -> Result<Items<u64>, NoMemory>
+        ensures kept { IfOk result (λ numbers. self.now.ended ≡ None → AreKept self.now.contents numbers) }
+        ensures ended { IfOk result (λ numbers. (ending : Ending) → self.now.ended ≡ Some ending → numbers ≡ []) }
+    {
+        if self.ended.is_some() {
+            return Ok(Items::new(self.run.alloc));
+        }
+        let kept = kept_numbers(self.run.alloc, &self.run.node)?;
+        Ok(Items::from_vec(kept))
+    }
+
+    /// The pattern. Takes no memory.
+    pub fn pattern(&self) -> &'p Pattern
+        ensures { result.now ≡ self.now.pattern }
+    {
+        self.pattern
+    }
+}

@@ -1,0 +1,553 @@
+ghost use Rattle.std.specs.Prelude.{◌≡◌, ◌+◌, ◌<◌, ◌≤ℤ◌, ◌^◌, ◌++◌, [], false, IsTrue, IfOk, IfSome, OnOk, Err, map, length};
+ghost use Rattle.std.specs.Box.{box_value};
+ghost use Rattle.pattern_types.specs.Leaves.{leaves};
+ghost use Rattle.match_bindings.specs.NumberedPattern.{numbered_from};
+ghost use Rattle.match_bindings.specs.BindTree.{One, Second, firsts};
+ghost use Rattle.match_stream.specs.inner.Pieces.{piece_tree, piece_trees};
+ghost use Rattle.match_pruning.specs.Stores.{window_of};
+ghost use Rattle.match_stream.specs.inner.Steps.{held_with, a_leaf, a_join, a_choice, a_limit, a_chain, all_levels, empty_sides, step_new, step_state, empty_state, IsQuiet};
+ghost use Rattle.match_stream.specs.inner.Wanted.{wanted, closed, leads_right, leads_part};
+ghost use Rattle.match_stream.specs.inner.Leads.{ahead_of, leads_of};
+ghost use Rattle.match_stream.specs.inner.Totals.{held_after, live_at, Admits, IsOverAt};
+ghost use Rattle.match_stream.specs.inner.Nodes.{side_stores, leaves_of, levels_state, state_of};
+ghost use Rattle.match_stream.specs.declared.stop.Stop.TheVariants as stop;
+
+use crate::demand::Demand;
+use crate::join::Join;
+use crate::lead::Lead;
+use crate::leaves::Leaves;
+use crate::levels::Levels;
+use crate::piece::Piece;
+use crate::room::Room;
+use crate::row::Row;
+use crate::sides::Sides;
+use crate::stop::Stop;
+use crate::store::{Store, store_window};
+use flow_values::NoMemory;
+use match_bindings::{Bind, Bounds};
+use match_pruning::Window;
+use pattern_types::{Pattern, leaf_count};
+use std::alloc::Global;
+use std::mem;
+use stix_times::Instant;
+
+/// What a matcher keeps for a part of its pattern. Stores lie in boxes of their own: a node is dropped by
+/// recursion, and what it holds itself stands in each frame of that.
+#[derive(Drop)]
+pub(crate) enum Node {
+    /// A leaf, or some of them in a chain of `OR`s.
+    Leaves(Leaves),
+    /// An `AND` or a `FOLLOWEDBY`.
+    Sides(Join, Box<Node>, Box<Node>, Box<Sides>),
+    /// Another `OR`.
+    Either(Box<Node>, Box<Node>),
+    /// A `WITHIN`, or a `START` and `STOP`, which the windows below it know.
+    Under(Box<Node>),
+    /// A `REPEATS`.
+    Repeats(Box<Node>, Box<Levels>),
+}
+
+/// What is kept for a pattern under these bounds before any row, where its leftmost leaf has the number
+/// `leaf`. A pattern may have 1,024 leaves in a chain: so what is made on the way lies in boxes, and
+/// each kind of node is made in a function of its own, that little of the stack is taken for a leaf.
+#[cycle(empty_node)]
+pub(crate) fn empty_node(
+    alloc: Global,
+    pattern: &Pattern,
+    leaf: u32,
+    above: &Bounds,
+) -> Result<Box<Node>, NoMemory>
+    requires { leaf + leaves pattern.now < 2 ^ 32 }
+    ensures { IfOk result (λ node. state_of (box_value node) ≡ empty_state above.now (numbered_from leaf pattern.now)) }
+{
+    match pattern {
+        Pattern::Leaf(_) => leaf_node(alloc, leaf, above),
+        Pattern::Both(left, right) => {
+            empty_sides(alloc, Join::Both, left, right, leaf, above, false)
+        }
+        Pattern::Then(left, right) => {
+            empty_sides(alloc, Join::Then, left, right, leaf, above, true)
+        }
+        Pattern::Either(left, right) => empty_either(alloc, left, right, leaf, above),
+        Pattern::Within(part, seconds) => {
+            let node = empty_node(alloc, part, leaf, &above.within(*seconds))?;
+            under_node(alloc, node)
+        }
+        Pattern::Between(part, start, stop) => {
+            let node = empty_node(alloc, part, leaf, &above.between(*start, *stop))?;
+            under_node(alloc, node)
+        }
+        Pattern::Repeats(part, count) => {
+            let node = empty_node(alloc, part, leaf, above)?;
+            repeats_node(alloc, node, *count, above)
+        }
+    }
+}
+
+/// The same of a pattern that joins two sides, the right one behind the left where this is asked.
+#[cycle(empty_node)]
+fn empty_sides(
+    alloc: Global,
+    join: Join,
+    left: &Pattern,
+    right: &Pattern,
+    leaf: u32,
+    above: &Bounds,
+    behind: bool,
+) -> Result<Box<Node>, NoMemory>
+    requires { leaf + (leaves left.now + leaves right.now) < 2 ^ 32 }
+    ensures { IfOk result (λ node. state_of (box_value node) ≡ a_join join (empty_state above.now (numbered_from leaf left.now))
+        (empty_state above.now (numbered_from (leaf + leaves left.now) right.now)) (empty_sides (window_of above.now false) (window_of above.now behind))) }
+{
+    let left_node = empty_node(alloc, left, leaf, above)?;
+    let right_node = empty_node(alloc, right, leaf + leaf_count(left), above)?;
+    sides_node(alloc, join, left_node, right_node, above, behind)
+}
+
+/// The same of an `OR`.
+#[cycle(empty_node)]
+fn empty_either(
+    alloc: Global,
+    left: &Pattern,
+    right: &Pattern,
+    leaf: u32,
+    above: &Bounds,
+) -> Result<Box<Node>, NoMemory>
+    requires { leaf + (leaves left.now + leaves right.now) < 2 ^ 32 }
+    ensures { IfOk result (λ node. state_of (box_value node) ≡ a_choice (empty_state above.now (numbered_from leaf left.now))
+        (empty_state above.now (numbered_from (leaf + leaves left.now) right.now))) }
+{
+    let left_node = empty_node(alloc, left, leaf, above)?;
+    let right_node = empty_node(alloc, right, leaf + leaf_count(left), above)?;
+    either_node(alloc, left_node, right_node)
+}
+
+/// A leaf under these bounds.
+#[inline(never)]
+fn leaf_node(alloc: Global, leaf: u32, above: &Bounds) -> Result<Box<Node>, NoMemory>
+    ensures { IfOk result (λ node. state_of (box_value node) ≡ a_leaf leaf (window_of above.now false)) }
+{
+    let leaves = Leaves::one(leaf, store_window(above, false));
+    Ok(Box::new(alloc, Node::Leaves(leaves))?)
+}
+
+/// A node that joins two sides, the right one behind the left where this is asked.
+#[inline(never)]
+fn sides_node(
+    alloc: Global,
+    join: Join,
+    left: Box<Node>,
+    right: Box<Node>,
+    above: &Bounds,
+    behind: bool,
+) -> Result<Box<Node>, NoMemory>
+    ensures { IfOk result (λ node. state_of (box_value node) ≡ a_join join (state_of (box_value left)) (state_of (box_value right))
+        (empty_sides (window_of above.now false) (window_of above.now behind))) }
+{
+    let sides = Box::new(alloc, Sides::new(alloc, above, behind))?;
+    Ok(Box::new(alloc, Node::Sides(join, left, right, sides))?)
+}
+
+/// An `OR` of two sides, of which the right one joins the leaves on its left where it is the next of them.
+#[inline(never)]
+fn either_node(alloc: Global, left: Box<Node>, right: Box<Node>) -> Result<Box<Node>, NoMemory>
+    ensures { IfOk result (λ node. state_of (box_value node) ≡ a_choice (state_of (box_value left)) (state_of (box_value right))) }
+{
+    match with_leaf(&left, &right) {
+        Some(leaves) => Ok(Box::new(alloc, Node::Leaves(leaves))?),
+        None => Ok(Box::new(alloc, Node::Either(left, right))?),
+    }
+}
+
+/// Leaves with the one on their right, where it is the next of them.
+fn with_leaf(left: &Node, right: &Node) -> Option<Leaves>
+    ensures { IfSome result (λ leaves. leaves_of leaves ≡ a_choice (state_of left.now) (state_of right.now)) }
+{
+    match (left, right) {
+        (Node::Leaves(leaves), Node::Leaves(next)) => leaves.with(next),
+        _ => None,
+    }
+}
+
+/// A node under a `WITHIN`, or a `START` and `STOP`.
+#[inline(never)]
+fn under_node(alloc: Global, part: Box<Node>) -> Result<Box<Node>, NoMemory>
+    ensures { IfOk result (λ node. state_of (box_value node) ≡ a_limit (state_of (box_value part))) }
+{
+    Ok(Box::new(alloc, Node::Under(part))?)
+}
+
+/// So many repeats of a node.
+#[inline(never)]
+fn repeats_node(
+    alloc: Global,
+    part: Box<Node>,
+    count: u32,
+    above: &Bounds,
+) -> Result<Box<Node>, NoMemory>
+    ensures { IfOk result (λ node. state_of (box_value node)
+        ≡ a_chain (state_of (box_value part)) count (window_of above.now false) (all_levels count [])) }
+{
+    let levels = Box::new(alloc, Levels::new(alloc, count, store_window(above, false)))?;
+    Ok(Box::new(alloc, Node::Repeats(part, levels))?)
+}
+
+/// One row: what ends at it and is wanted, and what is kept after it. What the stores then hold is
+/// counted; it stops at the piece by which more would be live than there is room for.
+#[cycle(step)]
+fn step(
+    alloc: Global,
+    node: &mut Node,
+    row: &Row,
+    truths: &[bool],
+    leads: &mut Vec<Lead>,
+    room: &mut Room,
+) -> Result<Vec<Piece>, Stop>
+    requires span { row.now.first ≤ℤ row.now.last }
+    ensures new { IfOk result (λ new. piece_trees new.items ≡ wanted row.now.last (leads_of leads.old.items) (step_new row.now truths.now (state_of node.old))) }
+    ensures kept { OnOk result (state_of node.new ≡ step_state row.now truths.now (state_of node.old)) }
+    ensures leads { OnOk result (leads.new.items ≡ leads.old.items) }
+    ensures counted { OnOk result (room.new.left + held_after row.now truths.now (state_of node.old) ≡ room.old.left) }
+    ensures crowded { result ≡ Err stop.Crowded → IsOverAt row.now truths.now (leads_of leads.old.items) (state_of node.old) room.old.left }
+{
+    match node {
+        Node::Leaves(leaves) => {
+            let new = leaves.wanted(alloc, row, truths, leads)?;
+            Ok(new)
+        }
+        Node::Sides(join, left, right, sides) => {
+            step_sides(alloc, *join, left, right, sides, row, truths, leads, room)
+        }
+        Node::Either(left, right) => step_either(alloc, left, right, row, truths, leads, room),
+        Node::Under(part) => step(alloc, part, row, truths, leads, room),
+        Node::Repeats(part, levels) => {
+            step_repeats(alloc, part, levels, row, truths, leads, room)
+        }
+    }
+}
+
+/// One row at a node with nothing ahead of it, where all that ends is wanted.
+#[cycle(step)]
+pub(crate) fn step_alone(
+    alloc: Global,
+    node: &mut Node,
+    row: &Row,
+    truths: &[bool],
+    room: &mut Room,
+) -> Result<Vec<Piece>, Stop>
+    requires span { row.now.first ≤ℤ row.now.last }
+    ensures new { IfOk result (λ new. piece_trees new.items ≡ wanted row.now.last [] (step_new row.now truths.now (state_of node.old))) }
+    ensures kept { OnOk result (state_of node.new ≡ step_state row.now truths.now (state_of node.old)) }
+    ensures counted { OnOk result (room.new.left + held_after row.now truths.now (state_of node.old) ≡ room.old.left) }
+    ensures crowded { result ≡ Err stop.Crowded → IsOverAt row.now truths.now [] (state_of node.old) room.old.left }
+{
+    let mut none = Vec::new(alloc);
+    let new = step(alloc, node, row, truths, &mut none, room)?;
+    Ok(new)
+}
+
+/// One row at an `AND` or a `FOLLOWEDBY`.
+#[cycle(step)]
+fn step_sides(
+    alloc: Global,
+    join: Join,
+    left: &mut Node,
+    right: &mut Node,
+    sides: &mut Sides,
+    row: &Row,
+    truths: &[bool],
+    leads: &mut Vec<Lead>,
+    room: &mut Room,
+) -> Result<Vec<Piece>, Stop>
+    requires span { row.now.first ≤ℤ row.now.last }
+    ensures new { IfOk result (λ new. piece_trees new.items
+        ≡ wanted row.now.last (leads_of leads.old.items) (step_new row.now truths.now (a_join join (state_of left.old) (state_of right.old) (side_stores sides.old)))) }
+    ensures kept { OnOk result (a_join join (state_of left.new) (state_of right.new) (side_stores sides.new)
+        ≡ step_state row.now truths.now (a_join join (state_of left.old) (state_of right.old) (side_stores sides.old))) }
+    ensures leads { OnOk result (leads.new.items ≡ leads.old.items) }
+    ensures counted { OnOk result (room.new.left
+        + held_after row.now truths.now (a_join join (state_of left.old) (state_of right.old) (side_stores sides.old)) ≡ room.old.left) }
+    ensures crowded { result ≡ Err stop.Crowded → IsOverAt row.now truths.now (leads_of leads.old.items)
+        (a_join join (state_of left.old) (state_of right.old) (side_stores sides.old)) room.old.left }
+{
+    sides.expire(row.last, room)?;
+    let new_left = step_alone(alloc, left, row, truths, room)?;
+    room.take_admitted(&new_left, &sides.left_window, row.last)?;
+    let new_right = step_right(alloc, join, right, sides, row, truths, leads, room)?;
+    room.take_admitted(&new_right, &sides.right_window, row.last)?;
+    let demand = Demand {
+        time: row.last,
+        leads,
+        room: room.left,
+    };
+    let new = sides.join(alloc, join, new_left, new_right, &demand)?;
+    Ok(new)
+}
+
+/// One row at an `OR`.
+#[cycle(step)]
+fn step_either(
+    alloc: Global,
+    left: &mut Node,
+    right: &mut Node,
+    row: &Row,
+    truths: &[bool],
+    leads: &mut Vec<Lead>,
+    room: &mut Room,
+) -> Result<Vec<Piece>, Stop>
+    requires span { row.now.first ≤ℤ row.now.last }
+    ensures new { IfOk result (λ new. piece_trees new.items
+        ≡ wanted row.now.last (leads_of leads.old.items) (step_new row.now truths.now (a_choice (state_of left.old) (state_of right.old)))) }
+    ensures kept { OnOk result (a_choice (state_of left.new) (state_of right.new)
+        ≡ step_state row.now truths.now (a_choice (state_of left.old) (state_of right.old))) }
+    ensures leads { OnOk result (leads.new.items ≡ leads.old.items) }
+    ensures counted { OnOk result (room.new.left + held_after row.now truths.now (a_choice (state_of left.old) (state_of right.old)) ≡ room.old.left) }
+    ensures crowded { result ≡ Err stop.Crowded
+        → IsOverAt row.now truths.now (leads_of leads.old.items) (a_choice (state_of left.old) (state_of right.old)) room.old.left }
+{
+    let mut new = Vec::new(alloc);
+    step_first(alloc, 1, left, row, truths, leads, room, &mut new)?;
+    step_second(alloc, 0, right, row, truths, leads, room, &mut new)?;
+    Ok(new)
+}
+
+/// One row at a `REPEATS`.
+#[cycle(step)]
+fn step_repeats(
+    alloc: Global,
+    part: &mut Node,
+    levels: &mut Levels,
+    row: &Row,
+    truths: &[bool],
+    leads: &mut Vec<Lead>,
+    room: &mut Room,
+) -> Result<Vec<Piece>, Stop>
+    requires span { row.now.first ≤ℤ row.now.last }
+    ensures new { IfOk result (λ new. piece_trees new.items
+        ≡ wanted row.now.last (leads_of leads.old.items) (step_new row.now truths.now (levels_state (state_of part.old) levels.old))) }
+    ensures kept { OnOk result (levels_state (state_of part.new) levels.new ≡ step_state row.now truths.now (levels_state (state_of part.old) levels.old)) }
+    ensures leads { OnOk result (leads.new.items ≡ leads.old.items) }
+    ensures counted { OnOk result (room.new.left + held_after row.now truths.now (levels_state (state_of part.old) levels.old) ≡ room.old.left) }
+    ensures crowded { result ≡ Err stop.Crowded
+        → IsOverAt row.now truths.now (leads_of leads.old.items) (levels_state (state_of part.old) levels.old) room.old.left }
+{
+    let new = step_part(alloc, part, levels, row, truths, leads, room)?;
+    let answer = levels.step(alloc, row.last, &new, leads, room)?;
+    Ok(answer)
+}
+
+/// One row at the left side of an `OR`, the innermost of so many that it is a left side of: adds what ends
+/// there, put under the `First`s of them all at once.
+#[cycle(step)]
+fn step_first(
+    alloc: Global,
+    count: u32,
+    node: &mut Node,
+    row: &Row,
+    truths: &[bool],
+    leads: &mut Vec<Lead>,
+    room: &mut Room,
+    out: &mut Vec<Piece>,
+) -> Result<(), Stop>
+    requires span { row.now.first ≤ℤ row.now.last }
+    ensures new { OnOk result (piece_trees out.new.items ≡ piece_trees out.old.items ++ map (held_with (firsts count))
+        (wanted row.now.last (leads_of leads.old.items) (step_new row.now truths.now (state_of node.old)))) }
+    ensures kept { OnOk result (state_of node.new ≡ step_state row.now truths.now (state_of node.old)) }
+    ensures leads { OnOk result (leads.new.items ≡ leads.old.items) }
+    ensures counted { OnOk result (room.new.left + held_after row.now truths.now (state_of node.old) ≡ room.old.left) }
+    ensures crowded { result ≡ Err stop.Crowded → Admits row.now truths.now (state_of node.old)
+        → room.old.left < length out.old.items + live_at row.now truths.now (leads_of leads.old.items) (state_of node.old) }
+{
+    if count < u32::MAX {
+        if let Node::Either(left, right) = node {
+            step_first(alloc, count + 1, left, row, truths, leads, room, out)?;
+            step_second(alloc, count, right, row, truths, leads, room, out)?;
+            return Ok(());
+        }
+    }
+    let mut new = step(alloc, node, row, truths, leads, room)?;
+    wrap_firsts(alloc, count, &mut new)?;
+    out.append(&mut new)?;
+    Ok(())
+}
+
+/// One row at the right side of an `OR` that is a left side of so many more: adds what ends there to what
+/// ends on its left.
+#[cycle(step)]
+fn step_second(
+    alloc: Global,
+    count: u32,
+    node: &mut Node,
+    row: &Row,
+    truths: &[bool],
+    leads: &mut Vec<Lead>,
+    room: &mut Room,
+    out: &mut Vec<Piece>,
+) -> Result<(), Stop>
+    requires span { row.now.first ≤ℤ row.now.last }
+    ensures new { OnOk result (piece_trees out.new.items ≡ piece_trees out.old.items ++ map (held_with (firsts count))
+        (map (held_with Second) (wanted row.now.last (leads_of leads.old.items) (step_new row.now truths.now (state_of node.old))))) }
+    ensures kept { OnOk result (state_of node.new ≡ step_state row.now truths.now (state_of node.old)) }
+    ensures leads { OnOk result (leads.new.items ≡ leads.old.items) }
+    ensures counted { OnOk result (room.new.left + held_after row.now truths.now (state_of node.old) ≡ room.old.left) }
+    ensures crowded { result ≡ Err stop.Crowded → Admits row.now truths.now (state_of node.old)
+        → room.old.left < length out.old.items + live_at row.now truths.now (leads_of leads.old.items) (state_of node.old) }
+{
+    if is_quiet(node, truths) {
+        return Ok(());
+    }
+    // Read, so that it is known to fit.
+    let _left = room.left;
+    room.take(out.len())?;
+    let new = step(alloc, node, row, truths, leads, room)?;
+    room.give_back(out.len());
+    add_seconds(alloc, count, new, out)?;
+    Ok(())
+}
+
+/// One row at the right side of a node.
+#[cycle(step)]
+fn step_right(
+    alloc: Global,
+    join: Join,
+    right: &mut Node,
+    sides: &mut Sides,
+    row: &Row,
+    truths: &[bool],
+    leads: &mut Vec<Lead>,
+    room: &mut Room,
+) -> Result<Vec<Piece>, Stop>
+    requires span { row.now.first ≤ℤ row.now.last }
+    ensures new { IfOk result (λ new. piece_trees new.items
+        ≡ wanted row.now.last (leads_right join (side_stores sides.old) (leads_of leads.old.items)) (step_new row.now truths.now (state_of right.old))) }
+    ensures kept { OnOk result (state_of right.new ≡ step_state row.now truths.now (state_of right.old)) }
+    ensures sides { OnOk result (side_stores sides.new ≡ side_stores sides.old) }
+    ensures leads { OnOk result (leads.new.items ≡ leads.old.items) }
+    ensures counted { OnOk result (room.new.left + held_after row.now truths.now (state_of right.old) ≡ room.old.left) }
+    ensures crowded { result ≡ Err stop.Crowded
+        → IsOverAt row.now truths.now (leads_right join (side_stores sides.old) (leads_of leads.old.items)) (state_of right.old) room.old.left }
+{
+    match join {
+        Join::Then => {
+            let left = mem::replace(&mut sides.left, Store::new(alloc));
+            leads.push(Lead {
+                left,
+                window: sides.right_window,
+            })?;
+            let new = step(alloc, right, row, truths, leads, room)?;
+            if let Some(lead) = leads.pop() {
+                sides.left = lead.left;
+            }
+            Ok(new)
+        }
+        Join::Both | Join::Repeats => step_alone(alloc, right, row, truths, room),
+    }
+}
+
+/// One row at what is repeated.
+#[cycle(step)]
+fn step_part(
+    alloc: Global,
+    part: &mut Node,
+    levels: &Levels,
+    row: &Row,
+    truths: &[bool],
+    leads: &mut Vec<Lead>,
+    room: &mut Room,
+) -> Result<Vec<Piece>, Stop>
+    requires span { row.now.first ≤ℤ row.now.last }
+    ensures new { IfOk result (λ new. piece_trees new.items
+        ≡ wanted row.now.last (leads_part levels.now.count levels.now.window row.now.last (leads_of leads.old.items)) (step_new row.now truths.now (state_of part.old))) }
+    ensures kept { OnOk result (state_of part.new ≡ step_state row.now truths.now (state_of part.old)) }
+    ensures leads { OnOk result (leads.new.items ≡ leads.old.items) }
+    ensures counted { OnOk result (room.new.left + held_after row.now truths.now (state_of part.old) ≡ room.old.left) }
+    ensures crowded { result ≡ Err stop.Crowded
+        → IsOverAt row.now truths.now (leads_part levels.now.count levels.now.window row.now.last (leads_of leads.old.items)) (state_of part.old) room.old.left }
+{
+    match levels.count {
+        0 => {
+            leads.push(nothing_ahead(alloc, &levels.window, row.last))?;
+            let new = step(alloc, part, row, truths, leads, room)?;
+            leads.pop();
+            Ok(new)
+        }
+        1 => step(alloc, part, row, truths, leads, room),
+        _ => step_alone(alloc, part, row, truths, room),
+    }
+}
+
+/// Nothing ahead of a window that is closed: so nothing is wanted.
+fn nothing_ahead(alloc: Global, window: &Window, now: Instant) -> Lead
+    ensures { ahead_of result ≡ record { left = []; window = closed window.now now } }
+{
+    let window = Window {
+        seconds: window.seconds,
+        start: window.start,
+        stop: Some(now),
+        behind: window.behind,
+    };
+    Lead {
+        left: Store::new(alloc),
+        window,
+    }
+}
+
+/// Whether a node is leaves of which none holds.
+fn is_quiet(node: &Node, truths: &[bool]) -> bool
+    ensures { IsTrue result → IsQuiet truths.now (state_of node.now) }
+{
+    match node {
+        Node::Leaves(leaves) => !leaves.any_holds(truths),
+        Node::Sides(_, _, _, _) | Node::Either(_, _) => false,
+        Node::Under(_) | Node::Repeats(_, _) => false,
+    }
+}
+
+/// Adds the things of the right side of an `OR` that is the left side of so many more, in the memory that
+/// they have where they are the first.
+#[inline(never)]
+fn add_seconds(
+    alloc: Global,
+    count: u32,
+    new: Vec<Piece>,
+    out: &mut Vec<Piece>,
+) -> Result<(), NoMemory>
+    ensures { OnOk result (piece_trees out.new.items
+        ≡ piece_trees out.old.items ++ map (held_with (firsts count)) (map (held_with Second) (piece_trees new.items))) }
+{
+    let mut seconds = new;
+    wrap_seconds(alloc, &mut seconds)?;
+    wrap_firsts(alloc, count, &mut seconds)?;
+    if out.is_empty() {
+        *out = seconds;
+        return Ok(());
+    }
+    out.append(&mut seconds)?;
+    Ok(())
+}
+
+/// Makes things those of the left sides of so many `OR`s, one above another.
+#[tactic(auto, using(crate::proofs::InPlaceLemmas::once_only, crate::proofs::PicksLemmas::once_firsts))]
+fn wrap_firsts(alloc: Global, count: u32, held: &mut Vec<Piece>) -> Result<(), NoMemory>
+    ensures { OnOk result (piece_trees held.new.items ≡ map (held_with (firsts count)) (piece_trees held.old.items)) }
+{
+    for piece in held.iter_mut() {
+        let bind = mem::replace(&mut piece.bind, Bind::One(0));
+        let above = Bind::under_firsts(alloc, count, bind)?;
+        piece.bind = above;
+    }
+    Ok(())
+}
+
+/// Makes things those of the right side of an `OR`.
+#[tactic(auto, using(crate::proofs::InPlaceLemmas::once_only, crate::proofs::PicksLemmas::once_second))]
+fn wrap_seconds(alloc: Global, held: &mut Vec<Piece>) -> Result<(), NoMemory>
+    ensures { OnOk result (piece_trees held.new.items ≡ map (held_with Second) (piece_trees held.old.items)) }
+{
+    for piece in held.iter_mut() {
+        let bind = mem::replace(&mut piece.bind, Bind::One(0));
+        let above = Bind::under_second(alloc, bind)?;
+        piece.bind = above;
+    }
+    Ok(())
+}

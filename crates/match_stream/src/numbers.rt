@@ -1,0 +1,68 @@
+//! The numbers of the observations that are bound.
+
+ghost use Rattle.std.specs.Prelude.{◌≡◌, ◌++◌, ℕ, true, false, IfOk, OnOk, map};
+ghost use Rattle.std.specs.List.{Contains};
+ghost use Rattle.match_bindings.specs.BindTree.{tree_of, many_of};
+ghost use Rattle.match_stream.specs.inner.Numbers.{numbers};
+
+use flow_values::NoMemory;
+use match_bindings::Bind;
+use std::alloc::Global;
+
+/// The numbers of a bind.
+pub(crate) fn numbers_of(alloc: Global, bind: &Bind) -> Result<Vec<u64>, NoMemory>
+    ensures { IfOk result (λ all. all.items ≡ numbers (tree_of bind.now)) }
+{
+    let mut all = Vec::new(alloc);
+    push_numbers(bind, &mut all)?;
+    Ok(all)
+}
+
+/// Adds the numbers of a bind.
+#[cycle(numbers)]
+pub(crate) fn push_numbers(bind: &Bind, out: &mut Vec<u64>) -> Result<(), NoMemory>
+    ensures { OnOk result (out.new.items ≡ out.old.items ++ numbers (tree_of bind.now)) }
+{
+    match bind {
+        Bind::One(number) => out.push(*number)?,
+        Bind::Both(sides) => {
+            push_numbers(&sides.0, out)?;
+            push_numbers(&sides.1, out)?;
+        }
+        Bind::First(_, part) | Bind::Second(part) => push_numbers(part, out)?,
+        Bind::Many(parts) => push_all_numbers(parts.as_slice(), out)?,
+    }
+    Ok(())
+}
+
+/// Adds the numbers of binds.
+#[cycle(numbers)]
+fn push_all_numbers(binds: &[Bind], out: &mut Vec<u64>) -> Result<(), NoMemory>
+    ensures { OnOk result (out.new.items ≡ out.old.items ++ numbers (many_of (map tree_of binds.now))) }
+{
+    for bind in binds {
+        push_numbers(bind, out)?;
+    }
+    Ok(())
+}
+
+/// Whether two lists of numbers have one in common.
+pub(crate) fn share_number(numbers: &[u64], others: &[u64]) -> bool
+    ensures some { result ≡ true → (n : ℕ) × Contains numbers.now n × Contains others.now n }
+    ensures none { result ≡ false → (n : ℕ) → Contains others.now n → ¬ (Contains numbers.now n) }
+{
+    for number in others {
+        if numbers.contains(number) {
+            return true;
+        }
+    }
+    false
+}
+
+/// Puts numbers in order, each once.
+pub(crate) fn tidy(numbers: &mut Vec<u64>)
+    ensures { (n : ℕ) → Contains numbers.old.items n → Contains numbers.new.items n }
+{
+    numbers.sort_unstable();
+    numbers.dedup();
+}

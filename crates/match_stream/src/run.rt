@@ -1,0 +1,128 @@
+ghost use Rattle.std.specs.Prelude.{◌≡◌, ◌<◌, ◌+◌, ◌^◌, ◌↔◌, ℕ, ℤ, ◌≤ℤ◌, ◌<ℤ◌, Err, Some, map, IfOk, OnOk};
+ghost use Rattle.match_bindings.specs.BindTree.{tree_of};
+ghost use Rattle.match_stream.specs.declared.ending.Ending.TheVariants as ending;
+ghost use Rattle.match_stream.specs.PieceTree.{trees_in};
+ghost use Rattle.match_stream.specs.inner.Pieces.{piece_trees};
+ghost use Rattle.match_stream.specs.declared.stop.Stop.TheVariants as stop;
+
+use crate::Ending;
+use crate::expired::clear;
+use crate::node::{Node, step_alone};
+use crate::piece::Piece;
+use crate::room::Room;
+use crate::row::Row;
+use crate::stop::Stop;
+use flow_values::{Items, NoMemory};
+use match_bindings::{Bind, in_order};
+use std::alloc::Global;
+use stix_times::Instant;
+
+/// A matcher while it runs.
+#[derive(Drop)]
+pub(crate) struct Run {
+    pub alloc: Global,
+    pub cap: u64,
+    pub rows: u64,
+    pub last: Option<Instant>,
+    pub node: Node,
+}
+
+impl Run {
+    ghost use Rattle.match_stream.specs.inner.Runs.{IsCleared, next_row, AreSteps, TookRow, IsOver, Passed};
+
+    /// Takes out what has expired at a time that isn't before the last row's. Takes no memory.
+    pub fn clear(&mut self, now: Instant) -> Result<(), Ending>
+        ensures out_of_order { (before time : ℤ) → (result ≡ Err (ending.OutOfOrder before time))
+            ↔ ((self.old.last ≡ Some before) × (time ≡ now) × (time <ℤ before)) }
+        ensures not_crowded { (number cap : ℕ) → ¬ (result ≡ Err (ending.Crowded number cap)) }
+        ensures cleared { OnOk result (IsCleared self.old self.new now) }
+        ensures cap { self.new.cap ≡ self.old.cap }
+    {
+        if let Some(before) = self.last {
+            if now < before {
+                return Err(Ending::OutOfOrder { last: before, now });
+            }
+        }
+        clear(&mut self.node, now);
+        Ok(())
+    }
+
+    /// Takes a row, and gives the binds that end there.
+    pub fn take(
+        &mut self,
+        first: Instant,
+        last: Instant,
+        truths: &[bool],
+    ) -> Result<Items<Bind>, Ending>
+        requires span { first ≤ℤ last }
+        requires room { self.old.rows + 1 < 2 ^ 64 }
+        ensures in_order { (before now : ℤ) → ¬ (result ≡ Err (ending.OutOfOrder before now)) }
+        ensures crowded { (number cap : ℕ) → result ≡ Err (ending.Crowded number cap)
+            → (number ≡ self.old.rows + 1) × (cap ≡ self.old.cap) × IsOver self.old (next_row self.old.rows first last) truths.now }
+        ensures took { OnOk result (TookRow self.old self.new (next_row self.old.rows first last) truths.now) }
+        ensures binds { IfOk result (λ binds. AreSteps self.old (next_row self.old.rows first last) truths.now (map tree_of binds)) }
+        ensures cap { self.new.cap ≡ self.old.cap }
+    {
+        let number = self.rows + 1;
+        let row = Row {
+            number,
+            first,
+            last,
+        };
+        match self.answer(&row, truths) {
+            Ok(binds) => Ok(binds),
+            Err(Stop::Crowded) => Err(Ending::Crowded {
+                number,
+                cap: self.cap,
+            }),
+            Err(Stop::OutOfMemory) => Err(Ending::NoMemory),
+        }
+    }
+
+    /// Takes so many rows at which nothing holds, the last of which has this last time. Takes no memory.
+    pub fn pass(&mut self, rows: u64, last: Instant) -> Result<(), Ending>
+        requires { self.old.rows + rows < 2 ^ 64 }
+        ensures out_of_order { (before now : ℤ) → (result ≡ Err (ending.OutOfOrder before now))
+            ↔ ((self.old.last ≡ Some before) × (now ≡ last) × (now <ℤ before)) }
+        ensures passed { OnOk result (Passed self.old self.new rows last) }
+        ensures cap { self.new.cap ≡ self.old.cap }
+    {
+        match self.clear(last) {
+            Ok(()) => {
+                self.rows += rows;
+                self.last = Some(last);
+                Ok(())
+            }
+            Err(ending) => Err(ending),
+        }
+    }
+
+    /// The binds that end at a row, unless more is live after it than the cap allows.
+    fn answer(&mut self, row: &Row, truths: &[bool]) -> Result<Items<Bind>, Stop>
+        requires span { row.now.first ≤ℤ row.now.last }
+        ensures took { OnOk result (TookRow self.old self.new row.now truths.now) }
+        ensures binds { IfOk result (λ binds. AreSteps self.old row.now truths.now (map tree_of binds)) }
+        ensures crowded { result ≡ Err stop.Crowded → IsOver self.old row.now truths.now }
+        ensures cap { self.new.cap ≡ self.old.cap }
+    {
+        let mut room = Room { left: self.cap };
+        let new = step_alone(self.alloc, &mut self.node, row, truths, &mut room)?;
+        room.take(new.len())?;
+        let binds = binds_of(self.alloc, new)?;
+        let sorted = in_order(self.alloc, binds)?;
+        self.rows = row.number;
+        self.last = Some(row.last);
+        Ok(Items::from_vec(sorted))
+    }
+}
+
+/// The binds alone.
+fn binds_of(alloc: Global, held: Vec<Piece>) -> Result<Vec<Bind>, NoMemory>
+    ensures { IfOk result (λ binds. map tree_of binds.items ≡ trees_in (piece_trees held.items)) }
+{
+    let mut binds = Vec::with_capacity(alloc, held.len())?;
+    for one in held {
+        binds.push(one.bind)?;
+    }
+    Ok(binds)
+}

@@ -1,9 +1,0 @@
-use Rattle.std.proofs.Common.{◌↔◌, ℕ, take}
-use Rattle.std.specs.Prelude.{Contains}
-use Rattle.match_tests.specs.inner.Positions.{AreOf}
-use Rattle.match_tests.specs.inner.Roots.{IsSomeRoot}
-use Rattle.match_tests.proofs.roots.roots_of.Given as goal
-
-abbrev pub invariant-loop-observation : goal.invariant-loop-observation
-invariant-loop-observation l = AreOf l.roots.items l.seen
-    × ((at : ℕ) → Contains l.roots.items at ↔ IsSomeRoot (take l.observation-index l.observations) at)

@@ -1,7 +1,0 @@
-use Rattle.std.proofs.Common.{ℕ}
-use Rattle.match_tests.specs.inner.Positions.{IsIn}
-use Rattle.match_tests.proofs.FoundLemmas.{NoneBefore}
-use Rattle.match_tests.proofs.rows.has_some.Given as goal
-
-abbrev pub invariant-loop-root : goal.invariant-loop-root
-invariant-loop-root l = NoneBefore (λ (root : ℕ). IsIn l.positions root) l.roots l.root-index

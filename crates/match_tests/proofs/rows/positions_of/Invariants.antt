@@ -1,6 +1,0 @@
-use Rattle.std.proofs.Common.{take}
-use Rattle.match_tests.specs.inner.Positions.{AreOf}
-use Rattle.match_tests.proofs.rows.positions_of.Given as goal
-
-abbrev pub invariant-loop-at : goal.invariant-loop-at
-invariant-loop-at l = AreOf (take l.at-index l.list) l.positions

@@ -1,5 +1,0 @@
-use Rattle.pattern_meaning.proofs.RootSetLemmas.{joined_names}
-use Rattle.pattern_meaning.proofs.roots.with.Goals as goal
-
-pub returns : goal.returns
-returns c = joined_names _ _ _ c.in_ok-append.ensures.inserts_all.0

@@ -1,0 +1,42 @@
+-- The refusals of values: their names, their places, and which of two stands first.
+use Rattle.std.specs.Prelude.{◌≡◌, ℕ, ◌<◌, ◌≤◌, ◌⊎◌, List, Option, MatchOption, codes}
+use Rattle.pattern_reader.specs.declared.value_refusal.ValueRefusal.{ValueRefusal}
+use Rattle.pattern_reader.specs.declared.value_refusal.ValueRefusal.TheVariants.{BadCount, LongPath, BadAddress, EmptySpan, NoCommonRoot, NoValue}
+
+abbrev pub name_of : ValueRefusal → List ℕ
+name_of (BadCount at) = codes "BadCount"
+name_of (LongPath at) = codes "LongPath"
+name_of (BadAddress at) = codes "BadAddress"
+name_of (EmptySpan at) = codes "EmptySpan"
+name_of (NoCommonRoot at) = codes "NoCommonRoot"
+name_of (NoValue at) = codes "NoValue"
+
+abbrev pub place_of : ValueRefusal → ℕ
+place_of (BadCount at) = at
+place_of (LongPath at) = at
+place_of (BadAddress at) = at
+place_of (EmptySpan at) = at
+place_of (NoCommonRoot at) = at
+place_of (NoValue at) = at
+
+-- at one place, LongPath comes first, then NoCommonRoot; the others never share one in a text
+abbrev pub rank_of : ValueRefusal → ℕ
+rank_of (LongPath at) = 0
+rank_of (NoCommonRoot at) = 1
+rank_of (EmptySpan at) = 2
+rank_of (BadCount at) = 3
+rank_of (BadAddress at) = 4
+rank_of (NoValue at) = 5
+
+-- the first stands before the second, or at its place and no later in rank
+abbrev pub Precedes : ValueRefusal → ValueRefusal → Type 0
+Precedes a b = (place_of a < place_of b) ⊎ ((place_of a ≡ place_of b) × (rank_of a ≤ rank_of b))
+
+-- the refusal is one of these, and precedes each of them
+pub record IsEarliest (IsOne : ValueRefusal → Type 0) (refusal : ValueRefusal) : Type 0 where
+  pub one : IsOne refusal
+  pub first : (other : ValueRefusal) → IsOne other → Precedes refusal other
+
+-- the earliest of these, or none where there is none
+abbrev pub IsEarliestOf : (ValueRefusal → Type 0) → Option ValueRefusal → Type 0
+IsEarliestOf IsOne found = MatchOption found ((refusal : ValueRefusal) → ¬ IsOne refusal) (IsEarliest IsOne)

@@ -1,0 +1,101 @@
+ghost use Rattle.std.specs.Prelude.{◌≡◌, Some};
+ghost use Rattle.pattern_reader.specs.PatternRefusal.{name_of, place_of};
+
+use flow_values::NoMemory;
+use pattern_grammar::SyntaxRefusal;
+use crate::ValueRefusal;
+use pattern_lexer::TokenRefusal;
+use std::error::Error;
+use std::fmt;
+
+/// Why a text isn't read as a pattern.
+#[derive(Clone, Copy, Debug, PartialEq, Eq, Hash)]
+pub enum PatternRefusal {
+    /// The text has more than 65,536 bytes.
+    TooLong,
+    /// It isn't cut into tokens: the first refusal from the left.
+    Token(TokenRefusal),
+    /// Its tokens are no pattern's, or nest too deep: whichever stands first.
+    Syntax(SyntaxRefusal),
+    /// A value may not stand where it does: the first, by its place.
+    Value(ValueRefusal),
+    /// The pattern is wider than 64, or has more than 1,024 pairs of brackets.
+    TooWide,
+    /// Memory ran out.
+    NoMemory,
+}
+
+impl PatternRefusal {
+    /// The refusal's name, as `Syntax`.
+    pub fn name(self) -> &'static str
+        ensures { result.now ≡ name_of self }
+    {
+        match self {
+            PatternRefusal::TooLong => "TooLong",
+            PatternRefusal::Token(refusal) => refusal.name(),
+            PatternRefusal::Syntax(refusal) => refusal.name(),
+            PatternRefusal::Value(refusal) => refusal.name(),
+            PatternRefusal::TooWide => "TooWide",
+            PatternRefusal::NoMemory => "out of memory",
+        }
+    }
+
+    /// Its place in the text, in bytes from 0, where it has one.
+    pub fn at(self) -> Option<usize>
+        ensures { result ≡ place_of self }
+    {
+        match self {
+            PatternRefusal::Token(refusal) => Some(refusal.at()),
+            PatternRefusal::Syntax(refusal) => Some(refusal.at()),
+            PatternRefusal::Value(refusal) => Some(refusal.at()),
+            PatternRefusal::TooLong | PatternRefusal::TooWide | PatternRefusal::NoMemory => None,
+        }
+    }
+}
+
+/// Its name, and its place where it has one, as `Syntax at 5`.
+impl fmt::Display for PatternRefusal {
+    ghost use Rattle.pattern_reader.specs.PatternRefusal.{refusal_text};
+
+    ghost output = { λ refusal. Some (refusal_text refusal) };
+
+    fn fmt<W: fmt::Write>(&self, f: &mut fmt::Formatter<W>) -> fmt::Result {
+        let name = self.name();
+        match self.at() {
+            Some(at) => write!(f, "{name} at {at}"),
+            None => write!(f, "{name}"),
+        }
+    }
+}
+
+impl Error for PatternRefusal {}
+
+impl From<NoMemory> for PatternRefusal {
+    ghost use Rattle.pattern_reader.specs.declared.pattern_refusal.PatternRefusal.TheVariants as refused;
+
+    ghost from_gives = { λ _ refusal. refusal ≡ refused.NoMemory };
+
+    fn from(_error: NoMemory) -> PatternRefusal {
+        PatternRefusal::NoMemory
+    }
+}
+
+impl From<TokenRefusal> for PatternRefusal {
+    ghost use Rattle.pattern_reader.specs.declared.pattern_refusal.PatternRefusal.TheVariants as refused;
+
+    ghost from_gives = { λ token refusal. refusal ≡ refused.Token token };
+
+    fn from(refusal: TokenRefusal) -> PatternRefusal {
+        PatternRefusal::Token(refusal)
+    }
+}
+
+impl From<SyntaxRefusal> for PatternRefusal {
+    ghost use Rattle.pattern_reader.specs.declared.pattern_refusal.PatternRefusal.TheVariants as refused;
+
+    ghost from_gives = { λ syntax refusal. refusal ≡ refused.Syntax syntax };
+
+    fn from(refusal: SyntaxRefusal) -> PatternRefusal {
+        PatternRefusal::Syntax(refusal)
+    }
+}

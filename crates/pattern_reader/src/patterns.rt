@@ -1,0 +1,205 @@
+ghost use Rattle.std.specs.Prelude.{ℕ, List, map, IfOk, Some, IfSome};
+ghost use Rattle.pattern_grammar.specs.Tree.{Tree, compared, leaf, joined, shape, qualified};
+ghost use Rattle.pattern_reader.specs.Answer.{Answers};
+ghost use Rattle.pattern_reader.specs.inner.NarrowPattern.{tree_by};
+ghost use Rattle.pattern_reader.specs.Refusals.{IsSoundLimitOf};
+ghost use Rattle.pattern_grammar.specs.declared.qualifier.Qualifier.{Qualifier};
+ghost use Rattle.pattern_reader.specs.inner.NarrowPattern.{IsNarrow, IsNarrowPart, IsPartOf, IsPartOutcome};
+
+use crate::judgement::{Judgement, judge};
+use crate::limits::{limit_of, limit_refusal};
+use crate::narrow_pattern::{NarrowPattern, Operator};
+use crate::outcomes::both;
+use crate::{Meaning, ValueRefusal};
+use flow_values::NoMemory;
+use pattern_grammar::{ComparisonTree, PatternTree, Qualifier};
+use pattern_types::Limit;
+use std::alloc::Global;
+
+/// What a pattern and a part mean, joined: they are too wide where the part is.
+fn join_narrow(
+    alloc: Global,
+    operator: Operator,
+    left: NarrowPattern,
+    right: Option<NarrowPattern>,
+) -> Result<Option<NarrowPattern>, NoMemory>
+    requires left { IsNarrow left }
+    requires right { IfSome right IsNarrow }
+    ensures narrow { IfOk result (λ whole. IfSome whole IsNarrow) }
+    ensures part { IfOk result (λ whole. (text : List ℕ) (p q : Tree) → IsPartOf text p (Some left) → IsPartOf text q right
+        → IsPartOf text (tree_by operator p q) whole) }
+{
+    match right {
+        Some(right) => NarrowPattern::joined(alloc, operator, left, right),
+        None => {
+            drop(left);
+            Ok(None)
+        }
+    }
+}
+
+/// What two parts of a pattern mean, joined: they are too wide where one of them is.
+fn join(
+    alloc: Global,
+    operator: Operator,
+    left: Option<NarrowPattern>,
+    right: Option<NarrowPattern>,
+) -> Result<Option<NarrowPattern>, NoMemory>
+    requires left { IfSome left IsNarrow }
+    requires right { IfSome right IsNarrow }
+    ensures narrow { IfOk result (λ whole. IfSome whole IsNarrow) }
+    ensures part { IfOk result (λ whole. (text : List ℕ) (p q : Tree) → IsPartOf text p left → IsPartOf text q right
+        → IsPartOf text (tree_by operator p q) whole) }
+{
+    match left {
+        Some(left) => join_narrow(alloc, operator, left, right),
+        None => {
+            drop(right);
+            Ok(None)
+        }
+    }
+}
+
+/// What two parts of a pattern mean, joined, or the first refusal.
+fn join_parts(
+    alloc: Global,
+    operator: Operator,
+    left: Result<Option<NarrowPattern>, ValueRefusal>,
+    right: Result<Option<NarrowPattern>, ValueRefusal>,
+) -> Result<Result<Option<NarrowPattern>, ValueRefusal>, NoMemory>
+    requires left { IsNarrowPart left }
+    requires right { IsNarrowPart right }
+    ensures narrow { IfOk result IsNarrowPart }
+    ensures part { IfOk result (λ whole. (text : List ℕ) (p q : Tree) → IsPartOutcome text p left → IsPartOutcome text q right
+        → IsPartOutcome text (tree_by operator p q) whole) }
+{
+    match both(left, right) {
+        Ok((left, right)) => {
+            let whole = join(alloc, operator, left, right)?;
+            Ok(Ok(whole))
+        }
+        Err(refusal) => Ok(Err(refusal)),
+    }
+}
+
+/// What a part of a pattern means, limited: it is too wide where it was.
+fn limit(
+    alloc: Global,
+    part: Option<NarrowPattern>,
+    limit: Limit,
+) -> Result<Option<NarrowPattern>, NoMemory>
+    requires { IfSome part IsNarrow }
+    ensures narrow { IfOk result (λ whole. IfSome whole IsNarrow) }
+    ensures part { IfOk result (λ whole. (text : List ℕ) (p : Tree) (q : Qualifier) → IsPartOf text p part → IsSoundLimitOf text q limit
+        → IsPartOf text (qualified p q) whole) }
+{
+    match part {
+        Some(part) => NarrowPattern::limited(alloc, part, limit),
+        None => Ok(None),
+    }
+}
+
+/// What a part of a pattern means, limited by a qualifier, or the first refusal.
+fn limit_part(
+    alloc: Global,
+    text: &str,
+    part: Result<Option<NarrowPattern>, ValueRefusal>,
+    qualifier: Qualifier,
+) -> Result<Result<Option<NarrowPattern>, ValueRefusal>, NoMemory>
+    requires { IsNarrowPart part }
+    ensures narrow { IfOk result IsNarrowPart }
+    ensures part { IfOk result (λ whole. (p : Tree) → IsPartOutcome text.now p part → IsPartOutcome text.now (qualified p qualifier) whole) }
+{
+    let found = limit_of(text, qualifier).ok_or(limit_refusal(qualifier));
+    match both(part, found) {
+        Ok((part, found)) => {
+            let whole = limit(alloc, part, found)?;
+            Ok(Ok(whole))
+        }
+        Err(refusal) => Ok(Err(refusal)),
+    }
+}
+
+/// What stands in a pair of brackets means.
+fn leaf_part(
+    alloc: Global,
+    text: &str,
+    tree: &ComparisonTree,
+) -> Result<Result<Option<NarrowPattern>, ValueRefusal>, NoMemory>
+    ensures narrow { IfOk result IsNarrowPart }
+    ensures part { IfOk result (IsPartOutcome text.now (leaf (compared tree.now))) }
+{
+    let Judgement { leaf, .. } = judge(alloc, text, tree)?;
+    match leaf {
+        Ok(leaf) => Ok(Ok(Some(NarrowPattern::leaf(leaf)))),
+        Err(refusal) => Ok(Err(refusal)),
+    }
+}
+
+/// What patterns that are joined mean, of which the first means this.
+#[cycle(patterns)]
+fn chain_of(
+    alloc: Global,
+    text: &str,
+    operator: Operator,
+    first: Result<Option<NarrowPattern>, ValueRefusal>,
+    others: &[PatternTree],
+) -> Result<Result<Option<NarrowPattern>, ValueRefusal>, NoMemory>
+    requires { IsNarrowPart first }
+    ensures narrow { IfOk result IsNarrowPart }
+    ensures part { IfOk result (λ part. (p : Tree) → IsPartOutcome text.now p first
+        → IsPartOutcome text.now (joined (tree_by operator) p (map shape others.now)) part) }
+{
+    let mut whole = first;
+    for other in others {
+        let Ok(next) = part_of(alloc, text, other) else {
+            drop(whole);
+            return Err(NoMemory);
+        };
+        whole = join_parts(alloc, operator, whole, next)?;
+    }
+    Ok(whole)
+}
+
+/// What a part of a pattern means.
+#[cycle(patterns)]
+fn part_of(
+    alloc: Global,
+    text: &str,
+    tree: &PatternTree,
+) -> Result<Result<Option<NarrowPattern>, ValueRefusal>, NoMemory>
+    ensures narrow { IfOk result IsNarrowPart }
+    ensures part { IfOk result (IsPartOutcome text.now (shape tree.now)) }
+{
+    match tree {
+        PatternTree::Leaf(inside) => leaf_part(alloc, text, inside),
+        PatternTree::Both(first, others) => {
+            let first = part_of(alloc, text, first)?;
+            chain_of(alloc, text, Operator::Both, first, others.as_slice())
+        }
+        PatternTree::Either(first, others) => {
+            let first = part_of(alloc, text, first)?;
+            chain_of(alloc, text, Operator::Either, first, others.as_slice())
+        }
+        PatternTree::Then(first, others) => {
+            let first = part_of(alloc, text, first)?;
+            chain_of(alloc, text, Operator::Then, first, others.as_slice())
+        }
+        PatternTree::Qualified(inside, qualifier) => {
+            let part = part_of(alloc, text, inside)?;
+            limit_part(alloc, text, part, *qualifier)
+        }
+    }
+}
+
+/// What the syntax tree of a pattern's text means: the pattern; or that it is too wide; or the first
+/// value, by its place, that may not stand where it does.
+pub fn meaning_of(alloc: Global, text: &str, tree: &PatternTree) -> Result<Meaning, NoMemory>
+    ensures { IfOk result (Answers text.now (shape tree.now)) }
+{
+    match part_of(alloc, text, tree)? {
+        Ok(Some(narrow)) => Ok(Meaning::Sound(narrow.pattern)),
+        Ok(None) => Ok(Meaning::TooWide),
+        Err(refusal) => Ok(Meaning::Refused(refusal)),
+    }
+}

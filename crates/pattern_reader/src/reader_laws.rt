@@ -1,0 +1,46 @@
+//! What follows from the definitions: the contracts are the laws, and the functions do nothing.
+
+ghost use Rattle.std.specs.Prelude.{◌≡◌, ℕ, List};
+ghost use Rattle.pattern_types.specs.declared.pattern.Pattern.{Pattern};
+ghost use Rattle.pattern_types.specs.PlainPattern.{plain_pattern};
+ghost use Rattle.pattern_reader.specs.declared.pattern_refusal.PatternRefusal.{PatternRefusal};
+ghost use Rattle.pattern_reader.specs.declared.pattern_refusal.PatternRefusal.TheVariants as PatternRefusal;
+ghost use Rattle.pattern_reader.specs.declared.value_refusal.ValueRefusal.TheVariants.{NoValue};
+ghost use Rattle.pattern_reader.specs.Read.{IsReadAs, IsRefusedAs};
+
+/// A text is read as one pattern at most.
+pub fn one_pattern()
+    ensures { (text : List ℕ) (p q : Pattern) → IsReadAs text p → IsReadAs text q → plain_pattern p ≡ plain_pattern q }
+{
+    pattern_lexer::lexer_laws::one_reading();
+    pattern_grammar::one_pattern();
+    crate::meaning_laws::one_meaning();
+}
+
+/// A text that is read as a pattern has no refusal.
+pub fn none_refused()
+    ensures { (text : List ℕ) (p : Pattern) (refusal : PatternRefusal) → IsReadAs text p → ¬ IsRefusedAs text refusal }
+{
+    pattern_lexer::lexer_laws::one_reading();
+    pattern_grammar::one_pattern();
+    pattern_grammar::one_answer();
+    crate::meaning_laws::one_meaning();
+    crate::meaning_laws::none_refused();
+}
+
+/// A text has one refusal at most: one of more than 65,536 bytes is TooLong and nothing else, and of two
+/// values at one place one comes first.
+pub fn one_refusal()
+    ensures { (text : List ℕ) (first second : PatternRefusal) → IsRefusedAs text first → IsRefusedAs text second → first ≡ second }
+{
+    pattern_lexer::lexer_laws::one_reading();
+    pattern_grammar::one_pattern();
+    pattern_grammar::one_answer();
+    crate::meaning_laws::none_refused();
+    crate::meaning_laws::one_refusal();
+}
+
+/// No text is refused as `NoValue`: each token of a text stands for something.
+pub fn no_value()
+    ensures { (text : List ℕ) (at : ℕ) → ¬ IsRefusedAs text (PatternRefusal.Value (NoValue at)) }
+{}

@@ -1,6 +1,0 @@
-mod QuotedLemmas
-mod EscapesLemmas
-mod SpansLemmas
-mod ContainsLemmas
-mod HasValueLemmas
-mod UnescapedLemmas

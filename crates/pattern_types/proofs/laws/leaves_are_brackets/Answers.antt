@@ -1,5 +1,0 @@
-use Rattle.pattern_types.proofs.LeavesLemmas.{leaves_brackets}
-use Rattle.pattern_types.proofs.laws.leaves_are_brackets.Goals as goal
-
-pub returns : goal.returns
-returns c = leaves_brackets

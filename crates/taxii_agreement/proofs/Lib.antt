@@ -1,9 +1,0 @@
-mod BytesLemmas
-mod TextLemmas
-mod EnvelopeLemmas
-mod HeadLemmas
-mod ReplyLemmas
-mod QueryLemmas
-mod RequestLemmas
-mod HeardLemmas
-mod PullLemmas

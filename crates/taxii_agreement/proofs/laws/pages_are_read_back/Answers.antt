@@ -1,5 +1,0 @@
-use Rattle.taxii_agreement.proofs.EnvelopeLemmas.{read_back}
-use Rattle.taxii_agreement.proofs.laws.pages_are_read_back.Goals as goal
-
-pub returns : goal.returns
-returns c = read_back c.envelopes_are_json.ensures

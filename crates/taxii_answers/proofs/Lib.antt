@@ -1,9 +1,0 @@
-mod BodyLemmas
-mod ReadingLemmas
-mod RefusalLemmas
-mod EntryLemmas
-mod AdditionLemmas
-mod ReportLemmas
-mod ChangeLemmas
-mod StepLemmas
-mod WholeLemmas

@@ -1,5 +1,0 @@
-mod RowLemmas
-mod AnswerLemmas
-mod TakenLemmas
-mod HoldsLemmas
-mod NamedLemmas

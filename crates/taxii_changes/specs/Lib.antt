@@ -1,4 +1,0 @@
-pub mod Posted
-pub mod Adding
-pub mod Deleting
-pub mod inner

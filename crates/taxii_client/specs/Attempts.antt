@@ -1,0 +1,99 @@
+-- Attempts at the pages of a peer's collection: each page is asked for over a new link until it comes.
+use Rattle.std.specs.Prelude.{◌≡◌, ◌⊎◌, ℕ, ◌+◌, ◌-◌, ◌^◌, ◌≤◌, min, Bool, true, false, List, [], ◌∷◌, map, filter, filter_map, count_by, is_none, Option, Some, None, MatchOption, Result, Ok, Err}
+use Rattle.flow_edges.specs.Flow.{IsAtEnd}
+use Rattle.http_messages.specs.Replies.{IsCut, Takes}
+use Rattle.stix_json.specs.declared.entry.Entry.{Entry}
+use Rattle.stix_json.specs.declared.envelope.Envelope.{Envelope}
+use Rattle.taxii_client.specs.Outside.{LinkView, LinkRose}
+use Rattle.taxii_client.specs.Fetches.{Fetched}
+use Rattle.taxii_client.specs.Pulls.{Asks, Lent, Page, turn_after}
+use Rattle.taxii_client.specs.declared.fetch_end.FetchEnd.{FetchEnd}
+use Rattle.taxii_client.specs.declared.fetch_end.FetchEnd.TheVariants.{Fault, Cut, Refused, NoMemory}
+use Rattle.taxii_client.specs.declared.target.Target.{Target}
+use Rattle.taxii_client.specs.declared.turn.Turn.{Turn}
+
+-- an attempt at a page: the link that the dial gave, where it did, and what the fetch over it answered
+pub record Attempt (L : Type 0) : Type 0 where
+  pub link : Option (Lent L)
+  pub answer : Result Envelope FetchEnd
+
+-- ---- attempts in turn
+
+-- the page was asked for as the turn says, over the link; or the dial gave none
+pub record IsAttemptAt {L : Type 0} (view : L → LinkView) (target : Target) (turn : Turn) (attempt : Attempt L) : Type 0 where
+  pub next : Option (List ℕ)
+  pub asks : Asks turn next
+  pub fetched : MatchOption attempt.link (attempt.answer ≡ Err Fault) (λ link. Fetched target next (view link.given) (view link.finished) attempt.answer)
+
+-- the turn behind an attempt: the same one where no page came
+abbrev pub turn_behind : Turn → Result Envelope FetchEnd → Turn
+turn_behind turn (Ok envelope) = turn_after envelope
+turn_behind turn (Err end) = turn
+
+-- attempts in turn, from one turn to another
+abbrev pub InTurn : {L : Type 0} → (L → LinkView) → Target → Turn → List (Attempt L) → Turn → Type 0
+InTurn view target turn [] after = after ≡ turn
+InTurn view target turn (attempt ∷ attempts) after = IsAttemptAt view target turn attempt × InTurn view target (turn_behind turn attempt.answer) attempts after
+
+-- ---- what came of them
+
+-- whether the attempt was lost: the dial or the link failed, or the link's bytes ended inside the reply
+abbrev pub is_loss : Result Envelope FetchEnd → Bool
+is_loss (Ok envelope) = false
+is_loss (Err Fault) = true
+is_loss (Err Cut) = true
+is_loss (Err (Refused refusal)) = false
+is_loss (Err NoMemory) = false
+
+abbrev pub is_lost : {L : Type 0} → Attempt L → Bool
+is_lost attempt = is_loss attempt.answer
+
+-- how many were lost
+abbrev pub losses : {L : Type 0} → List (Attempt L) → ℕ
+losses attempts = count_by is_lost attempts
+
+-- how many got no link
+abbrev pub undialled : {L : Type 0} → List (Attempt L) → ℕ
+undialled attempts = count_by (λ attempt. is_none attempt.link) attempts
+
+-- the links that were dialled
+abbrev pub links_of : {L : Type 0} → List (Attempt L) → List (Lent L)
+links_of attempts = filter_map (λ attempt. attempt.link) attempts
+
+-- those over which nothing came
+abbrev pub lost_links : {L : Type 0} → List (Attempt L) → List (Lent L)
+lost_links attempts = links_of (filter is_lost attempts)
+
+-- the page that came
+abbrev pub page_over : {L : Type 0} → Option (Lent L) → Result Envelope FetchEnd → Option (Page L)
+page_over (Some link) (Ok envelope) = Some (record { link = link; envelope = envelope })
+page_over (Some link) (Err end) = None
+page_over None answer = None
+
+abbrev pub pages_of : {L : Type 0} → List (Attempt L) → List (Page L)
+pages_of attempts = filter_map (λ attempt. page_over attempt.link attempt.answer) attempts
+
+-- the entries of pages
+abbrev pub entries_of : {L : Type 0} → List (Page L) → List (List Entry)
+entries_of pages = map (λ page. page.envelope.entries) pages
+
+-- a page came, or the attempt was lost: another one may follow
+abbrev pub GoesOn : {L : Type 0} → Attempt L → Type 0
+GoesOn attempt = ((envelope : Envelope) × (attempt.answer ≡ Ok envelope)) ⊎ (is_lost attempt ≡ true)
+
+-- ---- why they were lost
+
+-- the link's bytes ended inside a reply
+pub record EndsInside (before now : LinkView) : Type 0 where
+  pub taken : List ℕ
+  pub takes : Takes taken before.left now.left
+  pub cut : IsCut taken
+  pub ended : IsAtEnd now.left
+
+abbrev pub LinkFailed : {L : Type 0} → (L → LinkView) → Lent L → Type 0
+LinkFailed view link = LinkRose (view link.given) (view link.finished) ⊎ EndsInside (view link.given) (view link.finished)
+
+-- the dial counted each attempt that got no link, and nothing else; a count that stands at its end counts as risen
+pub record CountsDials (undialled before now : ℕ) : Type 0 where
+  pub rose : min (before + undialled) (2 ^ 64 - 1) ≤ now
+  pub quiet : undialled ≡ 0 → now ≡ before

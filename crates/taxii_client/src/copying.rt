@@ -1,0 +1,100 @@
+ghost use Rattle.std.specs.Prelude.{◌≡◌, ◌≤◌, ℕ, length, true, Err, IfOk, IfErr, IfSome, IsErrAnd};
+ghost use Rattle.flow_edges.specs.Faults.{Counted};
+ghost use Rattle.flow_links.specs.declared.dial.TheConstants.{MAX_HOST};
+ghost use Rattle.taxii_client.specs.Outside.{link_view};
+ghost use Rattle.taxii_store.specs.Loading.{IsBadAfter};
+ghost use Rattle.taxii_store.specs.declared.load_refusal.LoadRefusal.TheVariants as Unloaded;
+ghost use Rattle.taxii_client.specs.Filling.{outside};
+ghost use Rattle.taxii_client.specs.Endings.{Copies, is_store_fault};
+ghost use Rattle.taxii_client.specs.inner.Opening.{stop_of, Opens};
+
+use crate::{CopyStop, FetchStop, Totals};
+use flow_links::{Clock, Dial};
+use std::alloc::Global;
+use crate::pull_laws::pulls_go_on;
+use crate::{PageEnd, Pull, Target};
+use crate::Mirror;
+use crate::mirror_laws::pages_go_on;
+use taxii_rows::Keeper;
+use taxii_store::{Library, LoadRefusal};
+
+/// Fetches the pages of a collection in turn, and absorbs each at the next moment of the clock, before the next one
+/// is asked for, into the store of that name. A page that is lost is asked for again; the copy ends when `tries`
+/// fetches were lost in all.
+pub fn copy<D: Dial, K: Keeper, C: Clock>(
+    alloc: Global,
+    target: &Target,
+    file: &str,
+    tries: u32,
+    dial: &mut D,
+    keeper: &mut K,
+    clock: &mut C,
+) -> Result<Totals, CopyStop>
+    requires short { length target.now.host ≤ MAX_HOST }
+    requires tries { 1 ≤ tries }
+    ensures copies { Copies (link_view D.Link.left D.Link.written D.Link.Source.faults D.Link.Sink.faults)
+        (record { target = target.now; file = file.now; tries = tries })
+        (outside (D.told dial.old) (D.faults dial.old) (K.kept keeper.old) (C.moments clock.old))
+        (outside (D.told dial.new) (D.faults dial.new) (K.kept keeper.new) (C.moments clock.new)) result }
+    ensures causes { Counted (IsErrAnd result (λ stop. is_store_fault stop ≡ true)) (K.faults keeper.old) (K.faults keeper.new) }
+{
+    pulls_go_on::<D>();
+    pages_go_on();
+    let mut mirror = match open(alloc, keeper, file, target.collection) {
+        Ok(mirror) => mirror,
+        Err(refusal) => return Err(CopyStop::NotLoaded(refusal)),
+    };
+    let mut pull = Pull::new(alloc, target);
+    let mut lost = 0;
+    let mut totals = Totals::new();
+    'attempts: loop {
+        let entries = match pull.next_page(dial) {
+            Ok(Some(entries)) => entries,
+            Ok(None) => return Ok(totals),
+            Err(end) => {
+                if let Some(stop) = stop_for(end) {
+                    return Err(CopyStop::NotFetched(stop));
+                }
+                lost += 1;
+                if lost == tries {
+                    return Err(CopyStop::NotFetched(FetchStop::LinkLost));
+                }
+                continue 'attempts;
+            }
+        };
+        let moment = clock.now();
+        match mirror.absorb(keeper, moment, entries) {
+            Ok(tally) => totals.add(&tally),
+            Err(refusal) => return Err(CopyStop::NotAbsorbed(refusal)),
+        }
+    }
+}
+
+/// A mirror of a collection over the rows that the keeper has under a name.
+fn open<K: Keeper>(
+    alloc: Global,
+    keeper: &mut K,
+    file: &str,
+    collection: u128,
+) -> Result<Mirror, LoadRefusal>
+    ensures ok { IfOk result (Opens file.now (K.kept keeper.old) (K.kept keeper.new)) }
+    ensures collection { IfOk result (λ mirror. mirror.collection ≡ collection) }
+    ensures bad { IfErr result (λ refusal. (after : ℕ) → refusal ≡ Unloaded.BadRow after → IfSome (K.kept keeper.old).told (λ state. IsBadAfter state after)) }
+    ensures told { (K.kept keeper.new).told ≡ (K.kept keeper.old).told }
+    ensures causes { Counted (result ≡ Err Unloaded.KeeperFault) (K.faults keeper.old) (K.faults keeper.new) }
+{
+    let library = Library::load(alloc, keeper, file)?;
+    Ok(Mirror::new(alloc, library, collection))
+}
+
+/// Why no page is asked for behind one that didn't come so; nothing where it was lost.
+fn stop_for(end: PageEnd) -> Option<FetchStop>
+    ensures { result ≡ stop_of end }
+{
+    match end {
+        PageEnd::Fault | PageEnd::Cut => None,
+        PageEnd::Refused(refusal) => Some(FetchStop::Refused(refusal)),
+        PageEnd::TooManyPages => Some(FetchStop::TooManyPages),
+        PageEnd::NoMemory => Some(FetchStop::NoMemory),
+    }
+}

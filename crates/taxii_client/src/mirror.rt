@@ -1,0 +1,70 @@
+ghost use Rattle.std.specs.Prelude.{◌≡◌, All, Err, IfOk, IfErr, OnErr};
+ghost use Rattle.flow_edges.specs.Faults.{Counted};
+ghost use Rattle.taxii_store.specs.Agreement.{Agrees};
+ghost use Rattle.taxii_client.specs.Absorbing.{IsReadable, Absorbs, LacksDates};
+ghost use Rattle.taxii_client.specs.declared.store_refusal.StoreRefusal.TheVariants as Refused;
+
+use crate::sorted::Sorted;
+use crate::{StoreRefusal, Tally};
+use flow_values::Items;
+use std::alloc::Global;
+use std::marker::Model;
+use stix_json::Entry;
+use taxii_rows::Keeper;
+use taxii_store::Library;
+
+/// A collection of a library that is filled with the pages of a peer's.
+#[derive(Drop)]
+pub struct Mirror {
+    alloc: Global,
+    library: Library,
+    collection: u128,
+}
+
+impl Model for Mirror {
+    ghost use Rattle.taxii_client.specs.Absorbing.{MirrorState};
+
+    ghost Value = { MirrorState };
+
+    ghost view = { λ mirror. record { collection = mirror.collection; store = mirror.library } };
+}
+
+impl Mirror {
+    /// A mirror of a collection in that library. Takes no memory.
+    pub fn new(alloc: Global, library: Library, collection: u128) -> Mirror
+        ensures { result ≡ record { collection = collection; store = library } }
+    {
+        Mirror {
+            alloc,
+            library,
+            collection,
+        }
+    }
+
+    /// Adds the entries of a page at a moment, in microseconds since 1970: those that are objects without a
+    /// break of STIX's rules, in order. The others are skipped.
+    pub fn absorb<K: Keeper>(
+        &mut self,
+        keeper: &mut K,
+        moment: u64,
+        entries: Items<Entry>,
+    ) -> Result<Tally, StoreRefusal>
+        requires agrees { Agrees (K.kept keeper.old) self.old.store }
+        requires readable { All IsReadable entries }
+        ensures agrees { Agrees (K.kept keeper.new) self.new.store }
+        ensures name { (K.kept keeper.new).name ≡ (K.kept keeper.old).name }
+        ensures collection { self.new.collection ≡ self.old.collection }
+        ensures ok { IfOk result (λ tally. Absorbs self.old.collection (record { entries = entries; moment = moment; tally = tally }) self.old.store self.new.store) }
+        ensures dates { IfErr result (λ refusal. refusal ≡ Refused.DatesUsedUp → LacksDates self.old.collection entries self.old.store) }
+        ensures err { OnErr result (self.new ≡ self.old) }
+        ensures causes { Counted (result ≡ Err Refused.Fault) (K.faults keeper.old) (K.faults keeper.new) }
+    {
+        let sorted = Sorted::of(self.alloc, entries.into_vec())?;
+        let planned = self
+            .library
+            .plan_add(self.collection, moment, sorted.objects)?;
+        let tally = Tally::of(planned.outcomes(), sorted.skipped);
+        self.library.commit_add(keeper, planned)?;
+        Ok(tally)
+    }
+}

@@ -1,0 +1,47 @@
+//! What follows from the definitions: the contracts are the laws, and the functions do next to nothing.
+
+ghost use Rattle.std.specs.Prelude.{◌≡◌, [], ◌∷◌, ◌++◌, ℕ, List};
+ghost use Rattle.std.specs.List.{Contains};
+ghost use Rattle.stix_json.specs.declared.entry.Entry.{Entry};
+ghost use Rattle.taxii_rows.specs.declared.described.Described.{Described};
+ghost use Rattle.taxii_rows.specs.StoreState.{StoreState};
+ghost use Rattle.taxii_client.specs.Absorbing.{Absorbed, Absorbs, IsKept};
+ghost use Rattle.taxii_client.specs.Mirrored.{Mirrored};
+ghost use Rattle.taxii_client.specs.Standing.{Stands, GrowsOnce};
+
+use stix_objects::laws::one_id;
+use taxii_rows::laws::one_version;
+
+/// One more page goes on with those before it.
+pub fn pages_go_on()
+    ensures first { (collection : ℕ) (state : StoreState) → Mirrored collection state [] state }
+    ensures next { (collection : ℕ) (state before after : StoreState) (pages : List Absorbed) (page : Absorbed)
+        → Mirrored collection state pages before → Absorbs collection page before after → Mirrored collection state (pages ++ page ∷ []) after }
+{}
+
+/// A page whose entries are those of an earlier page leaves the store as it was (`stays`), so it can be
+/// taken out of the pages (`taken_out`).
+pub fn repeats_change_nothing()
+    ensures stays { (collection : ℕ) (state before after : StoreState) (pages : List Absorbed) (page again : Absorbed)
+        → Mirrored collection state pages before → Contains pages page → again.entries ≡ page.entries
+        → Absorbs collection again before after → after ≡ before }
+    ensures taken_out { (collection : ℕ) (state last : StoreState) (pages rest : List Absorbed) (page again : Absorbed)
+        → Contains pages page → again.entries ≡ page.entries
+        → Mirrored collection state (pages ++ again ∷ rest) last → Mirrored collection state (pages ++ rest) last }
+{
+    one_id();
+    one_version();
+}
+
+/// Of every good entry of the pages a row stands in the last state (`present`), and no row that the pages
+/// added stands twice (`once`).
+pub fn pages_stand_once()
+    ensures present { (collection : ℕ) (state last : StoreState) (pages : List Absorbed) (page : Absorbed) (entry : Entry) (object : Described)
+        → Mirrored collection state pages last → Contains pages page → Contains page.entries entry → IsKept entry object
+        → Stands collection object last.rows }
+    ensures once { (collection : ℕ) (state last : StoreState) (pages : List Absorbed)
+        → Mirrored collection state pages last → GrowsOnce state.rows last.rows }
+{
+    one_id();
+    one_version();
+}

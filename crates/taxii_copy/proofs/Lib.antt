@@ -1,2 +1,0 @@
-pub mod AttemptLemmas
-mod CopyLemmas

@@ -1,6 +1,0 @@
-pub mod Copying
-pub mod Attempts
-pub mod Filling
-pub mod Totals
-pub mod Endings
-pub mod inner

@@ -1,0 +1,202 @@
+ghost use Rattle.std.specs.Prelude.{◌≡◌, ◌+◌, ◌≤◌, [], ◌++◌, length, Option, List, ℕ, Some, option_map, IfSome, codes, decimal, if◌then◌else◌};
+ghost use Rattle.http_messages.specs.Lines.{status_line, field_line, line_if_some};
+ghost use Rattle.taxii_exchange.specs.declared.answer.TheConstants.{MAX_DATE};
+ghost use Rattle.taxii_exchange.specs.Answers.{media_type, methods_of, body_of, HasDates};
+ghost use Rattle.taxii_exchange.specs.inner.HeadText.{PushesDate, IsHeadText};
+
+use crate::Answer;
+use http_messages::Status;
+use itoa::Buffer;
+use std::marker::Model;
+use stix_times::{from_micros, write_micros};
+
+/// How many bytes there is room for: a head has at most 304, and a small body may follow it.
+const CAPACITY: usize = 4096;
+
+/// How many bytes a value in it has at most.
+const MAX_VALUE: usize = 40;
+
+/// The head of an answer as it is written, and a body behind it where there is room.
+#[derive(Drop)]
+pub(crate) struct HeadText {
+    bytes: [u8; CAPACITY],
+    end: usize,
+}
+
+impl Model for HeadText {
+    ghost use Rattle.std.specs.Prelude.{ℕ, ◌≤◌, List, length, take};
+
+    ghost Value = { List ℕ };
+
+    ghost view = { λ head. take head.end head.bytes };
+
+    ghost invariant = { λ head. head.end ≤ length head.bytes };
+}
+
+impl HeadText {
+    /// The head of an answer, after which the connection ends or not.
+    pub(crate) fn of(answer: &Answer, close: bool) -> HeadText
+        requires { HasDates answer.now }
+        ensures { IsHeadText answer.now close result }
+    {
+        let mut head = HeadText::new();
+        head.push_status(answer.status);
+        head.push_if_some(b"Content-Type", media_type(answer));
+        head.push_if_some(b"Allow", methods(answer));
+        head.push_date(b"X-TAXII-Date-Added-First", answer.first);
+        head.push_date(b"X-TAXII-Date-Added-Last", answer.last);
+        head.push_length(body_length(answer));
+        head.push_close(close);
+        head.push(b"\r\n");
+        head
+    }
+
+    /// The bytes, lent.
+    pub(crate) fn as_slice(&self) -> &[u8]
+        ensures { result.now ≡ self.now }
+    {
+        &self.bytes[..self.end]
+    }
+
+    /// How many bytes more there is room for.
+    pub(crate) fn room(&self) -> usize
+        ensures { length self.now + result ≡ CAPACITY }
+    {
+        CAPACITY - self.end
+    }
+
+    /// The empty head.
+    fn new() -> HeadText
+        ensures { result ≡ [] }
+    {
+        HeadText {
+            bytes: [0; CAPACITY],
+            end: 0,
+        }
+    }
+
+    /// Adds the status line.
+    fn push_status(&mut self, status: Status)
+        requires empty { self.old ≡ [] }
+        ensures line { self.new ≡ status_line status }
+        ensures room { length self.new ≤ 100 }
+    {
+        self.push(b"HTTP/1.1 ");
+        self.push(Buffer::new().format(status.code()).as_bytes());
+        self.push(b" ");
+        self.push(status.phrase().as_bytes());
+        self.push(b"\r\n");
+    }
+
+    /// Adds the field with the length of the body.
+    fn push_length(&mut self, size: usize)
+        requires room { length self.old + 58 ≤ CAPACITY }
+        ensures line { self.new ≡ self.old ++ field_line (codes "Content-Length") (decimal size) }
+        ensures room { length self.new ≤ length self.old + 58 }
+    {
+        self.push_line(b"Content-Length", Buffer::new().format(size).as_bytes());
+    }
+
+    /// Adds the field that ends the connection, where it ends.
+    fn push_close(&mut self, close: bool)
+        requires room { length self.old + 54 ≤ CAPACITY }
+        ensures line { self.new ≡ self.old ++ (if close then field_line (codes "Connection") (codes "close") else []) }
+        ensures room { length self.new ≤ length self.old + 54 }
+    {
+        if close {
+            self.push_line(b"Connection", b"close");
+        }
+    }
+
+    /// Adds a field with a date, where there is one.
+    fn push_date(&mut self, name: &[u8], date: Option<u64>)
+        requires date { IfSome date (λ micros. micros ≤ MAX_DATE) }
+        requires room { length self.old + length name.now + 44 ≤ CAPACITY }
+        ensures line { PushesDate name.now date self.old self.new }
+        ensures room { length self.new ≤ length self.old + length name.now + 44 }
+    {
+        if let Some(micros) = date {
+            self.push_micros(name, micros);
+        }
+    }
+
+    /// Adds a field with the date so many microseconds after 1970-01-01T00:00:00Z.
+    fn push_micros(&mut self, name: &[u8], micros: u64)
+        requires date { micros ≤ MAX_DATE }
+        requires room { length self.old + length name.now + 44 ≤ CAPACITY }
+        ensures line { PushesDate name.now (Some micros) self.old self.new }
+        ensures room { length self.new ≤ length self.old + length name.now + 44 }
+    {
+        let instant = from_micros(micros).unwrap();
+        let mut text = [0; 32];
+        let end = write_micros(instant, &mut text);
+        self.push_line(name, &text[..end]);
+    }
+
+    /// Adds a field, where it has a value.
+    fn push_if_some(&mut self, name: &[u8], value: Option<&[u8]>)
+        requires value { IfSome value (λ text. length text.now ≤ MAX_VALUE) }
+        requires room { length self.old + length name.now + 44 ≤ CAPACITY }
+        ensures line { self.new ≡ self.old ++ line_if_some name.now (option_map (λ text. text.now) value.entry) }
+        ensures room { length self.new ≤ length self.old + length name.now + 44 }
+    {
+        if let Some(value) = value {
+            self.push_line(name, value);
+        }
+    }
+
+    /// Adds a field.
+    fn push_line(&mut self, name: &[u8], value: &[u8])
+        requires value { length value.now ≤ MAX_VALUE }
+        requires room { length self.old + length name.now + 44 ≤ CAPACITY }
+        ensures line { self.new ≡ self.old ++ field_line name.now value.now }
+        ensures room { length self.new ≤ length self.old + length name.now + 44 }
+    {
+        self.push(name);
+        self.push(b": ");
+        self.push(value);
+        self.push(b"\r\n");
+    }
+
+    /// Adds a piece.
+    pub(crate) fn push(&mut self, piece: &[u8])
+        requires { length self.old + length piece.now ≤ CAPACITY }
+        ensures { self.new ≡ self.old ++ piece.now }
+    {
+        let end = self.end + piece.len();
+        self.bytes[self.end..end].copy_from_slice(piece);
+        self.end = end;
+    }
+}
+
+/// The media type of the body, where there is one.
+fn media_type(answer: &Answer) -> Option<&'static [u8]>
+    ensures value { option_map (λ text. text.now) result ≡ option_map (λ body. media_type) answer.now.body }
+    ensures short { IfSome result (λ text. length text.now ≤ MAX_VALUE) }
+{
+    match answer.body {
+        Some(_) => Some(b"application/taxii+json;version=2.1"),
+        None => None,
+    }
+}
+
+/// The methods that the answer names, where it names some.
+fn methods(answer: &Answer) -> Option<&'static [u8]>
+    ensures value { option_map (λ text. text.now) result ≡ option_map methods_of answer.now.allow }
+    ensures short { IfSome result (λ text. length text.now ≤ MAX_VALUE) }
+{
+    match answer.allow {
+        Some(allow) => Some(allow.methods().as_bytes()),
+        None => None,
+    }
+}
+
+/// How many bytes the body has.
+fn body_length(answer: &Answer) -> usize
+    ensures { result ≡ length (body_of answer.now.body) }
+{
+    match &answer.body {
+        Some(body) => body.len(),
+        None => 0,
+    }
+}

@@ -1,0 +1,15 @@
+//! What follows from the definitions: the contracts are the laws, and the functions do next to nothing.
+
+ghost use Rattle.std.specs.Prelude.{◌≡◌, ℕ, List, Bool};
+ghost use Rattle.taxii_exchange.specs.declared.answer.Answer.{Answer};
+ghost use Rattle.taxii_exchange.specs.Answers.{IsAnswerText};
+
+use stix_times::laws::one_text_of_digits;
+
+/// An answer has at most one text.
+pub fn one_answer_text()
+    ensures { (answer : Answer) (close : Bool) (text other : List ℕ)
+        → IsAnswerText answer close text → IsAnswerText answer close other → text ≡ other }
+{
+    one_text_of_digits();
+}

@@ -1,0 +1,47 @@
+ghost use Rattle.std.specs.Prelude.{◌≡◌};
+ghost use Rattle.taxii_exchange.specs.AnswersToRequests.{status_of};
+
+use flow_values::NoMemory;
+use http_messages::Status;
+use taxii_bodies::Problem;
+use crate::Allow;
+
+/// Why a request isn't answered as it asks.
+#[derive(Clone, Copy, Debug, PartialEq, Eq)]
+pub enum Refusal {
+    /// The resource doesn't allow the method; these it allows.
+    NotAllowed(Allow),
+    /// The answer is an error.
+    Problem(Problem),
+    /// Memory ran out.
+    NoMemory,
+}
+
+impl From<NoMemory> for Refusal {
+    ghost use Rattle.std.specs.Prelude.{◌≡◌};
+    ghost use Rattle.taxii_exchange.specs.declared.refusal.Refusal.TheVariants as Refusal;
+
+    ghost from_gives = { λ _ refusal. refusal ≡ Refusal.NoMemory };
+
+    fn from(_error: NoMemory) -> Refusal {
+        Refusal::NoMemory
+    }
+}
+
+/// The status of the answer to a problem.
+pub(crate) fn status_of_problem(problem: Problem) -> Status
+    ensures { result ≡ status_of problem }
+{
+    match problem {
+        Problem::BadValue(_) => Status::BadRequest,
+        Problem::Repeated(_) => Status::BadRequest,
+        Problem::Forbidden => Status::Forbidden,
+        Problem::NotFound => Status::NotFound,
+        Problem::NotAcceptable => Status::NotAcceptable,
+        Problem::UnsupportedMediaType => Status::UnsupportedMediaType,
+        Problem::NotJson => Status::UnprocessableEntity,
+        Problem::NotList => Status::UnprocessableEntity,
+        Problem::StoreFault => Status::InternalServerError,
+        Problem::DatesUsedUp => Status::ServiceUnavailable,
+    }
+}

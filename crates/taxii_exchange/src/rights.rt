@@ -1,0 +1,43 @@
+ghost use Rattle.std.specs.Prelude.{◌≡◌};
+ghost use Rattle.taxii_exchange.specs.Checking.{permits as may};
+ghost use Rattle.taxii_exchange.specs.Config.{rights_of as rights_in};
+
+use http_messages::Method;
+use taxii_bodies::CollectionInfo;
+
+/// What a client may do with a resource.
+#[derive(Clone, Copy, Debug, PartialEq, Eq)]
+pub struct Rights {
+    pub read: bool,
+    pub write: bool,
+}
+
+impl Rights {
+    /// Everything.
+    pub const ALL: Rights = Rights {
+        read: true,
+        write: true,
+    };
+
+    /// What the collection allows.
+    pub fn of(info: &CollectionInfo) -> Rights
+        ensures { result ≡ rights_in info.now }
+    {
+        Rights {
+            read: info.can_read,
+            write: info.can_write,
+        }
+    }
+
+    /// Whether they permit the method: to read, to add, or to delete what can be read.
+    pub fn permit(self, method: Method) -> bool
+        ensures { result ≡ may self method }
+    {
+        match method {
+            Method::Get => self.read,
+            Method::Post => self.write,
+            Method::Delete => self.read && self.write,
+            Method::Head | Method::Other => false,
+        }
+    }
+}

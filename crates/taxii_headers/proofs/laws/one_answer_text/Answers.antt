@@ -1,5 +1,0 @@
-use Rattle.taxii_headers.proofs.AnswerLemmas.{one_text}
-use Rattle.taxii_headers.proofs.laws.one_answer_text.Goals as goal
-
-pub returns : goal.returns
-returns c = one_text c.one_text_of_digits.ensures

@@ -1,6 +1,0 @@
-mod DatedLemmas
-mod AddedLemmas
-mod StepLemmas
-mod ServedLemmas
-mod AnswerLemmas
-mod VisitLemmas

@@ -1,4 +1,0 @@
-mod NamedLemmas
-mod SortingLemmas
-mod StandingLemmas
-mod MirroredLemmas

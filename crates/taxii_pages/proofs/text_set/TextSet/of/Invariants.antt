@@ -1,6 +1,0 @@
-use Rattle.std.proofs.Common.{◌≡◌, take, map}
-use Rattle.taxii_pages.specs.inner.Sets.{parts_of, measured}
-use Rattle.taxii_pages.proofs.text_set.TextSet.of.Given as goal
-
-abbrev pub invariant-loop-text : goal.invariant-loop-text
-invariant-loop-text l = map parts_of l.row.items ≡ map measured (take l.text-index l.texts)

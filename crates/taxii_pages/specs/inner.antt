@@ -1,3 +1,0 @@
-pub mod Candidates
-pub mod Sets
-pub mod Asking

@@ -1,4 +1,0 @@
-mod MarkLemmas
-mod ChainLemmas
-mod NextLemmas
-mod WalkLemmas

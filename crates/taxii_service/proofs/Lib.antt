@@ -1,0 +1,15 @@
+mod ResourceLemmas
+mod RowLemmas
+mod ChangeAnswerLemmas
+mod TakenLemmas
+mod HoldsLemmas
+mod NamedLemmas
+mod StepAnswerLemmas
+mod DateLemmas
+mod PerformLemmas
+mod DatedLemmas
+mod AddedLemmas
+mod StepLemmas
+mod ServedLemmas
+mod HistoryAnswerLemmas
+mod VisitLemmas

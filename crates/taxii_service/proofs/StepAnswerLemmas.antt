@@ -1,0 +1,180 @@
+-- What every answer of a step is: a status with a body, a status alone, or a page of the store's rows; and never a fault of the keeper.
+use Rattle.std.proofs.Common.{◌≡◌, ◌≢◌, ◌∙◌, inl, inr, ℕ, List, Option, ap, sym, subst}
+use Rattle.std.specs.Prelude.{Bool}
+use Rattle.stix_ids.specs.declared.id.Id.{Id}
+use Rattle.http_messages.specs.declared.method.Method.{Method}
+use Rattle.http_messages.specs.declared.method.Method.TheVariants.{Get, Head, Post, Delete, Other}
+use Rattle.http_messages.specs.declared.request.Request.{Request}
+use Rattle.http_messages.specs.declared.status.Status.{Status as Code}
+use Rattle.http_messages.specs.declared.status.Status.TheVariants.{InternalServerError}
+use Rattle.taxii_exchange.specs.declared.answer.Allow.{Allow}
+use Rattle.taxii_exchange.specs.declared.answer.Answer.{Answer}
+use Rattle.taxii_bodies.specs.declared.problem.Problem.{Problem as Trouble}
+use Rattle.taxii_bodies.specs.declared.problem.Problem.TheVariants.{NotFound, StoreFault}
+use Rattle.taxii_routes.specs.declared.query.Query.{Query}
+use Rattle.taxii_routes.specs.declared.route.Route.{Route}
+use Rattle.taxii_routes.specs.declared.route.Route.TheVariants.{Discovery, Root, Status, Collections, Collection, Manifest, Objects, Object, Versions, None as NoRoute}
+use Rattle.taxii_rows.specs.declared.stored_row.StoredRow.{StoredRow}
+use Rattle.taxii_store.specs.Page.{IsPage}
+use Rattle.taxii_exchange.specs.declared.config.Config.{Config}
+use Rattle.taxii_exchange.specs.declared.refusal.Refusal.{Refusal}
+use Rattle.taxii_exchange.specs.declared.refusal.Refusal.TheVariants.{NotAllowed, Problem, NoMemory}
+use Rattle.taxii_exchange.specs.declared.rights.Rights.{Rights}
+use Rattle.taxii_exchange.specs.AnswersToRequests.{body_answer, bare_answer, answer_to_problem, page_answer, status_of}
+use Rattle.taxii_exchange.proofs.AnswersToRequestsLemmas.{told_status}
+use Rattle.taxii_exchange.specs.Checking.{IsRefusedFor}
+use Rattle.taxii_service.specs.Finding.{allowed_of}
+use Rattle.taxii_service.specs.Reading.{IsPageOf, IsReading}
+use Rattle.taxii_service.specs.declared.state.State.{State}
+use Rattle.taxii_service.specs.Adding.{CannotAdd}
+use Rattle.taxii_service.specs.Step.{Posts, Deletes, Does, CannotPost, CannotDo, IsRefused, IsDone, IsAnswerTo, RouteStep, Step}
+
+-- what holds of each form that an answer of a step has
+pub record HoldsOfForms (rows : List StoredRow) (P : Answer → Type 0) : Type 0 where
+  pub bodies : (status : Code) (body : List ℕ) → status ≢ InternalServerError → P (body_answer status body)
+  pub bare : (status : Code) (its : Option Allow) → status ≢ InternalServerError → P (bare_answer status its)
+  pub pages : (collection : ℕ) (only : Option Id) (query : Query) (page : List StoredRow) (more : Bool) (body : List ℕ)
+      → IsPage rows collection only query page more → P (page_answer page body)
+
+-- ---- what is done
+
+body_holds : {rows : List StoredRow} (P : Answer → Type 0) → HoldsOfForms rows P → (status : Code) (body : List ℕ) (answer : Answer)
+    → status ≢ InternalServerError → answer ≡ body_answer status body → P answer
+body_holds P forms status body answer other is = subst P (sym is) (forms.bodies status body other)
+
+page_holds : (P : Answer → Type 0) (rows : List StoredRow) → HoldsOfForms rows P → (collection : ℕ) (only : Option Id) (query : Query)
+    (Rule : List StoredRow → Bool → List ℕ → Type 0) (answer : Answer) → IsPageOf rows collection only query Rule answer → P answer
+page_holds P rows forms collection only query Rule answer its =
+    subst P (sym its.answer_is) (forms.pages collection only query its.page its.more its.body its.page_is)
+
+reading_holds : (P : Answer → Type 0) (config : Config) (before : State) → HoldsOfForms before.library.rows P → (route : Route) (query : Query) (answer : Answer)
+    → IsReading config before route query answer → P answer
+reading_holds P config before forms Discovery query answer its = body_holds P forms _ _ answer (λ is. absurd (cc is)) its
+reading_holds P config before forms Root query answer its = body_holds P forms _ _ answer (λ is. absurd (cc is)) its
+reading_holds P config before forms (Status id) query answer its = body_holds P forms _ _ answer (λ is. absurd (cc is)) its.2
+reading_holds P config before forms Collections query answer its = body_holds P forms _ _ answer (λ is. absurd (cc is)) its
+reading_holds P config before forms (Collection id) query answer its = body_holds P forms _ _ answer (λ is. absurd (cc is)) its.2
+reading_holds P config before forms (Manifest id) query answer its = page_holds P _ forms _ _ _ _ answer its.2
+reading_holds P config before forms (Objects id) query answer its = page_holds P _ forms _ _ _ _ answer its.2
+reading_holds P config before forms (Object collection object) query answer its = page_holds P _ forms _ _ _ _ answer its.2.2
+reading_holds P config before forms (Versions collection object) query answer its = page_holds P _ forms _ _ _ _ answer its.2.2
+reading_holds P config before forms NoRoute query answer its = absurd its
+
+post_holds : (P : Answer → Type 0) (config : Config) (before : State) → HoldsOfForms before.library.rows P → (moment : ℕ) (request : Request) (route : Route) (answer : Answer) (after : State)
+    → Posts config before moment request route answer after → P answer
+post_holds P config before forms moment request Discovery answer after its = absurd its
+post_holds P config before forms moment request Root answer after its = absurd its
+post_holds P config before forms moment request (Status id) answer after its = absurd its
+post_holds P config before forms moment request Collections answer after its = absurd its
+post_holds P config before forms moment request (Collection id) answer after its = absurd its
+post_holds P config before forms moment request (Manifest id) answer after its = absurd its
+post_holds P config before forms moment request (Objects id) answer after its = body_holds P forms _ _ answer (λ is. absurd (cc is)) its.5
+post_holds P config before forms moment request (Object collection object) answer after its = absurd its
+post_holds P config before forms moment request (Versions collection object) answer after its = absurd its
+post_holds P config before forms moment request NoRoute answer after its = absurd its
+
+delete_holds : (P : Answer → Type 0) (config : Config) (before : State) → HoldsOfForms before.library.rows P → (route : Route) (query : Query) (answer : Answer) (after : State)
+    → Deletes config before route query answer after → P answer
+delete_holds P config before forms Discovery query answer after its = absurd its
+delete_holds P config before forms Root query answer after its = absurd its
+delete_holds P config before forms (Status id) query answer after its = absurd its
+delete_holds P config before forms Collections query answer after its = absurd its
+delete_holds P config before forms (Collection id) query answer after its = absurd its
+delete_holds P config before forms (Manifest id) query answer after its = absurd its
+delete_holds P config before forms (Objects id) query answer after its = absurd its
+delete_holds P config before forms (Object collection object) query answer after its = subst P (sym its.6) (forms.bare _ _ (λ is. absurd (cc is)))
+delete_holds P config before forms (Versions collection object) query answer after its = absurd its
+delete_holds P config before forms NoRoute query answer after its = absurd its
+
+does_holds : (P : Answer → Type 0) (config : Config) (before : State) → HoldsOfForms before.library.rows P → (moment : ℕ) (request : Request) (route : Route) (query : Query) (method : Method) (answer : Answer) (after : State)
+    → Does config before moment request route query method answer after → P answer
+does_holds P config before forms moment request route query Get answer after its = reading_holds P config before forms route query answer its.0
+does_holds P config before forms moment request route query Head answer after its = absurd its
+does_holds P config before forms moment request route query Post answer after its = post_holds P config before forms moment request route answer after its
+does_holds P config before forms moment request route query Delete answer after its = delete_holds P config before forms route query answer after its
+does_holds P config before forms moment request route query Other answer after its = absurd its
+
+pub done_holds : (P : Answer → Type 0) (config : Config) (before : State) → HoldsOfForms before.library.rows P → (moment : ℕ) (request : Request) (route : Route) (text : List ℕ) (answer : Answer) (after : State)
+    → IsDone config before moment request route text answer after → P answer
+done_holds P config before forms moment request route text answer after done =
+    does_holds P config before forms moment request route done.query request.method answer after done.does
+
+-- ---- what is refused
+
+-- nothing stands against a request that is a fault of the keeper
+abbrev IsOther : Refusal → Type 0
+IsOther refusal = refusal ≢ Problem StoreFault
+
+refused_other : (its : Allow) (rights : Rights) (request : Request) (text : List ℕ) (refusal : Refusal) → IsRefusedFor its rights request text refusal → IsOther refusal
+refused_other its rights request text (Problem StoreFault) refused = absurd refused
+refused_other its rights request text refusal refused = λ is. absurd (cc is)
+
+add_other : (before : State) (collection moment : ℕ) (body : List ℕ) (refusal : Refusal) → CannotAdd before collection moment body refusal → IsOther refusal
+add_other before collection moment body (Problem StoreFault) cannot = absurd cannot
+add_other before collection moment body refusal cannot = λ is. absurd (cc is)
+
+post_other : (config : Config) (before : State) (moment : ℕ) (request : Request) (route : Route) (refusal : Refusal)
+    → CannotPost config before moment request route refusal → IsOther refusal
+post_other config before moment request Discovery refusal cannot = absurd cannot
+post_other config before moment request Root refusal cannot = absurd cannot
+post_other config before moment request (Status id) refusal cannot = absurd cannot
+post_other config before moment request Collections refusal cannot = absurd cannot
+post_other config before moment request (Collection id) refusal cannot = absurd cannot
+post_other config before moment request (Manifest id) refusal cannot = absurd cannot
+post_other config before moment request (Objects id) refusal cannot = add_other before _ moment request.body refusal cannot.2
+post_other config before moment request (Object collection object) refusal cannot = absurd cannot
+post_other config before moment request (Versions collection object) refusal cannot = absurd cannot
+post_other config before moment request NoRoute refusal cannot = absurd cannot
+
+do_other : (config : Config) (before : State) (moment : ℕ) (request : Request) (route : Route) (method : Method) (refusal : Refusal)
+    → CannotDo config before moment request route method refusal → IsOther refusal
+do_other config before moment request route Get refusal cannot = absurd cannot
+do_other config before moment request route Head refusal cannot = absurd cannot
+do_other config before moment request route Post refusal cannot = post_other config before moment request route refusal cannot
+do_other config before moment request route Delete refusal cannot = absurd cannot
+do_other config before moment request route Other refusal cannot = absurd cannot
+
+is_other : (config : Config) (before : State) (moment : ℕ) (request : Request) (route : Route) (text : List ℕ) (refusal : Refusal)
+    → IsRefused config before moment request route text refusal → IsOther refusal
+is_other config before moment request route text refusal (inl nothing) = λ is. absurd (cc (is, nothing.1))
+is_other config before moment request route text refusal (inr (rights, found, inl refused)) = refused_other (allowed_of route) rights request text refusal refused
+is_other config before moment request route text refusal (inr (rights, found, inr cannot)) = do_other config before moment request route request.method refusal cannot.3
+
+-- ---- a step
+
+abbrev IsNoFault : Answer → Type 0
+IsNoFault answer = answer.status ≢ InternalServerError
+
+no_fault : (rows : List StoredRow) → HoldsOfForms rows IsNoFault
+no_fault rows = record {
+  bodies = λ status body other. other;
+  bare = λ status its other. other;
+  pages = λ collection only query page more body its is. absurd (cc is);
+}
+
+problem_no_fault : (problem : Trouble) → Problem problem ≢ Problem StoreFault → status_of problem ≢ InternalServerError
+problem_no_fault StoreFault other = absurd (other (cc))
+problem_no_fault problem other = λ is. absurd (cc is)
+
+told_no_fault : (method : Method) (problem : Trouble) (answer : Answer) → answer ≡ answer_to_problem method problem → status_of problem ≢ InternalServerError → IsNoFault answer
+told_no_fault method problem answer is other failed = other (sym (told_status method problem) ∙ sym (ap (λ (one : Answer). one.status) is) ∙ failed)
+
+answer_no_fault : (method : Method) (refusal : Refusal) (answer : Answer) → IsOther refusal → IsAnswerTo method refusal answer → IsNoFault answer
+answer_no_fault method (NotAllowed its) answer other is = subst IsNoFault (sym is) (λ same. absurd (cc same))
+answer_no_fault method (Problem problem) answer other is = told_no_fault method problem answer is (problem_no_fault problem other)
+answer_no_fault method NoMemory answer other is = absurd is
+
+pub route_step_no_fault : (config : Config) (before : State) (moment : ℕ) (request : Request) (route : Route) (text : List ℕ) (answer : Answer) (after : State)
+    → RouteStep config before moment request route text answer after → IsNoFault answer
+route_step_no_fault config before moment request route text answer after (inl (refusal, refused, is, same)) =
+    answer_no_fault request.method refusal answer (is_other config before moment request route text refusal refused) is
+route_step_no_fault config before moment request route text answer after (inr done) =
+    done_holds IsNoFault config before (no_fault before.library.rows) moment request route text answer after done
+
+-- no step tells of a fault of the keeper
+pub step_no_fault : (config : Config) (before : State) (moment : ℕ) (request : Request) (answer : Answer) (after : State)
+    → Step config before moment request answer after → IsNoFault answer
+step_no_fault config before moment request answer after step = elim step.outcome [
+  | inl nowhere ↦ told_no_fault request.method NotFound answer nowhere.1 (λ same. absurd (cc same))
+  | inr somewhere ↦ route_step_no_fault config before moment request somewhere.0 _ answer after somewhere.2
+]

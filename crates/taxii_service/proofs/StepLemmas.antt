@@ -1,0 +1,81 @@
+-- One exchange makes nothing, an addition or a deletion of the store.
+use Rattle.std.proofs.Common.{◌≡◌, inl, inr, ℕ, List, unwrap_or, [], refl, sym, ap, subst}
+use Rattle.http_messages.specs.declared.method.Method.{Method}
+use Rattle.http_messages.specs.declared.method.Method.TheVariants.{Get, Head, Post, Delete, Other}
+use Rattle.http_messages.specs.declared.request.Request.{Request}
+use Rattle.taxii_exchange.specs.declared.answer.Answer.{Answer}
+use Rattle.taxii_routes.specs.declared.query.Query.{Query}
+use Rattle.taxii_routes.specs.declared.route.Route.{Route}
+use Rattle.taxii_routes.specs.declared.route.Route.TheVariants.{Discovery, Root, Status, Collections, Collection, Manifest, Objects, Object, Versions, None as NoRoute}
+use Rattle.taxii_exchange.specs.declared.config.Config.{Config}
+use Rattle.taxii_service.specs.declared.state.State.{State}
+use Rattle.taxii_service.specs.Adding.{with_added}
+use Rattle.taxii_service.specs.Deleting.{without_dates}
+use Rattle.taxii_service.specs.Step.{Posts, Deletes, Does, RouteStep, Step}
+use Rattle.taxii_store.specs.History.{IsHistory}
+use Rattle.taxii_service.specs.Exchanges.{Course, Stepped, KeeperFailed, OutOfMemory, Exchange, Runs, IsExchange}
+use Rattle.taxii_service.proofs.DatedLemmas.{no_history, one_change}
+use Rattle.taxii_service.proofs.AddedLemmas.{added}
+
+unchanged : (before after : State) → after ≡ before → IsHistory before.library after.library
+unchanged before after same = no_history before.library after.library (ap (λ (state : State). state.library) same)
+
+posted : (config : Config) (before : State) (moment : ℕ) (request : Request) (route : Route) (answer : Answer) (after : State)
+    → Posts config before moment request route answer after → IsHistory before.library after.library
+posted config before moment request Discovery answer after none = absurd none
+posted config before moment request Root answer after none = absurd none
+posted config before moment request (Status id) answer after none = absurd none
+posted config before moment request Collections answer after none = absurd none
+posted config before moment request (Collection id) answer after none = absurd none
+posted config before moment request (Manifest id) answer after none = absurd none
+posted config before moment request (Objects id) answer after (info, named, new, text, adding, answer_is, after_is) =
+    subst (λ (state : State). IsHistory before.library state.library) (sym after_is)
+    (one_change before.library (with_added new text before).library
+    (inl (added before.library info.id moment adding.posted.objects.items adding.outcomes new adding.addition)))
+posted config before moment request (Object collection object) answer after none = absurd none
+posted config before moment request (Versions collection object) answer after none = absurd none
+posted config before moment request NoRoute answer after none = absurd none
+
+deleted : (config : Config) (before : State) (route : Route) (query : Query) (answer : Answer) (after : State)
+    → Deletes config before route query answer after → IsHistory before.library after.library
+deleted config before Discovery query answer after none = absurd none
+deleted config before Root query answer after none = absurd none
+deleted config before (Status id) query answer after none = absurd none
+deleted config before Collections query answer after none = absurd none
+deleted config before (Collection id) query answer after none = absurd none
+deleted config before (Manifest id) query answer after none = absurd none
+deleted config before (Objects id) query answer after none = absurd none
+deleted config before (Object collection object) query answer after (info, named, id, text_of, dates, taken, answer_is, after_is) =
+    subst (λ (state : State). IsHistory before.library state.library) (sym after_is)
+    (one_change before.library (without_dates dates before).library (inr (record { dates = dates; after_is = refl })))
+deleted config before (Versions collection object) query answer after none = absurd none
+deleted config before NoRoute query answer after none = absurd none
+
+done : (config : Config) (before : State) (moment : ℕ) (request : Request) (route : Route) (query : Query) (method : Method) (answer : Answer) (after : State)
+    → Does config before moment request route query method answer after → IsHistory before.library after.library
+done config before moment request route query Get answer after does = unchanged before after does.1
+done config before moment request route query Head answer after none = absurd none
+done config before moment request route query Post answer after does = posted config before moment request route answer after does
+done config before moment request route query Delete answer after does = deleted config before route query answer after does
+done config before moment request route query Other answer after none = absurd none
+
+routed : (config : Config) (before : State) (moment : ℕ) (request : Request) (route : Route) (text : List ℕ) (answer : Answer) (after : State)
+    → RouteStep config before moment request route text answer after → IsHistory before.library after.library
+routed config before moment request route text answer after (inl refused) = unchanged before after refused.3
+routed config before moment request route text answer after (inr its) =
+    done config before moment request route its.query request.method answer after its.does
+
+stepped : (config : Config) (before : State) (moment : ℕ) (request : Request) (answer : Answer) (after : State)
+    → Step config before moment request answer after → IsHistory before.library after.library
+stepped config before moment request answer after step = elim step.outcome [
+  | inl lost ↦ unchanged before after lost.2
+  | inr found ↦ routed config before moment request found.0 (unwrap_or step.query []) answer after found.2
+]
+
+runs : (config : Config) (e : Exchange) (course : Course) → Runs course config e → IsHistory e.before.library e.after.library
+runs config e Stepped step = stepped config e.before e.moment e.request e.answer e.after step
+runs config e KeeperFailed fails = unchanged e.before e.after fails.unchanged
+runs config e OutOfMemory wants = unchanged e.before e.after wants.1
+
+pub exchanged : (config : Config) (e : Exchange) → IsExchange config e → IsHistory e.before.library e.after.library
+exchanged config e its = runs config e e.course its

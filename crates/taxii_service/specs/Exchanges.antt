@@ -1,0 +1,55 @@
+-- What a server did: requests at moments, in turn, each with its answer and what the server had before and after it.
+use Rattle.std.specs.Prelude.{◌≡◌, ℕ, List, [], ◌∷◌, All, Option, unwrap_or}
+use Rattle.http_messages.specs.declared.request.Request.{Request}
+use Rattle.taxii_exchange.specs.declared.answer.Answer.{Answer}
+use Rattle.taxii_exchange.specs.Answers.{no_memory_answer}
+use Rattle.taxii_routes.specs.declared.route.Route.{Route}
+use Rattle.taxii_routes.specs.Route.{IsPathOf}
+use Rattle.taxii_routes.specs.Target.{IsTargetOf}
+use Rattle.taxii_exchange.specs.declared.config.Config.{Config}
+use Rattle.taxii_service.specs.declared.state.State.{State}
+use Rattle.taxii_service.specs.Step.{IsDone, Step, FailsToKeep}
+
+-- what came of a request: its step, a fault of the keeper, or want of memory
+pub data Course : Type 0 where
+  Stepped : Course
+  KeeperFailed : Course
+  OutOfMemory : Course
+
+-- a request and its answer
+pub record Exchange : Type 0 where
+  pub before : State
+  pub moment : ℕ
+  pub request : Request
+  pub course : Course
+  pub answer : Answer
+  pub after : State
+
+-- so it goes: a step, or an answer that tells what was wanting, and then nothing has changed
+abbrev pub Runs : Course → Config → Exchange → Type 0
+Runs Stepped config e = Step config e.before e.moment e.request e.answer e.after
+Runs KeeperFailed config e = FailsToKeep config e.before e.moment e.request e.answer e.after
+Runs OutOfMemory config e = (e.answer ≡ no_memory_answer) × (e.after ≡ e.before)
+
+-- the exchange went as its course says
+abbrev pub IsExchange : Config → Exchange → Type 0
+IsExchange config e = Runs e.course config e
+
+-- an exchange did what its request asks for: its target has a path and maybe a query, the path a route, and nothing stood against it
+pub record WasDone (config : Config) (e : Exchange) : Type 0 where
+  pub path : List ℕ
+  pub text : Option (List ℕ)
+  pub target_is : IsTargetOf e.request.target path text
+  pub route : Route
+  pub route_is : IsPathOf path route
+  pub done : IsDone config e.before e.moment e.request route (unwrap_or text []) e.answer e.after
+
+-- each exchange begins with what the one before it left
+abbrev pub Follow : State → List Exchange → State → Type 0
+Follow before [] after = after ≡ before
+Follow before (e ∷ exchanges) after = (e.before ≡ before) × Follow e.after exchanges after
+
+-- the server served these requests in turn, and nothing else changed what it has
+pub record HasServed (config : Config) (before : State) (exchanges : List Exchange) (after : State) : Type 0 where
+  pub each : All (IsExchange config) exchanges
+  pub follow : Follow before exchanges after

@@ -1,0 +1,10 @@
+pub mod Starting
+pub mod Finding
+pub mod Reading
+pub mod Posted
+pub mod Adding
+pub mod Deleting
+pub mod inner
+pub mod Step
+pub mod Exchanges
+pub mod Visits

@@ -1,0 +1,65 @@
+-- What a request to add objects holds (TAXII 2.1, section 5.5): an object of each entry that keeps the rules, and the failures.
+use Rattle.std.specs.Prelude.{◌≡◌, ◌⊎◌, ⊤, ℕ, List, [], ◌∷◌, length, take, codes}
+use Rattle.std.specs.List.{AllZip}
+use Rattle.serde_json.specs.Data.{Data}
+use Rattle.stix_json.specs.declared.entry.Entry.{Entry}
+use Rattle.stix_json.specs.declared.entry.Entry.TheVariants.{Good, Bad}
+use Rattle.stix_json.specs.DataOf.{data_of}
+use Rattle.stix_json.specs.Entries.{AreEntriesOf, HasNoList}
+use Rattle.stix_json.specs.Reading.{HasNoValue}
+use Rattle.stix_objects.specs.declared.rule_break.Break.{Break}
+use Rattle.stix_objects.specs.Breaks.{AreBreaksOf}
+use Rattle.taxii_rows.specs.declared.described.Described.{Described}
+use Rattle.taxii_rows.specs.Described.{IsDescribed}
+use Rattle.taxii_bodies.specs.declared.details.Detail.{Detail}
+use Rattle.taxii_bodies.specs.Details.{IsFailureOf, IsRefusalOf}
+use Rattle.taxii_service.specs.declared.posted.Posted.{Posted}
+use Rattle.taxii_service.specs.declared.posted.TheConstants.{MAX_DETAILS}
+use Rattle.taxii_service.specs.declared.post_refusal.PostRefusal.{PostRefusal}
+use Rattle.taxii_service.specs.declared.post_refusal.PostRefusal.TheVariants.{NotJson, NotList, NoMemory}
+
+-- the value has breaks, and this is the first of them
+pub record BreaksFirst (value : Data) (first : Break) : Type 0 where
+  pub others : List Break
+  pub breaks : AreBreaksOf value (first ∷ others)
+
+-- the entry is an object without breaks, and this is kept of it
+abbrev pub IsKept : Entry → Described → Type 0
+IsKept (Good value) object = AreBreaksOf (data_of value) [] × IsDescribed (data_of value) object
+IsKept (Bad refusal) object = ⊥
+
+-- the entry is no JSON value, or no object without breaks
+abbrev pub Fails : Entry → Type 0
+Fails (Good value) = ¬ AreBreaksOf (data_of value) []
+Fails (Bad refusal) = ⊤
+
+-- the detail of an entry that fails: of a value it tells the first break
+abbrev pub IsDetailOf : ℕ → Entry → Detail → Type 0
+IsDetailOf moment (Good value) detail = (first : Break) × BreaksFirst (data_of value) first × IsFailureOf (data_of value) first moment detail
+IsDetailOf moment (Bad refusal) detail = IsRefusalOf refusal moment detail
+
+-- entries in turn: an object is kept of each, or it fails
+abbrev pub Splits : List Entry → List Described → List Entry → Type 0
+Splits [] objects failed = (objects ≡ []) × (failed ≡ [])
+Splits (entry ∷ entries) objects failed =
+    ((object : Described) × (others : List Described) × (objects ≡ object ∷ others) × IsKept entry object × Splits entries others failed)
+    ⊎ ((others : List Entry) × (failed ≡ entry ∷ others) × Fails entry × Splits entries objects others)
+
+-- what some entries hold, in a request of that moment: those that fail are counted, and the first of them have details
+pub record Holds (moment : ℕ) (entries : List Entry) (posted : Posted) : Type 0 where
+  pub failed : List Entry
+  pub splits : Splits entries posted.objects.items failed
+  pub details : AllZip (IsDetailOf moment) (take MAX_DETAILS failed) posted.failures
+  pub count : posted.failure_count ≡ length failed
+
+-- what the body of a request of that moment holds
+pub record IsPosted (body : List ℕ) (moment : ℕ) (posted : Posted) : Type 0 where
+  pub entries : List Entry
+  pub entries_are : AreEntriesOf body (codes "objects") entries
+  pub holds : Holds moment entries posted
+
+-- why the body has no list of objects; memory may run out at any time
+abbrev pub IsUnreadable : List ℕ → PostRefusal → Type 0
+IsUnreadable body NotJson = HasNoValue body
+IsUnreadable body NotList = HasNoList body (codes "objects")
+IsUnreadable body NoMemory = ⊤

@@ -1,0 +1,46 @@
+ghost use Rattle.std.specs.Prelude.{◌≡◌, ◌⊎◌, IfOk, IfErr, OnErr, Err};
+ghost use Rattle.flow_edges.specs.Faults.{Counted};
+ghost use Rattle.taxii_bodies.specs.declared.problem.Problem.TheVariants as Trouble;
+ghost use Rattle.taxii_exchange.specs.declared.refusal.Refusal.TheVariants as Refused;
+ghost use Rattle.taxii_store.specs.Agreement.{Agrees, without_rows};
+ghost use Rattle.taxii_service.specs.Step.{IsRefused, IsDone};
+ghost use Rattle.taxii_service.specs.inner.Performing.{RouteChanges};
+
+use crate::perform::perform;
+use http_messages::Request;
+use taxii_bodies::Problem;
+use taxii_exchange::Answer;
+use taxii_exchange::{Config, Refusal, check};
+use crate::{allow_of, rights_for};
+use taxii_routes::Route;
+use taxii_rows::Keeper;
+use crate::State;
+
+/// What comes of a request to the resource of a route.
+pub(crate) fn outcome<K: Keeper>(
+    config: &Config,
+    state: &mut State,
+    keeper: &mut K,
+    moment: u64,
+    request: &Request,
+    route: &Route,
+    query: &str,
+) -> Result<Answer, Refusal>
+    requires agrees { Agrees (K.kept keeper.old) state.old.library }
+    ensures agrees { Agrees (K.kept keeper.new) state.new.library }
+    ensures keeper { without_rows (K.kept keeper.new) ≡ without_rows (K.kept keeper.old) }
+    ensures ok { IfOk result (λ answer. IsDone config.now state.old moment request.now route.now query.now
+        answer state.new) }
+    ensures err { IfErr result (λ refusal. (refusal ≡ Refused.NoMemory)
+        ⊎ (IsRefused config.now state.old moment request.now route.now query.now refusal
+        ⊎ ((refusal ≡ Refused.Problem Trouble.StoreFault)
+        × RouteChanges config.now state.old moment request.now route.now query.now))) }
+    ensures unchanged { OnErr result (state.new ≡ state.old) }
+    ensures causes { Counted (result ≡ Err (Refused.Problem Trouble.StoreFault)) (K.faults keeper.old) (K.faults keeper.new) }
+{
+    let Some(rights) = rights_for(config, state, route) else {
+        return Err(Refusal::Problem(Problem::NotFound));
+    };
+    let asked = check(config.alloc, request, query, allow_of(route), rights)?;
+    perform(config, state, keeper, moment, request, route, asked)
+}

@@ -1,0 +1,39 @@
+ghost use Rattle.std.specs.Prelude.{◌+◌, ◌<◌, ◌^◌, All, IfOk, IfErr, length};
+ghost use Rattle.taxii_store.specs.Planned.{IsSound};
+ghost use Rattle.taxii_service.specs.Posted.{Holds, IsPosted, IsUnreadable};
+ghost use Rattle.taxii_service.specs.inner.Posting.{IsTaken};
+
+use crate::{PostRefusal, Posted};
+use flow_values::NoMemory;
+use std::alloc::Global;
+use stix_json::{Entry, read_entries};
+
+/// What the body of a request to add objects holds, which came at that moment, in microseconds since
+/// 1970 (section 5.5). An entry that is no JSON value or breaks a rule is a failure, whose detail tells
+/// the first break; any other one is an object, ready to be planned. Without `objects` there are none.
+/// `NotJson` where the body is no JSON, `NotList` where it has no list there.
+pub fn read_posted(alloc: Global, body: &[u8], moment: u64) -> Result<Posted, PostRefusal>
+    ensures ok { IfOk result (IsPosted body.now moment) }
+    ensures sound { IfOk result (λ posted. All IsSound posted.objects.items) }
+    ensures few { IfOk result (λ posted. length posted.objects.items + posted.failure_count < 2 ^ 63) }
+    ensures err { IfErr result (IsUnreadable body.now) }
+{
+    match read_entries(alloc, body, "objects") {
+        Ok(entries) => Ok(judge_entries(alloc, entries.into_vec(), moment)?),
+        Err(refusal) => Err(PostRefusal::of(refusal)),
+    }
+}
+
+/// What some entries hold. Each is dropped as soon as it is judged.
+fn judge_entries(alloc: Global, entries: Vec<Entry>, moment: u64) -> Result<Posted, NoMemory>
+    requires { All IsTaken entries.items }
+    ensures holds { IfOk result (Holds moment entries.items) }
+    ensures sound { IfOk result (λ posted. All IsSound posted.objects.items) }
+    ensures few { IfOk result (λ posted. length posted.objects.items + posted.failure_count < 2 ^ 63) }
+{
+    let mut posted = Posted::empty(alloc);
+    for entry in entries {
+        posted.add(alloc, entry, moment)?;
+    }
+    Ok(posted)
+}

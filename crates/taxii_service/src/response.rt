@@ -1,0 +1,113 @@
+ghost use Rattle.std.specs.Prelude.{◌≡◌, ◌⊎◌, [], IfOk, IsOk, OnErr, option_map, unwrap_or, IsOkAnd};
+ghost use Rattle.flow_edges.specs.Faults.{Counted};
+ghost use Rattle.http_messages.specs.declared.status.Status.TheVariants as Code;
+ghost use Rattle.taxii_exchange.specs.Answers.{HasDates};
+ghost use Rattle.taxii_bodies.specs.declared.problem.Problem.TheVariants as Trouble;
+ghost use Rattle.taxii_exchange.specs.AnswersToRequests as spec;
+ghost use Rattle.taxii_exchange.specs.declared.refusal.Refusal.TheVariants as Refused;
+ghost use Rattle.taxii_store.specs.Agreement.{Agrees, without_rows};
+ghost use Rattle.taxii_service.specs.Step.{IsAnswerTo, RouteStep, Step, FailsToKeep};
+ghost use Rattle.taxii_service.specs.inner.Performing.{RouteChanges};
+
+use crate::outcome::outcome;
+use flow_values::NoMemory;
+use http_messages::{Method, Request, Status};
+use std::alloc::Global;
+use taxii_bodies::Problem;
+use taxii_exchange::Answer;
+use taxii_store::page_laws::rows_of_pages;
+use taxii_exchange::{Config, Refusal, answer_to_problem, bare_answer};
+use taxii_routes::{Route, split_target};
+use taxii_rows::Keeper;
+use crate::State;
+
+/// Answers a request that came at a moment, in microseconds since 1970. A POST adds objects and keeps
+/// its status, a DELETE takes rows away, and nothing else changes anything. Where the keeper failed the
+/// answer is 500 and nothing has changed; nor has it where memory ran out, and then the keeper didn't
+/// fail. The dates of an answer lie before the year 10000.
+pub fn respond<K: Keeper>(
+    config: &Config,
+    state: &mut State,
+    keeper: &mut K,
+    moment: u64,
+    request: &Request,
+) -> Result<Answer, NoMemory>
+    requires agrees { Agrees (K.kept keeper.old) state.old.library }
+    ensures agrees { Agrees (K.kept keeper.new) state.new.library }
+    ensures keeper { without_rows (K.kept keeper.new) ≡ without_rows (K.kept keeper.old) }
+    ensures ok { IfOk result (λ answer. Step config.now state.old moment request.now answer state.new
+        ⊎ FailsToKeep config.now state.old moment request.now answer state.new) }
+    ensures err { OnErr result (state.new ≡ state.old) }
+    ensures causes { Counted (IsOkAnd result (λ answer. answer.status ≡ Code.InternalServerError)) (K.faults keeper.old) (K.faults keeper.new) }
+    ensures dates { IfOk result HasDates }
+{
+    let (path, query) = split_target(request.target.as_str());
+    match config.routes.route(path)? {
+        Route::None => answer_to_problem(config.alloc, request.method, Problem::NotFound),
+        route => {
+            let query = query_text(query);
+            respond_at(config, state, keeper, moment, request, &route, query)
+        }
+    }
+}
+
+/// The text of a query, which is empty where there is none.
+fn query_text(query: Option<&str>) -> &str
+    ensures { result.now ≡ unwrap_or (option_map (λ text. text.now) query.entry) [] }
+{
+    match query {
+        Some(text) => text,
+        None => "",
+    }
+}
+
+/// Answers a request to the resource of a route.
+fn respond_at<K: Keeper>(
+    config: &Config,
+    state: &mut State,
+    keeper: &mut K,
+    moment: u64,
+    request: &Request,
+    route: &Route,
+    query: &str,
+) -> Result<Answer, NoMemory>
+    requires agrees { Agrees (K.kept keeper.old) state.old.library }
+    ensures agrees { Agrees (K.kept keeper.new) state.new.library }
+    ensures keeper { without_rows (K.kept keeper.new) ≡ without_rows (K.kept keeper.old) }
+    ensures ok { IfOk result (λ answer. RouteStep config.now state.old moment request.now route.now query.now
+        answer state.new
+        ⊎ ((answer ≡ spec.answer_to_problem request.now.method Trouble.StoreFault) × (state.new ≡ state.old)
+        × RouteChanges config.now state.old moment request.now route.now query.now)) }
+    ensures err { OnErr result (state.new ≡ state.old) }
+    ensures causes { Counted (IsOkAnd result (λ answer. answer.status ≡ Code.InternalServerError)) (K.faults keeper.old) (K.faults keeper.new) }
+    ensures dates { IfOk result HasDates }
+{
+    rows_of_pages();
+    state.library.rows();
+    // The text of the keeper's fault is there before the keeper is called, so that a change that the
+    // keeper refused is never told as want of memory.
+    let store_fault = answer_to_problem(config.alloc, request.method, Problem::StoreFault)?;
+    match outcome(config, state, keeper, moment, request, route, query) {
+        Ok(answer) => Ok(answer),
+        Err(refusal) => answer_to(config.alloc, request.method, refusal, store_fault),
+    }
+}
+
+/// The answer to a refusal of a request of that method. That to the keeper's fault is there already.
+fn answer_to(
+    alloc: Global,
+    method: Method,
+    refusal: Refusal,
+    store_fault: Answer,
+) -> Result<Answer, NoMemory>
+    requires { store_fault ≡ spec.answer_to_problem method Trouble.StoreFault }
+    ensures ok { IfOk result (IsAnswerTo method refusal) }
+    ensures there { refusal ≡ Refused.Problem Trouble.StoreFault → IsOk result }
+{
+    match refusal {
+        Refusal::NotAllowed(allow) => Ok(bare_answer(Status::MethodNotAllowed, Some(allow))),
+        Refusal::Problem(Problem::StoreFault) => Ok(store_fault),
+        Refusal::Problem(problem) => answer_to_problem(alloc, method, problem),
+        Refusal::NoMemory => Err(NoMemory),
+    }
+}

@@ -1,8 +1,0 @@
--- The state that a server begins with.
-use Rattle.taxii_rows.specs.StoreState.{StoreState}
-use Rattle.taxii_statuses.specs.Statuses.{no_statuses}
-use Rattle.taxii_state.specs.declared.state.State.{State}
-
--- with these rows, and where no status was given yet
-abbrev pub starting_with : StoreState → State
-starting_with store = record { library = store; statuses = no_statuses }

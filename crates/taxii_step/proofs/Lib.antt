@@ -1,3 +1,0 @@
-mod AnswerLemmas
-mod DateLemmas
-mod PerformLemmas

@@ -1,0 +1,186 @@
+-- A walk gives each row once, only such as are asked for, and all that are left at its end.
+use Rattle.std.proofs.Common.{◌≡◌, inl, inr, ℕ, ◌+◌, ◌<◌, ◌≤◌, zero, suc, List, [], ◌∷◌, length, take, true, Option, Some, None, refl, sym, ap, subst, ◌∙◌, arith}
+use Rattle.std.specs.Prelude.{ℤ, pos, ◌*◌, ◌<ℤ◌, codes, nat_lt, min, unwrap_or, IfSome}
+use Rattle.std.specs.List.{Contains}
+use Rattle.std.proofs.lemmas.Bool.{ltb-true}
+use Rattle.std.proofs.lemmas.List.Elements.{All-contains, Contains-append_left, Contains-append_right, Contains-append_cases}
+use Rattle.taxii_rows.specs.declared.stored_row.StoredRow.{StoredRow}
+use Rattle.taxii_rows.specs.Picking.{IsPicked}
+use Rattle.stix_ids.specs.declared.id.Id.{Id}
+use Rattle.stix_ids.specs.declared.pick.Pick.TheVariants as pick
+use Rattle.taxii_routes.specs.declared.query.Query.{Query}
+use Rattle.taxii_store.specs.Meeting.{IsAskedFor, picks_of}
+use Rattle.taxii_store.specs.Page.{page_size}
+use Rattle.taxii_store.specs.Walk.{Stop, Wanted, AsksAlike, IsStop, GoesFrom, IsWanted, rows_given, last_state, last_date}
+use Rattle.taxii_store.proofs.RowsLemmas.{Rises, compare, least, last_or, rises_append, rises_take, rises_past, in_take, in_first_k, take_all, last_of_k}
+use Rattle.taxii_store.proofs.HistoryLemmas.{Later, later_itself, later_both, history}
+
+-- the date after which a page goes on
+abbrev pub cut : Option ℕ → ℕ
+cut None = zero
+cut (Some date) = date
+
+after_cut : (next : Option ℕ) (r : StoredRow) → cut next < r.date → IfSome next (λ date. date < r.date)
+after_cut None r h = tt
+after_cut (Some date) r h = h
+
+past_cut : (next : Option ℕ) (r : StoredRow) → 1 ≤ r.date → IfSome next (λ date. date < r.date) → cut next < r.date
+past_cut None r some h = omega (arith, some)
+past_cut (Some date) r some h = h
+
+-- what is asked of a row but for where the page begins
+to_wanted : (wanted : Wanted) (query : Query) (r : StoredRow) → wanted.query.next ≡ None → AsksAlike wanted.query query
+    → IsAskedFor wanted.collection wanted.only query r → IsWanted wanted r
+to_wanted wanted query r start alike asked = record {
+  its = asked.its;
+  one = asked.one;
+  added = subst (λ (o : Option ℤ). IfSome o (λ instant. instant <ℤ pos (1000 * r.date))) alike.added_after asked.added;
+  next = subst (λ (o : Option ℕ). IfSome o (λ date. date < r.date)) (sym start) tt;
+  ids = subst (λ (o : Option (List Id)). IfSome o (λ ids. Contains ids r.id)) alike.ids asked.ids;
+  kinds = subst (λ (o : Option (List (List ℕ))). IfSome o (λ kinds. Contains kinds r.id.kind)) alike.kinds asked.kinds;
+  specs = subst (λ (o : Option (List (List ℕ))). IfSome o (λ specs. Contains specs (codes "2.1"))) alike.specs asked.specs;
+}
+
+from_wanted : (wanted : Wanted) (query : Query) (next : Option ℕ) (r : StoredRow) → AsksAlike wanted.query query → query.next ≡ next
+    → cut next < r.date → IsWanted wanted r → IsAskedFor wanted.collection wanted.only query r
+from_wanted wanted query next r alike same past asked = record {
+  its = asked.its;
+  one = asked.one;
+  added = subst (λ (o : Option ℤ). IfSome o (λ instant. instant <ℤ pos (1000 * r.date))) (sym alike.added_after) asked.added;
+  next = subst (λ (o : Option ℕ). IfSome o (λ date. date < r.date)) (sym same) (after_cut next r past);
+  ids = subst (λ (o : Option (List Id)). IfSome o (λ ids. Contains ids r.id)) (sym alike.ids) asked.ids;
+  kinds = subst (λ (o : Option (List (List ℕ))). IfSome o (λ kinds. Contains kinds r.id.kind)) (sym alike.kinds) asked.kinds;
+  specs = subst (λ (o : Option (List (List ℕ))). IfSome o (λ specs. Contains specs (codes "2.1"))) (sym alike.specs) asked.specs;
+}
+
+picked : (query : Query) (rows : List StoredRow) (r : StoredRow) → Contains (picks_of query) pick.All → IsPicked (picks_of query) rows r
+picked query rows r all = (all.0, pick.All, all.1, all.2, tt)
+
+some_size : (limit : Option ℕ) → IfSome limit (λ n. 0 < n) → 1 ≤ min (unwrap_or limit 100) 100
+some_size None h = omega arith
+some_size (Some n) h = omega (arith, h)
+
+-- the last of the first k, one at least, where more is left
+last_dates : (c : ℕ) (x : StoredRow) (xs : List StoredRow) → cut (last_date (x ∷ xs)) ≡ last_or c (x ∷ xs)
+last_dates c x [] = refl
+last_dates c x (y ∷ ys) = last_dates x.date y ys
+
+last_date_of_k : (c k : ℕ) (xs : List StoredRow) → 1 ≤ k → nat_lt k (length xs) ≡ true → cut (last_date (take k xs)) ≡ last_or c (take k xs)
+last_date_of_k c zero xs some more = absurd (omega (arith, some))
+last_date_of_k c (suc k) [] some more = absurd (omega (arith, ltb-true (suc k) zero more))
+last_date_of_k c (suc k) (x ∷ xs) some more = last_dates c x (take k xs)
+
+-- ---- one stop
+
+-- the rows that meet a stop's query come after where its page begins
+past : (wanted : Wanted) (next : Option ℕ) (s : Stop) (stop : IsStop wanted next s) (r : StoredRow)
+    → Contains stop.page.meeting r → cut next < r.date
+past wanted next s stop r h =
+    let it = (stop.page.meeting_are.each r).0 h in
+    past_cut next r (least 1 stop.page.meeting r stop.page.meeting_are.rise h)
+    (subst (λ (o : Option ℕ). IfSome o (λ date. date < r.date)) stop.goes_on it.1.asked.next)
+
+meeting_rises : (wanted : Wanted) (next : Option ℕ) (s : Stop) (stop : IsStop wanted next s) → Rises (cut next + 1) stop.page.meeting
+meeting_rises wanted next s stop = rises_past 1 (cut next) stop.page.meeting stop.page.meeting_are.rise (past wanted next s stop)
+
+page_rises : (wanted : Wanted) (next : Option ℕ) (s : Stop) (stop : IsStop wanted next s) → Rises (cut next + 1) s.page
+page_rises wanted next s stop = subst (λ (xs : List StoredRow). Rises (cut next + 1) xs) (sym stop.page.page_is)
+    (rises_take (cut next + 1) (page_size s.query) stop.page.meeting (meeting_rises wanted next s stop))
+
+page_asked : (wanted : Wanted) (next : Option ℕ) (s : Stop) → wanted.query.next ≡ None → IsStop wanted next s
+    → (r : StoredRow) → Contains s.page r → IsWanted wanted r
+page_asked wanted next s start stop r h =
+    let met = in_take (page_size s.query) stop.page.meeting r (subst (λ (xs : List StoredRow). Contains xs r) stop.page.page_is h) in
+    to_wanted wanted s.query r start stop.alike ((stop.page.meeting_are.each r).0 met).1.asked
+
+-- a row of the store that is wanted and comes after where the page begins meets the stop's query
+meets_there : (wanted : Wanted) (next : Option ℕ) (s : Stop) (stop : IsStop wanted next s) (r : StoredRow)
+    → Contains s.state.rows r → IsWanted wanted r → cut next < r.date → Contains stop.page.meeting r
+meets_there wanted next s stop r there asked after = (stop.page.meeting_are.each r).1 (
+  there,
+  record {
+    asked = from_wanted wanted s.query next r stop.alike stop.goes_on after asked;
+    picked = picked s.query s.state.rows r stop.alike.all;
+  },
+)
+
+-- where there is more, the page ends at a date that is at most the mark
+ends_marked : (wanted : Wanted) (next : Option ℕ) (s : Stop) → IsStop wanted next s → s.more ≡ true
+    → (last_or (cut next) s.page ≤ s.state.mark) × (cut (last_date s.page) ≡ last_or (cut next) s.page)
+ends_marked wanted next s stop more = (marked, same)
+  where
+    size : 1 ≤ page_size s.query
+    size = some_size s.query.limit stop.alike.limit
+
+    left : nat_lt (page_size s.query) (length stop.page.meeting) ≡ true
+    left = sym stop.page.more_is ∙ more
+
+    page_same : last_or (cut next) s.page ≡ last_or (cut next) (take (page_size s.query) stop.page.meeting)
+    page_same = ap (last_or (cut next)) stop.page.page_is
+
+    marked : last_or (cut next) s.page ≤ s.state.mark
+    marked =
+        let it = last_of_k (cut next) (page_size s.query) stop.page.meeting size left in
+        let row = (stop.page.meeting_are.each it.0).0 it.1 in
+        let bound = All-contains (λ (row : StoredRow). row.date ≤ s.state.mark) s.state.rows it.0 stop.dated.marked row.0 in
+        omega (arith, page_same, it.2, bound)
+
+    same : cut (last_date s.page) ≡ last_or (cut next) s.page
+    same = subst (λ (xs : List StoredRow). cut (last_date xs) ≡ last_or (cut next) xs) (sym stop.page.page_is)
+        (last_date_of_k (cut next) (page_size s.query) stop.page.meeting size left)
+
+-- ---- the walk
+
+came : (wanted : Wanted) (next : Option ℕ) (s : Stop) (ts : List Stop) → GoesFrom wanted next s ts → Later s.state (last_state s ts)
+came wanted next s [] w = later_itself s.state
+came wanted next s (t ∷ ts) w = later_both s.state t.state (last_state t ts) (history s.state t.state w.2) (came wanted (last_date s.page) t ts w.3)
+
+pub rises : (wanted : Wanted) (next : Option ℕ) (s : Stop) (ts : List Stop) → GoesFrom wanted next s ts → Rises (cut next + 1) (rows_given s ts)
+rises wanted next s [] w = page_rises wanted next s w.0
+rises wanted next s (t ∷ ts) w =
+    let ends = ends_marked wanted next s w.0 w.1 in
+    rises_append (cut next + 1) (cut next) s.page (rows_given t ts) (omega arith) (page_rises wanted next s w.0)
+    (subst (λ (n : ℕ). Rises (n + 1) (rows_given t ts)) ends.1 (rises wanted (last_date s.page) t ts w.3))
+
+pub asked : (wanted : Wanted) (next : Option ℕ) (s : Stop) (ts : List Stop) → wanted.query.next ≡ None → GoesFrom wanted next s ts
+    → (r : StoredRow) → Contains (rows_given s ts) r → IsWanted wanted r
+asked wanted next s [] start w r h = page_asked wanted next s start w.0 r h
+asked wanted next s (t ∷ ts) start w r h = elim (Contains-append_cases s.page (rows_given t ts) r h) [
+  | inl here ↦ page_asked wanted next s start w.0 r here
+  | inr later ↦ asked wanted (last_date s.page) t ts start w.3 r later
+]
+
+pub whole : (wanted : Wanted) (next : Option ℕ) (s : Stop) (ts : List Stop) → GoesFrom wanted next s ts
+    → (r : StoredRow) → Contains (last_state s ts).rows r → IsWanted wanted r → cut next < r.date → Contains (rows_given s ts) r
+whole wanted next s [] w r h wish after =
+    let met = meets_there wanted next s w.0 r h wish after in
+    let all = take_all (page_size s.query) w.0.page.meeting (sym w.0.page.more_is ∙ w.1) in
+    subst (λ (xs : List StoredRow). Contains xs r) (sym (w.0.page.page_is ∙ all)) met
+whole wanted next s (t ∷ ts) w r h wish after =
+    elim (compare r.date (last_or (cut next) s.page)) [
+      | inl upto ↦ Contains-append_left s.page (rows_given t ts) r (on_page upto)
+      | inr behind ↦ Contains-append_right s.page (rows_given t ts) r
+          (whole wanted (last_date s.page) t ts w.3 r h wish (subst (λ (n : ℕ). n < r.date) (sym ends.1) behind))
+    ]
+  where
+    ends : (last_or (cut next) s.page ≤ s.state.mark) × (cut (last_date s.page) ≡ last_or (cut next) s.page)
+    ends = ends_marked wanted next s w.0 w.1
+
+    there : r.date ≤ last_or (cut next) s.page → Contains s.state.rows r
+    there upto = elim ((came wanted next s (t ∷ ts) w).rows r h) [
+      | inl found ↦ found
+      | inr beyond ↦ absurd (omega (arith, ends.0, beyond, upto))
+    ]
+
+    on_page : r.date ≤ last_or (cut next) s.page → Contains s.page r
+    on_page upto =
+        let met = meets_there wanted next s w.0 r (there upto) wish after in
+        subst (λ (xs : List StoredRow). Contains xs r) (sym w.0.page.page_is)
+        (in_first_k (cut next + 1) (cut next) (page_size s.query) w.0.page.meeting r (meeting_rises wanted next s w.0) met after
+        (subst (λ (xs : List StoredRow). r.date ≤ last_or (cut next) xs) w.0.page.page_is upto))
+
+-- every row has a date past 0
+pub dated : (wanted : Wanted) (next : Option ℕ) (s : Stop) (ts : List Stop) → GoesFrom wanted next s ts
+    → (r : StoredRow) → Contains (last_state s ts).rows r → 0 < r.date
+dated wanted next s [] w r h = let it = least 1 s.state.rows r w.0.dated.rise h in omega (arith, it)
+dated wanted next s (t ∷ ts) w r h = dated wanted (last_date s.page) t ts w.3 r h

@@ -1,0 +1,149 @@
+ghost use Rattle.std.specs.Prelude.{◌≡◌, ◌↔◌, IsTrue, IfOk, option_map, ℕ, Option, List, IfSome};
+ghost use Rattle.std.specs.List.{Contains};
+ghost use Rattle.stix_ids.specs.declared.id.Id.{Id as Identifier};
+ghost use Rattle.taxii_routes.specs.declared.query.Query.{Query as Wanted};
+ghost use Rattle.taxii_store.specs.Meeting.{Meets, IsAskedFor, picks_of};
+ghost use Rattle.taxii_store.specs.inner.Candidates.{CanMeet};
+ghost use Rattle.taxii_store.specs.Picks.{HasPicks};
+ghost use Rattle.taxii_store.specs.inner.Asking.{HasTextsWhere, HasIdsWhere, Asks};
+
+use crate::id_set::IdSet;
+use crate::text_set::TextSet;
+use flow_values::{Items, NoMemory, Text};
+use std::alloc::Global;
+use stix_ids::{Id, Pick};
+use taxii_routes::Query;
+use taxii_rows::StoredRow;
+use crate::{Library, PickSet};
+
+/// What a request asks of a row, prepared once: lists are sets.
+#[derive(Drop)]
+pub(crate) struct Asked<'a> {
+    collection: u128,
+    only: Option<&'a Id>,
+    kinds: Option<TextSet<'a>>,
+    ids: Option<IdSet<'a>>,
+    picks: PickSet,
+}
+
+impl<'a> Asked<'a> {
+    /// What a query asks of a collection, and of that object only where one is named.
+    pub(crate) fn of(
+        alloc: Global,
+        collection: u128,
+        only: Option<&'a Id>,
+        query: &'a Query,
+    ) -> Result<Asked<'a>, NoMemory>
+        ensures { IfOk result (Asks collection (option_map (λ id. id.now) only.entry) query.now) }
+    {
+        let kinds = kind_set(alloc, &query.kinds)?;
+        let ids = id_set(alloc, &query.ids)?;
+        let picks = pick_set(alloc, query)?;
+        Ok(Asked {
+            collection,
+            only,
+            kinds,
+            ids,
+            picks,
+        })
+    }
+
+    /// Whether a row of the library, at that place among its rows, meets the query, where it can by when
+    /// it was added. What costs no look-up is asked first.
+    pub(crate) fn meets(&mut self, library: &Library, place: usize, row: &'a StoredRow) -> bool
+        requires there { Contains library.now.rows row.now }
+        ensures meets { (collection : ℕ) (only : Option Identifier) (query : Wanted) → Asks collection only query self.old
+            → CanMeet query row.now → IsTrue result ↔ Meets library.now.rows collection only query row.now }
+        ensures same { (collection : ℕ) (only : Option Identifier) (query : Wanted) → Asks collection only query self.old
+            → Asks collection only query self.new }
+    {
+        self.picks.may_select(library, place, row) && self.is_met(library, row)
+    }
+
+    fn is_met(&mut self, library: &Library, row: &'a StoredRow) -> bool
+        requires there { Contains library.now.rows row.now }
+        ensures meets { (collection : ℕ) (only : Option Identifier) (query : Wanted) → Asks collection only query self.old
+            → CanMeet query row.now → IsTrue result ↔ Meets library.now.rows collection only query row.now }
+        ensures same { (collection : ℕ) (only : Option Identifier) (query : Wanted) → Asks collection only query self.old
+            → Asks collection only query self.new }
+    {
+        self.asks_for(row) && self.picks.selects(library, row)
+    }
+
+    /// Whether the row by itself is what is asked for, where it can be by when it was added.
+    fn asks_for(&mut self, row: &'a StoredRow) -> bool
+        ensures asked { (collection : ℕ) (only : Option Identifier) (query : Wanted) → Asks collection only query self.old
+            → CanMeet query row.now → IsTrue result ↔ IsAskedFor collection only query row.now }
+        ensures same { (collection : ℕ) (only : Option Identifier) (query : Wanted) → Asks collection only query self.old
+            → Asks collection only query self.new }
+    {
+        row.collection == self.collection
+            && is_object(self.only, &row.id)
+            && has_kind(&mut self.kinds, row.id.kind.as_str())
+            && has_id(&self.ids, &row.id)
+    }
+}
+
+/// The kinds that are named, where some are.
+fn kind_set<'a>(
+    alloc: Global,
+    kinds: &'a Option<Items<Text>>,
+) -> Result<Option<TextSet<'a>>, NoMemory>
+    ensures { IfOk result (HasTextsWhere kinds.now) }
+{
+    match kinds {
+        Some(kinds) => Ok(Some(TextSet::of(alloc, kinds.as_slice())?)),
+        None => Ok(None),
+    }
+}
+
+/// The identifiers that are named, where some are.
+fn id_set<'a>(alloc: Global, ids: &'a Option<Items<Id>>) -> Result<Option<IdSet<'a>>, NoMemory>
+    ensures { IfOk result (HasIdsWhere ids.now) }
+{
+    match ids {
+        Some(ids) => Ok(Some(IdSet::of(alloc, ids.as_slice())?)),
+        None => Ok(None),
+    }
+}
+
+/// The query's picks, or where it has none, the last version.
+fn pick_set(alloc: Global, query: &Query) -> Result<PickSet, NoMemory>
+    ensures { IfOk result (HasPicks (picks_of query.now)) }
+{
+    match &query.picks {
+        Some(picks) => PickSet::of(alloc, picks.as_slice()),
+        None => PickSet::of(alloc, &[Pick::Last]),
+    }
+}
+
+/// Whether it is the identifier, where one is asked for.
+fn is_object(only: Option<&Id>, id: &Id) -> bool
+    ensures { IsTrue result ↔ IfSome (option_map (λ id. id.now) only.entry) (λ one. id.now ≡ one) }
+{
+    match only {
+        Some(one) => id.number == one.number && id.kind.as_str() == one.kind.as_str(),
+        None => true,
+    }
+}
+
+/// Whether the kind is one of those that are named, where some are.
+fn has_kind<'a>(kinds: &mut Option<TextSet<'a>>, kind: &'a str) -> bool
+    ensures has { (texts : Option (List (List ℕ))) → HasTextsWhere texts kinds.old → IsTrue result ↔ IfSome texts (λ texts. Contains texts kind.now) }
+    ensures same { (texts : Option (List (List ℕ))) → HasTextsWhere texts kinds.old → HasTextsWhere texts kinds.new }
+{
+    match kinds {
+        Some(kinds) => kinds.has(kind),
+        None => true,
+    }
+}
+
+/// Whether the identifier is one of those that are named, where some are.
+fn has_id<'a>(ids: &Option<IdSet<'a>>, id: &'a Id) -> bool
+    ensures { (named : Option (List Identifier)) → HasIdsWhere named ids.now → IsTrue result ↔ IfSome named (λ named. Contains named id.now) }
+{
+    match ids {
+        Some(ids) => ids.has(id),
+        None => true,
+    }
+}

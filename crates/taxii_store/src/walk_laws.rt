@@ -1,0 +1,33 @@
+//! What follows from the definitions: the contracts are the laws, and the functions do nothing.
+
+ghost use Rattle.std.specs.Prelude.{◌≡◌, ℕ, List, Bool, Option, All};
+ghost use Rattle.std.specs.List.{Contains};
+ghost use Rattle.taxii_rows.specs.declared.stored_row.StoredRow.{StoredRow};
+ghost use Rattle.taxii_rows.specs.StoreState.{dates_of, RiseFrom};
+ghost use Rattle.stix_ids.specs.declared.id.Id.{Id};
+ghost use Rattle.taxii_routes.specs.declared.query.Query.{Query};
+ghost use Rattle.taxii_store.specs.Page.{IsPage};
+ghost use Rattle.taxii_store.specs.Walk.{Stop, Wanted, IsWalk, IsWanted, rows_given, last_state};
+
+/// A query has one page of a store, and leaves more or leaves none.
+pub fn one_page()
+    ensures page { (rows : List StoredRow) (collection : ℕ) (only : Option Id) (query : Query) (first second : List StoredRow)
+        (left more : Bool) → IsPage rows collection only query first left → IsPage rows collection only query second more
+        → first ≡ second }
+    ensures more { (rows : List StoredRow) (collection : ℕ) (only : Option Id) (query : Query) (first second : List StoredRow)
+        (left more : Bool) → IsPage rows collection only query first left → IsPage rows collection only query second more
+        → left ≡ more }
+{}
+
+/// A walk that follows `next` with all versions gives each row once, in the order of the dates when they
+/// were added (`once`), gives only rows that were asked for (`asked`), and gives every row that is asked
+/// for and still stored at the last page (`whole`), whatever was added and deleted between the pages.
+pub fn walks_skip_no_row()
+    ensures once { (wanted : Wanted) (first : Stop) (others : List Stop) → IsWalk wanted first others
+        → RiseFrom 1 (dates_of (rows_given first others)) }
+    ensures asked { (wanted : Wanted) (first : Stop) (others : List Stop) → IsWalk wanted first others
+        → All (IsWanted wanted) (rows_given first others) }
+    ensures whole { (wanted : Wanted) (first : Stop) (others : List Stop) → IsWalk wanted first others
+        → (row : StoredRow) → Contains (last_state first others).rows row → IsWanted wanted row
+        → Contains (rows_given first others) row }
+{}

@@ -1,0 +1,262 @@
+-- A POST and a DELETE do one thing, or are refused for one cause.
+use Rattle.std.proofs.Common.{◌≡◌, ◌⊎◌, inl, inr, ℕ, ◌+◌, ◌≤◌, List, [], ◌∷◌, ◌++◌, Bool, true, false, Some, refl, sym, ap, subst, ◌∙◌, arith}
+use Rattle.std.specs.Prelude.{codes, bytes_eq}
+use Rattle.std.specs.List.{Contains}
+use Rattle.std.proofs.lemmas.Slice.Eq.{bytes_eq-Decides}
+use Rattle.std.proofs.lemmas.List.Elements.{Contains-append_left, Contains-append_right, Contains-append_cases, Contains-push, Contains-push_cases}
+use Rattle.stix_ids.specs.declared.id.Id.{Id}
+use Rattle.stix_ids.specs.declared.pick.Pick.{Pick}
+use Rattle.stix_ids.specs.Identifier.{IsTextOf}
+use Rattle.http_messages.specs.declared.request.Request.{Request}
+use Rattle.http_messages.specs.declared.status.Status.TheVariants.{Accepted}
+use Rattle.taxii_exchange.specs.declared.answer.Answer.{Answer}
+use Rattle.taxii_routes.specs.declared.query.Query.{Query}
+use Rattle.taxii_routes.specs.declared.route.Route.{Route}
+use Rattle.taxii_routes.specs.declared.route.Route.TheVariants.{Discovery, Root, Status, Collections, Collection, Manifest, Objects, Object, Versions, None as NoRoute}
+use Rattle.taxii_rows.specs.declared.stored_row.StoredRow.{StoredRow}
+use Rattle.taxii_rows.specs.StoreState.{StoreState, dates_of, RiseFrom}
+use Rattle.taxii_store.specs.Addition.{IsAddition}
+use Rattle.taxii_store.specs.Deleting.{AreDatesTaken}
+use Rattle.taxii_bodies.specs.declared.collections.CollectionInfo.{CollectionInfo}
+use Rattle.taxii_bodies.specs.declared.problem.Problem.TheVariants.{BadValue, Repeated, Forbidden, NotFound, NotAcceptable, UnsupportedMediaType, NotJson, NotList, StoreFault, DatesUsedUp}
+use Rattle.taxii_exchange.specs.declared.config.Config.{Config}
+use Rattle.taxii_exchange.specs.declared.refusal.Refusal.{Refusal}
+use Rattle.taxii_exchange.specs.declared.refusal.Refusal.TheVariants.{NotAllowed, Problem, NoMemory}
+use Rattle.taxii_exchange.specs.AnswersToRequests.{body_answer}
+use Rattle.taxii_service.specs.Finding.{Names}
+use Rattle.taxii_service.specs.declared.state.State.{State}
+use Rattle.taxii_exchange.specs.Statuses.{next_number}
+use Rattle.taxii_service.specs.declared.post_refusal.PostRefusal.TheVariants as post
+use Rattle.taxii_service.specs.Posted.{IsUnreadable, IsPosted}
+use Rattle.taxii_service.specs.Adding.{IsAdding, LacksDates, CannotAdd, IsReport, with_added}
+use Rattle.taxii_service.specs.Deleting.{deleted_picks, AllowsStandard, AreDeleted, without_dates}
+use Rattle.taxii_service.specs.Step.{Posts, Deletes, CannotPost}
+use Rattle.taxii_store.specs.History.{IsDated}
+use Rattle.taxii_theorems.proofs.EntryLemmas.{Laws, IsSamePosted, one_posted, list_or_none}
+use Rattle.taxii_theorems.proofs.AdditionLemmas.{one_addition, dates_left}
+use Rattle.taxii_theorems.proofs.ReportLemmas.{one_text_of_report}
+
+-- one answer, and one state
+abbrev pub IsOne : Answer → Answer → State → State → Type 0
+IsOne answer other first second = (answer ≡ other) × (first ≡ second)
+
+one_info : (text : List ℕ) (infos : List CollectionInfo) (first second : CollectionInfo) → Names text infos first → Names text infos second → first ≡ second
+one_info text infos first second names also = let same : Some first ≡ Some second = sym names ∙ also in cc
+
+-- ---- an addition
+
+one_adding : Laws → (before : State) (collection moment : ℕ) (body : List ℕ) (new new_too : List StoredRow) (text other : List ℕ)
+    → RiseFrom 1 (dates_of (before.library.rows ++ new_too)) → IsAdding before collection moment body new text → IsAdding before collection moment body new_too other
+    → (new ≡ new_too) × (text ≡ other)
+one_adding laws before collection moment body new new_too text other rise its also =
+    let posted : IsSamePosted its.posted also.posted = one_posted laws body moment its.posted also.posted its.posted_is also.posted_is in
+    let addition = one_addition before.library collection moment also.posted.objects.items its.outcomes also.outcomes new new_too
+    (subst (λ objects. IsAddition before.library collection moment objects its.outcomes new) posted.objects its.addition) also.addition in
+    let here : IsReport (next_number before.statuses) moment its.posted also.outcomes (before.library.rows ++ new_too) its.report =
+    subst (λ outcomes. IsReport (next_number before.statuses) moment its.posted outcomes (before.library.rows ++ new_too) its.report) addition.0
+    (subst (λ (rows : List StoredRow). IsReport (next_number before.statuses) moment its.posted its.outcomes (before.library.rows ++ rows) its.report) addition.1 its.report_is) in (
+      addition.1,
+      one_text_of_report laws.text (next_number before.statuses) moment its.posted also.posted also.outcomes (before.library.rows ++ new_too) its.report also.report text other
+          rise posted here also.report_is its.text_is also.text_is,
+    )
+
+rises_after : (before after : State) (new : List StoredRow) (text : List ℕ) → IsDated after.library → after ≡ with_added new text before → RiseFrom 1 (dates_of (before.library.rows ++ new))
+rises_after before after new text dated same =
+    subst (λ (rows : List StoredRow). RiseFrom 1 (dates_of rows)) (ap (λ (state : State). state.library.rows) same) dated.rise
+
+pub one_post : Laws → (config : Config) (before first second : State) (moment : ℕ) (request : Request) (route : Route) (answer other : Answer) → IsDated second.library
+    → Posts config before moment request route answer first → Posts config before moment request route other second → IsOne answer other first second
+one_post laws config before first second moment request Discovery answer other dated its also = absurd its
+one_post laws config before first second moment request Root answer other dated its also = absurd its
+one_post laws config before first second moment request (Status id) answer other dated its also = absurd its
+one_post laws config before first second moment request Collections answer other dated its also = absurd its
+one_post laws config before first second moment request (Collection id) answer other dated its also = absurd its
+one_post laws config before first second moment request (Manifest id) answer other dated its also = absurd its
+one_post laws config before first second moment request (Objects id) answer other dated (info, names, new, text, adding, answer_is, after_is) (info_too, names_too, new_too, text_too, adding_too, answer_too, after_too) =
+    let same : info ≡ info_too = one_info id config.collections info info_too names names_too in
+    let one = one_adding laws before info_too.id moment request.body new new_too text text_too (rises_after before second new_too text_too dated after_too)
+    (subst (λ (i : CollectionInfo). IsAdding before i.id moment request.body new text) same adding) adding_too in (
+      answer_is ∙ ap (body_answer Accepted) one.1 ∙ sym answer_too,
+      after_is ∙ ap (λ (rows : List StoredRow). with_added rows text before) one.0 ∙ ap (λ (t : List ℕ). with_added new_too t before) one.1 ∙ sym after_too,
+    )
+one_post laws config before first second moment request (Object collection object) answer other dated its also = absurd its
+one_post laws config before first second moment request (Versions collection object) answer other dated its also = absurd its
+one_post laws config before first second moment request NoRoute answer other dated its also = absurd its
+
+-- ---- why nothing is added
+
+abbrev Lacks : State → ℕ → ℕ → List ℕ → Refusal → Type 0
+Lacks before collection moment body refusal =
+    (IsUnreadable body post.NotJson × (refusal ≡ Problem NotJson)) ⊎ (IsUnreadable body post.NotList × (refusal ≡ Problem NotList))
+    ⊎ (LacksDates before collection moment body × (refusal ≡ Problem DatesUsedUp))
+
+lacks : (before : State) (collection moment : ℕ) (body : List ℕ) (refusal : Refusal) → CannotAdd before collection moment body refusal → Lacks before collection moment body refusal
+lacks before collection moment body (NotAllowed its) none = absurd none
+lacks before collection moment body (Problem (BadValue param)) none = absurd none
+lacks before collection moment body (Problem (Repeated param)) none = absurd none
+lacks before collection moment body (Problem Forbidden) none = absurd none
+lacks before collection moment body (Problem NotFound) none = absurd none
+lacks before collection moment body (Problem NotAcceptable) none = absurd none
+lacks before collection moment body (Problem UnsupportedMediaType) none = absurd none
+lacks before collection moment body (Problem NotJson) its = inl (its, refl)
+lacks before collection moment body (Problem NotList) its = inr (inl (its, refl))
+lacks before collection moment body (Problem StoreFault) none = absurd none
+lacks before collection moment body (Problem DatesUsedUp) its = inr (inr (its, refl))
+lacks before collection moment body NoMemory none = absurd none
+
+-- a body with no value, or no list, holds nothing
+no_value : (body : List ℕ) (moment : ℕ) (posted : _) → IsUnreadable body post.NotJson → IsPosted body moment posted → ⊥
+no_value body moment posted none its = none its.entries_are.whole its.entries_are.value
+
+no_list : (body : List ℕ) (moment : ℕ) (posted : _) → IsUnreadable body post.NotList → IsPosted body moment posted → ⊥
+no_list body moment posted none its = list_or_none body (codes "objects") its.entries its.entries_are none
+
+one_lack : (before : State) (collection moment : ℕ) (body : List ℕ) (first second : Refusal) → Lacks before collection moment body first → Lacks before collection moment body second
+    → first ≡ second
+one_lack before collection moment body first second (inl its) (inl also) = its.1 ∙ sym also.1
+one_lack before collection moment body first second (inl its) (inr (inl also)) = absurd (its.0 also.0.whole also.0.value)
+one_lack before collection moment body first second (inl its) (inr (inr also)) = absurd (no_value body moment also.0.posted its.0 also.0.posted_is)
+one_lack before collection moment body first second (inr (inl its)) (inl also) = absurd (also.0 its.0.whole its.0.value)
+one_lack before collection moment body first second (inr (inl its)) (inr (inl also)) = its.1 ∙ sym also.1
+one_lack before collection moment body first second (inr (inl its)) (inr (inr also)) = absurd (no_list body moment also.0.posted its.0 also.0.posted_is)
+one_lack before collection moment body first second (inr (inr its)) (inl also) = absurd (no_value body moment its.0.posted also.0 its.0.posted_is)
+one_lack before collection moment body first second (inr (inr its)) (inr (inl also)) = absurd (no_list body moment its.0.posted also.0 its.0.posted_is)
+one_lack before collection moment body first second (inr (inr its)) (inr (inr also)) = its.1 ∙ sym also.1
+
+adds_or_lacks : Laws → (before : State) (collection moment : ℕ) (body : List ℕ) (new : List StoredRow) (text : List ℕ) (refusal : Refusal) → IsAdding before collection moment body new text
+    → Lacks before collection moment body refusal → ⊥
+adds_or_lacks laws before collection moment body new text refusal its (inl none) = no_value body moment its.posted none.0 its.posted_is
+adds_or_lacks laws before collection moment body new text refusal its (inr (inl none)) = no_list body moment its.posted none.0 its.posted_is
+adds_or_lacks laws before collection moment body new text refusal its (inr (inr (lack, is))) =
+    let posted = one_posted laws body moment its.posted lack.posted its.posted_is lack.posted_is in
+    dates_left before.library collection moment lack.posted.objects.items its.outcomes new
+    (subst (λ objects. IsAddition before.library collection moment objects its.outcomes new) posted.objects its.addition) lack.lacks
+
+pub one_bad_post : (config : Config) (before : State) (moment : ℕ) (request : Request) (route : Route) (first second : Refusal)
+    → CannotPost config before moment request route first → CannotPost config before moment request route second → first ≡ second
+one_bad_post config before moment request Discovery first second its also = absurd its
+one_bad_post config before moment request Root first second its also = absurd its
+one_bad_post config before moment request (Status id) first second its also = absurd its
+one_bad_post config before moment request Collections first second its also = absurd its
+one_bad_post config before moment request (Collection id) first second its also = absurd its
+one_bad_post config before moment request (Manifest id) first second its also = absurd its
+one_bad_post config before moment request (Objects id) first second (info, names, cannot) (info_too, names_too, cannot_too) =
+    let same : info ≡ info_too = one_info id config.collections info info_too names names_too in
+    one_lack before info_too.id moment request.body first second
+    (lacks before info_too.id moment request.body first (subst (λ (i : CollectionInfo). CannotAdd before i.id moment request.body first) same cannot))
+    (lacks before info_too.id moment request.body second cannot_too)
+one_bad_post config before moment request (Object collection object) first second its also = absurd its
+one_bad_post config before moment request (Versions collection object) first second its also = absurd its
+one_bad_post config before moment request NoRoute first second its also = absurd its
+
+pub posts_or_cannot : Laws → (config : Config) (before after : State) (moment : ℕ) (request : Request) (route : Route) (answer : Answer) (refusal : Refusal)
+    → Posts config before moment request route answer after → CannotPost config before moment request route refusal → ⊥
+posts_or_cannot laws config before after moment request Discovery answer refusal its cannot = its
+posts_or_cannot laws config before after moment request Root answer refusal its cannot = its
+posts_or_cannot laws config before after moment request (Status id) answer refusal its cannot = its
+posts_or_cannot laws config before after moment request Collections answer refusal its cannot = its
+posts_or_cannot laws config before after moment request (Collection id) answer refusal its cannot = its
+posts_or_cannot laws config before after moment request (Manifest id) answer refusal its cannot = its
+posts_or_cannot laws config before after moment request (Objects id) answer refusal (info, names, new, text, adding, answer_is, after_is) (info_too, names_too, cannot) =
+    let same : info ≡ info_too = one_info id config.collections info info_too names names_too in
+    adds_or_lacks laws before info_too.id moment request.body new text refusal
+    (subst (λ (i : CollectionInfo). IsAdding before i.id moment request.body new text) same adding)
+    (lacks before info_too.id moment request.body refusal cannot)
+posts_or_cannot laws config before after moment request (Object collection object) answer refusal its cannot = its
+posts_or_cannot laws config before after moment request (Versions collection object) answer refusal its cannot = its
+posts_or_cannot laws config before after moment request NoRoute answer refusal its cannot = its
+
+-- ---- a deletion
+
+in_dates : (first : ℕ) (dates : List ℕ) (date : ℕ) → Contains (first ∷ dates) date → (first ≡ date) ⊎ Contains dates date
+in_dates first dates date held = elim (Contains-append_cases (first ∷ []) dates date held) [
+  | inl one ↦ elim (Contains-push_cases [] first date one) [
+    | inl none ↦ absurd (omega (arith, none.1))
+    | inr same ↦ inl same
+  ]
+  | inr rest ↦ inr rest
+]
+
+first_held : (first : ℕ) (dates : List ℕ) → Contains (first ∷ dates) first
+first_held first dates = Contains-append_left (first ∷ []) dates first (Contains-push [] first)
+
+rest_held : (first : ℕ) (dates : List ℕ) (date : ℕ) → Contains dates date → Contains (first ∷ dates) date
+rest_held first dates date held = Contains-append_right (first ∷ []) dates date held
+
+earliest : (from : ℕ) (dates : List ℕ) (date : ℕ) → RiseFrom from dates → Contains dates date → from ≤ date
+earliest from [] date rise held = absurd (omega (arith, held.1))
+earliest from (first ∷ dates) date rise held = elim (in_dates first dates date held) [
+  | inl same ↦ subst (λ (d : ℕ). from ≤ d) same rise.0
+  | inr rest ↦ let later = earliest (first + 1) dates date rise.1 rest in omega (arith, later, rise.0)
+]
+
+abbrev Within : List ℕ → List ℕ → Type 0
+Within dates others = (date : ℕ) → Contains dates date → Contains others date
+
+behind : (first : ℕ) (dates others : List ℕ) → RiseFrom (first + 1) dates → Within (first ∷ dates) (first ∷ others) → Within dates others
+behind first dates others rise within date held = elim (in_dates first others date (within date (rest_held first dates date held))) [
+  | inl same ↦ let later = earliest (first + 1) dates date rise held in absurd (omega (arith, later, same))
+  | inr there ↦ there
+]
+
+first_date : (first second : ℕ) (dates others : List ℕ) → RiseFrom (first + 1) dates → RiseFrom (second + 1) others → Within (first ∷ dates) (second ∷ others)
+    → Within (second ∷ others) (first ∷ dates) → first ≡ second
+first_date first second dates others rise rise_too to from =
+    go (in_dates second others first (to first (first_held first dates))) (in_dates first dates second (from second (first_held second others)))
+  where
+    go : (second ≡ first) ⊎ Contains others first → (first ≡ second) ⊎ Contains dates second → first ≡ second
+    go (inl same) other = sym same
+    go (inr later) (inl same) = same
+    go (inr later) (inr too) =
+        let one = earliest (second + 1) others first rise_too later in
+        let two = earliest (first + 1) dates second rise too in absurd (omega (arith, one, two))
+
+same_dates : (n m : ℕ) (dates others : List ℕ) → RiseFrom n dates → RiseFrom m others → Within dates others → Within others dates → dates ≡ others
+same_dates n m [] [] rise rise_too to from = refl
+same_dates n m [] (o ∷ os) rise rise_too to from = let none = from o (first_held o os) in absurd (omega (arith, none.1))
+same_dates n m (d ∷ ds) [] rise rise_too to from = let none = to d (first_held d ds) in absurd (omega (arith, none.1))
+same_dates n m (d ∷ ds) (o ∷ os) rise rise_too to from =
+    let same : d ≡ o = first_date d o ds os rise.1 rise_too.1 to from in
+    let rise_here : RiseFrom (o + 1) ds = subst (λ (x : ℕ). RiseFrom (x + 1) ds) same rise.1 in
+    let to_here : Within (o ∷ ds) (o ∷ os) = subst (λ (x : ℕ). Within (x ∷ ds) (o ∷ os)) same to in
+    let from_here : Within (o ∷ os) (o ∷ ds) = subst (λ (x : ℕ). Within (o ∷ os) (x ∷ ds)) same from in
+    ap (λ (x : ℕ). x ∷ ds) same
+    ∙ ap (λ (xs : List ℕ). o ∷ xs) (same_dates (o + 1) (o + 1) ds os rise_here rise_too.1 (behind o ds os rise_here to_here) (behind o os ds rise_too.1 from_here))
+
+one_taken : (rows : List StoredRow) (collection : ℕ) (id : Id) (picks : List Pick) (first second : List ℕ) → AreDatesTaken rows collection id picks first
+    → AreDatesTaken rows collection id picks second → first ≡ second
+one_taken rows collection id picks first second its also =
+    same_dates 1 1 first second its.rise also.rise (λ date held. (also.each date).1 ((its.each date).0 held)) (λ date held. (its.each date).1 ((also.each date).0 held))
+
+-- lists that don't differ are the same
+not_apart : (first second : List ℕ) → ((first ≡ second → ⊥) → ⊥) → first ≡ second
+not_apart first second never = go (bytes_eq first second) refl
+  where
+    go : (same : Bool) → bytes_eq first second ≡ same → first ≡ second
+    go true is = (bytes_eq-Decides first second).0 is
+    go false is = absurd (never (λ same. let yes : bytes_eq first second ≡ true = (bytes_eq-Decides first second).1 same in absurd (cc (is, yes))))
+
+one_deleted : (store : StoreState) (collection : ℕ) (id : Id) (query : Query) (first second : List ℕ) → AreDeleted store collection id query first
+    → AreDeleted store collection id query second → first ≡ second
+one_deleted store collection id query first second its also = not_apart first second (λ apart.
+    let not : AllowsStandard query → ⊥ = λ allows. apart (one_taken store.rows collection id (deleted_picks query) first second (its.taken allows) (also.taken allows)) in
+    apart (its.none not ∙ sym (also.none not)))
+
+pub one_delete : Laws → ((text : List ℕ) (first second : Id) → IsTextOf text first → IsTextOf text second → first ≡ second) → (config : Config) (before first second : State) (route : Route) (query : Query)
+    (answer other : Answer) → Deletes config before route query answer first → Deletes config before route query other second → IsOne answer other first second
+one_delete laws one config before first second Discovery query answer other its also = absurd its
+one_delete laws one config before first second Root query answer other its also = absurd its
+one_delete laws one config before first second (Status id) query answer other its also = absurd its
+one_delete laws one config before first second Collections query answer other its also = absurd its
+one_delete laws one config before first second (Collection id) query answer other its also = absurd its
+one_delete laws one config before first second (Manifest id) query answer other its also = absurd its
+one_delete laws one config before first second (Objects id) query answer other its also = absurd its
+one_delete laws one config before first second (Object collection object) query answer other (info, names, id, text_of, dates, deleted, answer_is, after_is) (info_too, names_too, id_too, text_too, dates_too, deleted_too, answer_too, after_too) =
+    let same : info ≡ info_too = one_info collection config.collections info info_too names names_too in
+    let same_id : id ≡ id_too = one object id id_too text_of text_too in
+    let all : dates ≡ dates_too = one_deleted before.library info_too.id id_too query dates dates_too
+    (subst (λ (i : CollectionInfo). AreDeleted before.library i.id id_too query dates) same
+    (subst (λ (i : Id). AreDeleted before.library info.id i query dates) same_id deleted)) deleted_too in
+    (answer_is ∙ sym answer_too, after_is ∙ ap (λ (ds : List ℕ). without_dates ds before) all ∙ sym after_too)
+one_delete laws one config before first second (Versions collection object) query answer other its also = absurd its
+one_delete laws one config before first second NoRoute query answer other its also = absurd its

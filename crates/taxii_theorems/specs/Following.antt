@@ -1,0 +1,66 @@
+-- A client that follows `next` (TAXII 2.1, section 3.4): it asks for a page of objects and, as long as the answer says that there is
+-- more, for the next one, with the `next` that the answer gave. Whatever others ask stands between, and so may the server's restarts.
+use Rattle.std.specs.Prelude.{◌≡◌, ◌⊎◌, ⊤, ℕ, List, [], ◌∷◌, ◌++◌, All, map, codes, length, Option, Some, None, unwrap_or}
+use Rattle.std.specs.List.{Contains}
+use Rattle.http_messages.specs.declared.status.Status.TheVariants.{Okay}
+use Rattle.taxii_exchange.specs.declared.answer.Answer.{Answer}
+use Rattle.taxii_routes.specs.declared.param.Param.TheVariants.{Next}
+use Rattle.taxii_routes.specs.declared.query.Query.{Query}
+use Rattle.taxii_routes.specs.Param.{name_of}
+use Rattle.taxii_routes.specs.Query.{pairs_of, values_of}
+use Rattle.taxii_rows.specs.declared.stored_row.StoredRow.{StoredRow}
+use Rattle.taxii_rows.specs.StoreState.{dates_of, RiseFrom}
+use Rattle.taxii_store.specs.Walk.{Stop, Wanted, AsksAlike, IsWalk, IsWanted, rows_given, last_state}
+use Rattle.taxii_service.specs.Visits.{Asks, answer_at}
+use Rattle.taxii_theorems.specs.Runs.{Round}
+
+-- the body says that there is more, and this is its `next`, of sixteen letters
+abbrev pub TellsNext : Answer → List ℕ → Type 0
+TellsNext answer next = (length next ≡ 16) × (rest : List ℕ) × (answer.body ≡ Some (codes "{\"more\":true,\"next\":\"" ++ (next ++ rest)))
+
+-- the body says that there is no more
+abbrev pub TellsNoMore : Answer → Type 0
+TellsNoMore answer = (rest : List ℕ) × (answer.body ≡ Some (codes "{\"more\":false" ++ rest))
+
+-- the values of `next` that a client sends: what it was told, and none at first
+abbrev pub sent : Option (List ℕ) → List (List ℕ)
+sent None = []
+sent (Some next) = next ∷ []
+
+-- a round in which the client asked for what it wants, with that `next`, and was answered with 200
+pub record IsFetch (wanted : Wanted) (next : Option (List ℕ)) (round : Round) : Type 0 where
+  pub okay : round.exchange.answer.status ≡ Okay
+  pub query : Query
+  pub asks : Asks round.config round.exchange.request wanted.collection wanted.only query
+  pub alike : AsksAlike wanted.query query
+  pub next_sent : values_of (name_of Next) (pairs_of (unwrap_or asks.text [])) ≡ sent next
+
+-- the rounds are fetches, the first with that `next`, each other one with what the answer before it told; the last is told of no more
+abbrev pub FetchFrom : Wanted → Option (List ℕ) → Round → List Round → Type 0
+FetchFrom wanted next round [] = IsFetch wanted next round × TellsNoMore round.exchange.answer
+FetchFrom wanted next round (other ∷ rounds) =
+    IsFetch wanted next round × (told : List ℕ) × TellsNext round.exchange.answer told × FetchFrom wanted (Some told) other rounds
+
+-- the first are some of the second, in their order
+abbrev pub Among : List Round → List Round → Type 0
+Among [] rounds = ⊤
+Among (round ∷ some) [] = ⊥
+Among (round ∷ some) (first ∷ rounds) = ((round ≡ first) × Among some rounds) ⊎ Among (round ∷ some) rounds
+
+-- a client followed `next` among the rounds of a server
+pub record HasFollowed (wanted : Wanted) (rounds : List Round) (first : Round) (others : List Round) : Type 0 where
+  pub among : Among (first ∷ others) rounds
+  pub start : wanted.query.next ≡ None
+  pub fetches : FetchFrom wanted None first others
+
+-- what it heard: its answers have the pages of a walk, each of the store as it was there. These give each row once, in the order of
+-- dates, give only what was wanted, and give every row that was wanted and was still stored at the last page
+pub record HearsEachRow (wanted : Wanted) (fetches : List Round) : Type 0 where
+  pub first : Stop
+  pub others : List Stop
+  pub walk : IsWalk wanted first others
+  pub answers : map (λ round. round.exchange.answer) fetches ≡ map answer_at (first ∷ others)
+  pub states : map (λ round. round.exchange.before.library) fetches ≡ map (λ stop. stop.state) (first ∷ others)
+  pub once : RiseFrom 1 (dates_of (rows_given first others))
+  pub asked : All (IsWanted wanted) (rows_given first others)
+  pub whole : (row : StoredRow) → Contains (last_state first others).rows row → IsWanted wanted row → Contains (rows_given first others) row

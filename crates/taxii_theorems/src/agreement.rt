@@ -1,0 +1,77 @@
+//! What follows from the definitions: the contracts are the laws, and the functions do next to nothing.
+
+ghost use Rattle.std.specs.Prelude.{◌≡◌, ◌≤◌, ◌<◌, ◌^◌, ◌++◌, ℕ, ℤ, Bool, List, Option, Some, None, All, length};
+ghost use Rattle.http_messages.specs.declared.status.Status.TheVariants.{Okay};
+ghost use Rattle.taxii_exchange.specs.declared.answer.Answer.{Answer};
+ghost use Rattle.taxii_exchange.specs.Answers.{IsAnswerText};
+ghost use Rattle.http_messages.specs.Replies.{IsReply};
+ghost use Rattle.stix_json.specs.declared.envelope.Envelope.{Envelope};
+ghost use Rattle.stix_json.specs.Envelopes.{IsEnvelopeOf};
+ghost use Rattle.taxii_rows.specs.declared.stored_row.StoredRow.{StoredRow};
+ghost use Rattle.taxii_rows.specs.declared.stored_row.TheConstants.{LAST_DATE};
+ghost use Rattle.taxii_rows.specs.SoundRow.{IsSoundRow};
+ghost use Rattle.taxii_rows.specs.StoreState.{StoreState};
+ghost use Rattle.taxii_bodies.specs.Envelope.{envelope_text};
+ghost use Rattle.taxii_store.specs.History.{IsDated};
+ghost use Rattle.taxii_service.specs.Exchanges.{IsExchange};
+ghost use Rattle.taxii_theorems.specs.Runs.{Run, Round, GoOn, rounds_of};
+ghost use Rattle.taxii_client.specs.Outside.{LinkView};
+ghost use Rattle.taxii_client.specs.Pulls.{Page, IsPull};
+ghost use Rattle.taxii_client.specs.declared.target.Target.{Target};
+ghost use Rattle.taxii_client.specs.declared.turn.Turn.TheVariants.{Over};
+ghost use Rattle.taxii_theorems.specs.Reading.{IsReadAs};
+ghost use Rattle.taxii_theorems.specs.Asking.{IsServersOwn, IsTold, IsAnswered, IsHeard, IsInstantOf, wanted_after};
+ghost use Rattle.taxii_theorems.specs.Pulling.{AreServed, WritesEachRow};
+
+use flow_links::Dial;
+use stix_ids::laws::one_uuid;
+use stix_times::laws::one_instant;
+use taxii_bodies::laws::envelopes_are_json;
+use taxii_service::history_laws::{answered_requests_were_done, gets_are_paged};
+use taxii_store::page_laws::rows_of_pages;
+use taxii_routes::laws::{one_route, one_target};
+use crate::runs::clients_skip_no_row;
+
+/// Where bytes begin with a server's answer of 200 and with a reply to a client, the reply's body is the answer's.
+pub fn answers_are_replies()
+    ensures { (answer : Answer) (close : Bool) (text later reply body own rest : List ℕ) → answer.status ≡ Okay → answer.body ≡ Some own
+        → IsAnswerText answer close text → length text < 2 ^ 64 → IsReply reply body → text ++ later ≡ reply ++ rest → body ≡ own }
+{}
+
+/// A page of sound rows is read as their objects, each good, and as what tells of the next page.
+pub fn pages_are_read_back()
+    ensures { (rows : List StoredRow) (more : Bool) (envelope : Envelope) → All IsSoundRow rows
+        → IsEnvelopeOf (envelope_text rows more) envelope → IsReadAs rows more envelope }
+{
+    envelopes_are_json();
+}
+
+/// A round that answers with 200 the request which a server reads in what a client writes is a fetch of the objects of the
+/// collection, in all versions, with the `next` that the client sends: of what was added after the target's time, where it has one.
+pub fn requests_are_heard()
+    ensures { (target : Target) (next : Option (List ℕ)) (round : Round) → IsServersOwn target → IsTold next → IsAnswered target next round
+        → IsExchange round.config round.exchange → IsHeard target next round }
+{
+    one_target();
+    one_route();
+    one_uuid();
+    answered_requests_were_done();
+}
+
+/// A client that pulls a collection to the end, over links on which a server answers, misses nothing: it writes the stored text of
+/// each row that it wants (all, or those that were added after its time) and that is still stored at the last page, once each, in
+/// the order of dates, whatever others add and delete between two pages, and over restarts.
+pub fn pulls_skip_no_row<D: Dial>()
+    ensures { (view : D.Link → LinkView) (target : Target) (instant : Option ℤ) (pages : List (Page D.Link)) (store after : StoreState) (runs : List Run) (rounds : List Round)
+        → IsDated store → store.mark ≤ LAST_DATE → GoOn store runs after → IsPull view target pages Over
+        → AreServed view target pages (rounds_of runs) rounds → IsInstantOf target.since instant
+        → WritesEachRow (wanted_after target instant) pages rounds }
+{
+    one_instant();
+    requests_are_heard();
+    answers_are_replies();
+    pages_are_read_back();
+    rows_of_pages();
+    gets_are_paged();
+    clients_skip_no_row();
+}

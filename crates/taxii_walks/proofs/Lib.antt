@@ -1,4 +1,0 @@
-mod RowsLemmas
-mod HistoryLemmas
-mod WalkLemmas
-mod PageLemmas

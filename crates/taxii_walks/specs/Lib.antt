@@ -1,4 +1,0 @@
-pub mod Meeting
-pub mod Page
-pub mod History
-pub mod Walk

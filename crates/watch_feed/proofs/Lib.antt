@@ -1,3 +1,0 @@
-pub mod FeedLemmas
-pub mod OneReadingLemmas
-pub mod TextLemmas

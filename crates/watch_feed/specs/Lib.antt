@@ -1,4 +1,0 @@
-pub mod Line
-pub mod Feeds
-pub mod Texts
-pub mod inner

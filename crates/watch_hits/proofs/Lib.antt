@@ -1,9 +1,0 @@
-mod PlaceLemmas
-mod HitsLemmas
-mod SightLemmas
-mod HunterLemmas
-mod TellingLemmas
-mod LinesLemmas
-mod ReportLemmas
-mod HuntableLemmas
-mod KindLemmas

@@ -1,5 +1,0 @@
-use Rattle.watch_hits.proofs.HitsLemmas.{are_hits}
-use Rattle.watch_hits.proofs.laws.answers_are_the_hits.Goals as goal
-
-pub returns : goal.returns
-returns c = are_hits c.one_log.ensures c.answers_are_the_listing.ensures

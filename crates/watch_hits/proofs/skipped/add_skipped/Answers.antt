@@ -1,7 +1,0 @@
-use Rattle.match_log.proofs.PendingLemmas.{fails_so}
-use Rattle.watch_hits.specs.Lines.{skipped_line}
-use Rattle.watch_hits.proofs.skipped.add_skipped.Goals as goal
-
-pub returns-in_err-line-clause-err : goal.returns-in_err-line-clause-err
-returns-in_err-line-clause-err g c before first way =
-    fails_so c.from_residual.result (c.parts_on_their_way.ensures.prefix before c.args.pending.now (skipped_line c.args.skipped.now) first _ way)

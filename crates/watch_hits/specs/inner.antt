@@ -1,4 +1,0 @@
-pub mod Noting
-pub mod Built
-pub mod Telling
-pub mod Reporting

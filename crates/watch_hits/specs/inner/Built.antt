@@ -1,9 +1,0 @@
--- For private clauses: what is true of each hunter.
-use Rattle.std.specs.Prelude.{◌≡◌, length}
-use Rattle.watch_hits.specs.declared.hunter.Hunter.TheInside.{Inside}
-use Rattle.watch_hits.specs.inner.Noting.{AreInOrder}
-
--- it keeps something of each indicator, in order of time
-pub record IsBuilt (hunter : Inside) : Type 0 where
-  pub count : length hunter.sights.items ≡ length hunter.hunted.now
-  pub order : AreInOrder hunter.sights.items

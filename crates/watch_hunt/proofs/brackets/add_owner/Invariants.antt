@@ -1,6 +1,0 @@
-use Rattle.std.proofs.Common.{◌≡◌, ◌++◌}
-use Rattle.watch_hunt.specs.inner.Table.{repeated}
-use Rattle.watch_hunt.proofs.brackets.add_owner.Given as goal
-
-abbrev pub invariant-loop : goal.invariant-loop
-invariant-loop l = l.owners.items ≡ l.fn.owners.items ++ repeated l.place l.counter

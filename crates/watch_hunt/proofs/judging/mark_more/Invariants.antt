@@ -1,5 +1,0 @@
-use Rattle.watch_hunt.specs.inner.Judging.{MarksMore}
-use Rattle.watch_hunt.proofs.judging.mark_more.Given as goal
-
-abbrev pub invariant-loop-place : goal.invariant-loop-place
-invariant-loop-place l = MarksMore l.own l.place-index l.fn.marks l.fn.places.items l.marks l.places.items

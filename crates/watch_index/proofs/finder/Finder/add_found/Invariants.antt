@@ -1,6 +1,0 @@
-use Rattle.std.proofs.Common.{take}
-use Rattle.watch_index.specs.inner.Finding.{AddsFound}
-use Rattle.watch_index.proofs.finder.Finder.add_found.Given as goal
-
-abbrev pub invariant-loop-lookup : goal.invariant-loop-lookup
-invariant-loop-lookup l = AddsFound l.self.places.entries.items (take l.lookup-index l.lookups) l.fn.places.items l.places.items

@@ -1,6 +1,0 @@
-mod RowsLemmas
-pub mod GrowingLemmas
-pub mod VersionLemmas
-pub mod AddingLemmas
-pub mod HuntingLemmas
-pub mod BundleLemmas

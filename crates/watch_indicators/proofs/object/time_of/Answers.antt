@@ -1,4 +1,0 @@
-use Rattle.watch_indicators.proofs.object.time_of.Goals as goal
-
-pub unreachable-requires : goal.unreachable-requires
-unreachable-requires c = c.in-None.ensures c.requires.there.0 c.requires.there.1

@@ -1,3 +1,0 @@
-pub mod Indicators
-pub mod Gathering
-pub mod inner

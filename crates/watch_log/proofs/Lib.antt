@@ -1,3 +1,0 @@
-pub mod WayLemmas
-pub mod ReadingLemmas
-pub mod WatchLemmas

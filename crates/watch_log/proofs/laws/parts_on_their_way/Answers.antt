@@ -1,8 +1,0 @@
-use Rattle.watch_log.proofs.WayLemmas.{way-none, way-stopped}
-use Rattle.watch_log.proofs.laws.parts_on_their_way.Goals as goal
-
-pub returns-clause-none : goal.returns-clause-none
-returns-clause-none c = way-none
-
-pub returns-clause-prefix : goal.returns-clause-prefix
-returns-clause-prefix c = way-stopped

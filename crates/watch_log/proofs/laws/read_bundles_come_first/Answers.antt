@@ -1,5 +1,0 @@
-use Rattle.watch_log.proofs.ReadingLemmas.{comes-first}
-use Rattle.watch_log.proofs.laws.read_bundles_come_first.Goals as goal
-
-pub returns : goal.returns
-returns c first left began reader bundles far = comes-first first left began reader bundles far

@@ -1,4 +1,0 @@
-pub mod Reading
-pub mod Watching
-pub mod OnItsWay
-pub mod inner

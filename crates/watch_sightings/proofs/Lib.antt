@@ -1,5 +1,0 @@
-mod AnswerLemmas
-mod BreakLemmas
-mod KindLemmas
-mod SightingLemmas
-mod EnvelopeLemmas

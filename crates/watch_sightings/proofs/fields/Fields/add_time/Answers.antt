@@ -1,5 +1,0 @@
-use Rattle.watch_sightings.proofs.AnswerLemmas.{on_follows}
-use Rattle.watch_sightings.proofs.fields.Fields.add_time.Goals as goal
-
-pub returns : goal.returns
-returns c = on_follows c.add_text.result (λ is. record { text = c.in_ok-text.text; fact = c.in_ok-text.ensures; is = is }) c.add_text.ensures

@@ -1,3 +1,0 @@
-pub mod Sightings
-pub mod Envelope
-pub mod inner
